@@ -1,0 +1,19 @@
+//! The abstract disk: its types, its rules as definitions (`specs/`), and a plain program that computes them.
+//!
+//! What it stands on: nothing of the repository; `arrayvec` for the bounded lists, `sha2` for digests.
+//!
+//! What it promises: `plain_reach`, `plain_doomed` and `plain_step` answer exactly what the definitions say, want of
+//! memory aside. The program is slow and plain on purpose: it is what the fast disk is compared with.
+#![tactic(auto)]
+
+pub mod caps;
+pub mod geometry;
+pub mod lists;
+pub mod replies;
+pub mod requests;
+
+pub use caps::{Cap, CapPair, Shown};
+pub use geometry::{Geometry, lawful};
+pub use lists::{BlockList, CapList, Data, ListFull};
+pub use replies::{Reply, Rule};
+pub use requests::{Hint, Level, PlaceKind, Request};

@@ -1,0 +1,134 @@
+//! What is asked of the disk.
+
+use crate::caps::{CapPair, Shown};
+use crate::lists::Data;
+
+/// Where new blocks are to stand near.
+#[derive(Clone, Copy, Debug, PartialEq, Eq)]
+pub enum Hint {
+    /// Nowhere; it counts as block 0.
+    Null,
+
+    /// Near this block, which need not be one of the disk.
+    At(u32),
+}
+
+/// What one may do at a block, in rising order.
+#[derive(Clone, Copy, Debug, PartialEq, Eq, PartialOrd, Ord)]
+pub enum Level {
+    /// Nothing; printed `none`.
+    Bare,
+
+    /// Read it.
+    Read,
+
+    /// Read and write it.
+    Write,
+}
+
+/// In which order free blocks are taken.
+#[derive(Clone, Copy, Debug, PartialEq, Eq)]
+pub enum PlaceKind {
+    /// The least block first.
+    Low,
+
+    /// The one nearest to the hint first, that above it before that below.
+    Near,
+
+    /// Upwards from the hint, and round.
+    Spread,
+
+    /// By zones of 256 blocks: that of the hint first, then those around it.
+    Zone,
+}
+
+/// A request. A session is a label from 1 to 64, a block and a source are numbers of blocks; neither need be right.
+#[derive(Debug, PartialEq, Eq, Drop)]
+pub enum Request {
+    /// What came was no request.
+    Bad,
+
+    /// Opens a session, which holds nothing.
+    Begin {
+        session: u32,
+    },
+
+    /// Closes a session and ends what it holds.
+    End {
+        session: u32,
+    },
+
+    /// Reads a block.
+    Read {
+        session: u32,
+        block: u32,
+        shown: Shown,
+    },
+
+    /// Sets a block's bytes; zeros follow them to the block's end.
+    Write {
+        session: u32,
+        block: u32,
+        shown: Shown,
+        bytes: Data,
+    },
+
+    /// Takes free blocks and points to them from the source.
+    Alloc {
+        session: u32,
+        source: u32,
+        shown: Shown,
+        hint: Hint,
+        count: u32,
+    },
+
+    /// The same with blocks in a row.
+    Contig {
+        session: u32,
+        source: u32,
+        shown: Shown,
+        hint: Hint,
+        count: u32,
+    },
+
+    /// Asks how many blocks are free. It is of no session.
+    GetFree,
+
+    /// Adds a pointer.
+    Create {
+        session: u32,
+        source: u32,
+        shown: Shown,
+        target: u32,
+    },
+
+    /// Deletes a pointer, and with it all that hung on it.
+    Delete {
+        session: u32,
+        source: u32,
+        shown: Shown,
+        target: u32,
+    },
+
+    /// Gives a primary block new capabilities, and ends what came from the old ones.
+    SetCap {
+        session: u32,
+        block: u32,
+        shown: Shown,
+        caps: CapPair,
+    },
+
+    /// Reclaims all blocks that no primary block leads to.
+    Sweep {
+        session: u32,
+        shown: Shown,
+    },
+
+    /// Lists targets of a block's pointers.
+    List {
+        session: u32,
+        source: u32,
+        shown: Shown,
+        start: u32,
+    },
+}
