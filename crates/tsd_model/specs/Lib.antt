@@ -1,1 +1,17 @@
 pub mod Geometry
+pub mod Pairs
+pub mod World
+pub mod Records
+pub mod Reach
+pub mod Doomed
+pub mod Valid
+pub mod Rank
+pub mod Placing
+pub mod Sessions
+pub mod Attained
+pub mod Needs
+pub mod Verdict
+pub mod Step
+pub mod Run
+pub mod History
+pub mod Rows

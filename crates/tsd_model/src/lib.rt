@@ -9,11 +9,13 @@
 pub mod caps;
 pub mod geometry;
 pub mod lists;
+pub mod records;
 pub mod replies;
 pub mod requests;
 
 pub use caps::{Cap, CapPair, Shown};
 pub use geometry::{Geometry, lawful};
 pub use lists::{BlockList, CapList, Data, ListFull};
+pub use records::{Kept, Record};
 pub use replies::{Reply, Rule};
 pub use requests::{Hint, Level, PlaceKind, Request};

@@ -1,0 +1,58 @@
+-- Levels said over the requests so far, of which the newest stands first.
+use Rattle.std.specs.Prelude.{ℕ, Bool, true, false, not, ◌&&◌, ◌||◌, ◌==◌, List, [], ◌∷◌, Option, Some, None}
+use Rattle.std.specs.List.{list_any}
+use Rattle.tsd_model.specs.World.{World, is_live}
+use Rattle.tsd_model.specs.Sessions.{Sessions, level_le}
+use Rattle.tsd_model.specs.Attained.{attained_from}
+use Rattle.tsd_model.specs.Needs.{session_of, Need, needs}
+use Rattle.tsd_model.specs.Verdict.{is_granted}
+use Rattle.tsd_model.specs.Step.{State, step}
+use Rattle.tsd_model.specs.Run.{answer}
+use Rattle.tsd_model.specs.declared.requests.Level.{Level}
+use Rattle.tsd_model.specs.declared.requests.PlaceKind.{PlaceKind}
+use Rattle.tsd_model.specs.declared.requests.Request.{Request}
+use Rattle.tsd_model.specs.declared.requests.Request.TheVariants as ask
+
+-- A request, and whether memory was wanted at it.
+pub record Asked : Type 0 where
+  pub request : Request
+  pub wants : Bool
+
+-- the state after the requests
+abbrev pub state_after : PlaceKind → State → List Asked → State
+state_after kind start [] = start
+state_after kind start (e ∷ past) = (answer kind (state_after kind start past) e.request e.wants).state
+
+abbrev pub is_of_session : Request → ℕ → Bool
+is_of_session q s = is_session (session_of q) s
+  where
+    is_session : Option ℕ → ℕ → Bool
+    is_session None s = false
+    is_session (Some t) s = t == s
+
+-- one of these needs is at block a, and at least l is attained there from origin o
+abbrev pub attains_at : State → ℕ → ℕ → ℕ → Level → Need → Bool
+attains_at st s o a l n = (n.block == a) && level_le l (attained_from st.world st.sessions s n.block n.shown o)
+
+-- the request is of the session, is granted, needed a level at block a, and attained at least l from origin o there
+abbrev pub gives_grant : State → Request → ℕ → ℕ → ℕ → Level → Bool
+gives_grant st q s o a l = (is_granted st.world st.sessions q && is_of_session q s) && list_any (attains_at st s o a l) (needs q)
+
+abbrev pub is_close_of : Request → ℕ → Bool
+is_close_of (ask.End t) s = t == s
+is_close_of q s = false
+
+abbrev pub is_set_cap_of : Request → ℕ → Bool
+is_set_cap_of (ask.SetCap t b shown caps) o = b == o
+is_set_cap_of q o = false
+
+-- after the request the block is live, and it is no granted CLOSE of the session or SET_CAP of the origin
+abbrev pub keeps_grant : State → State → Request → ℕ → ℕ → ℕ → Bool
+keeps_grant st next q s o a = is_live next.world a && not (is_granted st.world st.sessions q && (is_close_of q s || is_set_cap_of q o))
+
+-- The session has a grant of level l from origin o at block a: some earlier request gave it, and that request and all since have kept it.
+abbrev pub has_grant : PlaceKind → State → List Asked → ℕ → ℕ → ℕ → Level → Bool
+has_grant kind start [] s o a l = false
+has_grant kind start (e ∷ past) s o a l =
+    keeps_grant (state_after kind start past) (state_after kind start (e ∷ past)) e.request s o a
+    && (gives_grant (state_after kind start past) e.request s o a l || has_grant kind start past s o a l)

@@ -1,0 +1,37 @@
+-- Which blocks are reached, and the world without the others.
+use Rattle.std.specs.Prelude.{ℕ, zero, suc, Bool, cond, ◌&&◌, ◌||◌, ◌==◌, List, [], ◌∷◌, filter, Option, None}
+use Rattle.std.specs.List.{list_any}
+use Rattle.tsd_model.specs.World.{World, all_blocks, primary_blocks, has_number}
+
+-- a pair leads to b from one of these blocks
+abbrev pub is_led_from : World → List ℕ → ℕ → Bool
+is_led_from w from b = list_any (λ e. (e.1 == b) && has_number from e.0) w.pairs
+
+-- these blocks, and the targets of the pairs from them
+abbrev pub reach_round : World → List ℕ → List ℕ
+reach_round w reached = filter (λ b. has_number reached b || is_led_from w reached b) (all_blocks w)
+
+abbrev pub reach_rounds : World → List ℕ → ℕ → List ℕ
+reach_rounds w start zero = start
+reach_rounds w start (suc r) = reach_round w (reach_rounds w start r)
+
+-- as many rounds as there are blocks
+abbrev pub reach_from : World → List ℕ → List ℕ
+reach_from w start = reach_rounds w start w.geometry.blocks
+
+-- what the primary blocks lead to, they included
+abbrev pub reach : World → List ℕ
+reach w = reach_from w (primary_blocks w)
+
+-- of the blocks from number i on those that pass; the others become free
+abbrev pub blocks_that : (ℕ → Bool) → ℕ → List (Option (List ℕ)) → List (Option (List ℕ))
+blocks_that keep i [] = []
+blocks_that keep i (c ∷ cs) = cond (keep i) c None ∷ blocks_that keep (suc i) cs
+
+-- the world on the blocks that pass, with the pairs from them
+abbrev pub restricted : World → (ℕ → Bool) → World
+restricted w keep = record w { blocks = blocks_that keep 0 w.blocks; pairs = filter (λ e. keep e.0) w.pairs }
+
+-- the world on the blocks that are reached
+abbrev pub swept : World → World
+swept w = restricted w (has_number (reach w))

@@ -1,0 +1,97 @@
+-- What each session holds: at each block a level from each primary block that it came from.
+use Rattle.std.specs.Prelude.{◌≡◌, ℕ, zero, suc, ◌-◌, ◌⊎◌, ◌<◌, ◌≤◌, Bool, true, false, cond, nat_le, List, [], ◌∷◌, length, map, replicate, slice_index_or, slice_set, Option, Some, None, is_some, is_none, option_map, IfSome, IsTrue}
+use Rattle.tsd_model.specs.World.{World, is_live}
+use Rattle.tsd_model.specs.declared.requests.Level.{Level}
+use Rattle.tsd_model.specs.declared.requests.Level.TheVariants as level
+
+-- at place b the level at block b
+abbrev pub Levels : Type 0
+Levels = List Level
+
+-- at place o the levels that came from primary block o, its origin
+abbrev pub Held : Type 0
+Held = List (List Level)
+
+-- at place s - 1, for the sessions s from 1 to 64, what the session holds, if it is open
+abbrev pub Sessions : Type 0
+Sessions = List (Option (List (List Level)))
+
+abbrev pub no_sessions : Sessions
+no_sessions = replicate 64 None
+
+abbrev pub level_rank : Level → ℕ
+level_rank level.Bare = 0
+level_rank level.Read = 1
+level_rank level.Write = 2
+
+abbrev pub level_le : Level → Level → Bool
+level_le a b = nat_le (level_rank a) (level_rank b)
+
+abbrev pub greater : Level → Level → Level
+greater a b = cond (level_le a b) b a
+
+abbrev pub greatest : List Level → Level
+greatest [] = level.Bare
+greatest (l ∷ ls) = greater l (greatest ls)
+
+-- what an open session holds
+abbrev pub held_by : Sessions → ℕ → Option (List (List Level))
+held_by v s = slice_index_or v (s - 1) None
+
+abbrev pub is_open : Sessions → ℕ → Bool
+is_open v s = is_some (held_by v s)
+
+abbrev pub levels_in : Option (List (List Level)) → ℕ → List Level
+levels_in None o = []
+levels_in (Some held) o = slice_index_or held o []
+
+-- the levels that a session holds from an origin; none where it isn't open
+abbrev pub levels_from : Sessions → ℕ → ℕ → List Level
+levels_from v s o = levels_in (held_by v s) o
+
+-- the level that a session holds from an origin at a block
+abbrev pub level_from : Sessions → ℕ → ℕ → ℕ → Level
+level_from v s o b = slice_index_or (levels_from v s o) b level.Bare
+
+-- ---- changes
+
+-- a session that holds nothing, and one that is closed
+abbrev pub begun : World → Sessions → ℕ → Sessions
+begun w v s = slice_set v (s - 1) (Some (replicate w.geometry.primaries (replicate (length w.blocks) level.Bare)))
+
+abbrev pub ended : Sessions → ℕ → Sessions
+ended v s = slice_set v (s - 1) None
+
+abbrev pub raised_level : ℕ → Level → List Level → List Level
+raised_level b l levels = slice_set levels b (greater (slice_index_or levels b level.Bare) l)
+
+-- at block b the level from each origin becomes the greater of the old one and the given one
+abbrev pub raised_held : ℕ → List Level → List (List Level) → List (List Level)
+raised_held b [] held = held
+raised_held b (l ∷ ls) [] = []
+raised_held b (l ∷ ls) (levels ∷ held) = raised_level b l levels ∷ raised_held b ls held
+
+abbrev pub raised : Sessions → ℕ → ℕ → List Level → Sessions
+raised v s b origins = slice_set v (s - 1) (option_map (raised_held b origins) (held_by v s))
+
+-- without what came from this origin, in every session
+abbrev pub dropped_from : ℕ → ℕ → Sessions → Sessions
+dropped_from n o v = map (option_map (λ held. slice_set held o (replicate n level.Bare))) v
+
+abbrev pub levels_at_live : List (Option (List ℕ)) → List Level → List Level
+levels_at_live [] levels = []
+levels_at_live (c ∷ cs) [] = []
+levels_at_live (c ∷ cs) (l ∷ levels) = cond (is_some c) l level.Bare ∷ levels_at_live cs levels
+
+-- without the levels at blocks that aren't live, in every session
+abbrev pub fitted : World → Sessions → Sessions
+fitted w v = map (option_map (map (levels_at_live w.blocks))) v
+
+-- ---- sessions that fit a world
+
+-- There are 64, each open one has levels from each primary block at each block, and none is held at a block that isn't live.
+pub record Fits (w : World) (v : Sessions) : Type 0 where
+  pub count : length v ≡ 64
+  pub origins : (s : ℕ) → IfSome (held_by v s) (λ held. length held ≡ w.geometry.primaries)
+  pub blocks : (s o : ℕ) → IsTrue (is_open v s) → o < w.geometry.primaries → length (levels_from v s o) ≡ w.geometry.blocks
+  pub live : (s o b : ℕ) → level_from v s o b ≡ level.Bare ⊎ IsTrue (is_live w b)
