@@ -1,18 +1,19 @@
 -- The level that a session attains at a block.
 use Rattle.std.specs.Prelude.{ℕ, Bool, cond, ◌==◌, List, [], ◌∷◌, map, slice_get, slice_index_or, Option, Some, None}
+use Rattle.tsd_model.specs.Pairs.{sources_to}
 use Rattle.tsd_model.specs.World.{World, is_primary, primary_blocks}
 use Rattle.tsd_model.specs.Records.{kept_of, kept_eq}
 use Rattle.tsd_model.specs.Sessions.{Sessions, greater, greatest, levels_from}
 use Rattle.tsd_model.specs.declared.caps.Cap.{Cap}
 use Rattle.tsd_model.specs.declared.caps.Shown.{Shown}
 use Rattle.tsd_model.specs.declared.caps.Shown.TheVariants.{Nothing, Key}
-use Rattle.tsd_model.specs.declared.records.Kept.{Kept}
+use Rattle.tsd_model.specs.declared.records.KeptCap.{KeptCap}
 use Rattle.tsd_model.specs.declared.records.Record.{Record}
 use Rattle.tsd_model.specs.declared.requests.Level.{Level}
 use Rattle.tsd_model.specs.declared.requests.Level.TheVariants as level
 
--- what a capability attains against a record: write where its write part is kept of it, else read where its read part is
-abbrev pub record_level : Option Record → Kept → Level
+-- what a capability attains against a record: write where the record keeps the same for writing, else read where it keeps the same for reading
+abbrev pub record_level : Option Record → KeptCap → Level
 record_level None k = level.Bare
 record_level (Some r) k = cond (kept_eq k r.write) level.Write (cond (kept_eq k r.read) level.Read level.Bare)
 
@@ -23,8 +24,7 @@ shown_level w b (Key c) = record_level (slice_get w.records b) (kept_of w.versio
 
 -- the greatest of these levels at the sources of the pairs to b
 abbrev pub led_level : List Level → ℕ → List (ℕ × ℕ) → Level
-led_level levels b [] = level.Bare
-led_level levels b (e ∷ es) = greater (cond (e.1 == b) (slice_index_or levels e.0 level.Bare) level.Bare) (led_level levels b es)
+led_level levels b es = greatest (map (λ a. slice_index_or levels a level.Bare) (sources_to es b))
 
 -- At a primary block what is shown counts, and comes from that block. At another block what is held at the sources of the pairs to it counts, as the pairs are now.
 abbrev pub attained_from : World → Sessions → ℕ → ℕ → Shown → ℕ → Level

@@ -1,6 +1,7 @@
 -- Levels said over the requests so far, of which the newest stands first.
 use Rattle.std.specs.Prelude.{ℕ, Bool, true, false, not, ◌&&◌, ◌||◌, ◌==◌, List, [], ◌∷◌, Option, Some, None}
 use Rattle.std.specs.List.{list_any}
+use Rattle.std.specs.Option.{option_map_or}
 use Rattle.tsd_model.specs.World.{World, is_live}
 use Rattle.tsd_model.specs.Sessions.{Sessions, level_le}
 use Rattle.tsd_model.specs.Attained.{attained_from}
@@ -24,13 +25,9 @@ state_after kind start [] = start
 state_after kind start (e ∷ past) = (answer kind (state_after kind start past) e.request e.wants).state
 
 abbrev pub is_of_session : Request → ℕ → Bool
-is_of_session q s = is_session (session_of q) s
-  where
-    is_session : Option ℕ → ℕ → Bool
-    is_session None s = false
-    is_session (Some t) s = t == s
+is_of_session q s = option_map_or (λ t. t == s) (session_of q) false
 
--- one of these needs is at block a, and at least l is attained there from origin o
+-- the need is at block a, and at least l is attained there from origin o
 abbrev pub attains_at : State → ℕ → ℕ → ℕ → Level → Need → Bool
 attains_at st s o a l n = (n.block == a) && level_le l (attained_from st.world st.sessions s n.block n.shown o)
 
@@ -38,17 +35,17 @@ attains_at st s o a l n = (n.block == a) && level_le l (attained_from st.world s
 abbrev pub gives_grant : State → Request → ℕ → ℕ → ℕ → Level → Bool
 gives_grant st q s o a l = (is_granted st.world st.sessions q && is_of_session q s) && list_any (attains_at st s o a l) (needs q)
 
-abbrev pub is_close_of : Request → ℕ → Bool
-is_close_of (ask.End t) s = t == s
-is_close_of q s = false
+abbrev pub is_end_of : Request → ℕ → Bool
+is_end_of (ask.End t) s = t == s
+is_end_of q s = false
 
 abbrev pub is_set_cap_of : Request → ℕ → Bool
 is_set_cap_of (ask.SetCap t b shown caps) o = b == o
 is_set_cap_of q o = false
 
--- after the request the block is live, and it is no granted CLOSE of the session or SET_CAP of the origin
+-- the block is live after the request, and the request neither ends the session nor sets the capabilities of the origin
 abbrev pub keeps_grant : State → State → Request → ℕ → ℕ → ℕ → Bool
-keeps_grant st next q s o a = is_live next.world a && not (is_granted st.world st.sessions q && (is_close_of q s || is_set_cap_of q o))
+keeps_grant st next q s o a = is_live next.world a && not (is_granted st.world st.sessions q && (is_end_of q s || is_set_cap_of q o))
 
 -- The session has a grant of level l from origin o at block a: some earlier request gave it, and that request and all since have kept it.
 abbrev pub has_grant : PlaceKind → State → List Asked → ℕ → ℕ → ℕ → Level → Bool

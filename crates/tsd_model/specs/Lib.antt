@@ -14,4 +14,3 @@ pub mod Verdict
 pub mod Step
 pub mod Run
 pub mod History
-pub mod Rows

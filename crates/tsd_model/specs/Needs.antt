@@ -23,7 +23,7 @@ session_of (ask.SetCap s b shown caps) = Some s
 session_of (ask.Sweep s shown) = Some s
 session_of (ask.List s a shown start) = Some s
 
--- the block or the source, then the target
+-- the block or the source, then the target; a sweep names block 0
 abbrev pub named_blocks : Request → List ℕ
 named_blocks ask.Bad = []
 named_blocks (ask.Begin s) = []
@@ -36,7 +36,7 @@ named_blocks ask.GetFree = []
 named_blocks (ask.Create s a shown b) = a ∷ b ∷ []
 named_blocks (ask.Delete s a shown b) = a ∷ b ∷ []
 named_blocks (ask.SetCap s b shown caps) = b ∷ []
-named_blocks (ask.Sweep s shown) = []
+named_blocks (ask.Sweep s shown) = 0 ∷ []
 named_blocks (ask.List s a shown start) = a ∷ []
 
 -- A level that is needed at a block, and what is shown there.

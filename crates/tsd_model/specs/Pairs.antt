@@ -1,5 +1,5 @@
 -- Pointers: an ascending list of pairs (source, target), none twice.
-use Rattle.std.specs.Prelude.{ℕ, Bool, true, false, not, cond, ◌&&◌, ◌||◌, ◌==◌, nat_lt, List, [], ◌∷◌, filter}
+use Rattle.std.specs.Prelude.{ℕ, Bool, true, false, not, cond, ◌&&◌, ◌||◌, ◌==◌, nat_lt, List, [], ◌∷◌, filter, map}
 use Rattle.std.specs.List.{list_any}
 
 abbrev pub is_pair : ℕ → ℕ → (ℕ × ℕ) → Bool
@@ -29,3 +29,7 @@ with_pair e (f ∷ fs) = cond (pair_lt e f) (e ∷ f ∷ fs) (cond (pair_lt f e)
 
 abbrev pub without_pair : ℕ → ℕ → List (ℕ × ℕ) → List (ℕ × ℕ)
 without_pair a b es = filter (λ e. not (is_pair a b e)) es
+
+-- the sources of the pairs to b, ascending
+abbrev pub sources_to : List (ℕ × ℕ) → ℕ → List ℕ
+sources_to es b = map (λ e. e.0) (filter (λ e. e.1 == b) es)

@@ -7,7 +7,7 @@ use Rattle.tsd_model.specs.World.{World, all_blocks, primary_blocks, has_number}
 abbrev pub is_led_from : World → List ℕ → ℕ → Bool
 is_led_from w from b = list_any (λ e. (e.1 == b) && has_number from e.0) w.pairs
 
--- these blocks, and the targets of the pairs from them
+-- of the blocks of the disk these, and the targets of the pairs from them
 abbrev pub reach_round : World → List ℕ → List ℕ
 reach_round w reached = filter (λ b. has_number reached b || is_led_from w reached b) (all_blocks w)
 

@@ -15,7 +15,7 @@ use Rattle.tsd_model.specs.declared.replies.Reply.{Reply}
 use Rattle.tsd_model.specs.declared.replies.Reply.TheVariants as reply
 use Rattle.tsd_model.specs.declared.replies.Rule.{Rule}
 
--- memory was wanted: an OPEN that no rule refuses is answered so, and the state stays; for every other request nothing is different
+-- no memory was found: a Begin that no rule refuses is answered NoMemory, and the state stays; for every other request nothing is different
 abbrev pub starved : State → Request → Option Rule → Outcome → Outcome
 starved s (ask.Begin n) None o = gives s.world s.sessions reply.NoMemory
 starved s q r o = o
@@ -24,11 +24,11 @@ abbrev pub answer : PlaceKind → State → Request → Bool → Outcome
 answer kind s q false = step kind s q
 answer kind s q true = starved s q (verdict s.world s.sessions q) (step kind s q)
 
--- memory was wanted at the first request
+-- no memory was found at the first request
 abbrev pub wants_now : List Bool → Bool
 wants_now wants = slice_index_or wants 0 false
 
--- The replies to the requests, in order. `wants` says at which places no memory was found, and past its end it always was.
+-- The replies to the requests, in order. `wants` says at which places no memory was found; past its end memory was found.
 abbrev pub replies : PlaceKind → State → List Bool → List Request → List Reply
 replies kind s wants [] = []
 replies kind s wants (q ∷ qs) = (answer kind s q (wants_now wants)).reply ∷ replies kind (answer kind s q (wants_now wants)).state (drop 1 wants) qs

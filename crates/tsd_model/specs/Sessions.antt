@@ -1,5 +1,5 @@
 -- What each session holds: at each block a level from each primary block that it came from.
-use Rattle.std.specs.Prelude.{◌≡◌, ℕ, zero, suc, ◌-◌, ◌⊎◌, ◌<◌, ◌≤◌, Bool, true, false, cond, nat_le, List, [], ◌∷◌, length, map, replicate, slice_index_or, slice_set, Option, Some, None, is_some, is_none, option_map, IfSome, IsTrue}
+use Rattle.std.specs.Prelude.{◌≡◌, ℕ, zero, suc, ◌-◌, ◌⊎◌, ◌<◌, ◌≤◌, Bool, true, false, cond, nat_le, List, [], ◌∷◌, length, map, replicate, slice_index_or, slice_set, Option, Some, None, is_some, is_none, option_map, unwrap_or, IfSome, IsTrue}
 use Rattle.tsd_model.specs.World.{World, is_live}
 use Rattle.tsd_model.specs.declared.requests.Level.{Level}
 use Rattle.tsd_model.specs.declared.requests.Level.TheVariants as level
@@ -8,16 +8,20 @@ use Rattle.tsd_model.specs.declared.requests.Level.TheVariants as level
 abbrev pub Levels : Type 0
 Levels = List Level
 
--- at place o the levels that came from primary block o, its origin
+-- at place o the levels that came from primary block o, their origin
 abbrev pub Held : Type 0
-Held = List (List Level)
+Held = List Levels
 
 -- at place s - 1, for the sessions s from 1 to 64, what the session holds, if it is open
 abbrev pub Sessions : Type 0
-Sessions = List (Option (List (List Level)))
+Sessions = List (Option Held)
+
+-- how many sessions there are
+abbrev pub sessions_max : ℕ
+sessions_max = 64
 
 abbrev pub no_sessions : Sessions
-no_sessions = replicate 64 None
+no_sessions = replicate sessions_max None
 
 abbrev pub level_rank : Level → ℕ
 level_rank level.Bare = 0
@@ -35,13 +39,13 @@ greatest [] = level.Bare
 greatest (l ∷ ls) = greater l (greatest ls)
 
 -- what an open session holds
-abbrev pub held_by : Sessions → ℕ → Option (List (List Level))
+abbrev pub held_by : Sessions → ℕ → Option Held
 held_by v s = slice_index_or v (s - 1) None
 
 abbrev pub is_open : Sessions → ℕ → Bool
 is_open v s = is_some (held_by v s)
 
-abbrev pub levels_in : Option (List (List Level)) → ℕ → List Level
+abbrev pub levels_in : Option Held → ℕ → List Level
 levels_in None o = []
 levels_in (Some held) o = slice_index_or held o []
 
@@ -52,6 +56,10 @@ levels_from v s o = levels_in (held_by v s) o
 -- the level that a session holds from an origin at a block
 abbrev pub level_from : Sessions → ℕ → ℕ → ℕ → Level
 level_from v s o b = slice_index_or (levels_from v s o) b level.Bare
+
+-- the greatest over all origins
+abbrev pub level_of : Sessions → ℕ → ℕ → Level
+level_of v s b = greatest (map (λ levels. slice_index_or levels b level.Bare) (unwrap_or (held_by v s) []))
 
 -- ---- changes
 
@@ -66,7 +74,7 @@ abbrev pub raised_level : ℕ → Level → List Level → List Level
 raised_level b l levels = slice_set levels b (greater (slice_index_or levels b level.Bare) l)
 
 -- at block b the level from each origin becomes the greater of the old one and the given one
-abbrev pub raised_held : ℕ → List Level → List (List Level) → List (List Level)
+abbrev pub raised_held : ℕ → List Level → Held → Held
 raised_held b [] held = held
 raised_held b (l ∷ ls) [] = []
 raised_held b (l ∷ ls) (levels ∷ held) = raised_level b l levels ∷ raised_held b ls held
@@ -89,9 +97,9 @@ fitted w v = map (option_map (map (levels_at_live w.blocks))) v
 
 -- ---- sessions that fit a world
 
--- There are 64, each open one has levels from each primary block at each block, and none is held at a block that isn't live.
+-- Each open session has levels from each primary block at each block, and none is held at a block that isn't live.
 pub record Fits (w : World) (v : Sessions) : Type 0 where
-  pub count : length v ≡ 64
+  pub count : length v ≡ sessions_max
   pub origins : (s : ℕ) → IfSome (held_by v s) (λ held. length held ≡ w.geometry.primaries)
   pub blocks : (s o : ℕ) → IsTrue (is_open v s) → o < w.geometry.primaries → length (levels_from v s o) ≡ w.geometry.blocks
   pub live : (s o b : ℕ) → level_from v s o b ≡ level.Bare ⊎ IsTrue (is_live w b)

@@ -32,7 +32,7 @@ gives w v r = record { state = record { world = w; sessions = v }; reply = r }
 
 -- ---- first, levels rise where one was needed
 
--- at each of these blocks, what is held from each origin becomes the greater of the old level and the attained one, both as they were before the request
+-- at each of these blocks, what is held from each origin becomes the greater of the old level and the one attained before the request
 abbrev pub raised_at : World → Sessions → ℕ → List Need → Sessions → Sessions
 raised_at w v s [] now = now
 raised_at w v s (n ∷ ns) now = raised_at w v s ns (raised now s n.block (attained_origins w v s n.block n.shown))
@@ -61,10 +61,14 @@ with_pointer w a b = record w { pairs = with_pair (a, b) w.pairs }
 abbrev pub without_pointer : World → ℕ → ℕ → World
 without_pointer w a b = record w { pairs = without_pair a b w.pairs }
 
+-- a block of zeros
+abbrev pub zeros : World → List ℕ
+zeros w = replicate (block_len w.geometry) 0
+
 -- each of these blocks is live and contains zeros, and a pair leads to it from a
 abbrev pub with_new_blocks : World → ℕ → List ℕ → World
 with_new_blocks w a [] = w
-with_new_blocks w a (b ∷ bs) = with_new_blocks (with_pointer (with_contents w b (filled (block_len w.geometry) [])) a b) a bs
+with_new_blocks w a (b ∷ bs) = with_new_blocks (with_pointer (with_contents w b (zeros w)) a b) a bs
 
 abbrev pub with_caps : World → ℕ → Record → World
 with_caps w b r = record w { records = slice_set w.records b r }
@@ -84,10 +88,15 @@ abbrev pub run_at : Option ℕ → ℕ → List ℕ
 run_at None count = []
 run_at (Some b) count = numbers_from b count
 
--- the least 64 targets of a that are not below `start`
-abbrev pub targets_from : List (ℕ × ℕ) → ℕ → ℕ → List ℕ
-targets_from es a start = take 64 (map (λ e. e.1) (filter (λ e. (e.0 == a) && nat_le start e.1) es))
+-- how many targets one request lists
+abbrev pub targets_max : ℕ
+targets_max = 64
 
+-- the least targets of a that are not below `start`
+abbrev pub targets_from : List (ℕ × ℕ) → ℕ → ℕ → List ℕ
+targets_from es a start = take targets_max (map (λ e. e.1) (filter (λ e. (e.0 == a) && nat_le start e.1) es))
+
+-- what a granted request changes, and its reply; what is no request is never granted
 abbrev pub change : PlaceKind → World → Sessions → Request → Outcome
 change kind w v ask.Bad = done w v
 change kind w v (ask.Begin s) = done w (begun w v s)

@@ -1,6 +1,6 @@
 //! Capabilities, and what a client shows of them.
 
-/// The bytes of a capability. Whoever shows them has the right; nothing more is claimed of them.
+/// How many bytes a capability has. Whoever shows them has the right; nothing more is claimed of them.
 pub const CAP_BYTES: usize = 16;
 
 /// A capability: 16 bytes.

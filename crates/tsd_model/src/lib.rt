@@ -9,13 +9,17 @@
 pub mod caps;
 pub mod geometry;
 pub mod lists;
+pub mod memory;
 pub mod records;
 pub mod replies;
 pub mod requests;
+pub mod world;
 
 pub use caps::{Cap, CapPair, Shown};
 pub use geometry::{Geometry, lawful};
 pub use lists::{BlockList, CapList, Data, ListFull};
-pub use records::{Kept, Record};
+pub use memory::NoMemory;
+pub use records::{KeptCap, Record};
 pub use replies::{Reply, Rule};
 pub use requests::{Hint, Level, PlaceKind, Request};
+pub use world::World;

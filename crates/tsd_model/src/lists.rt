@@ -12,13 +12,13 @@ use std::marker::Model;
 #[derive(Clone, Copy, Debug, PartialEq, Eq)]
 pub struct ListFull;
 
-/// The bytes of the largest block.
+/// How many bytes the largest block has.
 pub const DATA_MAX: usize = 4096;
 
-/// The most targets that one request lists.
+/// How many targets one request lists.
 pub const BLOCKS_MAX: usize = 64;
 
-/// The capability pairs of the most primary blocks.
+/// How many primary blocks a disk may have.
 pub const CAPS_MAX: usize = 16;
 
 /// Bytes to write or that were read, at most 4,096.

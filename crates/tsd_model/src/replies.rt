@@ -89,7 +89,7 @@ pub enum Reply {
     /// All bytes of a block.
     Bytes(Data),
 
-    /// The new blocks: in the order of their ranks, or ascending where they stand in a row.
+    /// The new blocks: of an Alloc in the order of their ranks, of a Contig ascending.
     Blocks(BlockList),
 
     /// How many blocks are free.

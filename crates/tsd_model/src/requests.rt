@@ -42,7 +42,8 @@ pub enum PlaceKind {
     Zone,
 }
 
-/// A request. A session is a label from 1 to 64, a block and a source are numbers of blocks; neither need be right.
+/// A request. A session is a label from 1 to 64; blocks, sources and targets are
+/// numbers of blocks. None of them need be right.
 #[derive(Debug, PartialEq, Eq, Drop)]
 pub enum Request {
     /// What came was no request.
@@ -102,7 +103,7 @@ pub enum Request {
         target: u32,
     },
 
-    /// Deletes a pointer, and with it all that hung on it.
+    /// Deletes a pointer, and reclaims the blocks that nothing leads to any more. A cycle of pointers stays.
     Delete {
         session: u32,
         source: u32,
@@ -110,7 +111,8 @@ pub enum Request {
         target: u32,
     },
 
-    /// Gives a primary block new capabilities, and ends what came from the old ones.
+    /// Gives a primary block new capabilities, and ends every level that came from this block, in every session, also
+    /// where the new capabilities equal the old.
     SetCap {
         session: u32,
         block: u32,
