@@ -1,8 +1,7 @@
 -- Worked examples: the definitions answer these lists of requests with these replies, by computing.
 use Rattle.std.specs.Prelude.{true, false, reverse, ◌≡◌, ℕ, Bool, ◌&&◌, List, [], ◌∷◌, ◌++◌, refl, replicate}
 use Rattle.std.specs.Bool.{beq}
-use Rattle.std.specs.List.{list_all}
-use Rattle.tsd_model.specs.World.{numbers_from}
+use Rattle.std.specs.List.{list_all, range_with_len}
 use Rattle.tsd_model.specs.Sessions.{level_from, level_le}
 use Rattle.tsd_model.specs.Step.{State, filled}
 use Rattle.tsd_model.specs.Run.{replies, fresh_world, at_rest}
@@ -128,7 +127,7 @@ abbrev agrees : List Asked → ℕ → ℕ → Level → Bool
 agrees past s a l = beq (level_le l (level_from (state_after Near start past).sessions s 0 a)) (has_grant Near start past s 0 a l)
 
 abbrev all_agree : List Asked → Bool
-all_agree past = list_all (λ s. list_all (λ a. agrees past s a level.Read && agrees past s a level.Write) (numbers_from 0 8)) (1 ∷ 2 ∷ [])
+all_agree past = list_all (λ s. list_all (λ a. agrees past s a level.Read && agrees past s a level.Write) (range_with_len 0 8)) (1 ∷ 2 ∷ [])
 
 pub grants_are_the_levels_held : all_agree (reverse (asked (ask.Begin 1) ∷ asked (ask.Begin 2) ∷ asked (ask.Alloc 1 0 W Null 1) ∷ asked (ask.Alloc 1 1 Nothing Null 1) ∷ asked (ask.Read 2 0 R) ∷ asked (ask.Read 2 1 Nothing) ∷ asked (ask.SetCap 1 0 W (read_and_write 0xcc 0xdd)) ∷ asked (ask.Read 2 2 Nothing) ∷ asked (ask.Read 2 0 C) ∷ [])) ≡ true
 grants_are_the_levels_held = refl

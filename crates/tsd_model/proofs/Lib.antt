@@ -1,1 +1,4 @@
 pub mod Examples
+pub mod LevelLaws
+pub mod PlaceLaws
+pub mod RangeLaws

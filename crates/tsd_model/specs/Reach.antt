@@ -1,7 +1,7 @@
 -- Which blocks are reached, and the world without the others.
-use Rattle.std.specs.Prelude.{ℕ, zero, suc, Bool, cond, ◌&&◌, ◌||◌, ◌==◌, List, [], ◌∷◌, filter, Option, None}
+use Rattle.std.specs.Prelude.{ℕ, zero, suc, Bool, cond, ◌&&◌, ◌||◌, ◌==◌, List, [], ◌∷◌, filter, map, Option, None}
 use Rattle.std.specs.List.{list_any}
-use Rattle.tsd_model.specs.World.{World, all_blocks, primary_blocks, has_number}
+use Rattle.tsd_model.specs.World.{World, contents, all_blocks, primary_blocks, has_number}
 
 -- a pair leads to b from one of these blocks
 abbrev pub is_led_from : World → List ℕ → ℕ → Bool
@@ -23,14 +23,13 @@ reach_from w start = reach_rounds w start w.geometry.blocks
 abbrev pub reach : World → List ℕ
 reach w = reach_from w (primary_blocks w)
 
--- of the blocks from number i on those that pass; the others become free
-abbrev pub blocks_that : (ℕ → Bool) → ℕ → List (Option (List ℕ)) → List (Option (List ℕ))
-blocks_that keep i [] = []
-blocks_that keep i (c ∷ cs) = cond (keep i) c None ∷ blocks_that keep (suc i) cs
+-- the contents of the blocks that pass; the others become free
+abbrev pub blocks_that : World → (ℕ → Bool) → List (Option (List ℕ))
+blocks_that w keep = map (λ b. cond (keep b) (contents w b) None) (all_blocks w)
 
 -- the world on the blocks that pass, with the pairs from them
 abbrev pub restricted : World → (ℕ → Bool) → World
-restricted w keep = record w { blocks = blocks_that keep 0 w.blocks; pairs = filter (λ e. keep e.0) w.pairs }
+restricted w keep = record w { blocks = blocks_that w keep; pairs = filter (λ e. keep e.0) w.pairs }
 
 -- the world on the blocks that are reached
 abbrev pub swept : World → World

@@ -1,6 +1,7 @@
 -- What each session holds: at each block a level from each primary block that it came from.
 use Rattle.std.specs.Prelude.{◌≡◌, ℕ, zero, suc, ◌-◌, ◌⊎◌, ◌<◌, ◌≤◌, Bool, true, false, cond, nat_le, List, [], ◌∷◌, length, map, replicate, slice_index_or, slice_set, Option, Some, None, is_some, is_none, option_map, unwrap_or, IfSome, IsTrue}
-use Rattle.tsd_model.specs.World.{World, is_live}
+use Rattle.std.specs.List.{enumerate_from}
+use Rattle.tsd_model.specs.World.{World, is_live, all_blocks}
 use Rattle.tsd_model.specs.declared.requests.Level.{Level}
 use Rattle.tsd_model.specs.declared.requests.Level.TheVariants as level
 
@@ -73,27 +74,23 @@ ended v s = slice_set v (s - 1) None
 abbrev pub raised_level : ℕ → Level → List Level → List Level
 raised_level b l levels = slice_set levels b (greater (slice_index_or levels b level.Bare) l)
 
--- at block b the level from each origin becomes the greater of the old one and the given one
-abbrev pub raised_held : ℕ → List Level → Held → Held
-raised_held b [] held = held
-raised_held b (l ∷ ls) [] = []
-raised_held b (l ∷ ls) (levels ∷ held) = raised_level b l levels ∷ raised_held b ls held
+-- at block b the level from each origin becomes the greater of the old one and the one attained from it
+abbrev pub raised_held : ℕ → (ℕ → Level) → Held → Held
+raised_held b attained_from held = map (λ p. raised_level b (attained_from p.0) p.1) (enumerate_from 0 held)
 
-abbrev pub raised : Sessions → ℕ → ℕ → List Level → Sessions
-raised v s b origins = slice_set v (s - 1) (option_map (raised_held b origins) (held_by v s))
+abbrev pub raised : Sessions → ℕ → ℕ → (ℕ → Level) → Sessions
+raised v s b attained_from = slice_set v (s - 1) (option_map (raised_held b attained_from) (held_by v s))
 
 -- without what came from this origin, in every session
 abbrev pub dropped_from : ℕ → ℕ → Sessions → Sessions
 dropped_from n o v = map (option_map (λ held. slice_set held o (replicate n level.Bare))) v
 
-abbrev pub levels_at_live : List (Option (List ℕ)) → List Level → List Level
-levels_at_live [] levels = []
-levels_at_live (c ∷ cs) [] = []
-levels_at_live (c ∷ cs) (l ∷ levels) = cond (is_some c) l level.Bare ∷ levels_at_live cs levels
+abbrev pub levels_at_live : World → Levels → Levels
+levels_at_live w levels = map (λ b. cond (is_live w b) (slice_index_or levels b level.Bare) level.Bare) (all_blocks w)
 
 -- without the levels at blocks that aren't live, in every session
 abbrev pub fitted : World → Sessions → Sessions
-fitted w v = map (option_map (map (levels_at_live w.blocks))) v
+fitted w v = map (option_map (map (levels_at_live w))) v
 
 -- ---- sessions that fit a world
 

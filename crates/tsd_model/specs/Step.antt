@@ -1,14 +1,15 @@
 -- One request: what it changes and what is answered.
 use Rattle.std.specs.Prelude.{ℕ, ◌-◌, Bool, ◌&&◌, ◌==◌, nat_le, List, [], ◌∷◌, ◌++◌, length, map, filter, take, replicate, slice_set, Option, Some, None, unwrap_or}
+use Rattle.std.specs.List.{range_with_len}
 use Rattle.tsd_model.specs.Geometry.{block_len}
 use Rattle.tsd_model.specs.Pairs.{with_pair, without_pair}
-use Rattle.tsd_model.specs.World.{World, contents, free_count, numbers_from}
+use Rattle.tsd_model.specs.World.{World, contents, free_count}
 use Rattle.tsd_model.specs.Records.{kept}
 use Rattle.tsd_model.specs.Reach.{swept}
 use Rattle.tsd_model.specs.Doomed.{settle}
 use Rattle.tsd_model.specs.Placing.{chosen, chosen_run}
 use Rattle.tsd_model.specs.Sessions.{Sessions, begun, ended, raised, dropped_from, fitted}
-use Rattle.tsd_model.specs.Attained.{attained_origins}
+use Rattle.tsd_model.specs.Attained.{attained_from}
 use Rattle.tsd_model.specs.Needs.{session_of, Need, needs}
 use Rattle.tsd_model.specs.Verdict.{verdict}
 use Rattle.tsd_model.specs.declared.requests.PlaceKind.{PlaceKind}
@@ -35,7 +36,7 @@ gives w v r = record { state = record { world = w; sessions = v }; reply = r }
 -- at each of these blocks, what is held from each origin becomes the greater of the old level and the one attained before the request
 abbrev pub raised_at : World → Sessions → ℕ → List Need → Sessions → Sessions
 raised_at w v s [] now = now
-raised_at w v s (n ∷ ns) now = raised_at w v s ns (raised now s n.block (attained_origins w v s n.block n.shown))
+raised_at w v s (n ∷ ns) now = raised_at w v s ns (raised now s n.block (attained_from w v s n.block n.shown))
 
 abbrev pub raised_for : World → Sessions → Option ℕ → List Need → Sessions
 raised_for w v None ns = v
@@ -86,7 +87,7 @@ reclaimed w v left = gives left v (reply.Gone (free_count left - free_count w))
 -- so many blocks in a row
 abbrev pub run_at : Option ℕ → ℕ → List ℕ
 run_at None count = []
-run_at (Some b) count = numbers_from b count
+run_at (Some b) count = range_with_len b count
 
 -- how many targets one request lists
 abbrev pub targets_max : ℕ

@@ -1,6 +1,6 @@
 -- The disk as a value: how large it is, which blocks are live and what they contain, the pointers, and what is kept of the capabilities.
 use Rattle.std.specs.Prelude.{ℕ, zero, suc, Bool, true, false, ◌&&◌, ◌==◌, nat_lt, List, [], ◌∷◌, length, count_by, slice_index_or, Option, Some, None, is_some, is_none}
-use Rattle.std.specs.List.{list_any}
+use Rattle.std.specs.List.{list_any, range_with_len}
 use Rattle.tsd_model.specs.declared.geometry.Geometry.{Geometry}
 use Rattle.tsd_model.specs.declared.records.Record.{Record}
 
@@ -29,17 +29,12 @@ is_free w b = nat_lt b (length w.blocks) && is_none (contents w b)
 abbrev pub free_count : World → ℕ
 free_count w = count_by is_none w.blocks
 
--- n numbers from i on
-abbrev pub numbers_from : ℕ → ℕ → List ℕ
-numbers_from i zero = []
-numbers_from i (suc n) = i ∷ numbers_from (suc i) n
-
 -- every block of the disk, ascending
 abbrev pub all_blocks : World → List ℕ
-all_blocks w = numbers_from 0 (length w.blocks)
+all_blocks w = range_with_len 0 (length w.blocks)
 
 abbrev pub primary_blocks : World → List ℕ
-primary_blocks w = numbers_from 0 w.geometry.primaries
+primary_blocks w = range_with_len 0 w.geometry.primaries
 
 abbrev pub is_primary : World → ℕ → Bool
 is_primary w b = nat_lt b w.geometry.primaries

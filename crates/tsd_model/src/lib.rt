@@ -8,15 +8,22 @@
 
 pub mod caps;
 pub mod geometry;
+mod graph;
+mod growing;
 pub mod lists;
 pub mod memory;
+mod pairs;
+mod placing;
+pub mod ranks;
 pub mod records;
 pub mod replies;
 pub mod requests;
+mod sessions;
 pub mod world;
 
 pub use caps::{Cap, CapPair, Shown};
 pub use geometry::{Geometry, lawful};
+pub use graph::{plain_doomed, plain_reach};
 pub use lists::{BlockList, CapList, Data, ListFull};
 pub use memory::NoMemory;
 pub use records::{KeptCap, Record};

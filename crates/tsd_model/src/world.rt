@@ -6,7 +6,7 @@ ghost use Rattle.tsd_model.specs.Pairs.{holds};
 ghost use Rattle.tsd_model.specs.Records.{kept, upgraded};
 ghost use Rattle.tsd_model.specs.Run.{fresh_world};
 ghost use Rattle.tsd_model.specs.Valid.{IsSized};
-ghost use Rattle.tsd_model.specs.World.{contents, is_live, is_free, free_count};
+ghost use Rattle.tsd_model.specs.World.{contents, is_live, is_free, is_primary, free_count};
 
 use crate::caps::{CapPair};
 use crate::geometry::Geometry;
@@ -149,6 +149,13 @@ impl World {
         matches!(self.blocks.get(block as usize), Some(None))
     }
 
+    /// Whether this is the number of a primary block.
+    pub fn is_primary(&self, block: u32) -> bool
+        ensures { result ≡ is_primary self.now block }
+    {
+        block < self.geometry.primaries
+    }
+
     /// How many blocks are free.
     pub fn free_count(&self) -> u32
         ensures { result ≡ free_count self.now }
@@ -168,13 +175,20 @@ fn fresh_blocks(alloc: Global, geometry: &Geometry) -> Result<Vec<Option<Block>>
     requires { IsLawful geometry.now }
     ensures { IfOk result (λ v. v.items ≡ replicate geometry.now.primaries (Some (replicate (block_len geometry.now) 0)) ++ replicate (geometry.now.blocks - geometry.now.primaries) None) }
 {
-    let mut blocks = Vec::new(alloc);
-    for _ in 0..geometry.primaries {
-        let block = Block::zeros(alloc, 512 * geometry.sectors as usize)?;
-        blocks.push(Some(block))?;
-    }
-    for _ in geometry.primaries..geometry.blocks {
+    let mut blocks = zero_blocks(alloc, geometry.primaries, 512 * geometry.sectors as usize)?;
+    let free = geometry.blocks - geometry.primaries;
+    for block in 0..free {
         blocks.push(None)?;
+    }
+    Ok(blocks)
+}
+
+fn zero_blocks(alloc: Global, count: u32, len: usize) -> Result<Vec<Option<Block>>, AllocError>
+    ensures { IfOk result (λ v. v.items ≡ replicate count (Some (replicate len 0))) }
+{
+    let mut blocks = Vec::new(alloc);
+    for block in 0..count {
+        blocks.push(Some(Block::zeros(alloc, len)?))?;
     }
     Ok(blocks)
 }
