@@ -1,13 +1,14 @@
 -- The greatest of levels.
 use Rattle.std.proofs.Common.{◌≡◌, ℕ, suc, ◌+◌, ◌<◌, Bool, true, false, cond, ◌==◌, List, [], ◌∷◌, ◌++◌, length, take, refl, sym, ◌∙◌, ap, arith}
 use Rattle.std.specs.Prelude.{map, filter, slice_index_or}
-use Rattle.std.proofs.lemmas.List.{take_more, map-append}
+use Rattle.std.specs.List.{range_with_len, enumerate_from}
+use Rattle.std.proofs.lemmas.List.{take_more, map-append, length-take-le}
 use Rattle.tsd_model.specs.Pairs.{sources_to}
-use Rattle.tsd_model.specs.Sessions.{greater, greatest}
+use Rattle.tsd_model.specs.Sessions.{greater, greatest, raised_level, raised_held}
 use Rattle.tsd_model.specs.Attained.{led_level}
 use Rattle.tsd_model.specs.declared.requests.Level.{Level}
 use Rattle.tsd_model.specs.declared.requests.Level.TheVariants.{Bare, Read, Write}
-use Rattle.tsd_model.proofs.RangeLaws.{filter-snoc}
+use Rattle.tsd_model.proofs.RangeLaws.{filter-snoc, map_range_next}
 
 pub greater-bare : (l : Level) → greater l Bare ≡ l
 greater-bare Bare = refl
@@ -68,3 +69,31 @@ led_level-snoc levels b es e =
 pub led_level_more : (levels : List Level) (b : ℕ) (es : List (ℕ × ℕ)) (i : ℕ) (d : ℕ × ℕ) → i < length es →
     led_level levels b (take (i + 1) es) ≡ greater (led_level levels b (take i es)) (cond ((slice_index_or es i d).1 == b) (slice_index_or levels (slice_index_or es i d).0 Bare) Bare)
 led_level_more levels b es i d h = ap (led_level levels b) (take_more es i d h) ∙ led_level-snoc levels b (take i es) (slice_index_or es i d)
+
+pub greatest_range_next : (f : ℕ → Level) (n : ℕ) → greatest (map f (range_with_len 0 (n + 1))) ≡ greater (greatest (map f (range_with_len 0 n))) (f n)
+greatest_range_next f n = ap greatest (map_range_next f n) ∙ greatest-snoc (map f (range_with_len 0 n)) (f n)
+
+-- who holds nothing is led to nothing
+pub led_level_nothing : (b : ℕ) (es : List (ℕ × ℕ)) → Bare ≡ led_level [] b es
+led_level_nothing b es = none (sources_to es b)
+  where
+    none : (xs : List ℕ) → Bare ≡ greatest (map (λ a. slice_index_or [] a Bare) xs)
+    none [] = refl
+    none (x ∷ xs) = sym (bare-greater (greatest (map (λ a. slice_index_or [] a Bare) xs)) ∙ sym (none xs))
+
+enumerate-snoc : (n : ℕ) (held : List (List Level)) (levels : List Level) → enumerate_from n (held ++ levels ∷ []) ≡ enumerate_from n held ++ (n + length held, levels) ∷ []
+enumerate-snoc n [] levels = let e : n ≡ n + 0 = omega arith in ap (λ k. (k, levels) ∷ []) e
+enumerate-snoc n (h ∷ held) levels =
+    let e : (n + 1) + length held ≡ n + suc (length held) = omega arith in
+    ap (λ rest. (n, h) ∷ rest) (enumerate-snoc (n + 1) held levels ∙ ap (λ k. enumerate_from (n + 1) held ++ (k, levels) ∷ []) e)
+
+-- one more origin
+pub raised_held_more : (b : ℕ) (f : ℕ → Level) (held : List (List Level)) (o : ℕ) (d : List Level) → o < length held →
+    raised_held b f (take (o + 1) held) ≡ raised_held b f (take o held) ++ raised_level b (f o) (slice_index_or held o d) ∷ []
+raised_held_more b f held o d h =
+    let g : (ℕ × List Level) → List Level = λ p. raised_level b (f p.0) p.1 in
+    let long : length (take o held) ≡ o = length-take-le o held (omega arith) in
+    ap (raised_held b f) (take_more held o d h)
+    ∙ (ap (map g) (enumerate-snoc 0 (take o held) (slice_index_or held o d))
+    ∙ (map-append g (enumerate_from 0 (take o held)) ((0 + length (take o held), slice_index_or held o d) ∷ [])
+    ∙ ap (λ k. raised_held b f (take o held) ++ raised_level b (f k) (slice_index_or held o d) ∷ []) (omega arith)))

@@ -5,12 +5,13 @@ use Rattle.std.specs.Option.{option_map_or}
 use Rattle.tsd_model.specs.World.{World, is_live}
 use Rattle.tsd_model.specs.Sessions.{Sessions, level_le}
 use Rattle.tsd_model.specs.Attained.{attained_from}
-use Rattle.tsd_model.specs.Needs.{session_of, Need, needs}
+use Rattle.tsd_model.specs.Needs.{session_of, needs}
 use Rattle.tsd_model.specs.Verdict.{is_granted}
 use Rattle.tsd_model.specs.Step.{State, step}
 use Rattle.tsd_model.specs.Run.{answer}
 use Rattle.tsd_model.specs.declared.requests.Level.{Level}
 use Rattle.tsd_model.specs.declared.requests.PlaceKind.{PlaceKind}
+use Rattle.tsd_model.specs.declared.needs.Need.{Need}
 use Rattle.tsd_model.specs.declared.requests.Request.{Request}
 use Rattle.tsd_model.specs.declared.requests.Request.TheVariants as ask
 

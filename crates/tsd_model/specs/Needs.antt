@@ -1,6 +1,6 @@
 -- What a request names and needs.
 use Rattle.std.specs.Prelude.{ℕ, Bool, true, false, List, [], ◌∷◌, Option, Some, None}
-use Rattle.tsd_model.specs.declared.requests.Level.{Level}
+use Rattle.tsd_model.specs.declared.needs.Need.{Need}
 use Rattle.tsd_model.specs.declared.requests.Level.TheVariants as level
 use Rattle.tsd_model.specs.declared.caps.Shown.{Shown}
 use Rattle.tsd_model.specs.declared.caps.Shown.TheVariants.{Nothing}
@@ -38,12 +38,6 @@ named_blocks (ask.Delete s a shown b) = a ∷ b ∷ []
 named_blocks (ask.SetCap s b shown caps) = b ∷ []
 named_blocks (ask.Sweep s shown) = 0 ∷ []
 named_blocks (ask.List s a shown start) = a ∷ []
-
--- A level that is needed at a block, and what is shown there.
-pub record Need : Type 0 where
-  pub block : ℕ
-  pub level : Level
-  pub shown : Shown
 
 -- A capability is shown at the block or the source; a sweep needs write at block 0.
 abbrev pub needs : Request → List Need

@@ -10,9 +10,10 @@ use Rattle.tsd_model.specs.Doomed.{settle}
 use Rattle.tsd_model.specs.Placing.{chosen, chosen_run}
 use Rattle.tsd_model.specs.Sessions.{Sessions, begun, ended, raised, dropped_from, fitted}
 use Rattle.tsd_model.specs.Attained.{attained_from}
-use Rattle.tsd_model.specs.Needs.{session_of, Need, needs}
+use Rattle.tsd_model.specs.Needs.{session_of, needs}
 use Rattle.tsd_model.specs.Verdict.{verdict}
 use Rattle.tsd_model.specs.declared.requests.PlaceKind.{PlaceKind}
+use Rattle.tsd_model.specs.declared.needs.Need.{Need}
 use Rattle.tsd_model.specs.declared.requests.Request.{Request}
 use Rattle.tsd_model.specs.declared.requests.Request.TheVariants as ask
 use Rattle.tsd_model.specs.declared.replies.Reply.{Reply}

@@ -8,8 +8,9 @@ use Rattle.tsd_model.specs.World.{World, is_free, is_primary, free_count}
 use Rattle.tsd_model.specs.Placing.{runs}
 use Rattle.tsd_model.specs.Sessions.{Sessions, sessions_max, is_open, level_le}
 use Rattle.tsd_model.specs.Attained.{attained}
-use Rattle.tsd_model.specs.Needs.{session_of, named_blocks, Need, needs, wanted_blocks, wanted_pairs}
+use Rattle.tsd_model.specs.Needs.{session_of, named_blocks, needs, wanted_blocks, wanted_pairs}
 use Rattle.tsd_model.specs.declared.requests.Level.{Level}
+use Rattle.tsd_model.specs.declared.needs.Need.{Need}
 use Rattle.tsd_model.specs.declared.requests.Request.{Request}
 use Rattle.tsd_model.specs.declared.requests.Request.TheVariants as ask
 use Rattle.tsd_model.specs.declared.replies.Rule.{Rule}

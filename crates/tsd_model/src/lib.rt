@@ -12,6 +12,7 @@ mod graph;
 mod growing;
 pub mod lists;
 pub mod memory;
+pub mod needs;
 mod pairs;
 mod placing;
 pub mod ranks;
@@ -19,6 +20,7 @@ pub mod records;
 pub mod replies;
 pub mod requests;
 mod sessions;
+mod verdict;
 pub mod world;
 
 pub use caps::{Cap, CapPair, Shown};

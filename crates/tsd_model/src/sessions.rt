@@ -8,6 +8,7 @@ ghost use Rattle.tsd_model.specs.Attained.{shown_level, led_level, attained_from
 ghost use Rattle.tsd_model.specs.declared.requests.Level.TheVariants as level;
 
 use crate::caps::Shown;
+use crate::needs::Need;
 use crate::records::{kept_of, record_level};
 use crate::requests::Level;
 use crate::world::World;
@@ -60,15 +61,17 @@ impl LevelTable {
         }
     }
 
-    /// The level at a block becomes the greater of the old one and this one.
-    fn raise(&mut self, block: u32, attained: Level)
-        ensures { self.new ≡ raised_level block attained self.old }
+    /// The same with the greater of the old level and this one at a block.
+    fn raise(&self, alloc: Global, block: u32, attained: Level) -> Result<LevelTable, AllocError>
+        ensures { IfOk result (λ t. t ≡ raised_level block attained self.now) }
     {
+        let mut table = self.copy(alloc)?;
         let place = block as usize;
         let raised = greater(self.level(block), attained);
-        if place < self.levels.len() {
-            self.levels[place] = raised;
+        if place < table.levels.len() {
+            table.levels[place] = raised;
         }
+        Ok(table)
     }
 
     #[tactic(auto, using(crate::proofs::LevelLaws::led_level_more))]
@@ -104,17 +107,20 @@ pub struct Holding {
 }
 
 impl Model for Holding {
-    ghost use Rattle.std.specs.Prelude.{List};
+    ghost use Rattle.std.specs.Prelude.{List, ◌≤◌, length};
     ghost use Rattle.tsd_model.specs.declared.requests.Level.{Level};
 
     ghost Value = { List (List Level) };
 
     ghost view = { λ h. h.tables.items };
+
+    ghost invariant = { λ h. length h.tables.items ≤ 16 };
 }
 
 impl Holding {
     /// Nothing, at so many blocks from so many origins.
     fn nothing(alloc: Global, primaries: u32, blocks: u32) -> Result<Holding, AllocError>
+        requires { primaries ≤ 16 }
         ensures { IfOk result (λ h. h ≡ replicate primaries (replicate blocks level.Bare)) }
     {
         let mut tables = Vec::new(alloc);
@@ -141,6 +147,38 @@ impl Holding {
             Some(table) => table.level(block),
             None => Level::Bare,
         }
+    }
+
+    #[tactic(auto, using(crate::proofs::LevelLaws::led_level_nothing))]
+    fn led_level(&self, origin: u32, block: u32, pairs: &[(u32, u32)]) -> Level
+        ensures { result ≡ led_level (slice_index_or self.now origin []) block pairs.now }
+    {
+        match self.tables.get(origin as usize) {
+            Some(table) => table.led_level(block, pairs),
+            None => Level::Bare,
+        }
+    }
+
+    /// The same with the levels at a block raised to those that the session attains there.
+    fn raise(
+        &self,
+        alloc: Global,
+        world: &World,
+        before: &Sessions,
+        session: u32,
+        need: &Need,
+    ) -> Result<Holding, AllocError>
+        ensures { IfOk result (λ h. h ≡ raised_held need.now.block (attained_from world.now before.now session need.now.block need.now.shown) self.now) }
+    {
+        let mut tables = Vec::new(alloc);
+        let held = self.tables.as_slice();
+        let count = held.len() as u32;
+        for origin in 0..count {
+            let attained = attained_from(world, before, session, need.block, &need.shown, origin);
+            let table = &held[origin as usize];
+            tables.push(table.raise(alloc, need.block, attained)?)?;
+        }
+        Ok(Holding { tables })
     }
 
     /// The same without what came from this origin.
@@ -224,6 +262,17 @@ impl Sessions {
         }
     }
 
+    /// The greatest level that a session holds from an origin at a source of a pair to a block.
+    #[tactic(auto, using(crate::proofs::LevelLaws::led_level_nothing))]
+    fn led_level(&self, session: u32, origin: u32, block: u32, pairs: &[(u32, u32)]) -> Level
+        ensures { result ≡ led_level (levels_from self.now session origin) block pairs.now }
+    {
+        match self.holding(session) {
+            Some(holding) => holding.led_level(origin, block, pairs),
+            None => Level::Bare,
+        }
+    }
+
     fn set(&mut self, session: u32, holding: Option<Holding>)
         ensures { self.new ≡ slice_set self.old (session - 1) holding }
     {
@@ -243,6 +292,126 @@ impl Sessions {
         }
         Ok(Sessions { held })
     }
+
+    /// With this session open, holding nothing.
+    pub fn begun(&self, alloc: Global, world: &World, session: u32) -> Result<Sessions, AllocError>
+        ensures { IfOk result (λ v. v ≡ begun world.now self.now session) }
+    {
+        let mut sessions = self.copy(alloc)?;
+        let geometry = world.geometry();
+        let holding = Holding::nothing(alloc, geometry.primaries, geometry.blocks)?;
+        sessions.set(session, Some(holding));
+        Ok(sessions)
+    }
+
+    /// With this session closed.
+    pub fn ended(&self, alloc: Global, session: u32) -> Result<Sessions, AllocError>
+        ensures { IfOk result (λ v. v ≡ ended self.now session) }
+    {
+        let mut sessions = self.copy(alloc)?;
+        sessions.set(session, None);
+        Ok(sessions)
+    }
+
+    /// At a block the levels of a session, from each origin, become the greater of the old ones and those that the
+    /// session attains there in a world, as `before` tells what was held.
+    pub fn raise(
+        &self,
+        alloc: Global,
+        world: &World,
+        before: &Sessions,
+        session: u32,
+        need: &Need,
+    ) -> Result<Sessions, AllocError>
+        ensures { IfOk result (λ v. v ≡ raised self.now session need.now.block (attained_from world.now before.now session need.now.block need.now.shown)) }
+    {
+        let mut sessions = self.copy(alloc)?;
+        let raised = match self.holding(session) {
+            None => None,
+            Some(holding) => Some(holding.raise(alloc, world, before, session, need)?),
+        };
+        sessions.set(session, raised);
+        Ok(sessions)
+    }
+
+    /// Without what came from this origin, in every session.
+    pub fn without_origin(&self, alloc: Global, blocks: u32, origin: u32) -> Result<Sessions, AllocError>
+        ensures { IfOk result (λ v. v ≡ dropped_from blocks origin self.now) }
+    {
+        let mut held = ArrayVec::new();
+        for holding in self.held.as_slice() {
+            held.push(without_origin(alloc, holding, blocks, origin)?);
+        }
+        Ok(Sessions { held })
+    }
+
+    /// Without the levels at blocks that aren't live, in every session.
+    pub fn at_live(&self, alloc: Global, world: &World) -> Result<Sessions, AllocError>
+        ensures { IfOk result (λ v. v ≡ fitted world.now self.now) }
+    {
+        let mut held = ArrayVec::new();
+        for holding in self.held.as_slice() {
+            held.push(at_live(alloc, holding, world)?);
+        }
+        Ok(Sessions { held })
+    }
+}
+
+fn without_origin(alloc: Global, holding: &Option<Holding>, blocks: u32, origin: u32) -> Result<Option<Holding>, AllocError>
+    ensures { IfOk result (λ h. h ≡ option_map (λ held. slice_set held origin (replicate blocks level.Bare)) holding.now) }
+{
+    match holding {
+        None => Ok(None),
+        Some(holding) => Ok(Some(holding.without_origin(alloc, blocks, origin)?)),
+    }
+}
+
+fn at_live(alloc: Global, holding: &Option<Holding>, world: &World) -> Result<Option<Holding>, AllocError>
+    ensures { IfOk result (λ h. h ≡ option_map (map (levels_at_live world.now)) holding.now) }
+{
+    match holding {
+        None => Ok(None),
+        Some(holding) => Ok(Some(holding.at_live(alloc, world)?)),
+    }
+}
+
+/// What a shown capability attains at a primary block.
+pub fn shown_level(world: &World, block: u32, shown: &Shown) -> Level
+    ensures { result ≡ shown_level world.now block shown.now }
+{
+    match shown {
+        Shown::Nothing => Level::Bare,
+        Shown::Key(cap) => match world.records().get(block as usize) {
+            None => Level::Bare,
+            Some(held) => record_level(held, &kept_of(world.version(), cap)),
+        },
+    }
+}
+
+/// The level that a session attains at a block from an origin.
+pub fn attained_from(world: &World, sessions: &Sessions, session: u32, block: u32, shown: &Shown, origin: u32) -> Level
+    ensures { result ≡ attained_from world.now sessions.now session block shown.now origin }
+{
+    if !world.is_primary(block) {
+        sessions.led_level(session, origin, block, world.pairs())
+    } else if origin == block {
+        shown_level(world, block, shown)
+    } else {
+        Level::Bare
+    }
+}
+
+#[tactic(auto, using(crate::proofs::LevelLaws::greatest_range_next))]
+/// The greatest level that a session attains at a block, from any origin.
+pub fn attained(world: &World, sessions: &Sessions, session: u32, block: u32, shown: &Shown) -> Level
+    ensures { result ≡ attained world.now sessions.now session block shown.now }
+{
+    let mut best = Level::Bare;
+    let count = world.geometry().primaries;
+    for origin in 0..count {
+        best = greater(best, attained_from(world, sessions, session, block, shown, origin));
+    }
+    best
 }
 
 fn copy_of(alloc: Global, holding: &Option<Holding>) -> Result<Option<Holding>, AllocError>
