@@ -28,3 +28,6 @@ filter_range_next p b = ap (filter p) (range_next b) ∙ filter-snoc p (range_wi
 -- a function of one more number
 pub map_range_next : {X : Type 0} (f : ℕ → X) (b : ℕ) → map f (range_with_len 0 (b + 1)) ≡ map f (range_with_len 0 b) ++ f b ∷ []
 map_range_next f b = ap (map f) (range_next b) ∙ map-append f (range_with_len 0 b) (b ∷ [])
+
+pub range_next_from : (a n : ℕ) → range_with_len a (n + 1) ≡ range_with_len a n ++ (a + n) ∷ []
+range_next_from a n = ap (range_with_len a) (add-one n) ∙ range_with_len-next a n (a + n) refl

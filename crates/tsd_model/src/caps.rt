@@ -21,9 +21,10 @@ pub struct CapPair {
 }
 
 /// What a request shows. It shows at most one capability.
-#[derive(Clone, Copy, Debug, PartialEq, Eq)]
+#[derive(Clone, Copy, Debug, Default, PartialEq, Eq)]
 pub enum Shown {
     /// No capability.
+    #[default]
     Nothing,
 
     /// This one.

@@ -19,7 +19,8 @@ pub mod ranks;
 pub mod records;
 pub mod replies;
 pub mod requests;
-mod sessions;
+pub mod sessions;
+pub mod step;
 mod verdict;
 pub mod world;
 
@@ -31,4 +32,6 @@ pub use memory::NoMemory;
 pub use records::{KeptCap, Record};
 pub use replies::{Reply, Rule};
 pub use requests::{Hint, Level, PlaceKind, Request};
+pub use sessions::Sessions;
+pub use step::plain_step;
 pub use world::World;

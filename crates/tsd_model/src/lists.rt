@@ -1,6 +1,6 @@
 //! Lists of bounded length, which take no memory. Contracts see each as the list of its items.
 
-ghost use Rattle.std.specs.Prelude.{◌≡◌, ◌↔◌, ◌<◌, ◌≤◌, ◌+◌, [], ◌∷◌, ◌++◌, length, nat_eq, IsTrue, IsOk, OnOk, OnErr};
+ghost use Rattle.std.specs.Prelude.{◌≡◌, ◌↔◌, ◌<◌, ◌≤◌, ◌+◌, [], ◌∷◌, ◌++◌, length, take, cond, nat_eq, IsTrue, IsOk, OnOk, OnErr};
 ghost use Rattle.std.specs.Cmp.{partial_equiv_from_equiv};
 ghost use Rattle.std.specs.Cmp.Lexicographic.{nat_list_eq_equiv, pointwise};
 
@@ -175,6 +175,30 @@ impl BlockList {
         ensures err { OnErr result (self.new ≡ self.old) }
     {
         match self.blocks.try_push(item) {
+            Ok(()) => Ok(()),
+            Err(_) => Err(ListFull),
+        }
+    }
+}
+
+impl BlockList {
+    /// Adds a block at the end where it is wanted and there is room.
+    pub fn push_wanted(&mut self, item: u32, wanted: bool)
+        ensures { self.new ≡ take BLOCKS_MAX (self.old ++ cond wanted (item ∷ []) []) }
+    {
+        let len = self.len();
+        if wanted && len < BLOCKS_MAX {
+            let _room = self.push(item);
+        }
+    }
+
+    /// Adds blocks at the end, all of them or none.
+    pub fn extend_from_slice(&mut self, items: &[u32]) -> Result<(), ListFull>
+        ensures variant { IsOk result ↔ (length self.old + length items.now ≤ BLOCKS_MAX) }
+        ensures ok { OnOk result (self.new ≡ self.old ++ items.now) }
+        ensures err { OnErr result (self.new ≡ self.old) }
+    {
+        match self.blocks.try_extend_from_slice(items) {
             Ok(()) => Ok(()),
             Err(_) => Err(ListFull),
         }

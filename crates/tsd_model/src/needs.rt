@@ -1,13 +1,14 @@
 //! What a request names and needs.
 
 ghost use Rattle.std.specs.Prelude.{◌≡◌, [], ◌∷◌};
-ghost use Rattle.tsd_model.specs.Needs.{session_of, needs, wanted_blocks, wanted_pairs};
+ghost use Rattle.tsd_model.specs.Needs.{session_of, named_blocks, needs, wanted_blocks, wanted_pairs};
 
 use crate::caps::Shown;
 use crate::requests::{Level, Request};
+use arrayvec::ArrayVec;
 
 /// A level that is needed at a block, and what is shown there.
-#[derive(Clone, Copy, Debug, PartialEq, Eq)]
+#[derive(Clone, Copy, Debug, Default, PartialEq, Eq)]
 pub struct Need {
     /// The block.
     pub block: u32,
@@ -36,6 +37,64 @@ pub fn session_of(request: &Request) -> Option<u32>
         | Request::SetCap { session, .. }
         | Request::Sweep { session, .. }
         | Request::List { session, .. } => Some(*session),
+    }
+}
+
+/// The blocks that a request names: the block or the source, then the target. A sweep names block 0.
+pub fn named_blocks(request: &Request) -> ArrayVec<u32, 2>
+    ensures { result.items ≡ named_blocks request.now }
+{
+    let mut blocks = ArrayVec::new();
+    match request {
+        Request::Bad | Request::GetFree | Request::Begin { .. } | Request::End { .. } => {}
+        Request::Read { block, .. }
+        | Request::Write { block, .. }
+        | Request::SetCap { block, .. } => blocks.push(*block),
+        Request::Alloc { source, .. }
+        | Request::Contig { source, .. }
+        | Request::List { source, .. } => blocks.push(*source),
+        Request::Create { source, target, .. } | Request::Delete { source, target, .. } => {
+            blocks.push(*source);
+            blocks.push(*target);
+        }
+        Request::Sweep { .. } => blocks.push(0),
+    }
+    blocks
+}
+
+/// What a request needs: a capability is shown at the block or the source; a sweep needs write at block 0.
+pub fn needs(request: &Request) -> ArrayVec<Need, 2>
+    ensures { result.items ≡ needs request.now }
+{
+    let mut needs = ArrayVec::new();
+    match request {
+        Request::Bad | Request::GetFree | Request::Begin { .. } | Request::End { .. } => {}
+        Request::Read { block, shown, .. } => needs.push(need_of(*block, Level::Read, *shown)),
+        Request::List { source, shown, .. } => needs.push(need_of(*source, Level::Read, *shown)),
+        Request::Write { block, shown, .. } | Request::SetCap { block, shown, .. } => {
+            needs.push(need_of(*block, Level::Write, *shown));
+        }
+        Request::Alloc { source, shown, .. }
+        | Request::Contig { source, shown, .. }
+        | Request::Delete { source, shown, .. } => {
+            needs.push(need_of(*source, Level::Write, *shown));
+        }
+        Request::Create { source, shown, target, .. } => {
+            needs.push(need_of(*source, Level::Write, *shown));
+            needs.push(need_of(*target, Level::Write, Shown::Nothing));
+        }
+        Request::Sweep { shown, .. } => needs.push(need_of(0, Level::Write, *shown)),
+    }
+    needs
+}
+
+fn need_of(block: u32, level: Level, shown: Shown) -> Need
+    ensures { result ≡ record { block = block; level = level; shown = shown } }
+{
+    Need {
+        block,
+        level,
+        shown,
     }
 }
 

@@ -14,9 +14,10 @@ pub enum Hint {
 }
 
 /// What one may do at a block, in rising order.
-#[derive(Clone, Copy, Debug, PartialEq, Eq, PartialOrd, Ord)]
+#[derive(Clone, Copy, Debug, Default, PartialEq, Eq, PartialOrd, Ord)]
 pub enum Level {
     /// Nothing; printed `none`.
+    #[default]
     Bare,
 
     /// Read it.

@@ -3,7 +3,7 @@
 ghost use Rattle.std.specs.Prelude.{◌≡◌, ◌-◌, ◌+◌, ◌<◌, ◌≤◌, length, map, replicate, slice_set, slice_index_or, filter, ◌==◌, cond, [], Some, None, option_map, IfOk, OnOk, OnErr, MatchOption};
 ghost use Rattle.std.specs.List.{enumerate_from};
 ghost use Rattle.tsd_model.specs.Pairs.{sources_to};
-ghost use Rattle.tsd_model.specs.Sessions.{held_by, is_open, level_from, levels_from, levels_in, level_of, greater, greatest, no_sessions, begun, ended, raised, raised_held, raised_level, dropped_from, levels_at_live, fitted};
+ghost use Rattle.tsd_model.specs.Sessions.{held_by, is_open, level_from, levels_from, levels_in, level_of, level_le, greater, greatest, no_sessions, begun, ended, raised, raised_held, raised_level, dropped_from, levels_at_live, fitted};
 ghost use Rattle.tsd_model.specs.Attained.{shown_level, led_level, attained_from, attained};
 ghost use Rattle.tsd_model.specs.declared.requests.Level.TheVariants as level;
 
@@ -427,6 +427,19 @@ fn level_if(counts: bool, found: Level) -> Level
     ensures { result ≡ cond counts found level.Bare }
 {
     if counts { found } else { Level::Bare }
+}
+
+/// Whether the first level is at most the second.
+pub fn level_le(one: Level, other: Level) -> bool
+    ensures { result ≡ level_le one other }
+{
+    match (one, other) {
+        (Level::Bare, _) => true,
+        (Level::Read, Level::Bare) => false,
+        (Level::Read, _) => true,
+        (Level::Write, Level::Write) => true,
+        (Level::Write, _) => false,
+    }
 }
 
 /// The greater of two levels.

@@ -1,0 +1,6 @@
+use Rattle.std.proofs.Common.{◌≡◌, take}
+use Rattle.std.specs.Prelude.{◌++◌, replicate}
+use Rattle.tsd_model.proofs.world.Block.filled.Given as goal
+
+abbrev pub invariant-loop-zero : goal.invariant-loop-zero
+invariant-loop-zero l = l.filled.items ≡ l.bytes ++ replicate l.zero 0
