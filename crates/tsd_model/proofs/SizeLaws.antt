@@ -54,7 +54,7 @@ sized-restricted w keep h = record {
   lawful = h.lawful;
   each_block = length-map-range_with_len (λ c. cond (keep c) (contents w c) None) 0 (length w.blocks) ∙ h.each_block;
   full = λ b. subst (λ c. IfSome c (λ bytes. length bytes ≡ block_len w.geometry)) (sym (contents-restricted w keep b)) (kept_full (keep b) b);
-  room = omega (arith, length-filter_le (λ e. keep e.0) w.pairs, h.room)
+  room = omega (arith, length-filter_le (λ e. keep e.0) w.pairs, h.room);
 }
   where
     kept_full : (t : Bool) (b : ℕ) → IfSome (cond t (contents w b) None) (λ bytes. length bytes ≡ block_len w.geometry)

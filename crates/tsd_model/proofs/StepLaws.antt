@@ -1,13 +1,14 @@
 -- The targets that are listed, and the blocks that are taken.
-use Rattle.std.proofs.Common.{◌≡◌, ℕ, zero, suc, ◌+◌, ◌-◌, ◌<◌, ◌≤◌, Bool, true, false, cond, ◌&&◌, ◌==◌, nat_le, nat_lt, List, [], ◌∷◌, ◌++◌, length, take, refl, sym, ◌∙◌, ap, subst, arith, IsTrue}
+use Rattle.std.proofs.Common.{◌≡◌, ℕ, zero, suc, ◌+◌, ◌-◌, ◌<◌, ◌≤◌, Bool, true, false, cond, ◌&&◌, ◌==◌, nat_le, nat_lt, List, [], ◌∷◌, ◌++◌, length, take, drop, add-one, refl, sym, ◌∙◌, ap, subst, arith, IsTrue}
 use Rattle.std.proofs.Common.{Option, Some, None}
 use Rattle.std.specs.Prelude.{filter, map, slice_index_or, IfSome}
 use Rattle.std.specs.List.{range_with_len}
-use Rattle.std.proofs.lemmas.List.{take_more, map-append}
+use Rattle.std.proofs.lemmas.List.{take_more, map-append, length-append}
+use Rattle.std.proofs.Math.Seq.{drop-cons}
 use Rattle.tsd_model.specs.World.{World}
 use Rattle.tsd_model.specs.Rank.{rank_of}
 use Rattle.tsd_model.specs.Placing.{in_rank_order, sorted_by_rank, hint_block, first_of, is_free_run, runs, chosen_run}
-use Rattle.tsd_model.specs.Step.{targets_from}
+use Rattle.tsd_model.specs.Step.{targets_from, zeros, with_contents, with_pointer, with_new_blocks}
 use Rattle.tsd_model.specs.declared.requests.Hint.{Hint}
 use Rattle.tsd_model.specs.declared.requests.PlaceKind.{PlaceKind}
 use Rattle.tsd_model.proofs.RangeLaws.{filter-snoc}
@@ -17,6 +18,10 @@ pub take-take-append : {X : Type 0} (n : ℕ) (xs ys : List X) → take n (take 
 take-take-append zero xs ys = refl
 take-take-append (suc n) [] ys = refl
 take-take-append (suc n) (x ∷ xs) ys = ap (λ zs. x ∷ zs) (take-take-append n xs ys)
+
+append_nothing : (xs : List ℕ) → xs ++ [] ≡ xs
+append_nothing [] = refl
+append_nothing (x ∷ xs) = ap (λ zs. x ∷ zs) (append_nothing xs)
 
 -- one more pair
 pub targets_from_more : (es : List (ℕ × ℕ)) (i a start : ℕ) (d : ℕ × ℕ) → i < length es →
@@ -29,14 +34,40 @@ targets_from_more es i a start d h =
     ap (λ fs. take 64 (map target_of (filter p fs))) (take_more es i d h)
     ∙ (ap (λ fs. take 64 (map target_of fs)) (filter-snoc p (take i es) e)
     ∙ (elim (p e) as (λ t. take 64 (map target_of (cond t (found ++ e ∷ []) found)) ≡ take 64 (map target_of found ++ cond t (e.1 ∷ []) [])) [
-        | true ↦ ap (take 64) (map-append target_of found (e ∷ []))
-        | false ↦ ap (take 64) (sym (append_nothing (map target_of found)))
-      ]
+      | true ↦ ap (take 64) (map-append target_of found (e ∷ []))
+      | false ↦ ap (take 64) (sym (append_nothing (map target_of found)))
+    ]
     ∙ sym (take-take-append 64 (map target_of found) (cond (p e) (e.1 ∷ []) []))))
-  where
-    append_nothing : (xs : List ℕ) → xs ++ [] ≡ xs
-    append_nothing [] = refl
-    append_nothing (x ∷ xs) = ap (λ zs. x ∷ zs) (append_nothing xs)
+
+-- one more new block
+pub with_new_blocks_more : (w : World) (a : ℕ) (bs : List ℕ) (i d : ℕ) → i < length bs →
+    with_new_blocks (with_pointer (with_contents w (slice_index_or bs i d) (zeros w)) a (slice_index_or bs i d)) a (drop (i + 1) bs) ≡ with_new_blocks w a (drop i bs)
+with_new_blocks_more w a bs i d h =
+    let e : drop i bs ≡ slice_index_or bs i d ∷ drop (i + 1) bs = drop-cons bs i d h ∙ ap (λ k. slice_index_or bs i d ∷ drop k bs) (sym (add-one i)) in
+    ap (with_new_blocks w a) (sym e)
+
+-- ---- a list of at most 64
+
+take_whole : (n : ℕ) (xs : List ℕ) → length xs ≤ n → take n xs ≡ xs
+take_whole zero [] h = refl
+take_whole zero (x ∷ xs) h = absurd (omega arith)
+take_whole (suc n) [] h = refl
+take_whole (suc n) (x ∷ xs) h = ap (λ zs. x ∷ zs) (take_whole n xs (omega arith))
+
+take_front : (n : ℕ) (xs ys : List ℕ) → length xs ≡ n → take n (xs ++ ys) ≡ xs
+take_front zero [] ys h = refl
+take_front zero (x ∷ xs) ys h = absurd (omega arith)
+take_front (suc n) [] ys h = absurd (omega arith)
+take_front (suc n) (x ∷ xs) ys h = ap (λ zs. x ∷ zs) (take_front n xs ys (omega arith))
+
+pub pushed_with_room : (xs : List ℕ) (x : ℕ) → length xs < 64 → xs ++ x ∷ [] ≡ take 64 (xs ++ x ∷ [])
+pushed_with_room xs x h = sym (take_whole 64 (xs ++ x ∷ []) (omega (arith, length-append xs (x ∷ []))))
+
+pub not_pushed : (xs ys : List ℕ) → length xs ≡ 64 → xs ≡ take 64 (xs ++ ys)
+not_pushed xs ys h = sym (take_front 64 xs ys h)
+
+pub nothing_pushed : (xs : List ℕ) → length xs ≤ 64 → xs ≡ take 64 (xs ++ [])
+nothing_pushed xs h = sym (ap (take 64) (append_nothing xs) ∙ take_whole 64 xs h)
 
 -- ---- the first block of a chosen run is one of the disk
 
@@ -65,9 +96,8 @@ below-first_of : (n : ℕ) (xs : List ℕ) → AllBelow n xs → IfSome (first_o
 below-first_of n [] h = tt
 below-first_of n (x ∷ xs) h = h.0
 
-pub chosen_run_below : (kind : PlaceKind) (w : World) (h : Hint) (count : ℕ) → IfSome (chosen_run kind w h count) (λ b. b < length w.blocks)
-chosen_run_below kind w h count =
-    let n = length w.blocks in
+pub chosen_run_below : (kind : PlaceKind) (w : World) (h : Hint) (count n : ℕ) → length w.blocks ≤ n → IfSome (chosen_run kind w h count) (λ b. b < n)
+chosen_run_below kind w h count n most =
     below-first_of n (sorted_by_rank (rank_of kind (hint_block h)) (runs w count))
-        (below-sorted_by_rank n (rank_of kind (hint_block h)) (runs w count)
-            (below-filter n (is_free_run w count) (range_with_len 0 n) (below-range n 0 n (omega arith))))
+    (below-sorted_by_rank n (rank_of kind (hint_block h)) (runs w count)
+    (below-filter n (is_free_run w count) (range_with_len 0 (length w.blocks)) (below-range n 0 (length w.blocks) (omega arith))))

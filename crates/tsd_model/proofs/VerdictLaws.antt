@@ -9,7 +9,6 @@ use Rattle.tsd_model.specs.declared.replies.Rule.{Rule}
 abbrev NoRule : List Check → Type 0
 NoRule cs = ◌≡◌ {A = Option Rule} (first_rule cs) None
 
-
 -- where no rule of the first list applies, the second decides
 pub first_rule_none : (cs ds : List Check) → ◌≡◌ {A = Option Rule} (first_rule cs) None → first_rule (cs ++ ds) ≡ first_rule ds
 first_rule_none [] ds h = refl

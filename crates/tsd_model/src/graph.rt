@@ -82,19 +82,21 @@ fn is_reached(world: &World, reached: &[u32], block: u32) -> bool
 fn is_led_from(pairs: &[(u32, u32)], from: &[u32], block: u32) -> bool
     ensures { result ≡ list_any (λ e. (e.1 == block) && has_number from.now e.0) pairs.now }
 {
-    pairs.iter().any(|pair| pair.1 == block && has_number(from, pair.0))
+    pairs
+        .iter()
+        .any(|pair| pair.1 == block && has_number(from, pair.0))
 }
 
 fn hangs_on(world: &World, gone: &[u32], block: u32) -> bool
     ensures { result ≡ hangs_on world.now gone.now block }
 {
-    world.is_live(block)
-        && !world.is_primary(block)
-        && is_led_only_from(world.pairs(), gone, block)
+    world.is_live(block) && !world.is_primary(block) && is_led_only_from(world.pairs(), gone, block)
 }
 
 fn is_led_only_from(pairs: &[(u32, u32)], gone: &[u32], block: u32) -> bool
     ensures { result ≡ list_all (λ e. not (e.1 == block) || has_number gone.now e.0) pairs.now }
 {
-    pairs.iter().all(|pair| pair.1 != block || has_number(gone, pair.0))
+    pairs
+        .iter()
+        .all(|pair| pair.1 != block || has_number(gone, pair.0))
 }

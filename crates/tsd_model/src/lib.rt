@@ -22,6 +22,8 @@ pub mod requests;
 pub mod sessions;
 pub mod step;
 mod verdict;
+#[cfg(test)]
+mod tests;
 pub mod world;
 
 pub use caps::{Cap, CapPair, Shown};

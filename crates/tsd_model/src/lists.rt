@@ -188,7 +188,7 @@ impl BlockList {
     {
         let len = self.len();
         if wanted && len < BLOCKS_MAX {
-            let _room = self.push(item);
+            self.blocks.push(item);
         }
     }
 

@@ -79,7 +79,12 @@ pub fn needs(request: &Request) -> ArrayVec<Need, 2>
         | Request::Delete { source, shown, .. } => {
             needs.push(need_of(*source, Level::Write, *shown));
         }
-        Request::Create { source, shown, target, .. } => {
+        Request::Create {
+            source,
+            shown,
+            target,
+            ..
+        } => {
             needs.push(need_of(*source, Level::Write, *shown));
             needs.push(need_of(*target, Level::Write, Shown::Nothing));
         }

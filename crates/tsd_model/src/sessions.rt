@@ -335,7 +335,12 @@ impl Sessions {
     }
 
     /// Without what came from this origin, in every session.
-    pub fn without_origin(&self, alloc: Global, blocks: u32, origin: u32) -> Result<Sessions, AllocError>
+    pub fn without_origin(
+        &self,
+        alloc: Global,
+        blocks: u32,
+        origin: u32,
+    ) -> Result<Sessions, AllocError>
         ensures { IfOk result (λ v. v ≡ dropped_from blocks origin self.now) }
     {
         let mut held = ArrayVec::new();
@@ -357,7 +362,12 @@ impl Sessions {
     }
 }
 
-fn without_origin(alloc: Global, holding: &Option<Holding>, blocks: u32, origin: u32) -> Result<Option<Holding>, AllocError>
+fn without_origin(
+    alloc: Global,
+    holding: &Option<Holding>,
+    blocks: u32,
+    origin: u32,
+) -> Result<Option<Holding>, AllocError>
     ensures { IfOk result (λ h. h ≡ option_map (λ held. slice_set held origin (replicate blocks level.Bare)) holding.now) }
 {
     match holding {
@@ -366,7 +376,11 @@ fn without_origin(alloc: Global, holding: &Option<Holding>, blocks: u32, origin:
     }
 }
 
-fn at_live(alloc: Global, holding: &Option<Holding>, world: &World) -> Result<Option<Holding>, AllocError>
+fn at_live(
+    alloc: Global,
+    holding: &Option<Holding>,
+    world: &World,
+) -> Result<Option<Holding>, AllocError>
     ensures { IfOk result (λ h. h ≡ option_map (map (levels_at_live world.now)) holding.now) }
 {
     match holding {
@@ -389,7 +403,14 @@ pub fn shown_level(world: &World, block: u32, shown: &Shown) -> Level
 }
 
 /// The level that a session attains at a block from an origin.
-pub fn attained_from(world: &World, sessions: &Sessions, session: u32, block: u32, shown: &Shown, origin: u32) -> Level
+pub fn attained_from(
+    world: &World,
+    sessions: &Sessions,
+    session: u32,
+    block: u32,
+    shown: &Shown,
+    origin: u32,
+) -> Level
     ensures { result ≡ attained_from world.now sessions.now session block shown.now origin }
 {
     if !world.is_primary(block) {
@@ -403,13 +424,22 @@ pub fn attained_from(world: &World, sessions: &Sessions, session: u32, block: u3
 
 #[tactic(auto, using(crate::proofs::LevelLaws::greatest_range_next))]
 /// The greatest level that a session attains at a block, from any origin.
-pub fn attained(world: &World, sessions: &Sessions, session: u32, block: u32, shown: &Shown) -> Level
+pub fn attained(
+    world: &World,
+    sessions: &Sessions,
+    session: u32,
+    block: u32,
+    shown: &Shown,
+) -> Level
     ensures { result ≡ attained world.now sessions.now session block shown.now }
 {
     let mut best = Level::Bare;
     let count = world.geometry().primaries;
     for origin in 0..count {
-        best = greater(best, attained_from(world, sessions, session, block, shown, origin));
+        best = greater(
+            best,
+            attained_from(world, sessions, session, block, shown, origin),
+        );
     }
     best
 }

@@ -87,13 +87,19 @@ fn is_missing(world: &World, block: u32) -> bool
 fn names_missing_block(world: &World, request: &Request) -> bool
     ensures { result ≡ names_missing_block world.now request.now }
 {
-    named_blocks(request).as_slice().iter().any(|block| is_missing(world, *block))
+    named_blocks(request)
+        .as_slice()
+        .iter()
+        .any(|block| is_missing(world, *block))
 }
 
 fn names_free_block(world: &World, request: &Request) -> bool
     ensures { result ≡ names_free_block world.now request.now }
 {
-    named_blocks(request).as_slice().iter().any(|block| world.is_free(*block))
+    named_blocks(request)
+        .as_slice()
+        .iter()
+        .any(|block| world.is_free(*block))
 }
 
 fn sets_caps_elsewhere(world: &World, request: &Request) -> bool

@@ -10,10 +10,10 @@ ghost use Rattle.tsd_model.specs.Step.{filled, with_contents, with_pointer, with
 ghost use Rattle.tsd_model.specs.Valid.{IsSized};
 ghost use Rattle.tsd_model.specs.World.{contents, is_live, is_free, is_primary, free_count, has_number};
 
-use crate::caps::{CapPair};
+use crate::caps::CapPair;
 use crate::geometry::Geometry;
-use crate::lists::CapList;
 use crate::growing::{has_number, push_if};
+use crate::lists::CapList;
 use crate::memory::NoMemory;
 use crate::pairs::{add_pair, pairs_without};
 use crate::records::{Record, kept, upgraded_record};
@@ -200,7 +200,9 @@ impl World {
     pub fn holds(&self, source: u32, target: u32) -> bool
         ensures { result ≡ holds self.now.pairs source target }
     {
-        self.pairs.iter().any(|pair| pair.0 == source && pair.1 == target)
+        self.pairs
+            .iter()
+            .any(|pair| pair.0 == source && pair.1 == target)
     }
 }
 
@@ -262,7 +264,12 @@ impl World {
     }
 
     /// The world without a pointer. What hung on it is still there.
-    pub fn without_pointer(&self, alloc: Global, source: u32, target: u32) -> Result<World, AllocError>
+    pub fn without_pointer(
+        &self,
+        alloc: Global,
+        source: u32,
+        target: u32,
+    ) -> Result<World, AllocError>
         ensures { IfOk result (λ w. w ≡ without_pointer self.now source target) }
     {
         Ok(World {
@@ -275,7 +282,12 @@ impl World {
     }
 
     /// The world on the listed blocks, or on all others, with the pairs from them.
-    pub fn restricted(&self, alloc: Global, listed: &[u32], keep_listed: bool) -> Result<World, AllocError>
+    pub fn restricted(
+        &self,
+        alloc: Global,
+        listed: &[u32],
+        keep_listed: bool,
+    ) -> Result<World, AllocError>
         ensures { IfOk result (λ w. w ≡ restricted self.now (λ b. cond keep_listed (has_number listed.now b) (not (has_number listed.now b)))) }
     {
         Ok(World {
@@ -288,7 +300,12 @@ impl World {
     }
 
     #[tactic(auto, using(crate::proofs::RangeLaws::map_range_next))]
-    fn blocks_that(&self, alloc: Global, listed: &[u32], keep_listed: bool) -> Result<Vec<Option<Block>>, AllocError>
+    fn blocks_that(
+        &self,
+        alloc: Global,
+        listed: &[u32],
+        keep_listed: bool,
+    ) -> Result<Vec<Option<Block>>, AllocError>
         ensures { IfOk result (λ v. v.items ≡ blocks_that self.now (λ b. cond keep_listed (has_number listed.now b) (not (has_number listed.now b)))) }
     {
         let mut blocks = Vec::new(alloc);
@@ -300,7 +317,12 @@ impl World {
         Ok(blocks)
     }
 
-    fn contents_if(&self, alloc: Global, keep: bool, block: u32) -> Result<Option<Block>, AllocError>
+    fn contents_if(
+        &self,
+        alloc: Global,
+        keep: bool,
+        block: u32,
+    ) -> Result<Option<Block>, AllocError>
         ensures { IfOk result (λ c. c ≡ cond keep (contents self.now block) None) }
     {
         if !keep {
@@ -324,7 +346,12 @@ fn keeps(listed: &[u32], keep_listed: bool, block: u32) -> bool
 }
 
 /// The pairs whose source is listed, or isn't.
-fn pairs_from(alloc: Global, pairs: &[(u32, u32)], listed: &[u32], keep_listed: bool) -> Result<Vec<(u32, u32)>, AllocError>
+fn pairs_from(
+    alloc: Global,
+    pairs: &[(u32, u32)],
+    listed: &[u32],
+    keep_listed: bool,
+) -> Result<Vec<(u32, u32)>, AllocError>
     ensures { IfOk result (λ v. v.items ≡ filter (λ e. cond keep_listed (has_number listed.now e.0) (not (has_number listed.now e.0))) pairs.now) }
 {
     let mut kept = Vec::new(alloc);

@@ -7,5 +7,5 @@ abbrev pub invariant-loop-block : goal.invariant-loop-block
 invariant-loop-block l = record {
   done : with_new_blocks l.next l.source (drop l.block-index l.blocks) ≡ with_new_blocks l.world l.source l.blocks;
   same : l.next.geometry ≡ l.world.geometry;
-  room : length l.next.pairs ≤ length l.world.pairs + l.block-index
+  room : length l.next.pairs ≤ length l.world.pairs + l.block-index;
 }

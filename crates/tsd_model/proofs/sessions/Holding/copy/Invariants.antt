@@ -1,5 +1,4 @@
 use Rattle.std.proofs.Common.{◌≡◌, take}
-
 use Rattle.tsd_model.proofs.sessions.Holding.copy.Given as goal
 
 abbrev pub invariant-loop-table : goal.invariant-loop-table

@@ -6,5 +6,5 @@ use Rattle.tsd_model.proofs.sessions.Holding.raise.Given as goal
 abbrev pub invariant-loop-origin : goal.invariant-loop-origin
 invariant-loop-origin l = record {
   count : length l.tables.items ≡ l.origin;
-  raised : l.tables.items ≡ raised_held l.need.block (attained_from l.world l.before l.session l.need.block l.need.shown) (take l.origin l.held)
+  raised : l.tables.items ≡ raised_held l.need.block (attained_from l.world l.before l.session l.need.block l.need.shown) (take l.origin l.held);
 }

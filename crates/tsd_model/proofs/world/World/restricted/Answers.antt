@@ -12,6 +12,6 @@ invariant_of-result c =
     let keep : ℕ → Bool = λ b. cond c.args.keep_listed (has_number c.args.listed.now b) (not (has_number c.args.listed.now b)) in
     let sized = subst IsSized c.self.view_is c.self.invariant in
     sized_parts (restricted w keep) _ _ _ _ _ (ap (λ v. v.geometry) c.self.view_is)
-        c.in_ok-blocks_that.ensures
-        (c.in_ok-pairs_from.ensures ∙ ap (filter (λ e. keep e.0)) (c.as_slice.ensures.value ∙ ap (λ v. v.pairs) c.self.view_is))
-        (sized-restricted w keep sized)
+    c.in_ok-blocks_that.ensures
+    (c.in_ok-pairs_from.ensures ∙ ap (filter (λ e. keep e.0)) (c.as_slice.ensures.value ∙ ap (λ v. v.pairs) c.self.view_is))
+    (sized-restricted w keep sized)

@@ -10,6 +10,6 @@ invariant_of-result c =
     let w = c.args.self.now in
     let sized = subst IsSized c.self.view_is c.self.invariant in
     sized_parts (without_pointer w c.args.source c.args.target) _ _ _ _ _ (ap (λ v. v.geometry) c.self.view_is)
-        (c.in_ok-copy_blocks.ensures ∙ (c.as_slice.ensures.value ∙ ap (λ v. v.blocks) c.self.view_is))
-        (c.in_ok-pairs_without.ensures ∙ ap (without_pair c.args.source c.args.target) (c.as_slice-2.ensures.value ∙ ap (λ v. v.pairs) c.self.view_is))
-        (sized-without_pointer w c.args.source c.args.target sized)
+    (c.in_ok-copy_blocks.ensures ∙ (c.as_slice.ensures.value ∙ ap (λ v. v.blocks) c.self.view_is))
+    (c.in_ok-pairs_without.ensures ∙ ap (without_pair c.args.source c.args.target) (c.as_slice-2.ensures.value ∙ ap (λ v. v.pairs) c.self.view_is))
+    (sized-without_pointer w c.args.source c.args.target sized)
