@@ -21,9 +21,9 @@ pub mod replies;
 pub mod requests;
 pub mod sessions;
 pub mod step;
-mod verdict;
 #[cfg(test)]
 mod tests;
+mod verdict;
 pub mod world;
 
 pub use caps::{Cap, CapPair, Shown};

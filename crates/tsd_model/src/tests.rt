@@ -154,12 +154,20 @@ fn denied(attained: Level, needed: Level) -> Reply {
 }
 
 /// Asks one request after the other, and compares each reply. Gives the world afterwards.
-fn run(rt: &impl Abort, alloc: Global, kind: PlaceKind, start: World, rows: &[(Request, Reply)]) -> World {
+fn run(
+    rt: &impl Abort,
+    alloc: Global,
+    kind: PlaceKind,
+    start: World,
+    rows: &[(Request, Reply)],
+) -> World {
     let mut world = start;
     let mut sessions = Sessions::none(alloc);
     for (request, wanted) in rows {
-        let (next, held, reply) =
-            plain_step(alloc, kind, &world, &sessions, request).expect(rt, "ample memory");
+        let (next, held, reply) = plain_step(alloc, kind, &world, &sessions, request).expect(
+            rt,
+            "ample memory",
+        );
         assert_eq!(rt; reply, *wanted, "{request:?}");
         world = next;
         sessions = held;
@@ -173,7 +181,10 @@ fn bytes_are_written_and_read(rt: HostRuntime) -> Result<(), Fail> {
     let rows = [
         (open(1), Reply::Done),
         (read(1, 0, key(READ)), zeros(&rt)),
-        (write(&rt, 1, 0, key(READ), b"hi"), denied(Level::Read, Level::Write)),
+        (
+            write(&rt, 1, 0, key(READ), b"hi"),
+            denied(Level::Read, Level::Write),
+        ),
         (read(1, 0, key(READ)), zeros(&rt)),
         (write(&rt, 1, 0, key(WRITE), b"hi\0"), Reply::Done),
         (read(1, 0, key(READ)), Reply::Bytes(data(&rt, b"hi", 512))),
@@ -204,12 +215,18 @@ fn a_run_needs_blocks_in_a_row(rt: HostRuntime) -> Result<(), Fail> {
     let no_run = Rule::NoRun { free: 3, wanted: 2 };
     let rows = [
         (open(1), Reply::Done),
-        (alloc(1, 0, key(WRITE), 7), blocks(&rt, &[1, 2, 3, 4, 5, 6, 7])),
+        (
+            alloc(1, 0, key(WRITE), 7),
+            blocks(&rt, &[1, 2, 3, 4, 5, 6, 7]),
+        ),
         (delete(1, 0, key(WRITE), 2), Reply::Gone(1)),
         (delete(1, 0, key(WRITE), 4), Reply::Gone(1)),
         (delete(1, 0, key(WRITE), 6), Reply::Gone(1)),
         (contig(1, 0, key(WRITE), Hint::Null, 2), no(no_run)),
-        (alloc_near(1, 0, key(WRITE), Hint::At(5), 2), blocks(&rt, &[6, 4])),
+        (
+            alloc_near(1, 0, key(WRITE), Hint::At(5), 2),
+            blocks(&rt, &[6, 4]),
+        ),
         (Request::GetFree, Reply::Free(1)),
     ];
     let _after = run(&rt, rt.alloc(), PlaceKind::Near, world, rows.as_slice());
@@ -226,7 +243,10 @@ fn a_block_is_reached_along_a_pointer(rt: HostRuntime) -> Result<(), Fail> {
         (read(2, 1, Shown::Nothing), denied(Level::Bare, Level::Read)),
         (read(2, 0, key(READ)), zeros(&rt)),
         (read(2, 1, Shown::Nothing), zeros(&rt)),
-        (write(&rt, 2, 1, Shown::Nothing, &[1]), denied(Level::Read, Level::Write)),
+        (
+            write(&rt, 2, 1, Shown::Nothing, &[1]),
+            denied(Level::Read, Level::Write),
+        ),
         (Request::End { session: 2 }, Reply::Done),
         (read(2, 1, Shown::Nothing), no(Rule::NotOpen)),
     ];
@@ -292,8 +312,20 @@ fn a_cycle_waits_for_a_sweep(rt: HostRuntime) -> Result<(), Fail> {
     assert!(rt; doomed.is_empty());
     let sweep = [
         (open(1), Reply::Done),
-        (Request::Sweep { session: 1, shown: key(READ) }, denied(Level::Read, Level::Write)),
-        (Request::Sweep { session: 1, shown: key(WRITE) }, Reply::Gone(2)),
+        (
+            Request::Sweep {
+                session: 1,
+                shown: key(READ),
+            },
+            denied(Level::Read, Level::Write),
+        ),
+        (
+            Request::Sweep {
+                session: 1,
+                shown: key(WRITE),
+            },
+            Reply::Gone(2),
+        ),
         (Request::GetFree, Reply::Free(7)),
     ];
     let _after = run(&rt, rt.alloc(), PlaceKind::Near, held, sweep.as_slice());
@@ -311,7 +343,13 @@ fn a_block_may_point_to_itself(rt: HostRuntime) -> Result<(), Fail> {
         (create(1, 1, Shown::Nothing, 0), no(Rule::IsPrimary)),
         (delete(1, 0, key(WRITE), 1), Reply::Gone(0)),
         (read(1, 1, Shown::Nothing), zeros(&rt)),
-        (Request::Sweep { session: 1, shown: key(WRITE) }, Reply::Gone(1)),
+        (
+            Request::Sweep {
+                session: 1,
+                shown: key(WRITE),
+            },
+            Reply::Gone(1),
+        ),
         (read(1, 1, Shown::Nothing), no(Rule::FreeBlock)),
     ];
     let _after = run(&rt, rt.alloc(), PlaceKind::Near, world, rows.as_slice());
@@ -351,9 +389,15 @@ fn new_capabilities_end_old_levels_in_both_versions(rt: HostRuntime) -> Result<(
         (open(2), Reply::Done),
         (alloc(1, 0, key(WRITE), 1), blocks(&rt, &[1])),
         (read(2, 0, key(READ)), zeros(&rt)),
-        (set_cap(1, 0, key(WRITE), pair(NEW_READ, NEW_WRITE)), Reply::Done),
+        (
+            set_cap(1, 0, key(WRITE), pair(NEW_READ, NEW_WRITE)),
+            Reply::Done,
+        ),
         (read(2, 1, Shown::Nothing), denied(Level::Bare, Level::Read)),
-        (alloc(1, 1, Shown::Nothing, 1), denied(Level::Bare, Level::Write)),
+        (
+            alloc(1, 1, Shown::Nothing, 1),
+            denied(Level::Bare, Level::Write),
+        ),
         (read(2, 0, key(READ)), denied(Level::Bare, Level::Read)),
         (read(2, 0, key(NEW_READ)), zeros(&rt)),
         (read(2, 1, Shown::Nothing), zeros(&rt)),
@@ -371,9 +415,15 @@ fn an_upgraded_disk_answers_alike(rt: HostRuntime) -> Result<(), Fail> {
     let hi = Reply::Bytes(data(&rt, b"hi", 512));
     let rows = [
         (open(1), Reply::Done),
-        (write(&rt, 1, 0, key(READ), b"hi"), denied(Level::Read, Level::Write)),
+        (
+            write(&rt, 1, 0, key(READ), b"hi"),
+            denied(Level::Read, Level::Write),
+        ),
         (write(&rt, 1, 0, key(WRITE), b"hi"), Reply::Done),
-        (set_cap(1, 0, key(WRITE), pair(NEW_READ, NEW_WRITE)), Reply::Done),
+        (
+            set_cap(1, 0, key(WRITE), pair(NEW_READ, NEW_WRITE)),
+            Reply::Done,
+        ),
         (read(1, 0, key(READ)), denied(Level::Bare, Level::Read)),
         (read(1, 0, key(NEW_READ)), hi),
     ];
@@ -417,8 +467,14 @@ fn counts_and_sessions_have_bounds(rt: HostRuntime) -> Result<(), Fail> {
         (Request::End { session: 2 }, no(Rule::NotOpen)),
         (read(1, 64, Shown::Nothing), no(Rule::NoSuchBlock)),
         (Request::Bad, no(Rule::BadRequest)),
-        (write(&rt, 1, 0, key(WRITE), [7; 513].as_slice()), no(Rule::BadSize)),
-        (set_cap(1, 1, Shown::Nothing, pair(READ, WRITE)), no(Rule::NotPrimary)),
+        (
+            write(&rt, 1, 0, key(WRITE), [7; 513].as_slice()),
+            no(Rule::BadSize),
+        ),
+        (
+            set_cap(1, 1, Shown::Nothing, pair(READ, WRITE)),
+            no(Rule::NotPrimary),
+        ),
         (delete(1, 0, key(WRITE), 40), no(Rule::FreeBlock)),
         (delete(1, 1, Shown::Nothing, 2), no(Rule::NoPointer)),
     ];
@@ -430,11 +486,17 @@ fn counts_and_sessions_have_bounds(rt: HostRuntime) -> Result<(), Fail> {
 fn spread_and_near_take_far_hints(rt: HostRuntime) -> Result<(), Fail> {
     let spread = [
         (open(1), Reply::Done),
-        (alloc_near(1, 0, key(WRITE), Hint::At(6), 3), blocks(&rt, &[6, 7, 1])),
+        (
+            alloc_near(1, 0, key(WRITE), Hint::At(6), 3),
+            blocks(&rt, &[6, 7, 1]),
+        ),
     ];
     let near = [
         (open(1), Reply::Done),
-        (alloc_near(1, 0, key(WRITE), Hint::At(4_294_967_295), 2), blocks(&rt, &[7, 6])),
+        (
+            alloc_near(1, 0, key(WRITE), Hint::At(4_294_967_295), 2),
+            blocks(&rt, &[7, 6]),
+        ),
     ];
     let world = eight(&rt, rt.alloc());
     let _after = run(&rt, rt.alloc(), PlaceKind::Spread, world, spread.as_slice());
@@ -457,14 +519,31 @@ fn ranges(rt: &impl Abort, first: (u32, u32), second: (u32, u32)) -> Reply {
 
 #[test]
 fn zones_come_in_turns(rt: HostRuntime) -> Result<(), Fail> {
-    let world = fresh(&rt, rt.alloc(), &geometry(600, 1, 2400), &[pair(READ, WRITE)]);
+    let world = fresh(
+        &rt,
+        rt.alloc(),
+        &geometry(600, 1, 2400),
+        &[pair(READ, WRITE)],
+    );
     let hint = Hint::At(512);
     let rows = [
         (open(1), Reply::Done),
-        (alloc_near(1, 0, key(WRITE), hint, 32), ranges(&rt, (512, 544), (0, 0))),
-        (alloc_near(1, 0, key(WRITE), hint, 32), ranges(&rt, (544, 576), (0, 0))),
-        (alloc_near(1, 0, key(WRITE), hint, 32), ranges(&rt, (576, 600), (256, 264))),
-        (contig(1, 0, key(WRITE), hint, 32), ranges(&rt, (264, 296), (0, 0))),
+        (
+            alloc_near(1, 0, key(WRITE), hint, 32),
+            ranges(&rt, (512, 544), (0, 0)),
+        ),
+        (
+            alloc_near(1, 0, key(WRITE), hint, 32),
+            ranges(&rt, (544, 576), (0, 0)),
+        ),
+        (
+            alloc_near(1, 0, key(WRITE), hint, 32),
+            ranges(&rt, (576, 600), (256, 264)),
+        ),
+        (
+            contig(1, 0, key(WRITE), hint, 32),
+            ranges(&rt, (264, 296), (0, 0)),
+        ),
     ];
     let _after = run(&rt, rt.alloc(), PlaceKind::Zone, world, rows.as_slice());
     Ok(())
@@ -480,7 +559,10 @@ fn levels_end_where_their_origin_changes(rt: HostRuntime) -> Result<(), Fail> {
         (alloc(1, 1, Shown::Nothing, 1), blocks(&rt, &[2])),
         (read(2, 0, key(READ)), zeros(&rt)),
         (read(2, 1, Shown::Nothing), zeros(&rt)),
-        (set_cap(1, 0, key(WRITE), pair(NEW_READ, NEW_WRITE)), Reply::Done),
+        (
+            set_cap(1, 0, key(WRITE), pair(NEW_READ, NEW_WRITE)),
+            Reply::Done,
+        ),
         (read(2, 2, Shown::Nothing), denied(Level::Bare, Level::Read)),
         (read(1, 2, Shown::Nothing), denied(Level::Bare, Level::Read)),
         (read(2, 0, key(NEW_READ)), zeros(&rt)),
@@ -502,7 +584,10 @@ fn levels_from_another_origin_stay(rt: HostRuntime) -> Result<(), Fail> {
         (alloc(1, 2, Shown::Nothing, 1), blocks(&rt, &[3])),
         (set_cap(1, 0, key(WRITE), pair(READ, WRITE)), Reply::Done),
         (write(&rt, 1, 3, Shown::Nothing, &[5]), Reply::Done),
-        (set_cap(1, 1, key(NEW_WRITE), pair(NEW_READ, NEW_WRITE)), Reply::Done),
+        (
+            set_cap(1, 1, key(NEW_WRITE), pair(NEW_READ, NEW_WRITE)),
+            Reply::Done,
+        ),
         (read(1, 3, Shown::Nothing), denied(Level::Bare, Level::Read)),
     ];
     let after = run(&rt, rt.alloc(), PlaceKind::Near, world, rows.as_slice());
@@ -513,7 +598,12 @@ fn levels_from_another_origin_stay(rt: HostRuntime) -> Result<(), Fail> {
 
 #[test]
 fn a_fresh_world_of_the_most_blocks_is_made(rt: HostRuntime) -> Result<(), Fail> {
-    let world = fresh(&rt, rt.alloc(), &geometry(1_048_576, 1, 4_194_304), &[pair(READ, WRITE)]);
+    let world = fresh(
+        &rt,
+        rt.alloc(),
+        &geometry(1_048_576, 1, 4_194_304),
+        &[pair(READ, WRITE)],
+    );
     assert_eq!(rt; world.free_count(), 1_048_575);
     Ok(())
 }

@@ -1,0 +1,8 @@
+pub mod Areas
+pub mod Places
+pub mod Ring
+pub mod Image
+pub mod Header
+pub mod Lawful
+pub mod Things
+pub mod Worked

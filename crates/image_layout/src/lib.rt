@@ -1,0 +1,27 @@
+//! The format of an image: where each thing stands, and what the header says.
+//!
+//! What it stands on: `tsd_model` for the geometry, `byteorder` for numbers in bytes.
+//!
+//! What it promises: every place is the one of the format, as `specs/` has it; different things stand apart, all below
+//! `Layout::total`; `read_header` accepts exactly the right headers and names the first thing that is wrong with
+//! another; what `write_header` makes reads back, and is zero outside the fields. `specs/Image.antt` says what the
+//! bytes of an image mean, for every crate that reads or writes them.
+#![tactic(auto)]
+
+pub mod fault;
+pub mod gate;
+pub mod header;
+pub mod layout;
+pub mod place;
+pub mod ring;
+pub mod sectors;
+pub mod things;
+
+pub use fault::{HeaderFault, ImageFault};
+pub use gate::{gate_bytes, is_open};
+pub use header::{Header, read_header, write_header};
+pub use layout::Layout;
+pub use place::{Patch, Place, bit_mask};
+
+#[cfg(test)]
+mod tests;
