@@ -1,0 +1,10 @@
+pub mod Sets
+pub mod Outcomes
+pub mod Moments
+pub mod Confined
+mod Sectors
+mod Pushes
+mod Cells
+mod Images
+mod Puts
+mod TwoCopies

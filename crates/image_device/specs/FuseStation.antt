@@ -1,0 +1,33 @@
+-- A station that stops, as a device: the station within, and its own failures.
+use Rattle.std.specs.Prelude.{ℕ, ◌+◌, ◌-◌, ◌<◌, ◌≡◌, Result, IsErr}
+use Rattle.image_device.specs.declared.cell.Pick.{Pick}
+use Rattle.image_device.specs.declared.fuse.FuseStation.{FuseStation}
+use Rattle.image_device.specs.declared.mem.MemStation.{MemStation}
+use Rattle.image_device.specs.View.{View, IsSound}
+use Rattle.image_device.specs.Cells.{begun}
+use Rattle.image_device.specs.MemStation.{history_view, found_in, station_sound, IsCalled}
+
+-- the station within
+abbrev pub within : FuseStation → MemStation
+within d = d.inner
+
+-- how many calls pass from now on
+abbrev pub passes_of : FuseStation → ℕ
+passes_of d = d.passes
+
+-- what loose sectors are to hold
+abbrev pub pick_of : FuseStation → Pick
+pick_of d = d.pick
+
+abbrev pub fuse_view : FuseStation → View
+fuse_view d = history_view (begun (found_in d.inner)) d.inner.log.items (d.inner.faults + d.faults) (d.inner.put_faults + d.put_faults) d.inner.writes
+
+pub fuse_sound : (d : FuseStation) → IsSound (fuse_view d)
+fuse_sound d = let s = station_sound d.inner in record { counts_now = s.counts_now; only_now = s.only_now; own = s.own }
+
+-- One call came. It went to the station within where some calls pass yet, and else it failed and left that station as it was.
+pub record IsPassed {T E : Type 0} (old new : FuseStation) (result : Result T E) : Type 0 where
+  pub passes : passes_of new ≡ passes_of old - 1
+  pub pick : pick_of new ≡ pick_of old
+  pub spent : passes_of old ≡ 0 → IsErr result × (within new ≡ within old)
+  pub called : 0 < passes_of old → IsCalled (within old) (within new) result

@@ -1,0 +1,12 @@
+pub mod Image
+pub mod View
+pub mod Calls
+pub mod Runs
+pub mod Counts
+pub mod History
+pub mod Cells
+pub mod Laws
+pub mod MemStation
+pub mod FuseStation
+pub mod MemSource
+pub mod TwoCopies

@@ -1,0 +1,23 @@
+-- What a run of calls leaves.
+use Rattle.std.specs.Prelude.{ℕ, ◌≤◌, ◌≡◌, ◌⊎◌, Bool, false, List}
+use Rattle.image_device.specs.Image.{Image}
+use Rattle.image_device.specs.View.{View, IsLeftWithin}
+
+-- A crash at any moment since old leaves what has P.
+pub record LeavesOnly (old new : View) (P : Image → List ℕ → Type 0) : Type 0 where
+  pub later : old.clock ≤ new.clock
+  pub each : (x : Image) (f : List ℕ) → new.left old.clock x f → P x f
+  -- for a run that began earlier
+  pub before : (t : ℕ) (x : Image) (f : List ℕ) → t ≤ old.clock → new.left t x f → old.left t x f ⊎ P x f
+  pub keeps : (t : ℕ) (x : Image) (f : List ℕ) → t ≤ old.clock → old.left t x f → new.left t x f
+
+-- A run of calls that writes none but these sectors and puts nothing. Other sectors may become firm.
+pub record IsConfined (some : ℕ → Bool) (old new : View) : Type 0 where
+  pub reads : (n : ℕ) → some n ≡ false → new.reads n ≡ old.reads n
+  pub loose : (n : ℕ) → some n ≡ false → old.loose n ≡ false → new.loose n ≡ false
+  pub sent : new.sent ≡ old.sent
+  pub leaves : LeavesOnly old new (IsLeftWithin some old)
+
+-- nothing is loose
+abbrev pub IsFirm : View → Type 0
+IsFirm v = (n : ℕ) → v.loose n ≡ false

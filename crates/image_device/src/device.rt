@@ -1,0 +1,61 @@
+// What a disk and a port mean.
+ghost use Rattle.std.specs.Prelude.{◌≡◌, ◌<◌, ◌≤◌, ◌+◌, ◌++◌, ℕ, true, length, take, OnOk, OnErr, IfOk};
+ghost use Rattle.image_device.specs.Counts.{Rose};
+ghost use Rattle.image_device.specs.View.{View, IsLeftInPut, IsSound};
+ghost use Rattle.image_device.specs.Calls.{Appends, Counts, Puts, Rests, Settles, Touches, Uses};
+ghost use Rattle.image_device.specs.Runs.{IsFirm};
+
+/// The call failed, and the count of its kind rose.
+#[derive(Clone, Copy, Debug, PartialEq, Eq)]
+pub struct Failed;
+
+/// A disk of sectors of 512 bytes. A sector never written reads as zeros.
+pub trait Device {
+    /// Whether it tells its contents: a type tells or doesn't, and so it does after a call as before.
+    ghost told: { Type 0 };
+
+    /// What it is. All but the counts and the clock is said only where it is told.
+    ghost view: { Self → View };
+
+    /// Reads a sector. `Failed` comes only where `faults` rose.
+    fn read(&mut self, sector: u32, into: &mut [u8; 512]) -> Result<(), Failed>
+        ensures bytes { told → OnOk result (into.new ≡ (view self.old).reads sector) }
+        ensures rests { told → Rests (view self.old) (view self.new) }
+        ensures uses { Uses 0 (view self.old) (view self.new) }
+        ensures cause { OnErr result (Rose (view self.old).faults (view self.new).faults) };
+
+    /// Writes a sector. Until the next sync a crash may leave any bytes in it, after a write that
+    /// failed too. `Failed` comes only where `faults` rose.
+    fn write(&mut self, sector: u32, from: &[u8; 512]) -> Result<(), Failed>
+        ensures written { told → OnOk result ((view self.new).reads sector ≡ from.now) }
+        ensures loose { told → OnOk result ((view self.new).loose sector ≡ true) }
+        ensures touches { told → Touches sector (view self.old) (view self.new) }
+        ensures uses { Uses 1 (view self.old) (view self.new) }
+        ensures cause { OnErr result (Rose (view self.old).faults (view self.new).faults) };
+
+    /// Waits until all that was written is on the disk. `Failed` comes only where `faults` rose.
+    fn sync(&mut self) -> Result<(), Failed>
+        ensures firm { told → OnOk result (IsFirm (view self.new)) }
+        ensures loose { told → OnErr result ((view self.new).loose ≡ (view self.old).loose) }
+        ensures settles { told → Settles (view self.old) (view self.new) }
+        ensures uses { Uses 0 (view self.old) (view self.new) }
+        ensures cause { OnErr result (Rose (view self.old).faults (view self.new).faults) };
+
+    /// What holds of it at each moment.
+    ghost sound: { (d : Self) → told → IsSound (view d) };
+}
+
+/// A disk with a port beside it, under one clock.
+pub trait Port: Device {
+    /// Sends a front of the piece and gives its length, which is at least 1. After `Failed` a
+    /// shorter front than the piece may be sent. `Failed` comes only where `put_faults` rose.
+    fn put(&mut self, piece: &[u8]) -> Result<usize, Failed>
+        requires { 0 < length piece.now }
+        ensures some { IfOk result (λ count. (0 < count) × (count ≤ length piece.now)) }
+        ensures sent { Self.told → IfOk result (λ count. (Self.view self.new).sent ≡ (Self.view self.old).sent ++ take count piece.now) }
+        ensures part { Self.told → OnErr result ((count : ℕ) × (count < length piece.now) × ((Self.view self.new).sent ≡ (Self.view self.old).sent ++ take count piece.now)) }
+        ensures appends { Self.told → Appends piece.now (Self.view self.old) (Self.view self.new) }
+        ensures counts { Self.told → OnOk result (Counts (Self.view self.old) (Self.view self.new) (IsLeftInPut piece.now (Self.view self.old))) }
+        ensures puts { Puts (Self.view self.old) (Self.view self.new) }
+        ensures cause { OnErr result (Rose (Self.view self.old).put_faults (Self.view self.new).put_faults) };
+}

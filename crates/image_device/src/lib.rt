@@ -1,0 +1,33 @@
+//! The outside as the crates above see it: a disk of sectors, a port beside it, and a source of input.
+//!
+//! It stands on nothing. The traits [`Device`], [`Port`] and [`Source`] say what a call does, when it
+//! fails, and what a crash at any moment leaves: a sector written since the last sync may hold any
+//! bytes, and every other holds what a read gives. A theorem about crashes is a clause over a device's
+//! `view`, most often `LeavesOnly`; `docs/PROOFS.md` tells the model on one page.
+//!
+//! [`MemStation`], [`FuseStation`] and [`MemSource`] are proved against the traits: a disk and a port in
+//! memory that tell every image left since any moment, the same stopped after some calls, and bytes that
+//! come in pieces. [`put_all`], [`write_through`] and [`write_run`] work over any device.
+#![tactic(auto)]
+
+mod cell;
+mod device;
+mod event;
+mod fuse;
+mod keep;
+mod mem;
+mod mem_source;
+mod put;
+mod source;
+#[cfg(test)]
+mod tests;
+mod write;
+
+pub use cell::Pick;
+pub use device::{Device, Failed, Port};
+pub use fuse::FuseStation;
+pub use mem::MemStation;
+pub use mem_source::MemSource;
+pub use put::put_all;
+pub use source::Source;
+pub use write::{write_run, write_through};

@@ -1,0 +1,6 @@
+pub mod PiecesLaws
+pub mod WordLaws
+pub mod ReadingLaws
+pub mod SpellingLaws
+pub mod CutLaws
+pub mod TextsLaws

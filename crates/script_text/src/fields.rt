@@ -1,0 +1,95 @@
+//! What one word of a request line says.
+
+ghost use Rattle.std.specs.Prelude.{◌≡◌, ◌≤◌, length};
+ghost use Rattle.std.specs.List.{list_all};
+ghost use Rattle.std.specs.Char.{is_ascii_digit};
+ghost use Rattle.script_text.specs.Reading.{num_of, new_of, shown_of, hint_of, data_of};
+
+use hex::FromHex;
+use tsd_model::caps::CAP_BYTES;
+use tsd_model::lists::DATA_MAX;
+use tsd_model::{Cap, Data, Hint, Shown};
+
+/// The most digits of a number.
+const NUMBER_DIGITS: usize = 10;
+
+/// The most hexadecimal digits of a block's bytes.
+pub const DATA_DIGITS: usize = 2 * DATA_MAX;
+
+/// A number: one to ten decimal digits, at most 4,294,967,295.
+pub fn parse_number(word: &[u8]) -> Option<u32>
+    ensures { result ≡ num_of word.now }
+{
+    if word.len() > NUMBER_DIGITS || !all_digits(word) {
+        return None;
+    }
+    match std::str::from_utf8(word) {
+        Ok(text) => text.parse().ok(),
+        Err(_) => None,
+    }
+}
+
+/// Whether each byte is a decimal digit.
+fn all_digits(word: &[u8]) -> bool
+    ensures { result ≡ list_all is_ascii_digit word.now }
+{
+    word.iter().all(|b| b.is_ascii_digit())
+}
+
+/// A capability: 32 hexadecimal digits.
+pub fn parse_cap(word: &[u8]) -> Option<Cap>
+    ensures { result ≡ new_of word.now }
+{
+    match <[u8; CAP_BYTES] as FromHex>::from_hex(word) {
+        Ok(bytes) => Some(Cap { bytes }),
+        Err(_) => None,
+    }
+}
+
+/// A dash, or a capability.
+pub fn parse_shown(word: &[u8]) -> Option<Shown>
+    ensures { result ≡ shown_of word.now }
+{
+    if word == b"-".as_slice() {
+        return Some(Shown::Nothing);
+    }
+    Some(Shown::Key(parse_cap(word)?))
+}
+
+/// A dash, or a block's number.
+pub fn parse_hint(word: &[u8]) -> Option<Hint>
+    ensures { result ≡ hint_of word.now }
+{
+    if word == b"-".as_slice() {
+        return Some(Hint::Null);
+    }
+    Some(Hint::At(parse_number(word)?))
+}
+
+/// A dash, or bytes as an even number of hexadecimal digits.
+pub fn parse_data(word: &[u8]) -> Option<Data>
+    ensures { result ≡ data_of word.now }
+{
+    if word == b"-".as_slice() {
+        return Some(Data::new());
+    }
+    if word.len() < 2 || word.len() > DATA_DIGITS {
+        return None;
+    }
+    let mut room = [0u8; DATA_MAX];
+    let half = &mut room[..word.len() / 2];
+    match hex::decode_to_slice(word, half) {
+        Ok(()) => Some(data_of(half)),
+        Err(_) => None,
+    }
+}
+
+/// Bytes as a list.
+fn data_of(bytes: &[u8]) -> Data
+    requires { length bytes.now ≤ DATA_MAX }
+    ensures { result ≡ bytes.now }
+{
+    let mut data = Data::new();
+    let _all_fit = data.extend_from_slice(bytes);
+    data
+}

@@ -1,0 +1,264 @@
+//! The request that a line spells.
+//!
+//! A line has words that are parted by exactly one space. The first is a name, and the name says what the others are.
+
+ghost use Rattle.std.specs.Prelude.{◌≡◌, ◌⊎◌, ℕ, List, take};
+ghost use Rattle.tsd_model.specs.declared.requests.Request.{Request};
+ghost use Rattle.script_text.specs.Grammar.{IsLine};
+ghost use Rattle.script_text.specs.Reading.{begin_of, end_of, read_of, write_of, alloc_of, contig_of, free_of, create_of, delete_of, set_cap_of, sweep_of, list_of, named, asked, request_of, ends};
+
+use crate::words::Words;
+use tsd_model::{CapPair, Request};
+
+/// The most bytes of a line, its line feed not counted.
+pub const LINE_MAX: usize = 8400;
+
+/// The request that a line spells, and Bad where it spells none. The line comes without its line feed.
+pub fn parse_line(line: &[u8]) -> Request
+    // What is read is spelled so.
+    ensures spelled { (result ≡ Request.Bad) ⊎ IsLine line.now result }
+    // What is spelled so is read: so no line has two requests. No line spells Bad.
+    ensures only { (q : Request) → IsLine line.now q → result ≡ q }
+    // A longer line is as bad where it is cut to one byte more than a line may have.
+    ensures cut { (whole : List ℕ) → line.now ≡ take 8401 whole → result ≡ request_of whole }
+    // As a function that computes.
+    ensures value { result ≡ request_of line.now }
+{
+    read_line(line)
+}
+
+#[tactic(auto, unfolding(crate::specs::Reading::request_of))]
+fn read_line(line: &[u8]) -> Request
+    ensures { result ≡ request_of line.now }
+{
+    if line.len() > LINE_MAX {
+        return Request::Bad;
+    }
+    match asked(Words::of(line)) {
+        Some(request) => request,
+        None => Request::Bad,
+    }
+}
+
+#[tactic(auto, unfolding(crate::specs::Reading::asked))]
+fn asked(mut words: Words) -> Option<Request>
+    ensures { result ≡ asked words.entry }
+{
+    let name = words.next()?;
+    named(name, words)
+}
+
+/// The request by its first word.
+#[tactic(auto, unfolding(crate::specs::Reading::named))]
+fn named(name: &[u8], words: Words) -> Option<Request>
+    ensures { result ≡ named name.now words.entry }
+{
+    if name == b"open".as_slice() {
+        begin(words)
+    } else if name == b"close".as_slice() {
+        end(words)
+    } else if name == b"read".as_slice() {
+        read(words)
+    } else if name == b"write".as_slice() {
+        write(words)
+    } else if name == b"alloc".as_slice() {
+        alloc(words)
+    } else if name == b"contig".as_slice() {
+        contig(words)
+    } else if name == b"free".as_slice() {
+        free(words)
+    } else if name == b"create".as_slice() {
+        create(words)
+    } else if name == b"delete".as_slice() {
+        delete(words)
+    } else if name == b"setcap".as_slice() {
+        set_cap(words)
+    } else if name == b"sweep".as_slice() {
+        sweep(words)
+    } else if name == b"list".as_slice() {
+        list(words)
+    } else {
+        None
+    }
+}
+
+/// The request, where no word is left.
+fn done(words: Words, request: Request) -> Option<Request>
+    ensures { result ≡ ends words.entry request }
+{
+    if words.is_empty() {
+        Some(request)
+    } else {
+        None
+    }
+}
+
+#[tactic(auto, unfolding(crate::specs::Reading::begin_of))]
+fn begin(mut words: Words) -> Option<Request>
+    ensures { result ≡ begin_of words.entry }
+{
+    let session = words.number()?;
+    done(words, Request::Begin { session })
+}
+
+#[tactic(auto, unfolding(crate::specs::Reading::end_of))]
+fn end(mut words: Words) -> Option<Request>
+    ensures { result ≡ end_of words.entry }
+{
+    let session = words.number()?;
+    done(words, Request::End { session })
+}
+
+#[tactic(auto, unfolding(crate::specs::Reading::read_of))]
+fn read(mut words: Words) -> Option<Request>
+    ensures { result ≡ read_of words.entry }
+{
+    let place = words.place()?;
+    done(
+        words,
+        Request::Read {
+            session: place.session,
+            block: place.block,
+            shown: place.shown,
+        },
+    )
+}
+
+#[tactic(auto, unfolding(crate::specs::Reading::write_of))]
+fn write(mut words: Words) -> Option<Request>
+    ensures { result ≡ write_of words.entry }
+{
+    let place = words.place()?;
+    let bytes = words.bytes()?;
+    done(
+        words,
+        Request::Write {
+            session: place.session,
+            block: place.block,
+            shown: place.shown,
+            bytes,
+        },
+    )
+}
+
+#[tactic(auto, unfolding(crate::specs::Reading::alloc_of))]
+fn alloc(mut words: Words) -> Option<Request>
+    ensures { result ≡ alloc_of words.entry }
+{
+    let place = words.place()?;
+    let hint = words.hint()?;
+    let count = words.number()?;
+    done(
+        words,
+        Request::Alloc {
+            session: place.session,
+            source: place.block,
+            shown: place.shown,
+            hint,
+            count,
+        },
+    )
+}
+
+#[tactic(auto, unfolding(crate::specs::Reading::contig_of))]
+fn contig(mut words: Words) -> Option<Request>
+    ensures { result ≡ contig_of words.entry }
+{
+    let place = words.place()?;
+    let hint = words.hint()?;
+    let count = words.number()?;
+    done(
+        words,
+        Request::Contig {
+            session: place.session,
+            source: place.block,
+            shown: place.shown,
+            hint,
+            count,
+        },
+    )
+}
+
+fn free(words: Words) -> Option<Request>
+    ensures { result ≡ free_of words.entry }
+{
+    done(words, Request::GetFree)
+}
+
+#[tactic(auto, unfolding(crate::specs::Reading::create_of))]
+fn create(mut words: Words) -> Option<Request>
+    ensures { result ≡ create_of words.entry }
+{
+    let place = words.place()?;
+    let target = words.number()?;
+    done(
+        words,
+        Request::Create {
+            session: place.session,
+            source: place.block,
+            shown: place.shown,
+            target,
+        },
+    )
+}
+
+#[tactic(auto, unfolding(crate::specs::Reading::delete_of))]
+fn delete(mut words: Words) -> Option<Request>
+    ensures { result ≡ delete_of words.entry }
+{
+    let place = words.place()?;
+    let target = words.number()?;
+    done(
+        words,
+        Request::Delete {
+            session: place.session,
+            source: place.block,
+            shown: place.shown,
+            target,
+        },
+    )
+}
+
+#[tactic(auto, unfolding(crate::specs::Reading::set_cap_of))]
+fn set_cap(mut words: Words) -> Option<Request>
+    ensures { result ≡ set_cap_of words.entry }
+{
+    let place = words.place()?;
+    let read = words.new_cap()?;
+    let write = words.new_cap()?;
+    done(
+        words,
+        Request::SetCap {
+            session: place.session,
+            block: place.block,
+            shown: place.shown,
+            caps: CapPair { read, write },
+        },
+    )
+}
+
+#[tactic(auto, unfolding(crate::specs::Reading::sweep_of))]
+fn sweep(mut words: Words) -> Option<Request>
+    ensures { result ≡ sweep_of words.entry }
+{
+    let session = words.number()?;
+    let shown = words.shown()?;
+    done(words, Request::Sweep { session, shown })
+}
+
+#[tactic(auto, unfolding(crate::specs::Reading::list_of))]
+fn list(mut words: Words) -> Option<Request>
+    ensures { result ≡ list_of words.entry }
+{
+    let place = words.place()?;
+    let start = words.number()?;
+    done(
+        words,
+        Request::List {
+            session: place.session,
+            source: place.block,
+            shown: place.shown,
+            start,
+        },
+    )
+}
