@@ -1,12 +1,11 @@
 -- Worked examples: the definitions answer these lists of requests with these replies, by computing.
-use Rattle.std.specs.Prelude.{true, false, reverse, ◌≡◌, ℕ, Bool, ◌&&◌, List, [], ◌∷◌, ◌++◌, refl, replicate}
+use Rattle.std.specs.Prelude.{true, false, reverse, ◌≡◌, ℕ, Bool, ◌&&◌, List, [], ◌∷◌, refl, replicate}
 use Rattle.std.specs.Bool.{beq}
 use Rattle.std.specs.List.{list_all, range_with_len}
 use Rattle.tsd_model.specs.Sessions.{level_from, level_le}
 use Rattle.tsd_model.specs.Step.{State, filled}
 use Rattle.tsd_model.specs.Run.{replies, fresh_world, at_rest}
 use Rattle.tsd_model.specs.History.{Asked, has_grant, state_after}
-use Rattle.tsd_model.specs.declared.geometry.Geometry.{Geometry}
 use Rattle.tsd_model.specs.declared.caps.Cap.{Cap}
 use Rattle.tsd_model.specs.declared.caps.CapPair.{CapPair}
 use Rattle.tsd_model.specs.declared.caps.Shown.{Shown}
@@ -14,10 +13,9 @@ use Rattle.tsd_model.specs.declared.caps.Shown.TheVariants.{Nothing, Key}
 use Rattle.tsd_model.specs.declared.requests.Hint.TheVariants.{Null, At}
 use Rattle.tsd_model.specs.declared.requests.Level.{Level}
 use Rattle.tsd_model.specs.declared.requests.Level.TheVariants as level
-use Rattle.tsd_model.specs.declared.requests.PlaceKind.TheVariants.{Low, Near, Spread, Zone}
+use Rattle.tsd_model.specs.declared.requests.PlaceKind.TheVariants.{Low, Near, Spread}
 use Rattle.tsd_model.specs.declared.requests.Request.{Request}
 use Rattle.tsd_model.specs.declared.requests.Request.TheVariants as ask
-use Rattle.tsd_model.specs.declared.replies.Reply.{Reply}
 use Rattle.tsd_model.specs.declared.replies.Reply.TheVariants as reply
 use Rattle.tsd_model.specs.declared.replies.Rule.TheVariants as rule
 

@@ -1,13 +1,12 @@
 -- Changes keep the parts of a world at the sizes that its geometry says.
-use Rattle.std.proofs.Common.{inl, inr, ◌≡◌, ℕ, suc, ◌+◌, ◌<◌, ◌≤◌, Bool, true, false, cond, not, List, [], ◌∷◌, length, refl, sym, ◌∙◌, ap, subst, arith}
-use Rattle.std.proofs.Common.{Option, Some, None}
+use Rattle.std.proofs.Common.{inl, inr, ◌≡◌, ℕ, suc, ◌+◌, ◌<◌, ◌≤◌, Bool, true, false, cond, not, List, [], ◌∷◌, length, refl, sym, ◌∙◌, subst, arith}
+use Rattle.std.proofs.Common.{Option, None}
 use Rattle.std.proofs.lemmas.Bool.{cases_lt}
 use Rattle.std.proofs.lemmas.List.{get_or_past}
 use Rattle.std.proofs.lemmas.List.FromFn.{length-map-range_with_len, get_or-map-range_with_len}
-use Rattle.std.specs.Prelude.{filter, map, slice_index_or, IfSome}
-use Rattle.std.specs.List.{range_with_len}
+use Rattle.std.specs.Prelude.{filter, IfSome}
 use Rattle.tsd_model.specs.Geometry.{block_len}
-use Rattle.tsd_model.specs.Pairs.{is_pair, pair_lt, with_pair, without_pair}
+use Rattle.tsd_model.specs.Pairs.{is_pair, pair_lt, with_pair}
 use Rattle.tsd_model.specs.World.{World, contents}
 use Rattle.tsd_model.specs.Reach.{blocks_that, restricted}
 use Rattle.tsd_model.specs.Step.{with_pointer, without_pointer}

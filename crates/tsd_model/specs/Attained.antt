@@ -1,10 +1,9 @@
 -- The level that a session attains at a block.
-use Rattle.std.specs.Prelude.{ℕ, Bool, cond, ◌==◌, List, [], ◌∷◌, map, slice_get, slice_index_or, Option, Some, None}
+use Rattle.std.specs.Prelude.{ℕ, cond, ◌==◌, List, map, slice_get, slice_index_or, Option, Some, None}
 use Rattle.tsd_model.specs.Pairs.{sources_to}
 use Rattle.tsd_model.specs.World.{World, is_primary, primary_blocks}
 use Rattle.tsd_model.specs.Records.{kept_of, kept_eq}
-use Rattle.tsd_model.specs.Sessions.{Sessions, greater, greatest, levels_from}
-use Rattle.tsd_model.specs.declared.caps.Cap.{Cap}
+use Rattle.tsd_model.specs.Sessions.{Sessions, greatest, levels_from}
 use Rattle.tsd_model.specs.declared.caps.Shown.{Shown}
 use Rattle.tsd_model.specs.declared.caps.Shown.TheVariants.{Nothing, Key}
 use Rattle.tsd_model.specs.declared.records.KeptCap.{KeptCap}

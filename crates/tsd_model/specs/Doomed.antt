@@ -1,5 +1,5 @@
 -- Which blocks are lost once their last pointer is gone, and the world without them.
-use Rattle.std.specs.Prelude.{ℕ, zero, suc, Bool, not, ◌&&◌, ◌||◌, ◌==◌, List, [], ◌∷◌, filter}
+use Rattle.std.specs.Prelude.{ℕ, zero, suc, Bool, not, ◌&&◌, ◌||◌, ◌==◌, List, [], filter}
 use Rattle.std.specs.List.{list_all}
 use Rattle.tsd_model.specs.World.{World, is_live, is_primary, all_blocks, has_number}
 use Rattle.tsd_model.specs.Reach.{restricted}

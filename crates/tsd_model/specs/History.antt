@@ -1,13 +1,13 @@
 -- Levels said over the requests so far, of which the newest stands first.
-use Rattle.std.specs.Prelude.{ℕ, Bool, true, false, not, ◌&&◌, ◌||◌, ◌==◌, List, [], ◌∷◌, Option, Some, None}
+use Rattle.std.specs.Prelude.{ℕ, Bool, false, not, ◌&&◌, ◌||◌, ◌==◌, List, [], ◌∷◌}
 use Rattle.std.specs.List.{list_any}
 use Rattle.std.specs.Option.{option_map_or}
-use Rattle.tsd_model.specs.World.{World, is_live}
-use Rattle.tsd_model.specs.Sessions.{Sessions, level_le}
+use Rattle.tsd_model.specs.World.{is_live}
+use Rattle.tsd_model.specs.Sessions.{level_le}
 use Rattle.tsd_model.specs.Attained.{attained_from}
 use Rattle.tsd_model.specs.Needs.{session_of, needs}
 use Rattle.tsd_model.specs.Verdict.{is_granted}
-use Rattle.tsd_model.specs.Step.{State, step}
+use Rattle.tsd_model.specs.Step.{State}
 use Rattle.tsd_model.specs.Run.{answer}
 use Rattle.tsd_model.specs.declared.requests.Level.{Level}
 use Rattle.tsd_model.specs.declared.requests.PlaceKind.{PlaceKind}

@@ -1,8 +1,7 @@
 -- What a request names and needs.
-use Rattle.std.specs.Prelude.{ℕ, Bool, true, false, List, [], ◌∷◌, Option, Some, None}
+use Rattle.std.specs.Prelude.{ℕ, List, [], ◌∷◌, Option, Some, None}
 use Rattle.tsd_model.specs.declared.needs.Need.{Need}
 use Rattle.tsd_model.specs.declared.requests.Level.TheVariants as level
-use Rattle.tsd_model.specs.declared.caps.Shown.{Shown}
 use Rattle.tsd_model.specs.declared.caps.Shown.TheVariants.{Nothing}
 use Rattle.tsd_model.specs.declared.requests.Request.{Request}
 use Rattle.tsd_model.specs.declared.requests.Request.TheVariants as ask

@@ -1,5 +1,5 @@
 -- Pointers: an ascending list of pairs (source, target), none twice.
-use Rattle.std.specs.Prelude.{ℕ, Bool, true, false, not, cond, ◌&&◌, ◌||◌, ◌==◌, nat_lt, List, [], ◌∷◌, filter, map}
+use Rattle.std.specs.Prelude.{ℕ, Bool, true, not, cond, ◌&&◌, ◌||◌, ◌==◌, nat_lt, List, [], ◌∷◌, filter, map}
 use Rattle.std.specs.List.{list_any}
 
 abbrev pub is_pair : ℕ → ℕ → (ℕ × ℕ) → Bool

@@ -1,5 +1,5 @@
 -- Which blocks are reached, and the world without the others.
-use Rattle.std.specs.Prelude.{ℕ, zero, suc, Bool, cond, ◌&&◌, ◌||◌, ◌==◌, List, [], ◌∷◌, filter, map, Option, None}
+use Rattle.std.specs.Prelude.{ℕ, zero, suc, Bool, cond, ◌&&◌, ◌||◌, ◌==◌, List, filter, map, Option, None}
 use Rattle.std.specs.List.{list_any}
 use Rattle.tsd_model.specs.World.{World, contents, all_blocks, primary_blocks, has_number}
 

@@ -1,5 +1,5 @@
 -- What is kept of capabilities.
-use Rattle.std.specs.Prelude.{ℕ, Bool, true, false, cond, ◌&&◌, ◌==◌, List, [], ◌∷◌, map, bytes_eq}
+use Rattle.std.specs.Prelude.{ℕ, Bool, false, cond, ◌&&◌, ◌==◌, map, bytes_eq}
 use Rattle.sha2.specs.Sha256.{sha256}
 use Rattle.tsd_model.specs.World.{World}
 use Rattle.tsd_model.specs.declared.caps.Cap.{Cap}

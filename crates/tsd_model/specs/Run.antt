@@ -1,5 +1,5 @@
 -- A list of requests.
-use Rattle.std.specs.Prelude.{ℕ, ◌-◌, ◌++◌, Bool, true, false, List, [], ◌∷◌, Option, Some, None, replicate, drop, map, slice_index_or}
+use Rattle.std.specs.Prelude.{◌-◌, ◌++◌, Bool, true, false, List, [], ◌∷◌, Option, Some, None, replicate, drop, map, slice_index_or}
 use Rattle.tsd_model.specs.Geometry.{block_len}
 use Rattle.tsd_model.specs.World.{World}
 use Rattle.tsd_model.specs.Records.{kept}

@@ -1,5 +1,5 @@
 -- What each session holds: at each block a level from each primary block that it came from.
-use Rattle.std.specs.Prelude.{◌≡◌, ℕ, zero, suc, ◌-◌, ◌⊎◌, ◌<◌, ◌≤◌, Bool, true, false, cond, nat_le, List, [], ◌∷◌, length, map, replicate, slice_index_or, slice_set, Option, Some, None, is_some, is_none, option_map, unwrap_or, IfSome, IsTrue}
+use Rattle.std.specs.Prelude.{◌≡◌, ℕ, ◌-◌, ◌⊎◌, ◌<◌, Bool, cond, nat_le, List, [], ◌∷◌, length, map, replicate, slice_index_or, slice_set, Option, Some, None, is_some, option_map, unwrap_or, IfSome, IsTrue}
 use Rattle.std.specs.List.{enumerate_from}
 use Rattle.tsd_model.specs.World.{World, is_live, all_blocks}
 use Rattle.tsd_model.specs.declared.requests.Level.{Level}

@@ -1,5 +1,5 @@
 -- Valid worlds.
-use Rattle.std.specs.Prelude.{◌≡◌, ℕ, ◌<◌, ◌≤◌, ◌⊎◌, Bool, List, length, IfSome, IsTrue}
+use Rattle.std.specs.Prelude.{◌≡◌, ℕ, ◌<◌, ◌≤◌, ◌⊎◌, length, IfSome, IsTrue}
 use Rattle.std.specs.List.{list_all}
 use Rattle.tsd_model.specs.Geometry.{IsLawful, block_len}
 use Rattle.tsd_model.specs.Pairs.{holds, is_rising}

@@ -1,4 +1,4 @@
-use Rattle.std.proofs.Common.{◌≡◌, take}
+use Rattle.std.proofs.Common.{◌≡◌}
 use Rattle.tsd_model.specs.Doomed.{doomed_rounds}
 use Rattle.tsd_model.proofs.graph.plain_doomed.Given as goal
 

@@ -1,4 +1,4 @@
-use Rattle.std.proofs.Common.{◌≡◌, take}
+use Rattle.std.proofs.Common.{◌≡◌}
 use Rattle.tsd_model.specs.World.{primary_blocks}
 use Rattle.tsd_model.specs.Reach.{reach_rounds}
 use Rattle.tsd_model.proofs.graph.plain_reach.Given as goal

@@ -2,8 +2,8 @@ use Rattle.std.proofs.Common.{◌≡◌, ◌∙◌, ap, subst, not}
 use Rattle.std.specs.Prelude.{IfOk}
 use Rattle.tsd_model.specs.World.{World, has_number}
 use Rattle.tsd_model.specs.Reach.{restricted}
-use Rattle.tsd_model.specs.Doomed.{settle, doomed}
-use Rattle.tsd_model.specs.Step.{gives, reclaimed, without_pointer}
+use Rattle.tsd_model.specs.Doomed.{settle}
+use Rattle.tsd_model.specs.Step.{gives, reclaimed}
 use Rattle.tsd_model.proofs.step.delete.Goals as goal
 
 pub returns : goal.returns

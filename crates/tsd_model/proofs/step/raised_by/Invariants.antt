@@ -1,5 +1,4 @@
-use Rattle.std.proofs.Common.{◌≡◌, take, drop}
-use Rattle.tsd_model.specs.Needs.{needs}
+use Rattle.std.proofs.Common.{◌≡◌, drop}
 use Rattle.tsd_model.specs.Step.{raised_at}
 use Rattle.tsd_model.proofs.step.raised_by.Given as goal
 

@@ -1,4 +1,4 @@
-use Rattle.std.proofs.Common.{◌≡◌, take, drop}
+use Rattle.std.proofs.Common.{◌≡◌, take}
 use Rattle.tsd_model.specs.Step.{targets_from}
 use Rattle.tsd_model.proofs.step.targets_from.Given as goal
 

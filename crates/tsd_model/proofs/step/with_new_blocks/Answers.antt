@@ -1,7 +1,6 @@
 use Rattle.std.proofs.Common.{ap, ◌∙◌, ◌≡◌, sym, arith, replicate, drop, ◌+◌}
 use Rattle.tsd_model.specs.Geometry.{block_len}
 use Rattle.tsd_model.specs.Step.{with_contents, with_pointer, with_new_blocks, zeros}
-use Rattle.tsd_model.specs.World.{World}
 use Rattle.std.specs.Prelude.{slice_index}
 use Rattle.tsd_model.proofs.SizeLaws.{length-with_pair}
 use Rattle.tsd_model.proofs.StepLaws.{with_new_blocks_more}

@@ -1,4 +1,4 @@
-use Rattle.std.proofs.Common.{◌≡◌, take, drop}
+use Rattle.std.proofs.Common.{◌≡◌, drop}
 use Rattle.std.proofs.Common.{◌≤◌, ◌+◌, length}
 use Rattle.tsd_model.specs.Step.{with_new_blocks}
 use Rattle.tsd_model.proofs.step.with_new_blocks.Given as goal

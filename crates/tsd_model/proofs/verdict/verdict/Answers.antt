@@ -1,4 +1,4 @@
-use Rattle.std.proofs.Common.{◌∙◌, ◌≡◌, Option, None}
+use Rattle.std.proofs.Common.{◌∙◌}
 use Rattle.std.proofs.lemmas.Result.{err_from_is_err_and, MatchResult-weaker}
 use Rattle.tsd_model.specs.Verdict.{session_rules, block_rules, level_rules, pair_rules, room_rules}
 use Rattle.tsd_model.proofs.VerdictLaws.{refused_by_first, refused_by_second, refused_by_third, left_to_fifth}

@@ -1,4 +1,4 @@
-use Rattle.std.proofs.Common.{◌≡◌, take}
+use Rattle.std.proofs.Common.{◌≡◌}
 use Rattle.std.specs.Prelude.{replicate, Some, None, ◌++◌}
 use Rattle.tsd_model.specs.Geometry.{block_len}
 use Rattle.tsd_model.proofs.world.fresh_blocks.Given as goal

@@ -1,4 +1,4 @@
-use Rattle.std.proofs.Common.{arith, length, length-append}
+use Rattle.std.proofs.Common.{arith, length-append}
 use Rattle.tsd_model.specs.Attained.{attained_from}
 use Rattle.tsd_model.proofs.LevelLaws.{raised_held_more}
 use Rattle.tsd_model.proofs.sessions.Holding.raise.Goals as goal

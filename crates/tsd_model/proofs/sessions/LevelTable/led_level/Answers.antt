@@ -1,4 +1,4 @@
-use Rattle.std.proofs.Common.{sym, ◌∙◌, ap}
+use Rattle.std.proofs.Common.{sym}
 use Rattle.tsd_model.proofs.LevelLaws.{led_level_more}
 use Rattle.tsd_model.proofs.sessions.LevelTable.led_level.Goals as goal
 

@@ -1,4 +1,4 @@
-use Rattle.std.proofs.Common.{◌≡◌, take}
+use Rattle.std.proofs.Common.{◌≡◌}
 use Rattle.std.specs.Prelude.{map, cond, not, None}
 use Rattle.std.specs.List.{range_with_len}
 use Rattle.tsd_model.specs.World.{contents, has_number}

@@ -1,4 +1,4 @@
-use Rattle.std.proofs.Common.{ap, ◌∙◌, subst, ℕ, Bool, cond, not, ◌≡◌}
+use Rattle.std.proofs.Common.{ap, ◌∙◌, subst, ℕ, Bool, cond, not}
 use Rattle.std.specs.Prelude.{filter}
 use Rattle.tsd_model.specs.World.{has_number}
 use Rattle.tsd_model.specs.Reach.{restricted}
