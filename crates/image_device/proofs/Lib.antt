@@ -6,5 +6,5 @@ mod Sectors
 mod Pushes
 mod Cells
 mod Images
-mod Puts
+mod PutAll
 mod TwoCopies

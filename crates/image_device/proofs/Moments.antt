@@ -1,4 +1,9 @@
 -- How "a crash at any moment since the start leaves what has P" goes from call to call.
+--
+-- A run begins with `started`, which asks P of what a crash leaves now. Each call more is `after_read`, `after_write`,
+-- `after_sync` or `after_put`, which ask P of what a crash inside that call leaves; a function called is `joined` by its own
+-- LeavesOnly. Where a phase of several writes keeps P whatever its sectors hold, state it by IsConfined
+-- (proofs/Confined.antt) and join it once. In the end `ends_in` and `leaves_now` give P of the device as it stands.
 use Rattle.std.proofs.Common.{◌≡◌, inl, inr, ⊎_elim, ℕ, ◌+◌, ◌==◌, false, List, refl, ◌∙◌, arith}
 use Rattle.image_device.specs.Image.{Image}
 use Rattle.image_device.specs.View.{View, IsLeftNow, IsLeftWithin, IsLeftInPut, IsSound}

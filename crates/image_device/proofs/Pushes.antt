@@ -7,7 +7,7 @@ use Rattle.image_device.specs.declared.event.Event.{Event}
 use Rattle.image_device.specs.declared.event.Event.TheVariants.{Write, Sync, Put}
 use Rattle.image_device.specs.Image.{Image}
 use Rattle.image_device.specs.View.{View, IsLeftNow, IsLeftWithin, IsLeftInPut}
-use Rattle.image_device.specs.Calls.{Elapses, Counts, Rests, Touches, Settles, Appends}
+use Rattle.image_device.specs.Calls.{Elapses, Includes, Rests, Touches, Settles, Appends}
 use Rattle.image_device.specs.History.{State, step, after, IsNow, IsDuring, Had, HadSince}
 use Rattle.image_device.specs.MemStation.{history_view}
 use Rattle.image_device.proofs.Sets.{or_false_left, or_false_right}
@@ -154,14 +154,14 @@ module _ (s : State) (es : List Event) (a b c a' b' c' : ℕ) where
         ends : (x : Image) (f : List ℕ) → IsNow (step (after es s) (Put piece)) x f → IsDuring (after es s) (Put piece) x f
         ends x f now = (now.0, record { front = piece.items; back = []; sent = now.1; whole = sym (append-nil piece.items) })
 
-    counts_at : Counts (history_view s es a b c) (history_view s (es ++ Put piece ∷ []) a' b' c') (IsLeftInPut piece.items (history_view s es a b c))
-    counts_at t x f le during = inside t es s (Put piece) x f le during
+    includes_at : Includes (history_view s es a b c) (history_view s (es ++ Put piece ∷ []) a' b' c') (IsLeftInPut piece.items (history_view s es a b c))
+    includes_at t x f le during = inside t es s (Put piece) x f le during
 
     module _ (s' : State) (start : s' ≡ s) (text : List ℕ) (same : piece.items ≡ text) (new : List Event) (is : new ≡ es ++ Put piece ∷ []) where
       pub appends : Appends text (history_view s es a b c) (history_view s' new a' b' c')
       appends = began (λ v. Appends text (history_view s es a b c) v) s' new start
           (subst (λ p. Appends p (history_view s es a b c) (history_view s new a' b' c')) same (subst (λ l. Appends piece.items (history_view s es a b c) (history_view s l a' b' c')) (sym is) appends_at))
 
-      pub counts : Counts (history_view s es a b c) (history_view s' new a' b' c') (IsLeftInPut text (history_view s es a b c))
-      counts = began (λ v. Counts (history_view s es a b c) v (IsLeftInPut text (history_view s es a b c))) s' new start
-          (subst (λ p. Counts (history_view s es a b c) (history_view s new a' b' c') (IsLeftInPut p (history_view s es a b c))) same (subst (λ l. Counts (history_view s es a b c) (history_view s l a' b' c') (IsLeftInPut piece.items (history_view s es a b c))) (sym is) counts_at))
+      pub includes : Includes (history_view s es a b c) (history_view s' new a' b' c') (IsLeftInPut text (history_view s es a b c))
+      includes = began (λ v. Includes (history_view s es a b c) v (IsLeftInPut text (history_view s es a b c))) s' new start
+          (subst (λ p. Includes (history_view s es a b c) (history_view s new a' b' c') (IsLeftInPut p (history_view s es a b c))) same (subst (λ l. Includes (history_view s es a b c) (history_view s l a' b' c') (IsLeftInPut piece.items (history_view s es a b c))) (sym is) includes_at))

@@ -10,8 +10,8 @@ pub record Elapses (old new : View) (inside : Image → List ℕ → Type 0) : T
   pub keeps : (t : ℕ) (x : Image) (f : List ℕ) → t ≤ old.clock → old.left t x f → new.left t x f
 
 -- what a crash inside a call leaves counts from then on
-abbrev pub Counts : View → View → (Image → List ℕ → Type 0) → Type 0
-Counts old new inside = (t : ℕ) (x : Image) (f : List ℕ) → t ≤ old.clock → inside x f → new.left t x f
+abbrev pub Includes : View → View → (Image → List ℕ → Type 0) → Type 0
+Includes old new inside = (t : ℕ) (x : Image) (f : List ℕ) → t ≤ old.clock → inside x f → new.left t x f
 
 -- a call that changes neither what is read, nor what is loose, nor what is sent
 pub record Rests (old new : View) : Type 0 where

@@ -2,7 +2,7 @@
 ghost use Rattle.std.specs.Prelude.{◌≡◌, ◌<◌, ◌≤◌, ◌+◌, ◌++◌, ℕ, true, length, take, OnOk, OnErr, IfOk};
 ghost use Rattle.image_device.specs.Counts.{Rose};
 ghost use Rattle.image_device.specs.View.{View, IsLeftInPut, IsSound};
-ghost use Rattle.image_device.specs.Calls.{Appends, Counts, Puts, Rests, Settles, Touches, Uses};
+ghost use Rattle.image_device.specs.Calls.{Appends, Includes, Puts, Rests, Settles, Touches, Uses};
 ghost use Rattle.image_device.specs.Runs.{IsFirm};
 
 /// The call failed, and the count of its kind rose.
@@ -55,7 +55,7 @@ pub trait Port: Device {
         ensures sent { Self.told → IfOk result (λ count. (Self.view self.new).sent ≡ (Self.view self.old).sent ++ take count piece.now) }
         ensures part { Self.told → OnErr result ((count : ℕ) × (count < length piece.now) × ((Self.view self.new).sent ≡ (Self.view self.old).sent ++ take count piece.now)) }
         ensures appends { Self.told → Appends piece.now (Self.view self.old) (Self.view self.new) }
-        ensures counts { Self.told → OnOk result (Counts (Self.view self.old) (Self.view self.new) (IsLeftInPut piece.now (Self.view self.old))) }
+        ensures includes { Self.told → OnOk result (Includes (Self.view self.old) (Self.view self.new) (IsLeftInPut piece.now (Self.view self.old))) }
         ensures puts { Puts (Self.view self.old) (Self.view self.new) }
         ensures cause { OnErr result (Rose (Self.view self.old).put_faults (Self.view self.new).put_faults) };
 }

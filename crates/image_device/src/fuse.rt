@@ -139,7 +139,7 @@ impl Device for FuseStation {
 impl Port for FuseStation {
     ghost use Rattle.image_device.specs.FuseStation.{fuse_view, IsPassed};
     ghost use Rattle.image_device.specs.View.{IsLeftInPut};
-    ghost use Rattle.image_device.specs.Calls.{Appends, Counts, Puts};
+    ghost use Rattle.image_device.specs.Calls.{Appends, Includes, Puts};
     ghost use Rattle.image_device.specs.Counts.{Rose};
     ghost use Rattle.std.specs.Prelude.{◌≡◌, ◌≤◌, ◌<◌, ◌++◌, ℕ, length, take, OnOk, OnErr, IfOk};
 
@@ -149,7 +149,7 @@ impl Port for FuseStation {
         ensures sent { IfOk result (λ count. (fuse_view self.new).sent ≡ (fuse_view self.old).sent ++ take count piece.now) }
         ensures part { OnErr result ((count : ℕ) × (count < length piece.now) × ((fuse_view self.new).sent ≡ (fuse_view self.old).sent ++ take count piece.now)) }
         ensures appends { Appends piece.now (fuse_view self.old) (fuse_view self.new) }
-        ensures counts { OnOk result (Counts (fuse_view self.old) (fuse_view self.new) (IsLeftInPut piece.now (fuse_view self.old))) }
+        ensures includes { OnOk result (Includes (fuse_view self.old) (fuse_view self.new) (IsLeftInPut piece.now (fuse_view self.old))) }
         ensures puts { Puts (fuse_view self.old) (fuse_view self.new) }
         ensures cause { OnErr result (Rose (fuse_view self.old).put_faults (fuse_view self.new).put_faults) }
         ensures passed { IsPassed self.old self.new result }

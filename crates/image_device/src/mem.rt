@@ -265,7 +265,7 @@ impl Device for MemStation {
 impl Port for MemStation {
     ghost use Rattle.image_device.specs.MemStation.{station_view, is_failing, IsCalled};
     ghost use Rattle.image_device.specs.View.{IsLeftInPut};
-    ghost use Rattle.image_device.specs.Calls.{Appends, Counts, Puts};
+    ghost use Rattle.image_device.specs.Calls.{Appends, Includes, Puts};
     ghost use Rattle.image_device.specs.Counts.{Rose};
     ghost use Rattle.std.specs.Prelude.{◌≡◌, ◌≤◌, ◌<◌, ◌++◌, ℕ, length, take, OnOk, OnErr, IfOk};
 
@@ -275,7 +275,7 @@ impl Port for MemStation {
         ensures sent { IfOk result (λ count. (station_view self.new).sent ≡ (station_view self.old).sent ++ take count piece.now) }
         ensures part { OnErr result ((count : ℕ) × (count < length piece.now) × ((station_view self.new).sent ≡ (station_view self.old).sent ++ take count piece.now)) }
         ensures appends { Appends piece.now (station_view self.old) (station_view self.new) }
-        ensures counts { OnOk result (Counts (station_view self.old) (station_view self.new) (IsLeftInPut piece.now (station_view self.old))) }
+        ensures includes { OnOk result (Includes (station_view self.old) (station_view self.new) (IsLeftInPut piece.now (station_view self.old))) }
         ensures puts { Puts (station_view self.old) (station_view self.new) }
         ensures cause { OnErr result (Rose (station_view self.old).put_faults (station_view self.new).put_faults) }
         ensures called { IsCalled self.old self.new result }

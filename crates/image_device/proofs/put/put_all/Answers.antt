@@ -1,6 +1,6 @@
 use Rattle.std.proofs.Common.{◌++◌, ◌∙◌, take, drop, arith, ap, sym, length-drop}
 use Rattle.std.proofs.lemmas.List.{take_all}
-use Rattle.image_device.proofs.Puts.{puts_on, sent_more, split_more, part_more, put_more}
+use Rattle.image_device.proofs.PutAll.{puts_on, sent_more, split_more, part_more, put_more}
 use Rattle.image_device.proofs.Outcomes.{on_err}
 use Rattle.image_device.proofs.put.put_all.Goals as goal
 

@@ -5,7 +5,7 @@ use Rattle.image_device.specs.Cells.{begun}
 use Rattle.image_device.specs.MemStation.{found_in}
 use Rattle.image_device.proofs.Outcomes.{unless_err, where_err}
 use Rattle.image_device.proofs.Cells.{put_agrees, more_whole}
-use Rattle.image_device.proofs.Pushes.{appends_not, appends, counts}
+use Rattle.image_device.proofs.Pushes.{appends_not, appends, includes}
 use Rattle.image_device.proofs.mem.MemStationPort.put.Goals as goal
 
 pub returns-then-is_failing-clause-appends : goal.returns-then-is_failing-clause-appends
@@ -37,8 +37,8 @@ returns-clause-appends c =
     let kept = unless_err c.keep_piece.result c.is_err.result c.if-is_err.false c.is_err.ensures.value c.keep_piece.ensures.ok in
     appends (begun (found_in c.args.self.now)) c.args.self.now.log.items _ _ _ _ _ _ kept.0 _ (ap (λ (m : MemStation). begun (found_in m)) counted) c.args.piece.now kept.1 _ (kept.2 ∙ ap (λ (m : MemStation). m.log.items ++ Put kept.0 ∷ []) counted)
 
-pub returns-clause-counts : goal.returns-clause-counts
-returns-clause-counts c =
+pub returns-clause-includes : goal.returns-clause-includes
+returns-clause-includes c =
     let counted = c.is_failing.ensures.counted in
     let kept = unless_err c.keep_piece.result c.is_err.result c.if-is_err.false c.is_err.ensures.value c.keep_piece.ensures.ok in
-    counts (begun (found_in c.args.self.now)) c.args.self.now.log.items 0 0 0 0 0 0 kept.0 _ (ap (λ (m : MemStation). begun (found_in m)) counted) c.args.piece.now kept.1 _ (kept.2 ∙ ap (λ (m : MemStation). m.log.items ++ Put kept.0 ∷ []) counted)
+    includes (begun (found_in c.args.self.now)) c.args.self.now.log.items 0 0 0 0 0 0 kept.0 _ (ap (λ (m : MemStation). begun (found_in m)) counted) c.args.piece.now kept.1 _ (kept.2 ∙ ap (λ (m : MemStation). m.log.items ++ Put kept.0 ∷ []) counted)
