@@ -15,7 +15,7 @@
 //! - [`print_request`] leaves a line that reads as the request, and [`print_reply`] exactly the reply's text
 //!   (`specs/Texts.antt`).
 //!
-//! No call takes memory. A line is read in time linear in its length.
+//! No call takes memory. That a line is read in time linear in its length is shown by the code, and is no clause.
 #![tactic(auto)]
 
 pub mod cutter;
