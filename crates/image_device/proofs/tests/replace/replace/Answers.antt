@@ -1,7 +1,6 @@
-use Rattle.std.proofs.Common.{◌≡◌, ◌∙◌, ap}
+use Rattle.std.proofs.Common.{◌∙◌, ap}
 use Rattle.image_device.specs.TwoCopies.{current, spare}
-use Rattle.image_device.proofs.Outcomes.{on_ok}
-use Rattle.image_device.proofs.TwoCopies.{looked, places, replaced, shows, staged}
+use Rattle.image_device.proofs.TwoCopies.{looked, places, replaced, staged}
 use Rattle.image_device.proofs.tests.replace.replace.Goals as goal
 
 pub returns-in_err-read-clause-any_moment : goal.returns-in_err-read-clause-any_moment

@@ -1,5 +1,4 @@
-use Rattle.std.proofs.Common.{◌≡◌, ◌∙◌, ap, refl, subst}
-use Rattle.image_device.specs.Image.{Image}
+use Rattle.std.proofs.Common.{◌∙◌, ap, refl, subst}
 use Rattle.image_device.specs.FuseStation.{fuse_sound, fuse_view}
 use Rattle.image_device.specs.MemStation.{station_view}
 use Rattle.image_device.specs.TwoCopies.{shown, ShowsEither}
