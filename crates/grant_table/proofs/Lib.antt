@@ -1,0 +1,5 @@
+pub mod BitLaws
+pub mod LevelLaws
+pub mod HeldLaws
+pub mod TableLaws
+pub mod LedLaws

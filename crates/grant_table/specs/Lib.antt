@@ -1,0 +1,4 @@
+pub mod Levels
+pub mod Table
+pub mod Facts
+pub mod Granted

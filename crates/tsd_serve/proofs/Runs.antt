@@ -1,0 +1,172 @@
+-- A run over takes, and how it ends.
+use Rattle.std.proofs.Common.{◌≡◌, ℕ, ◌+◌, ◌-◌, ◌<◌, ◌≤◌, ◌⊎◌, inl, inr, List, [], ◌∷◌, ◌++◌, length, take, drop, min, refl, sym, ◌∙◌, ap, subst, arith, append_assoc, append-nil, length-append}
+use Rattle.std.proofs.lemmas.List.{length-take, take-append-drop}
+use Rattle.tsd_model.specs.Step.{State}
+use Rattle.tsd_model.specs.declared.requests.PlaceKind.{PlaceKind}
+use Rattle.script_text.specs.Lines.{Cutting, WasFed}
+use Rattle.script_text.specs.Pieces.{lines, all_lines, if_some, unended}
+use Rattle.tsd_serve.specs.declared.status.Status.{Status}
+use Rattle.tsd_serve.specs.declared.status.Status.TheVariants as status
+use Rattle.tsd_serve.specs.Served.{Replied, Served, Stopped, Ends}
+use Rattle.tsd_serve.specs.Ran.{Came, Ran, Goes}
+use Rattle.tsd_serve.proofs.Replies.{stopped_more}
+use Rattle.script_text.proofs.CutLaws.{onto}
+use Rattle.script_text.specs.Pieces.{pieces, front}
+use Rattle.image_device.specs.Counts.{Rose}
+use Rattle.tsd_serve.proofs.Lines.{take_all, take_nil, take_zero, within_limit, lines_on}
+
+pub came_first : (tells : Type 0) (taken left : List ℕ) → Came tells taken taken left left []
+came_first tells taken left = record { taken = λ t. sym (append-nil taken); left = λ t. refl }
+
+pub came_more : (tells : Type 0) (taken now new left rest less x p : List ℕ) → Came tells taken now left rest x → (tells → new ≡ now ++ p) → (tells → rest ≡ p ++ less) → Came tells taken new left less (x ++ p)
+came_more tells taken now new left rest less x p came e f = record {
+  taken = λ t. e t ∙ ap (λ xs. xs ++ p) (came.taken t) ∙ append_assoc taken x p;
+  left = λ t. came.left t ∙ ap (λ xs. x ++ xs) (f t) ∙ sym (append_assoc x p less);
+}
+
+-- a take that found the end
+pub came_none : (tells : Type 0) (taken now new left rest less room x : List ℕ) (n : ℕ) → n ≡ 0 → (tells → new ≡ now ++ take n room) → (tells → rest ≡ take n room ++ less)
+    → Came tells taken now left rest x → Came tells taken new left less x
+came_none tells taken now new left rest less room x n zero e f came =
+    let none : x ++ take n room ≡ x = ap (λ k. x ++ take k room) zero ∙ ap (λ p. x ++ p) (take_zero room) ∙ append-nil x in
+    subst (λ y. Came tells taken new left less y) none (came_more tells taken now new left rest less x (take n room) came e f)
+
+-- a take that failed
+pub came_same : (tells : Type 0) (taken now new left rest less x : List ℕ) → (tells → (less ≡ rest) × (new ≡ now)) → Came tells taken now left rest x → Came tells taken new left less x
+came_same tells taken now new left rest less x same came = record {
+  taken = λ t. (same t).1 ∙ came.taken t;
+  left = λ t. came.left t ∙ ap (λ xs. x ++ xs) (sym (same t).0);
+}
+
+pub rose_later : (a b c : ℕ) → a ≤ b → Rose b c → Rose a c
+rose_later a b c h rose = omega arith
+
+pub goes_first : (kind : PlaceKind) (s : State) (limit : ℕ) (came : List ℕ → Type 0) (tells : Type 0) (before : List ℕ) (cutter : Cutting) → came [] → WasFed [] cutter
+    → Goes kind s limit came tells before s cutter before 0
+goes_first kind s limit came tells before cutter c fed = record {
+  bytes = [];
+  came_in = c;
+  long = refl;
+  served = subst (λ x. Served kind s tells before (lines x) s before) (sym (take_nil limit)) (record { wants = []; each = refl; sent = λ t. sym (append-nil before); reached = refl });
+  fed = subst (λ x. WasFed x cutter) (sym (take_nil limit)) fed;
+}
+
+-- within the limit all bytes count
+whole_of : (x : List ℕ) (limit count : ℕ) → length x ≡ count → count ≤ limit → take limit x ≡ x
+whole_of x limit count e h = take_all x limit (omega arith)
+
+pub goes_more : (kind : PlaceKind) (s st st2 : State) (limit count n : ℕ) (came came2 : List ℕ → Type 0) (tells : Type 0) (before now new room : List ℕ) (cutter cutter2 : Cutting)
+    → Goes kind s limit came tells before st cutter now count → count ≤ limit → n ≤ length room → ((x : List ℕ) → came x → came2 (x ++ take n room))
+    → ((x : List ℕ) → WasFed x cutter → WasFed (x ++ take (min n (limit - count)) room) cutter2)
+    → ((x : List ℕ) → WasFed x cutter → Served kind s tells before (lines x) st now → Served kind s tells before (lines (x ++ take (min n (limit - count)) room)) st2 new)
+    → Goes kind s limit came2 tells before st2 cutter2 new (count + n)
+goes_more kind s st st2 limit count n came came2 tells before now new room cutter cutter2 was few fits came_on fed_on serve_on =
+    let x = was.bytes in
+    let all : take limit x ≡ x = whole_of x limit count was.long few in
+    let fed : WasFed x cutter = subst (λ y. WasFed y cutter) all was.fed in
+    let served : Served kind s tells before (lines x) st now = subst (λ y. Served kind s tells before (lines y) st now) all was.served in
+    let cut : take limit (x ++ take n room) ≡ x ++ take (min n (limit - count)) room = within_limit x room limit count n was.long few in
+    record {
+      bytes = x ++ take n room;
+      came_in = came_on x was.came_in;
+      long = omega (arith, length-append x (take n room), length-take n room, was.long);
+      served = subst (λ y. Served kind s tells before (lines y) st2 new) (sym cut) (serve_on x fed served);
+      fed = subst (λ y. WasFed y cutter2) (sym cut) (fed_on x fed);
+    }
+
+pub replied : (kind : PlaceKind) (s st : State) (tells : Type 0) (before now : List ℕ) (ls : List (List ℕ)) → Served kind s tells before ls st now → Replied kind s tells before ls now
+replied kind s st tells before now ls was = record { wants = was.wants; sent = was.sent }
+
+-- a part of a piece wasn't answered, so the piece wasn't
+pub stopped_text : (why : Status) (kind : PlaceKind) (s : State) (tells : Type 0) (before now x piece : List ℕ) (k : ℕ) → Stopped why kind s tells before (lines (x ++ take k piece)) now → Stopped why kind s tells before (lines (x ++ piece)) now
+stopped_text why kind s tells before now x piece k h =
+    let part : List ℕ = x ++ take k piece in
+    let whole : part ++ drop k piece ≡ x ++ piece = append_assoc x (take k piece) (drop k piece) ∙ ap (λ p. x ++ p) (take-append-drop k piece) in
+    subst (λ t. Stopped why kind s tells before (lines t) now) whole
+    (subst (λ ls. Stopped why kind s tells before ls now) (sym (lines_on part (drop k piece)))
+    (stopped_more why kind s tells before now (lines part) (front (onto (unended part) (pieces 10 (drop k piece)))) h))
+
+pub ends_stopped : (why : Status) (kind : PlaceKind) (s : State) (tells : Type 0) (before now : List ℕ) (ls : List (List ℕ)) → (why ≡ status.PutFault) ⊎ (why ≡ status.NoMemory)
+    → Stopped why kind s tells before ls now → Ends why kind s tells before ls now
+ends_stopped why kind s tells before now ls known stopped = elim known [
+  | inl put ↦ subst (λ q. Ends q kind s tells before ls now) (sym put) (subst (λ q. Stopped q kind s tells before ls now) put stopped)
+  | inr memory ↦ subst (λ q. Ends q kind s tells before ls now) (sym memory) (subst (λ q. Stopped q kind s tells before ls now) memory stopped)
+]
+
+-- the input has come to its end
+pub ran_end : (r : Status) (kind : PlaceKind) (s st : State) (limit count : ℕ) (came came2 : List ℕ → Type 0) (tells : Type 0) (before now new : List ℕ) (cutter : Cutting)
+    → Goes kind s limit came tells before st cutter now count → count ≤ limit → ((x : List ℕ) → came x → came2 x)
+    → ((x : List ℕ) → WasFed x cutter → Served kind s tells before (lines x) st now → Ends r kind s tells before (all_lines x) new)
+    → (r ≡ status.Done) ⊎ (r ≡ status.PutFault) ⊎ (r ≡ status.NoMemory)
+    → Ran r kind s limit came2 tells before new
+ran_end r kind s st limit count came came2 tells before now new cutter was few came_on ends known =
+    let x = was.bytes in
+    let all : take limit x ≡ x = whole_of x limit count was.long few in
+    let end : Ends r kind s tells before (all_lines x) new =
+    ends x (subst (λ y. WasFed y cutter) all was.fed) (subst (λ y. Served kind s tells before (lines y) st now) all was.served) in
+    elim known [
+      | inl done ↦ subst (λ q. Ran q kind s limit came2 tells before new) (sym done) (record {
+        bytes = x;
+        came_in = came_on x was.came_in;
+        served = (omega (arith, was.long), subst (λ q. Ends q kind s tells before (all_lines x) new) done end);
+      })
+      | inr other ↦ elim other [
+        | inl put ↦ subst (λ q. Ran q kind s limit came2 tells before new) (sym put) (record {
+          bytes = x;
+          came_in = came_on x was.came_in;
+          served = subst (λ y. Stopped status.PutFault kind s tells before (all_lines y) new) (sym all) (subst (λ q. Ends q kind s tells before (all_lines x) new) put end);
+        })
+        | inr memory ↦ subst (λ q. Ran q kind s limit came2 tells before new) (sym memory) (record {
+          bytes = x;
+          came_in = came_on x was.came_in;
+          served = subst (λ y. Stopped status.NoMemory kind s tells before (all_lines y) new) (sym all) (subst (λ q. Ends q kind s tells before (all_lines x) new) memory end);
+        })
+      ]
+    ]
+
+-- a take failed
+pub ran_fault : (kind : PlaceKind) (s st : State) (limit count : ℕ) (came came2 : List ℕ → Type 0) (tells : Type 0) (before now : List ℕ) (cutter : Cutting)
+    → Goes kind s limit came tells before st cutter now count → count ≤ limit → ((x : List ℕ) → came x → came2 x)
+    → Ran status.SourceFault kind s limit came2 tells before now
+ran_fault kind s st limit count came came2 tells before now cutter was few came_on = record {
+  bytes = was.bytes;
+  came_in = came_on was.bytes was.came_in;
+  served = (omega (arith, was.long), subst (λ y. Replied kind s tells before (lines y) now) (whole_of was.bytes limit count was.long few) (replied kind s st tells before now (lines (take limit was.bytes)) was.served));
+}
+
+-- more came than is served
+pub ran_long : (kind : PlaceKind) (s st : State) (limit count : ℕ) (came : List ℕ → Type 0) (tells : Type 0) (before now : List ℕ) (cutter : Cutting)
+    → Goes kind s limit came tells before st cutter now count → limit < count → Ran status.TooLong kind s limit came tells before now
+ran_long kind s st limit count came tells before now cutter was more = record {
+  bytes = was.bytes;
+  came_in = was.came_in;
+  served = (omega (arith, was.long), replied kind s st tells before now (lines (take limit was.bytes)) was.served);
+}
+
+-- a line of a piece wasn't answered
+pub ran_stopped : (why : Status) (kind : PlaceKind) (s st : State) (limit count n : ℕ) (came came2 : List ℕ → Type 0) (tells : Type 0) (before now new room : List ℕ) (cutter : Cutting)
+    → Goes kind s limit came tells before st cutter now count → count ≤ limit → ((x : List ℕ) → came x → came2 (x ++ take n room))
+    → ((x : List ℕ) → WasFed x cutter → Served kind s tells before (lines x) st now → Stopped why kind s tells before (lines (x ++ take (min n (limit - count)) room)) new)
+    → (why ≡ status.PutFault) ⊎ (why ≡ status.NoMemory)
+    → Ran why kind s limit came2 tells before new
+ran_stopped why kind s st limit count n came came2 tells before now new room cutter was few came_on stops known =
+    let x = was.bytes in
+    let all : take limit x ≡ x = whole_of x limit count was.long few in
+    let part : List ℕ = x ++ take (min n (limit - count)) room in
+    let cut : take limit (x ++ take n room) ≡ part = within_limit x room limit count n was.long few in
+    let here : Stopped why kind s tells before (all_lines part) new =
+    stopped_more why kind s tells before new (lines part) (if_some (unended part))
+    (stops x (subst (λ y. WasFed y cutter) all was.fed) (subst (λ y. Served kind s tells before (lines y) st now) all was.served)) in
+    let left : Stopped why kind s tells before (all_lines (take limit (x ++ take n room))) new = subst (λ y. Stopped why kind s tells before (all_lines y) new) (sym cut) here in
+    elim known [
+      | inl put ↦ subst (λ q. Ran q kind s limit came2 tells before new) (sym put) (record {
+        bytes = x ++ take n room;
+        came_in = came_on x was.came_in;
+        served = subst (λ q. Stopped q kind s tells before (all_lines (take limit (x ++ take n room))) new) put left;
+      })
+      | inr memory ↦ subst (λ q. Ran q kind s limit came2 tells before new) (sym memory) (record {
+        bytes = x ++ take n room;
+        came_in = came_on x was.came_in;
+        served = subst (λ q. Stopped q kind s tells before (all_lines (take limit (x ++ take n room))) new) memory left;
+      })
+    ]

@@ -1,0 +1,381 @@
+//! Worked runs, faults of the outside, and words.
+
+ghost use Rattle.std.specs.Prelude.{◌≡◌, ◌+◌, ◌*◌, ◌^◌, ◌<◌, slice_index};
+ghost use Rattle.tsd_model.specs.Rank.{rank_of, zones_after};
+ghost use Rattle.tsd_model.specs.declared.requests.PlaceKind.TheVariants.{Low, Near, Spread};
+
+mod drip;
+
+use crate::{Status, image_line, status_line, tsd};
+use drip::Drip;
+use image_device::{MemSource, MemStation};
+use image_layout::{HeaderFault, ImageFault};
+use place_policy::{PlaceBook, Placement, ZONE_TURNS, low_rank, near_rank, spread_rank, zone_rank};
+use script_text::OutBuf;
+use std::alloc::{AllocError, Global};
+use std::process::Abort;
+use std::test::Fail;
+use tsd_model::{Level, PlaceKind};
+
+/// Words, input and output. In each, R, W, C and D stand for 32 digits `a`, `b`, `c` and `d`, and a slash for a line feed.
+const RUNS: [(&str, &str, &str); 20] = [
+    ("fresh 8 1 R W near", "", ""),
+    ("fresh 8 1 R W near", "open 1/read 1 0 R/", "ok/data -/"),
+    (
+        "fresh 8 1 R W near",
+        "open 1/write 1 0 R 6869/read 1 0 R/write 1 0 W 686900/read 1 0 R/",
+        "ok/no denied read write/data -/ok/data 6869/",
+    ),
+    (
+        "fresh 8 1 R W near",
+        "open 1/alloc 1 0 W - 3/free/alloc 1 0 W - 5/free/",
+        "ok/blocks 1 2 3/free 4/no full 4 5/free 4/",
+    ),
+    (
+        "fresh 8 1 R W near",
+        "open 1/alloc 1 0 W - 7/delete 1 0 W 2/delete 1 0 W 4/delete 1 0 W 6/contig 1 0 W - 2/alloc 1 0 W 5 2/free/",
+        "ok/blocks 1 2 3 4 5 6 7/gone 1/gone 1/gone 1/no run 3 2/blocks 6 4/free 1/",
+    ),
+    (
+        "fresh 8 1 R W near",
+        "open 1/alloc 1 0 W - 1/open 2/read 2 1 -/read 2 0 R/read 2 1 -/write 2 1 - 01/close 2/read 2 1 -/",
+        "ok/blocks 1/ok/no denied none read/data -/data -/no denied read write/ok/no not-open/",
+    ),
+    (
+        "fresh 8 1 R W near",
+        "open 1/alloc 1 0 W - 1/alloc 1 1 - - 1/alloc 1 2 - - 1/delete 1 0 W 1/free/",
+        "ok/blocks 1/blocks 2/blocks 3/gone 3/free 7/",
+    ),
+    (
+        "fresh 8 1 R W near",
+        "open 1/alloc 1 0 W - 2/alloc 1 1 - - 1/create 1 2 - 3/list 1 2 - 0/delete 1 0 W 1/delete 1 0 W 2/free/",
+        "ok/blocks 1 2/blocks 3/ok/list 3/gone 1/gone 2/free 7/",
+    ),
+    (
+        "fresh 8 1 R W near",
+        "open 1/alloc 1 0 W - 1/alloc 1 1 - - 1/create 1 2 - 1/delete 1 0 W 1/free/sweep 1 R/sweep 1 W/free/",
+        "ok/blocks 1/blocks 2/ok/gone 0/free 5/no denied read write/gone 2/free 7/",
+    ),
+    (
+        "fresh 8 1 R W near",
+        "open 1/alloc 1 0 W - 1/create 1 1 - 1/create 1 1 - 1/create 1 1 - 0/delete 1 0 W 1/read 1 1 -/sweep 1 W/read 1 1 -/",
+        "ok/blocks 1/ok/no pointer-exists/no is-primary/gone 0/data -/gone 1/no free-block/",
+    ),
+    (
+        "fresh 8 1 R W near",
+        "open 1/open 2/alloc 1 0 W - 1/alloc 1 1 - - 1/read 2 0 R/read 2 1 -/read 2 2 -/delete 1 0 W 1/alloc 1 0 W - 1/alloc 1 1 - - 1/read 2 2 -/read 2 1 -/read 2 2 -/",
+        "ok/ok/blocks 1/blocks 2/data -/data -/data -/gone 2/blocks 1/blocks 2/no denied none read/data -/data -/",
+    ),
+    (
+        "fresh 8 1 R W near",
+        "open 1/open 2/alloc 1 0 W - 1/read 2 0 R/setcap 1 0 W C D/read 2 1 -/alloc 1 1 - - 1/read 2 0 R/read 2 0 C/read 2 1 -/",
+        "ok/ok/blocks 1/data -/ok/no denied none read/no denied none write/no denied none read/data -/data -/",
+    ),
+    (
+        "fresh 64 1 R W low",
+        "open 1/alloc 1 0 W - 0/alloc 1 0 W - 33/alloc 1 0 W - 32/open 65/open 0/open 1/close 2/read 1 64 -/",
+        "ok/no bad-count/no bad-count/blocks 1 2 3 4 5 6 7 8 9 10 11 12 13 14 15 16 17 18 19 20 21 22 23 24 25 26 27 28 29 30 31 32/no bad-session/no bad-session/no already-open/no not-open/no no-such-block/",
+    ),
+    (
+        "fresh 8 1 R W near",
+        "/read 1/write 1 0 W 6/open 4294967296/free",
+        "no bad-request/no bad-request/no bad-request/no bad-request/free 7/",
+    ),
+    (
+        "fresh 8 1 R W spread",
+        "open 1/alloc 1 0 W 6 3/",
+        "ok/blocks 6 7 1/",
+    ),
+    (
+        "fresh 8 1 R W near",
+        "open 1/alloc 1 0 W 4294967295 2/",
+        "ok/blocks 7 6/",
+    ),
+    (
+        "fresh 8 1 R W near",
+        "open 1/open 2/alloc 1 0 W - 1/alloc 1 1 - - 1/read 2 0 R/read 2 1 -/setcap 1 0 W C D/read 2 2 -/read 1 2 -/read 2 0 C/read 2 1 -/read 2 2 -/",
+        "ok/ok/blocks 1/blocks 2/data -/data -/ok/no denied none read/no denied none read/data -/data -/data -/",
+    ),
+    (
+        "fresh 600 1 R W zone",
+        "open 1/alloc 1 0 W 512 4/contig 1 0 W 512 3/",
+        "ok/blocks 512 513 514 515/blocks 516 517 518/",
+    ),
+    (
+        "fresh 00008 8 R W low",
+        "free//free",
+        "free 7/no bad-request/free 7/",
+    ),
+    ("fresh 1048576 1 R W low", "", ""),
+];
+
+/// Words that are no command.
+const FAULTY: [&str; 16] = [
+    "",
+    "fresh",
+    "fresh 7 1 R W near",
+    "fresh 1048577 1 R W near",
+    "fresh 8 3 R W near",
+    "fresh 8 0 R W near",
+    "fresh 8 1 R W nearer",
+    "fresh 8 1 R W Near",
+    "fresh 8 1 R a near",
+    "fresh 8 1 RR W near",
+    "fresh +8 1 R W near",
+    "fresh 8 1 - W near",
+    "fresh 8 1 R W",
+    "fresh 8 1 R W near near",
+    "fresher 8 1 R W near",
+    "run near",
+];
+
+/// Words, as they are parted by spaces.
+fn words(alloc: Global, text: &[u8]) -> Result<Vec<String>, Fail> {
+    let mut words = Vec::new(alloc);
+    for word in text.split(|b| *b == b' ') {
+        match std::str::from_utf8(word) {
+            Ok(word) => words.push(String::from_str(alloc, word)?)?,
+            Err(_) => {}
+        }
+    }
+    Ok(words)
+}
+
+/// The bytes that a text of a row stands for.
+fn spelled(alloc: Global, text: &str) -> Result<Vec<u8>, AllocError> {
+    let mut bytes = Vec::new(alloc);
+    for byte in text.as_bytes() {
+        match *byte {
+            b'R' | b'W' | b'C' | b'D' => push_digits(&mut bytes, digit_of(*byte))?,
+            b'/' => bytes.push(b'\n')?,
+            other => bytes.push(other)?,
+        }
+    }
+    Ok(bytes)
+}
+
+fn push_digits(bytes: &mut Vec<u8>, digit: u8) -> Result<(), AllocError> {
+    for _ in 0..32 {
+        bytes.push(digit)?;
+    }
+    Ok(())
+}
+
+fn digit_of(letter: u8) -> u8 {
+    match letter {
+        b'R' => b'a',
+        b'W' => b'b',
+        b'C' => b'c',
+        _ => b'd',
+    }
+}
+
+/// What a run over memory gives: its status, and what was sent. The calls of these numbers fail.
+fn run(
+    alloc: Global,
+    book: &PlaceBook,
+    texts: (&str, &str),
+    cut: usize,
+    failing: (Vec<u64>, Vec<u64>),
+) -> Result<(Status, Vec<u8>), Fail>
+    requires { 0 < cut }
+{
+    let (takes, puts) = failing;
+    let mut source = MemSource::new(spelled(alloc, texts.1)?, cut, takes);
+    let mut port = MemStation::new(alloc, puts);
+    let words = words(alloc, spelled(alloc, texts.0)?.as_slice())?;
+    let status = tsd(alloc, &words, &mut source, &mut port, book);
+    let sent = port.sent().to_vec(alloc)?;
+    Ok((status, sent))
+}
+
+/// Each run, its input cut into pieces of every size from 1 to 9, and whole.
+fn all_runs(rt: &impl Abort, alloc: Global, book: &PlaceBook) -> Result<(), Fail> {
+    for (words, input, output) in RUNS {
+        for cut in [1, 2, 3, 4, 5, 6, 7, 8, 9, 10_000] {
+            let (status, sent) = run(
+                alloc,
+                book,
+                (words, input),
+                cut,
+                (Vec::new(alloc), Vec::new(alloc)),
+            )?;
+            assert_eq!(rt; status, Status::Done, "{words} {input} {cut}");
+            assert_eq!(rt;
+                sent.as_slice(),
+                spelled(alloc, output)?.as_slice(),
+                "{words} {input} {cut}"
+            );
+        }
+    }
+    Ok(())
+}
+
+/// Each faulty command line: nothing is called, so the failing calls don't show.
+fn faulty_words(rt: &impl Abort, alloc: Global, book: &PlaceBook) -> Result<(), Fail> {
+    for words in FAULTY {
+        let failing = (vec![in alloc; 0u64]?, vec![in alloc; 0u64]?);
+        let (status, sent) = run(alloc, book, (words, "free/"), 9, failing)?;
+        assert_eq!(rt; status, Status::Usage, "{words}");
+        assert!(rt; sent.is_empty());
+    }
+    Ok(())
+}
+
+/// A take and a put that fail. What was whole before it was answered.
+fn faults(rt: &impl Abort, alloc: Global, book: &PlaceBook) -> Result<(), Fail> {
+    let input = ("fresh 8 1 R W near", "open 1/free/free");
+    let none = || Vec::new(alloc);
+    for (takes, puts, want, output) in [
+        (vec![in alloc; 0u64]?, none(), Status::SourceFault, ""),
+        (vec![in alloc; 1u64]?, none(), Status::SourceFault, "ok/"),
+        (
+            vec![in alloc; 2u64]?,
+            none(),
+            Status::SourceFault,
+            "ok/free 7/",
+        ),
+        (none(), vec![in alloc; 0u64]?, Status::PutFault, ""),
+        (none(), vec![in alloc; 1u64]?, Status::PutFault, "ok/"),
+        (
+            none(),
+            vec![in alloc; 2u64]?,
+            Status::PutFault,
+            "ok/free 7/",
+        ),
+    ] {
+        let (status, sent) = run(alloc, book, input, 7, (takes, puts))?;
+        assert_eq!(rt; status, want, "{output}");
+        assert_eq!(rt;
+            sent.as_slice(),
+            spelled(alloc, output)?.as_slice(),
+            "{output}"
+        );
+    }
+    Ok(())
+}
+
+/// A run whose puts take one byte each.
+fn one_byte_puts(rt: &impl Abort, alloc: Global, book: &PlaceBook) -> Result<(), Fail> {
+    let input = spelled(alloc, "open 1/write 1 0 W 6869/read 1 0 R/free")?;
+    let mut source = MemSource::new(input, 7, Vec::new(alloc));
+    let mut port = Drip {
+        inner: MemStation::new(alloc, Vec::new(alloc)),
+    };
+    let words = words(alloc, spelled(alloc, "fresh 8 1 R W near")?.as_slice())?;
+    let status = tsd(alloc, &words, &mut source, &mut port, book);
+    let output = spelled(alloc, "ok/ok/data 6869/free 7/")?;
+    assert_eq!(rt; status, Status::Done);
+    assert_eq!(rt; port.inner.sent(), output.as_slice());
+    assert_eq!(rt; port.inner.calls(), output.len() as u64);
+    Ok(())
+}
+
+#[test]
+fn runs(rt: HostRuntime) -> Result<(), Fail> {
+    let alloc = rt.alloc();
+    let turns = ZONE_TURNS;
+    let low = Box::new(
+        alloc,
+        |hint: u32, block: u32| -> u64
+            ensures { result ≡ rank_of Low hint block }
+        { low_rank(hint, block) },
+    )?;
+    let near = Box::new(
+        alloc,
+        |hint: u32, block: u32| -> u64
+            ensures { result ≡ rank_of Near hint block }
+        { near_rank(hint, block) },
+    )?;
+    let spread = Box::new(
+        alloc,
+        |hint: u32, block: u32| -> u64
+            ensures { result ≡ rank_of Spread hint block }
+        { spread_rank(hint, block) },
+    )?;
+    let zone = Box::new(
+        alloc,
+        move |hint: u32, block: u32| -> u64
+            ensures { result ≡ 2 ^ 32 * slice_index turns (zones_after hint block) + block }
+        { zone_rank(&turns, hint, block) },
+    )?;
+    let book = PlaceBook::new(
+        Placement::new(PlaceKind::Low, low),
+        Placement::new(PlaceKind::Near, near),
+        Placement::new(PlaceKind::Spread, spread),
+        Placement::new(PlaceKind::Zone, zone),
+    );
+    all_runs(&rt, alloc, &book)?;
+    faulty_words(&rt, alloc, &book)?;
+    faults(&rt, alloc, &book)?;
+    one_byte_puts(&rt, alloc, &book)
+}
+
+#[test]
+fn texts_of_statuses(rt: HostRuntime) {
+    let mut line = OutBuf::new();
+    for (status, code, text) in [
+        (Status::Usage, 2, "tsd: usage\n"),
+        (
+            Status::NotImage(ImageFault::NotFormatted),
+            3,
+            "tsd: not an image: not-formatted\n",
+        ),
+        (Status::DeviceFault, 4, "tsd: device fault\n"),
+        (Status::SourceFault, 5, "tsd: input fault\n"),
+        (Status::PutFault, 6, "tsd: output fault\n"),
+        (Status::TooLong, 7, "tsd: input too long\n"),
+        (Status::NoMemory, 8, "tsd: no memory\n"),
+        (Status::Truncated, 9, "tsd: input ends inside a frame\n"),
+        (
+            Status::RootDenied(Level::Bare),
+            10,
+            "tsd: root denied, none attained\n",
+        ),
+    ] {
+        assert_eq!(rt; status.code(), code, "{text}");
+        if status != Status::Done {
+            status_line(&status, &mut line);
+            assert_eq!(rt; line.as_slice(), text.as_bytes(), "{text}");
+        }
+    }
+    assert_eq!(rt; Status::Done.code(), 0);
+}
+
+#[test]
+fn texts_of_faults(rt: HostRuntime) {
+    let mut line = OutBuf::new();
+    for (fault, text) in [
+        (ImageFault::Descriptor, "damaged descriptor\n"),
+        (
+            ImageFault::Header(HeaderFault::Version(3)),
+            "header version 3\n",
+        ),
+        (
+            ImageFault::Header(HeaderFault::Field {
+                number: 1,
+                found: 3,
+            }),
+            "header field 1 3\n",
+        ),
+        (
+            ImageFault::Slot {
+                slot: 5,
+                source: 4_294_967_295,
+                target: 0,
+            },
+            "damaged slot 5 4294967295 0\n",
+        ),
+        (
+            ImageFault::Count {
+                block: 1,
+                stored: 2,
+                found: 1,
+            },
+            "damaged count 1 2 1\n",
+        ),
+    ] {
+        image_line(&fault, &mut line);
+        assert_eq!(rt; line.as_slice(), text.as_bytes(), "{text}");
+    }
+}

@@ -1,0 +1,79 @@
+//! The top call.
+
+ghost use Rattle.std.specs.Prelude.{◌≡◌, ◌↔◌, ◌∷◌, [], map, string_bytes, IfSome, None};
+ghost use Rattle.image_device.specs.Counts.{Rose};
+ghost use Rattle.tsd_model.specs.Geometry.{IsLawful};
+ghost use Rattle.tsd_model.specs.Run.{at_rest, fresh_world};
+ghost use Rattle.tsd_serve.specs.Ran.{Came, Ran};
+ghost use Rattle.tsd_serve.specs.Words.{command_of};
+
+use crate::plain_core::PlainCore;
+use crate::serve::{INPUT_MAX, serve_lines};
+use crate::status::Status;
+use crate::words::{Fresh, command};
+use image_device::{Port, Source};
+use place_policy::PlaceBook;
+use script_text::LineCutter;
+use std::alloc::Global;
+
+/// Does what the words say: `fresh BLOCKS SECTORS READCAP WRITECAP PLACE` makes a disk in memory and answers the lines of
+/// the input until it ends. No other command is built yet.
+///
+/// Each reply is put whole before the next request is carried out.
+pub fn tsd<S: Source, P: Port>(
+    alloc: Global,
+    words: &Vec<String>,
+    source: &mut S,
+    port: &mut P,
+    places: &PlaceBook,
+) -> Status
+    // Usage comes exactly where the words are no command, and before any call.
+    ensures usage { (result ≡ Status.Usage) ↔ (command_of (map string_bytes words.now.items) ≡ None) }
+    ensures untouched_source { result ≡ Status.Usage → source.new ≡ source.old }
+    ensures untouched_port { result ≡ Status.Usage → port.new ≡ port.old }
+    // What came in and what was sent, by status. The replies are those of the abstract disk, from the fresh one on.
+    ensures ran { IfSome (command_of (map string_bytes words.now.items)) (λ c. Ran result c.kind (at_rest (fresh_world c.geometry (c.caps ∷ []))) INPUT_MAX (Came S.told (S.taken source.old) (S.taken source.new) (S.left_bytes source.old) (S.left_bytes source.new)) P.told (P.view port.old).sent (P.view port.new).sent) }
+    // Done comes only at the end of the input.
+    ensures end { result ≡ Status.Done → S.told → S.left_bytes source.new ≡ [] }
+    ensures ended { result ≡ Status.Done → S.ended source.new }
+    // A fault of the outside comes only where it failed.
+    ensures source_fault { result ≡ Status.SourceFault → Rose (S.faults source.old) (S.faults source.new) }
+    ensures put_fault { result ≡ Status.PutFault → Rose (P.view port.old).put_faults (P.view port.new).put_faults }
+{
+    match command(words) {
+        None => Status::Usage,
+        Some(fresh) => run_fresh(alloc, &fresh, source, port, places),
+    }
+}
+
+/// Makes a disk and answers lines.
+fn run_fresh<S: Source, P: Port>(
+    alloc: Global,
+    fresh: &Fresh,
+    source: &mut S,
+    port: &mut P,
+    places: &PlaceBook,
+) -> Status
+    requires lawful { IsLawful fresh.now.geometry }
+    requires single { fresh.now.geometry.primaries ≡ 1 }
+    ensures ran { Ran result fresh.now.kind (at_rest (fresh_world fresh.now.geometry (fresh.now.caps ∷ []))) INPUT_MAX (Came S.told (S.taken source.old) (S.taken source.new) (S.left_bytes source.old) (S.left_bytes source.new)) P.told (P.view port.old).sent (P.view port.new).sent }
+    ensures end { result ≡ Status.Done → S.told → S.left_bytes source.new ≡ [] }
+    ensures ended { result ≡ Status.Done → S.ended source.new }
+    ensures source_fault { result ≡ Status.SourceFault → Rose (S.faults source.old) (S.faults source.new) }
+    ensures put_fault { result ≡ Status.PutFault → Rose (P.view port.old).put_faults (P.view port.new).put_faults }
+{
+    match PlainCore::fresh(alloc, &fresh.geometry, &fresh.caps) {
+        Err(_) => Status::NoMemory,
+        Ok(mut core) => {
+            let mut cutter = LineCutter::new();
+            serve_lines(
+                &mut core,
+                places.pick(fresh.kind),
+                &mut cutter,
+                source,
+                port,
+                INPUT_MAX,
+            )
+        }
+    }
+}
