@@ -4,17 +4,28 @@ use Rattle.std.proofs.Common.{◌≡◌, ◌≢◌, ◌⊎◌, inl, inr, ⊎_eli
 use Rattle.std.proofs.lemmas.Bool.Decides.{nat_tests}
 use Rattle.std.proofs.lemmas.List.{append-nil}
 use Rattle.image_device.specs.declared.event.Event.{Event}
-use Rattle.image_device.specs.declared.event.Event.TheVariants.{Write, Sync, Put}
+use Rattle.image_device.specs.declared.event.Event.TheVariants.{Write, Sync, Put, Poke}
 use Rattle.image_device.specs.Image.{Image}
 use Rattle.image_device.specs.View.{View, IsLeftNow, IsLeftWithin, IsLeftInPut}
 use Rattle.image_device.specs.Calls.{Elapses, Includes, Rests, Touches, Settles, Appends}
 use Rattle.image_device.specs.History.{State, step, after, IsNow, IsDuring, Had, HadSince}
+use Rattle.image_device.specs.Laws.{counts_now}
 use Rattle.image_device.specs.MemStation.{history_view}
 use Rattle.image_device.proofs.Sets.{or_false_left, or_false_right}
 
 pub after_push : (es : List Event) (s : State) (e : Event) → after (es ++ e ∷ []) s ≡ step (after es s) e
 after_push [] s e = refl
 after_push (d ∷ es) s e = after_push es (step s d) e
+
+-- A station began as s' now, which is s, and its record is this now.
+module _ (s s' : State) (es new : List Event) (start : s' ≡ s) where
+  -- nothing was recorded
+  pub after_same : new ≡ es → after new s' ≡ after es s
+  after_same is i = after (is i) (start i)
+
+  -- one event was
+  pub after_one : (e : Event) → new ≡ es ++ e ∷ [] → after new s' ≡ step (after es s) e
+  after_one e is = (λ i. after (is i) (start i)) ∙ after_push es s e
 
 -- what a crash left before counts
 had_keeps : (es : List Event) (s : State) (e : Event) (x : Image) (f : List ℕ) → ((x : Image) (f : List ℕ) → IsNow (after es s) x f → IsDuring (after es s) e x f)
@@ -24,12 +35,11 @@ had_keeps (d ∷ es) s e x f begins (inl here) = inl here
 had_keeps (d ∷ es) s e x f begins (inr later) = inr (had_keeps es (step s d) e x f begins later)
 
 -- nothing else does but what is left inside the new event and after it
-had_more : (es : List Event) (s : State) (e : Event) (x : Image) (f : List ℕ) → ((x : Image) (f : List ℕ) → IsNow (step (after es s) e) x f → IsDuring (after es s) e x f)
-    → Had (es ++ e ∷ []) s x f → Had es s x f ⊎ IsDuring (after es s) e x f
-had_more [] s e x f ends (inl here) = inr here
-had_more [] s e x f ends (inr now) = inr (ends x f now)
-had_more (d ∷ es) s e x f ends (inl here) = inl (inl here)
-had_more (d ∷ es) s e x f ends (inr later) = ⊎_elim (λ had. inl (inr had)) inr (had_more es (step s d) e x f ends later)
+had_more : (es : List Event) (s : State) (e : Event) (x : Image) (f : List ℕ) → Had (es ++ e ∷ []) s x f → Had es s x f ⊎ (IsDuring (after es s) e x f ⊎ IsNow (step (after es s) e) x f)
+had_more [] s e x f (inl here) = inr (inl here)
+had_more [] s e x f (inr now) = inr (inr now)
+had_more (d ∷ es) s e x f (inl here) = inl (inl here)
+had_more (d ∷ es) s e x f (inr later) = ⊎_elim (λ had. inl (inr had)) inr (had_more es (step s d) e x f later)
 
 had_inside : (es : List Event) (s : State) (e : Event) (x : Image) (f : List ℕ) → IsDuring (after es s) e x f → Had (es ++ e ∷ []) s x f
 had_inside [] s e x f during = inl during
@@ -42,11 +52,11 @@ keeps zero es s e x f begins le had = had_keeps es s e x f begins had
 keeps (suc t) [] s e x f begins le had = absurd (omega arith)
 keeps (suc t) (d ∷ es) s e x f begins le had = keeps t es (step s d) e x f begins (omega arith) had
 
-more : (t : ℕ) (es : List Event) (s : State) (e : Event) (x : Image) (f : List ℕ) → ((x : Image) (f : List ℕ) → IsNow (step (after es s) e) x f → IsDuring (after es s) e x f) → t ≤ length es
-    → HadSince t (es ++ e ∷ []) s x f → HadSince t es s x f ⊎ IsDuring (after es s) e x f
-more zero es s e x f ends le had = had_more es s e x f ends had
-more (suc t) [] s e x f ends le had = absurd (omega arith)
-more (suc t) (d ∷ es) s e x f ends le had = more t es (step s d) e x f ends (omega arith) had
+more : (t : ℕ) (es : List Event) (s : State) (e : Event) (x : Image) (f : List ℕ) → t ≤ length es
+    → HadSince t (es ++ e ∷ []) s x f → HadSince t es s x f ⊎ (IsDuring (after es s) e x f ⊎ IsNow (step (after es s) e) x f)
+more zero es s e x f le had = had_more es s e x f had
+more (suc t) [] s e x f le had = absurd (omega arith)
+more (suc t) (d ∷ es) s e x f le had = more t es (step s d) e x f (omega arith) had
 
 inside : (t : ℕ) (es : List Event) (s : State) (e : Event) (x : Image) (f : List ℕ) → t ≤ length es → IsDuring (after es s) e x f → HadSince t (es ++ e ∷ []) s x f
 inside zero es s e x f le during = had_inside es s e x f during
@@ -64,7 +74,7 @@ module _ (s : State) (es : List Event) (a b c a' b' c' : ℕ) where
       → Elapses (history_view s es a b c) (history_view s (es ++ e ∷ []) a' b' c') (IsDuring (after es s) e)
   elapses_push e begins ends = record {
     later = omega (arith, length-append es (e ∷ []));
-    nothing_else = λ t x f le left. more t es s e x f ends le left;
+    nothing_else = λ t x f le left. ⊎_elim inl (λ new. inr (⊎_elim (λ during. during) (ends x f) new)) (more t es s e x f le left);
     keeps = λ t x f le left. keeps t es s e x f begins le left;
   }
 
@@ -78,6 +88,9 @@ module _ (s : State) (es : List Event) (a b c a' b' c' : ℕ) where
 
     pub rests : Rests (history_view s es a b c) (history_view s' new a' b' c')
     rests = moved (λ v. Rests (history_view s es a b c) v) (record { reads = refl; loose = refl; sent = refl; time = elapses_same (IsLeftNow (history_view s es a b c)) })
+
+    pub elapses_not : Elapses (history_view s es a b c) (history_view s' new a' b' c') (IsLeftNow (history_view s' new a' b' c'))
+    elapses_not = moved (λ v. Elapses (history_view s es a b c) v (IsLeftNow v)) (elapses_same (IsLeftNow (history_view s es a' b' c')))
 
     pub touches_not : (sector : ℕ) → Touches sector (history_view s es a b c) (history_view s' new a' b' c')
     touches_not sector = moved (λ v. Touches sector (history_view s es a b c) v)
@@ -138,6 +151,19 @@ module _ (s : State) (es : List Event) (a b c a' b' c' : ℕ) where
 
       pub loose : (after new s').loose sector ≡ true
       loose = ap (λ (z : State). (after new z).loose sector) start ∙ ap (λ l. (after l s).loose sector) is ∙ ap (λ z. z.loose sector) (after_push es s (Write sector box)) ∙ ap (λ t. t || (after es s).loose sector) is_same
+
+  -- a poke that is done
+  module _ (sector : ℕ) (box : Box (List ℕ)) where
+    pokes_at : Elapses (history_view s es a b c) (history_view s (es ++ Poke sector box ∷ []) a' b' c') (IsLeftNow (history_view s (es ++ Poke sector box ∷ []) a' b' c'))
+    pokes_at = record {
+      later = omega (arith, length-append es (Poke sector box ∷ []));
+      nothing_else = λ t x f le left. ⊎_elim inl (⊎_elim (λ now. inl (counts_now t es s x f now)) (λ now. inr (subst (λ z. IsNow z x f) (sym (after_push es s (Poke sector box))) now))) (more t es s (Poke sector box) x f le left);
+      keeps = λ t x f le left. keeps t es s (Poke sector box) x f (λ x f now. now) le left;
+    }
+
+    pub pokes : (s' : State) → s' ≡ s → (new : List Event) → new ≡ es ++ Poke sector box ∷ [] → Elapses (history_view s es a b c) (history_view s' new a' b' c') (IsLeftNow (history_view s' new a' b' c'))
+    pokes s' start new is = began (λ v. Elapses (history_view s es a b c) v (IsLeftNow v)) s' new start
+        (subst (λ l. Elapses (history_view s es a b c) (history_view s l a' b' c') (IsLeftNow (history_view s l a' b' c'))) (sym is) pokes_at)
 
   -- a put that is done
   module _ (piece : Vec ℕ) where

@@ -11,6 +11,13 @@ use Rattle.image_device.specs.MemStation.{history_view, found_in, station_sound,
 abbrev pub within : FuseStation → MemStation
 within d = d.inner
 
+-- how often it failed a call or a put itself
+abbrev pub own_faults_of : FuseStation → ℕ
+own_faults_of d = d.faults
+
+abbrev pub own_put_faults_of : FuseStation → ℕ
+own_put_faults_of d = d.put_faults
+
 -- how many calls pass from now on
 abbrev pub passes_of : FuseStation → ℕ
 passes_of d = d.passes
@@ -20,7 +27,7 @@ abbrev pub pick_of : FuseStation → Pick
 pick_of d = d.pick
 
 abbrev pub fuse_view : FuseStation → View
-fuse_view d = history_view (begun (found_in d.inner)) d.inner.log.items (d.inner.faults + d.faults) (d.inner.put_faults + d.put_faults) d.inner.writes
+fuse_view d = history_view (begun (found_in d.inner)) d.inner.log.items (d.inner.faults + own_faults_of d) (d.inner.put_faults + own_put_faults_of d) d.inner.writes
 
 pub fuse_sound : (d : FuseStation) → IsSound (fuse_view d)
 fuse_sound d = let s = station_sound d.inner in record { counts_now = s.counts_now; only_now = s.only_now; own = s.own }
@@ -31,3 +38,4 @@ pub record IsPassed {T E : Type 0} (old new : FuseStation) (result : Result T E)
   pub pick : pick_of new ≡ pick_of old
   pub spent : passes_of old ≡ 0 → IsErr result × (within new ≡ within old)
   pub called : 0 < passes_of old → IsCalled (within old) (within new) result
+  pub own : 0 < passes_of old → (own_faults_of new ≡ own_faults_of old) × (own_put_faults_of new ≡ own_put_faults_of old)

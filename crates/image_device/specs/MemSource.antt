@@ -1,6 +1,6 @@
 -- A source in memory.
 use Rattle.std.specs.List.{list_any}
-use Rattle.std.specs.Prelude.{ℕ, ◌==◌, ◌≡◌, Bool, true, List, take, drop, Result, OnErr, IsErr}
+use Rattle.std.specs.Prelude.{ℕ, ◌==◌, ◌≡◌, Bool, true, List, take, drop, Result, OnOk, OnErr, IsErr}
 use Rattle.image_device.specs.declared.mem_source.MemSource.{MemSource}
 use Rattle.image_device.specs.Counts.{raised}
 
@@ -23,6 +23,10 @@ takes_of s = s.calls
 abbrev pub failing_takes_of : MemSource → List ℕ
 failing_takes_of s = s.fail.items
 
+-- how often a take failed
+abbrev pub faults_of : MemSource → ℕ
+faults_of s = s.faults
+
 -- the next take is one of those that are to fail
 abbrev pub is_failing_take : MemSource → Bool
 is_failing_take s = list_any (λ n. n == s.calls) s.fail.items
@@ -34,3 +38,4 @@ pub record IsTaken {T E : Type 0} (old new : MemSource) (result : Result T E) : 
   pub cut : cut_of new ≡ cut_of old
   pub numbered : is_failing_take old ≡ true → IsErr result
   pub only : OnErr result (is_failing_take old ≡ true)
+  pub fine : OnOk result (faults_of new ≡ faults_of old)

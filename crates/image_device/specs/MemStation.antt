@@ -10,7 +10,7 @@ use Rattle.image_device.specs.View.{View, IsSound}
 use Rattle.image_device.specs.Runs.{IsFirm}
 use Rattle.image_device.specs.Counts.{raised}
 use Rattle.image_device.specs.History.{State, after, HadSince}
-use Rattle.image_device.specs.Cells.{Found, begun}
+use Rattle.image_device.specs.Cells.{Found, begun, IsSame}
 use Rattle.image_device.specs.Laws.{counts_now, only_now}
 
 -- what a record of events says of a disk that began so, with the counts of failed calls, of failed puts and of writes
@@ -57,6 +57,10 @@ short_of m = m.short
 abbrev pub is_failing : MemStation → Bool
 is_failing m = list_any (λ n. n == m.calls) m.fail.items
 
+-- nothing was kept: the record and the sectors are as they were
+abbrev pub KeepsNothing : MemStation → MemStation → Type 0
+KeepsNothing old new = IsSame old.log.items new.log.items (found_in old) (found_in new)
+
 -- nothing is loose, nothing was sent, and no call came yet
 pub record IsNew (m : MemStation) : Type 0 where
   pub firm : IsFirm (station_view m)
@@ -74,5 +78,6 @@ pub record IsCalled {T E : Type 0} (old new : MemStation) (result : Result T E) 
   pub fail : failing_of new ≡ failing_of old
   pub numbered : is_failing old ≡ true → IsErr result × (short_of new ≡ short_of old)
   pub wanting : is_failing old ≡ false → OnErr result (short_of new ≡ raised (short_of old))
+  pub unchanged : OnErr result (KeepsNothing old new)
   -- a call that answers Ok raises no count of failures
   pub fine : OnOk result ((short_of new ≡ short_of old) × (new.faults ≡ old.faults) × (new.put_faults ≡ old.put_faults))

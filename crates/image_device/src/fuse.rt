@@ -14,7 +14,7 @@ pub struct FuseStation {
 }
 
 impl FuseStation {
-    ghost use Rattle.image_device.specs.FuseStation.{fuse_view, passes_of, pick_of, within};
+    ghost use Rattle.image_device.specs.FuseStation.{fuse_view, own_faults_of, own_put_faults_of, passes_of, pick_of, within};
     ghost use Rattle.image_device.specs.MemStation.{failing_of, station_view, synced_reads, IsNew};
     ghost use Rattle.image_device.specs.Image.{IsImage};
     ghost use Rattle.std.specs.Prelude.{◌≡◌, [], ℕ, true, replicate};
@@ -27,6 +27,8 @@ impl FuseStation {
         ensures pick { pick_of result ≡ pick }
         ensures faults { (fuse_view result).faults ≡ (station_view inner).faults }
         ensures put_faults { (fuse_view result).put_faults ≡ (station_view inner).put_faults }
+        ensures own_faults { own_faults_of result ≡ 0 }
+        ensures own_put_faults { own_put_faults_of result ≡ 0 }
     {
         FuseStation {
             inner,
@@ -79,7 +81,8 @@ impl FuseStation {
 }
 
 impl Device for FuseStation {
-    ghost use Rattle.image_device.specs.FuseStation.{fuse_sound, fuse_view, IsPassed};
+    ghost use Rattle.image_device.specs.FuseStation.{fuse_sound, fuse_view, within, IsPassed};
+    ghost use Rattle.image_device.specs.MemStation.{synced_reads};
     ghost use Rattle.image_device.specs.Calls.{Rests, Settles, Touches, Uses};
     ghost use Rattle.image_device.specs.Runs.{IsFirm};
     ghost use Rattle.image_device.specs.Counts.{Rose};
@@ -97,6 +100,7 @@ impl Device for FuseStation {
         ensures uses { Uses 0 (fuse_view self.old) (fuse_view self.new) }
         ensures cause { OnErr result (Rose (fuse_view self.old).faults (fuse_view self.new).faults) }
         ensures passed { IsPassed self.old self.new result }
+        ensures synced { synced_reads (within self.new) ≡ synced_reads (within self.old) }
     {
         if !self.is_passing() {
             self.faults = self.faults.saturating_add(1);
@@ -112,6 +116,7 @@ impl Device for FuseStation {
         ensures uses { Uses 1 (fuse_view self.old) (fuse_view self.new) }
         ensures cause { OnErr result (Rose (fuse_view self.old).faults (fuse_view self.new).faults) }
         ensures passed { IsPassed self.old self.new result }
+        ensures synced { synced_reads (within self.new) ≡ synced_reads (within self.old) }
     {
         if !self.is_passing() {
             self.faults = self.faults.saturating_add(1);
@@ -127,6 +132,8 @@ impl Device for FuseStation {
         ensures uses { Uses 0 (fuse_view self.old) (fuse_view self.new) }
         ensures cause { OnErr result (Rose (fuse_view self.old).faults (fuse_view self.new).faults) }
         ensures passed { IsPassed self.old self.new result }
+        ensures synced { OnOk result (synced_reads (within self.new) ≡ (fuse_view self.old).reads) }
+        ensures same_synced { OnErr result (synced_reads (within self.new) ≡ synced_reads (within self.old)) }
     {
         if !self.is_passing() {
             self.faults = self.faults.saturating_add(1);
@@ -137,7 +144,8 @@ impl Device for FuseStation {
 }
 
 impl Port for FuseStation {
-    ghost use Rattle.image_device.specs.FuseStation.{fuse_view, IsPassed};
+    ghost use Rattle.image_device.specs.FuseStation.{fuse_view, within, IsPassed};
+    ghost use Rattle.image_device.specs.MemStation.{synced_reads};
     ghost use Rattle.image_device.specs.View.{IsLeftInPut};
     ghost use Rattle.image_device.specs.Calls.{Appends, Includes, Puts};
     ghost use Rattle.image_device.specs.Counts.{Rose};
@@ -153,6 +161,9 @@ impl Port for FuseStation {
         ensures puts { Puts (fuse_view self.old) (fuse_view self.new) }
         ensures cause { OnErr result (Rose (fuse_view self.old).put_faults (fuse_view self.new).put_faults) }
         ensures passed { IsPassed self.old self.new result }
+        ensures synced { synced_reads (within self.new) ≡ synced_reads (within self.old) }
+        ensures all { IfOk result (λ count. count ≡ length piece.now) }
+        ensures none { OnErr result ((fuse_view self.new).sent ≡ (fuse_view self.old).sent) }
     {
         if !self.is_passing() {
             self.put_faults = self.put_faults.saturating_add(1);

@@ -104,10 +104,12 @@ impl MemStation {
 }
 
 impl MemStation {
-    ghost use Rattle.image_device.specs.MemStation.{station_view, calls_of, failing_of, short_of, synced_reads};
+    ghost use Rattle.image_device.specs.MemStation.{station_view, calls_of, failing_of, short_of, synced_reads, KeepsNothing};
     ghost use Rattle.image_device.specs.Image.{put_at};
+    ghost use Rattle.image_device.specs.View.{IsLeftNow};
+    ghost use Rattle.image_device.specs.Calls.{Elapses};
     ghost use Rattle.image_device.specs.History.{firmed};
-    ghost use Rattle.image_device.specs.Counts.{Rose};
+    ghost use Rattle.image_device.specs.Counts.{raised};
 
     /// Sets a sector as a damaged image would have it, which makes nothing loose. It is no call of
     /// the device, and `Failed` comes only where `short` rose.
@@ -117,14 +119,17 @@ impl MemStation {
         ensures loose { OnOk result ((station_view self.new).loose ≡ firmed sector (station_view self.old).loose) }
         ensures same_reads { OnErr result ((station_view self.new).reads ≡ (station_view self.old).reads) }
         ensures same_loose { OnErr result ((station_view self.new).loose ≡ (station_view self.old).loose) }
+        ensures same_synced { OnErr result (synced_reads self.new ≡ synced_reads self.old) }
+        ensures unchanged { OnErr result (KeepsNothing self.old self.new) }
         ensures sent { (station_view self.new).sent ≡ (station_view self.old).sent }
-        ensures later { (station_view self.old).clock ≤ (station_view self.new).clock }
+        ensures time { Elapses (station_view self.old) (station_view self.new) (IsLeftNow (station_view self.new)) }
         ensures faults { (station_view self.new).faults ≡ (station_view self.old).faults }
         ensures put_faults { (station_view self.new).put_faults ≡ (station_view self.old).put_faults }
         ensures writes { (station_view self.new).writes ≡ (station_view self.old).writes }
         ensures calls { calls_of self.new ≡ calls_of self.old }
         ensures fail { failing_of self.new ≡ failing_of self.old }
-        ensures cause { OnErr result (Rose (short_of self.old) (short_of self.new)) }
+        ensures short { OnOk result (short_of self.new ≡ short_of self.old) }
+        ensures cause { OnErr result (short_of self.new ≡ raised (short_of self.old)) }
     {
         if keep_poke(self.alloc, &mut self.cells, &mut self.log, sector, from).is_err() {
             self.short = self.short.saturating_add(1);
@@ -179,7 +184,7 @@ impl MemStation {
 }
 
 impl Device for MemStation {
-    ghost use Rattle.image_device.specs.MemStation.{station_view, station_sound, is_failing, IsCalled};
+    ghost use Rattle.image_device.specs.MemStation.{station_view, station_sound, is_failing, synced_reads, IsCalled};
     ghost use Rattle.image_device.specs.Calls.{Rests, Settles, Touches, Uses};
     ghost use Rattle.image_device.specs.Runs.{IsFirm};
     ghost use Rattle.image_device.specs.Counts.{raised, Rose};
@@ -197,6 +202,7 @@ impl Device for MemStation {
         ensures uses { Uses 0 (station_view self.old) (station_view self.new) }
         ensures cause { OnErr result (Rose (station_view self.old).faults (station_view self.new).faults) }
         ensures called { IsCalled self.old self.new result }
+        ensures synced { synced_reads self.new ≡ synced_reads self.old }
         ensures answers { is_failing self.old ≡ false → IsOk result }
     {
         if self.is_failing() {
@@ -216,6 +222,7 @@ impl Device for MemStation {
         ensures uses { Uses 1 (station_view self.old) (station_view self.new) }
         ensures cause { OnErr result (Rose (station_view self.old).faults (station_view self.new).faults) }
         ensures called { IsCalled self.old self.new result }
+        ensures synced { synced_reads self.new ≡ synced_reads self.old }
         ensures writes { (station_view self.new).writes ≡ raised (station_view self.old).writes }
     {
         self.writes = self.writes.saturating_add(1);
@@ -247,6 +254,8 @@ impl Device for MemStation {
         ensures uses { Uses 0 (station_view self.old) (station_view self.new) }
         ensures cause { OnErr result (Rose (station_view self.old).faults (station_view self.new).faults) }
         ensures called { IsCalled self.old self.new result }
+        ensures synced { OnOk result (synced_reads self.new ≡ (station_view self.old).reads) }
+        ensures same_synced { OnErr result (synced_reads self.new ≡ synced_reads self.old) }
     {
         if self.is_failing() {
             self.faults = self.faults.saturating_add(1);
@@ -263,7 +272,7 @@ impl Device for MemStation {
 }
 
 impl Port for MemStation {
-    ghost use Rattle.image_device.specs.MemStation.{station_view, is_failing, IsCalled};
+    ghost use Rattle.image_device.specs.MemStation.{station_view, is_failing, synced_reads, IsCalled};
     ghost use Rattle.image_device.specs.View.{IsLeftInPut};
     ghost use Rattle.image_device.specs.Calls.{Appends, Includes, Puts};
     ghost use Rattle.image_device.specs.Counts.{Rose};
@@ -279,6 +288,7 @@ impl Port for MemStation {
         ensures puts { Puts (station_view self.old) (station_view self.new) }
         ensures cause { OnErr result (Rose (station_view self.old).put_faults (station_view self.new).put_faults) }
         ensures called { IsCalled self.old self.new result }
+        ensures synced { synced_reads self.new ≡ synced_reads self.old }
         ensures all { IfOk result (λ count. count ≡ length piece.now) }
         ensures none { OnErr result ((station_view self.new).sent ≡ (station_view self.old).sent) }
     {

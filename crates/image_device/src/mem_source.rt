@@ -17,7 +17,7 @@ pub struct MemSource {
 }
 
 impl MemSource {
-    ghost use Rattle.image_device.specs.MemSource.{cut_of, failing_takes_of, front_of, rest_of, takes_of};
+    ghost use Rattle.image_device.specs.MemSource.{cut_of, failing_takes_of, faults_of, front_of, rest_of, takes_of};
 
     /// These bytes, at most `cut` of them at a time. Its takes are numbered from 0, and those in
     /// `fail` fail.
@@ -27,6 +27,7 @@ impl MemSource {
         ensures taken { front_of result ≡ [] }
         ensures cut { cut_of result ≡ cut }
         ensures takes { takes_of result ≡ 0 }
+        ensures faults { faults_of result ≡ 0 }
         ensures fail { failing_takes_of result ≡ fail.items }
     {
         MemSource {
@@ -41,7 +42,7 @@ impl MemSource {
 }
 
 impl Source for MemSource {
-    ghost use Rattle.image_device.specs.MemSource.{cut_of, front_of, rest_of, IsTaken};
+    ghost use Rattle.image_device.specs.MemSource.{cut_of, faults_of, front_of, rest_of, IsTaken};
     ghost use Rattle.image_device.specs.Counts.{Rose};
     ghost use Rattle.std.specs.Prelude.{◌≡◌, ◌≤◌, ◌++◌, ◌↔◌, [], length, take, IfOk, OnErr};
 
@@ -53,7 +54,7 @@ impl Source for MemSource {
 
     ghost ended = { λ s. rest_of s ≡ [] };
 
-    ghost faults = { λ s. s.faults };
+    ghost faults = { faults_of };
 
     fn take(&mut self, into: &mut [u8]) -> Result<usize, Failed>
         requires { 0 < length into.old }

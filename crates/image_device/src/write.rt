@@ -7,7 +7,7 @@ ghost use Rattle.image_device.specs.Runs.{IsConfined, IsFirm};
 use crate::{Device, Failed};
 
 /// Writes a sector and waits until it is on the disk. At any moment within, a crash leaves any
-/// bytes in this sector, and every other as it was.
+/// bytes in this sector and in those that were loose, and every other as it was.
 pub fn write_through<D: Device>(dev: &mut D, sector: u32, from: &[u8; 512]) -> Result<(), Failed>
     ensures written { D.told → OnOk result ((D.view dev.new).reads sector ≡ from.now) }
     ensures firm { D.told → OnOk result (IsFirm (D.view dev.new)) }
@@ -20,7 +20,8 @@ pub fn write_through<D: Device>(dev: &mut D, sector: u32, from: &[u8; 512]) -> R
 }
 
 /// Writes sectors one after another from the first on, and waits until they are on the disk. At
-/// any moment within, a crash leaves any bytes in these sectors, and every other as it was.
+/// any moment within, a crash leaves any bytes in these sectors and in those that were loose, and
+/// every other as it was.
 pub fn write_run<D: Device>(dev: &mut D, first: u32, bodies: &[[u8; 512]]) -> Result<(), Failed>
     requires { first + length bodies.now < 2 ^ 32 }
     ensures written { D.told → OnOk result ((k : ℕ) → k < length bodies.now → (D.view dev.new).reads (first + k) ≡ slice_index_or bodies.now k []) }

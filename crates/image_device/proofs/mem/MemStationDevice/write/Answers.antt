@@ -2,11 +2,12 @@ use Rattle.std.proofs.Common.{◌≤◌, ◌+◌, ◌++◌, [], ◌∷◌, lengt
 use Rattle.image_device.specs.declared.event.Event.TheVariants.{Write}
 use Rattle.image_device.specs.declared.mem.MemStation.{MemStation}
 use Rattle.image_device.specs.Image.{IsSector}
+use Rattle.image_device.specs.History.{State}
 use Rattle.image_device.specs.Cells.{begun}
 use Rattle.image_device.specs.MemStation.{found_in}
 use Rattle.image_device.proofs.Outcomes.{unless_err, where_err}
 use Rattle.image_device.proofs.Cells.{same_begun, kept_begun, kept_agrees, kept_whole, written_whole, standing_written_as}
-use Rattle.image_device.proofs.Pushes.{touches_not, touches}
+use Rattle.image_device.proofs.Pushes.{after_one, touches_not, touches}
 use Rattle.image_device.proofs.mem.MemStationDevice.write.Goals as goal
 
 pub returns-then-is_failing-clause-touches : goal.returns-then-is_failing-clause-touches
@@ -41,3 +42,10 @@ returns-clause-touches c =
     let kept = unless_err c.keep_write.result c.is_err.result c.if-is_err.false c.is_err.ensures.value c.keep_write.ensures.ok in
     touches (begun (found_in c.args.self.now)) c.args.self.now.log.items _ _ _ _ _ _ c.args.sector kept.0 _ (kept_begun _ _ _ _ _ _ _ kept.2 refl ∙ ap (λ (m : MemStation). begun (found_in m)) counted) _
     (kept.2.log ∙ ap (λ (m : MemStation). m.log.items ++ Write c.args.sector kept.0 ∷ []) counted)
+
+pub returns-clause-synced : goal.returns-clause-synced
+returns-clause-synced c =
+    let counted = c.is_failing.ensures.counted in
+    let kept = unless_err c.keep_write.result c.is_err.result c.if-is_err.false c.is_err.ensures.value c.keep_write.ensures.ok in
+    ap (λ (s : State). s.synced) (after_one (begun (found_in c.args.self.now)) _ c.args.self.now.log.items _ (kept_begun _ _ _ _ _ _ _ kept.2 refl ∙ ap (λ (m : MemStation). begun (found_in m)) counted) (Write c.args.sector kept.0)
+    (kept.2.log ∙ ap (λ (m : MemStation). m.log.items ++ Write c.args.sector kept.0 ∷ []) counted))
