@@ -87,8 +87,8 @@ apart-append : (xs ys : List ℕ) → all_apart xs ≡ true → all_apart ys ≡
 apart-append [] ys p q h = q
 apart-append (x ∷ xs) ys p q h = let parts = and_parts (not (has_number xs x)) (all_apart xs) p in
     and_from (not (has_number (xs ++ ys) x)) (all_apart (xs ++ ys))
-      (ap not (list_any-append (λ y. y == x) xs ys ∙ (ap (λ t. t || has_number ys x) (not-true (has_number xs x) parts.0) ∙ h x (or_left (x == x) (has_number xs x) (eq-eqb x x refl)))))
-      (apart-append xs ys parts.1 q (λ b m. h b (or_right (x == b) (has_number xs b) m)))
+    (ap not (list_any-append (λ y. y == x) xs ys ∙ (ap (λ t. t || has_number ys x) (not-true (has_number xs x) parts.0) ∙ h x (or_left (x == x) (has_number xs x) (eq-eqb x x refl)))))
+    (apart-append xs ys parts.1 q (λ b m. h b (or_right (x == b) (has_number xs b) m)))
 
 doomed_apart : (w : World) (r : ℕ) → all_apart (doomed_rounds w r) ≡ true
 doomed_apart w zero = refl

@@ -1,8 +1,10 @@
-//! Laws of the abstract disk.
+//! Laws of the abstract disk: why one may believe its definitions.
 //!
-//! What it stands on: `tsd_model`, over whose definitions alone the laws are said.
+//! What it stands on: `tsd_model`, and of that the definitions alone.
 //!
-//! What it promises: each law is a clause of a function that does nothing.
+//! What it promises: each law is a clause of a function that takes nothing and does nothing. It holds for every kind of
+//! placement, every state that it names, every request and every list of requests, at whichever opens no memory was
+//! found. `docs/PROOFS.md` says each in plain words, and what it does not say.
 #![tactic(auto)]
 
 pub mod access;

@@ -170,43 +170,54 @@ fn digit_of(letter: u8) -> u8 {
     }
 }
 
-/// What a run over memory gives: its status, and what was sent. The calls of these numbers fail.
+/// The number of a call that never comes.
+const NEVER: u64 = u64::MAX;
+
+/// What a run over memory gives: its status, and what was sent. The take and the call of these numbers fail.
 fn run(
     alloc: Global,
     book: &PlaceBook,
     texts: (&str, &str),
     cut: usize,
-    failing: (Vec<u64>, Vec<u64>),
+    failing: (u64, u64),
 ) -> Result<(Status, Vec<u8>), Fail>
     requires { 0 < cut }
 {
-    let (takes, puts) = failing;
-    let mut source = MemSource::new(spelled(alloc, texts.1)?, cut, takes);
-    let mut port = MemStation::new(alloc, puts);
+    let (take, call) = failing;
+    let input = spelled(alloc, texts.1)?;
     let words = words(alloc, spelled(alloc, texts.0)?.as_slice())?;
+    let mut source = MemSource::new(input, cut, vec![in alloc; take]?);
+    let mut port = MemStation::new(alloc, vec![in alloc; call]?);
     let status = tsd(alloc, &words, &mut source, &mut port, book);
     let sent = port.sent().to_vec(alloc)?;
     Ok((status, sent))
 }
 
+/// One run, its input cut into pieces of this size.
+fn check_run(
+    rt: &impl Abort,
+    alloc: Global,
+    book: &PlaceBook,
+    row: (&str, &str, &str),
+    cut: usize,
+) -> Result<(), Fail>
+    requires { 0 < cut }
+{
+    let (words, input, output) = row;
+    let (status, sent) = run(alloc, book, (words, input), cut, (NEVER, NEVER))?;
+    let wanted = spelled(alloc, output)?;
+    assert_eq!(rt; status, Status::Done, "{words} {input} {cut}");
+    assert_eq!(rt; sent.as_slice(), wanted.as_slice(), "{words} {input} {cut}");
+    Ok(())
+}
+
 /// Each run, its input cut into pieces of every size from 1 to 9, and whole.
 fn all_runs(rt: &impl Abort, alloc: Global, book: &PlaceBook) -> Result<(), Fail> {
-    for (words, input, output) in RUNS {
-        for cut in [1, 2, 3, 4, 5, 6, 7, 8, 9, 10_000] {
-            let (status, sent) = run(
-                alloc,
-                book,
-                (words, input),
-                cut,
-                (Vec::new(alloc), Vec::new(alloc)),
-            )?;
-            assert_eq!(rt; status, Status::Done, "{words} {input} {cut}");
-            assert_eq!(rt;
-                sent.as_slice(),
-                spelled(alloc, output)?.as_slice(),
-                "{words} {input} {cut}"
-            );
+    for row in RUNS {
+        for cut in 1..10 {
+            check_run(rt, alloc, book, row, cut)?;
         }
+        check_run(rt, alloc, book, row, 10_000)?;
     }
     Ok(())
 }
@@ -214,43 +225,31 @@ fn all_runs(rt: &impl Abort, alloc: Global, book: &PlaceBook) -> Result<(), Fail
 /// Each faulty command line: nothing is called, so the failing calls don't show.
 fn faulty_words(rt: &impl Abort, alloc: Global, book: &PlaceBook) -> Result<(), Fail> {
     for words in FAULTY {
-        let failing = (vec![in alloc; 0u64]?, vec![in alloc; 0u64]?);
-        let (status, sent) = run(alloc, book, (words, "free/"), 9, failing)?;
+        let (status, sent) = run(alloc, book, (words, "free/"), 9, (0, 0))?;
         assert_eq!(rt; status, Status::Usage, "{words}");
         assert!(rt; sent.is_empty());
     }
     Ok(())
 }
 
-/// A take and a put that fail. What was whole before it was answered.
+/// The number of the take and of the put that fail, the status, and what was answered by then.
+const FAULTS: [(u64, u64, Status, &str); 6] = [
+    (0, NEVER, Status::SourceFault, ""),
+    (1, NEVER, Status::SourceFault, "ok/"),
+    (2, NEVER, Status::SourceFault, "ok/free 7/"),
+    (NEVER, 0, Status::PutFault, ""),
+    (NEVER, 1, Status::PutFault, "ok/"),
+    (NEVER, 2, Status::PutFault, "ok/free 7/"),
+];
+
+/// A take or a put that fails. What was whole before it was answered.
 fn faults(rt: &impl Abort, alloc: Global, book: &PlaceBook) -> Result<(), Fail> {
-    let input = ("fresh 8 1 R W near", "open 1/free/free");
-    let none = || Vec::new(alloc);
-    for (takes, puts, want, output) in [
-        (vec![in alloc; 0u64]?, none(), Status::SourceFault, ""),
-        (vec![in alloc; 1u64]?, none(), Status::SourceFault, "ok/"),
-        (
-            vec![in alloc; 2u64]?,
-            none(),
-            Status::SourceFault,
-            "ok/free 7/",
-        ),
-        (none(), vec![in alloc; 0u64]?, Status::PutFault, ""),
-        (none(), vec![in alloc; 1u64]?, Status::PutFault, "ok/"),
-        (
-            none(),
-            vec![in alloc; 2u64]?,
-            Status::PutFault,
-            "ok/free 7/",
-        ),
-    ] {
-        let (status, sent) = run(alloc, book, input, 7, (takes, puts))?;
+    let texts = ("fresh 8 1 R W near", "open 1/free/free");
+    for (take, put, want, output) in FAULTS {
+        let (status, sent) = run(alloc, book, texts, 7, (take, put))?;
+        let wanted = spelled(alloc, output)?;
         assert_eq!(rt; status, want, "{output}");
-        assert_eq!(rt;
-            sent.as_slice(),
-            spelled(alloc, output)?.as_slice(),
-            "{output}"
-        );
+        assert_eq!(rt; sent.as_slice(), wanted.as_slice(), "{output}");
     }
     Ok(())
 }

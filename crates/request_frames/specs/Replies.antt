@@ -1,0 +1,67 @@
+-- The bodies that spell replies, said apart from any reading.
+use Rattle.std.specs.Prelude.{◌≡◌, ℕ, ◌≤◌, ◌⊎◌, List, [], ◌∷◌, length, map}
+use Rattle.tsd_model.specs.declared.replies.Reply.{Reply}
+use Rattle.tsd_model.specs.declared.replies.Reply.TheVariants as reply
+use Rattle.tsd_model.specs.declared.replies.Rule.{Rule}
+use Rattle.tsd_model.specs.declared.replies.Rule.TheVariants as rule
+use Rattle.request_frames.specs.Fields.{Field, Code, Number, Rank, Bytes, AllFit, bytes_of}
+
+-- the fields of each rule, a code first
+abbrev pub rule_fields : Rule → List Field
+rule_fields rule.BadRequest = Code 0 ∷ []
+rule_fields rule.BadSession = Code 1 ∷ []
+rule_fields rule.NotOpen = Code 2 ∷ []
+rule_fields rule.AlreadyOpen = Code 3 ∷ []
+rule_fields rule.BadCount = Code 4 ∷ []
+rule_fields rule.BadSize = Code 5 ∷ []
+rule_fields rule.NoSuchBlock = Code 6 ∷ []
+rule_fields rule.FreeBlock = Code 7 ∷ []
+rule_fields rule.NotPrimary = Code 8 ∷ []
+rule_fields rule.IsPrimary = Code 9 ∷ []
+rule_fields (rule.Denied attained needed) = Code 10 ∷ Rank attained ∷ Rank needed ∷ []
+rule_fields rule.PointerExists = Code 11 ∷ []
+rule_fields rule.NoPointer = Code 12 ∷ []
+rule_fields (rule.Full free wanted) = Code 13 ∷ Number free ∷ Number wanted ∷ []
+rule_fields (rule.NoRun free wanted) = Code 14 ∷ Number free ∷ Number wanted ∷ []
+rule_fields (rule.PointersFull held most) = Code 15 ∷ Number held ∷ Number most ∷ []
+
+-- a number each
+abbrev pub numbers : List ℕ → List Field
+numbers [] = []
+numbers (n ∷ ns) = Number n ∷ numbers ns
+
+-- the fields of each reply, a code first
+abbrev pub reply_fields : Reply → List Field
+reply_fields reply.Done = Code 1 ∷ []
+reply_fields (reply.Bytes bytes) = Code 2 ∷ Bytes bytes ∷ []
+reply_fields (reply.Blocks blocks) = Code 3 ∷ numbers blocks
+reply_fields (reply.Free n) = Code 4 ∷ Number n ∷ []
+reply_fields (reply.Gone n) = Code 5 ∷ Number n ∷ []
+reply_fields (reply.Targets blocks) = Code 6 ∷ numbers blocks
+reply_fields reply.NoMemory = Code 7 ∷ []
+reply_fields (reply.Refused r) = Code 8 ∷ rule_fields r
+
+-- so many bytes has a block
+abbrev pub IsBlockSize : ℕ → Type 0
+IsBlockSize n = (n ≡ 512) ⊎ (n ≡ 1024) ⊎ (n ≡ 2048) ⊎ (n ≡ 4096)
+
+-- Bytes are those of a block, new blocks are 1 to 32, targets at most 64.
+abbrev pub HasBody : Reply → Type 0
+HasBody (reply.Bytes bytes) = IsBlockSize (length bytes)
+HasBody (reply.Blocks blocks) = (1 ≤ length blocks) × (length blocks ≤ 32)
+HasBody (reply.Targets blocks) = length blocks ≤ 64
+HasBody reply.Done = Unit {0}
+HasBody (reply.Free n) = Unit {0}
+HasBody (reply.Gone n) = Unit {0}
+HasBody reply.NoMemory = Unit {0}
+HasBody (reply.Refused r) = Unit {0}
+
+-- the one body of a reply
+abbrev pub reply_body : Reply → List ℕ
+reply_body r = bytes_of (reply_fields r)
+
+-- The body spells the reply, from its first byte to its last.
+pub record IsReply (body : List ℕ) (r : Reply) : Type 0 where
+  pub has_body : HasBody r
+  pub fits : AllFit (reply_fields r)
+  pub spelled : body ≡ reply_body r

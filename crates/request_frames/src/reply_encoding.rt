@@ -1,0 +1,102 @@
+//! Replies as they are sent.
+
+ghost use Rattle.std.specs.Prelude.{◌≡◌, ◌+◌, ◌≤◌, [], ◌∷◌, ◌++◌, length};
+ghost use Rattle.request_frames.specs.Fields.{Code, Number, AllFit, bytes_of};
+ghost use Rattle.request_frames.specs.Replies.{HasBody, IsReply, reply_body, reply_fields, rule_fields};
+ghost use Rattle.request_frames.specs.Frames.{frame_of};
+
+use crate::codes;
+use crate::frame_buf::{FRAME_MAX, FrameBuf};
+use crate::writing::{put_code, put_level, put_number, put_numbers};
+use tsd_model::{Reply, Rule};
+
+/// The most bytes of a rule: its code and two numbers.
+const RULE_ROOM: usize = 9;
+
+/// Replaces the bytes by the frame of a reply.
+pub fn encode_reply(reply: &Reply, into: &mut FrameBuf)
+    requires { HasBody reply.now }
+    ensures frame { into.new ≡ frame_of (reply_body reply.now) }
+    ensures spelled { IsReply (reply_body reply.now) reply.now }
+{
+    into.begin();
+    put_reply(into, reply);
+    into.end();
+}
+
+/// The body of a reply, after room for its length.
+fn put_reply(into: &mut FrameBuf, reply: &Reply)
+    requires { into.old ≡ 0 ∷ 0 ∷ [] }
+    ensures body { into.new ≡ 0 ∷ 0 ∷ reply_body reply.now }
+    ensures fits { AllFit (reply_fields reply.now) }
+{
+    match reply {
+        Reply::Done => put_code(into, codes::DONE),
+        Reply::Bytes(all) => {
+            put_code(into, codes::BYTES);
+            into.put(all.as_slice());
+        }
+        Reply::Blocks(blocks) => {
+            put_code(into, codes::BLOCKS);
+            put_numbers(into, blocks.as_slice());
+        }
+        Reply::Free(count) => {
+            put_code(into, codes::FREE);
+            put_number(into, *count);
+        }
+        Reply::Gone(count) => {
+            put_code(into, codes::GONE);
+            put_number(into, *count);
+        }
+        Reply::Targets(blocks) => {
+            put_code(into, codes::TARGETS);
+            put_numbers(into, blocks.as_slice());
+        }
+        Reply::NoMemory => put_code(into, codes::NO_MEMORY),
+        Reply::Refused(why) => {
+            put_code(into, codes::REFUSED);
+            put_rule(into, why);
+        }
+    }
+}
+
+/// The byte of a rule and its numbers.
+fn put_rule(into: &mut FrameBuf, rule: &Rule)
+    requires { length into.old + RULE_ROOM ≤ FRAME_MAX }
+    ensures bytes { into.new ≡ into.old ++ bytes_of (rule_fields rule.now) }
+    ensures fits { AllFit (rule_fields rule.now) }
+{
+    match rule {
+        Rule::BadRequest => put_code(into, codes::BAD_REQUEST),
+        Rule::BadSession => put_code(into, codes::BAD_SESSION),
+        Rule::NotOpen => put_code(into, codes::NOT_OPEN),
+        Rule::AlreadyOpen => put_code(into, codes::ALREADY_OPEN),
+        Rule::BadCount => put_code(into, codes::BAD_COUNT),
+        Rule::BadSize => put_code(into, codes::BAD_SIZE),
+        Rule::NoSuchBlock => put_code(into, codes::NO_SUCH_BLOCK),
+        Rule::FreeBlock => put_code(into, codes::FREE_BLOCK),
+        Rule::NotPrimary => put_code(into, codes::NOT_PRIMARY),
+        Rule::IsPrimary => put_code(into, codes::IS_PRIMARY),
+        Rule::Denied { attained, needed } => {
+            put_code(into, codes::DENIED);
+            put_level(into, *attained);
+            put_level(into, *needed);
+        }
+        Rule::PointerExists => put_code(into, codes::POINTER_EXISTS),
+        Rule::NoPointer => put_code(into, codes::NO_POINTER),
+        Rule::Full { free, wanted } => put_two(into, codes::FULL, *free, *wanted),
+        Rule::NoRun { free, wanted } => put_two(into, codes::NO_RUN, *free, *wanted),
+        Rule::PointersFull { held, max } => put_two(into, codes::POINTERS_FULL, *held, *max),
+    }
+}
+
+/// A code and two numbers.
+fn put_two(into: &mut FrameBuf, code: u8, first: u32, second: u32)
+    requires { length into.old + RULE_ROOM ≤ FRAME_MAX }
+    ensures bytes { into.new ≡ into.old ++ bytes_of (Code code ∷ Number first ∷ Number second ∷ []) }
+    ensures fits { AllFit (Number first ∷ Number second ∷ []) }
+{
+    put_code(into, code);
+    put_number(into, first);
+    put_number(into, second);
+}

@@ -1,0 +1,95 @@
+//! The fields of a body as they are written.
+
+ghost use Rattle.std.specs.Prelude.{◌≡◌, ◌+◌, ◌*◌, ◌≤◌, ◌++◌, length};
+ghost use Rattle.request_frames.specs.Fields.{Code, Number, Show, New, Near, Rank, field_bytes, bytes_of, Fits, AllFit};
+ghost use Rattle.request_frames.specs.Replies.{numbers};
+
+use crate::codes::{ABSENT, LEVEL_NONE, LEVEL_READ, LEVEL_WRITE, PRESENT};
+use crate::frame_buf::{FRAME_MAX, FrameBuf};
+use crate::reader::NUMBER_BYTES;
+use byteorder::{ByteOrder, LittleEndian};
+use tsd_model::caps::CAP_BYTES;
+use tsd_model::{Cap, Hint, Level, Shown};
+
+/// A code.
+pub fn put_code(into: &mut FrameBuf, code: u8)
+    requires { length into.old + 1 ≤ FRAME_MAX }
+    ensures { into.new ≡ into.old ++ field_bytes (Code code) }
+{
+    into.put([code].as_slice());
+}
+
+/// A number, the lowest byte first.
+pub fn put_number(into: &mut FrameBuf, n: u32)
+    requires { length into.old + NUMBER_BYTES ≤ FRAME_MAX }
+    ensures bytes { into.new ≡ into.old ++ field_bytes (Number n) }
+    ensures fits { Fits (Number n) }
+{
+    let mut bytes = [0; NUMBER_BYTES];
+    LittleEndian::write_u32(&mut bytes, n);
+    into.put(bytes.as_slice());
+}
+
+/// Numbers.
+pub fn put_numbers(into: &mut FrameBuf, items: &[u32])
+    requires { length into.old + NUMBER_BYTES * length items.now ≤ FRAME_MAX }
+    ensures bytes { into.new ≡ into.old ++ bytes_of (numbers items.now) }
+    ensures fits { AllFit (numbers items.now) }
+{
+    for n in items {
+        put_number(into, *n);
+    }
+}
+
+/// A capability.
+pub fn put_cap(into: &mut FrameBuf, cap: &Cap)
+    requires { length into.old + CAP_BYTES ≤ FRAME_MAX }
+    ensures bytes { into.new ≡ into.old ++ field_bytes (New cap.now) }
+    ensures fits { Fits (New cap.now) }
+{
+    into.put(cap.bytes.as_slice());
+}
+
+/// What is shown.
+pub fn put_shown(into: &mut FrameBuf, shown: &Shown)
+    requires { length into.old + 1 + CAP_BYTES ≤ FRAME_MAX }
+    ensures bytes { into.new ≡ into.old ++ field_bytes (Show shown.now) }
+    ensures fits { Fits (Show shown.now) }
+    ensures room { length (field_bytes (Show shown.now)) ≤ 1 + CAP_BYTES }
+{
+    match shown {
+        Shown::Nothing => put_code(into, ABSENT),
+        Shown::Key(cap) => {
+            put_code(into, PRESENT);
+            put_cap(into, cap);
+        }
+    }
+}
+
+/// A hint.
+pub fn put_hint(into: &mut FrameBuf, hint: Hint)
+    requires { length into.old + 1 + NUMBER_BYTES ≤ FRAME_MAX }
+    ensures bytes { into.new ≡ into.old ++ field_bytes (Near hint) }
+    ensures fits { Fits (Near hint) }
+{
+    match hint {
+        Hint::Null => put_code(into, ABSENT),
+        Hint::At(block) => {
+            put_code(into, PRESENT);
+            put_number(into, block);
+        }
+    }
+}
+
+/// A level.
+pub fn put_level(into: &mut FrameBuf, level: Level)
+    requires { length into.old + 1 ≤ FRAME_MAX }
+    ensures { into.new ≡ into.old ++ field_bytes (Rank level) }
+{
+    let code = match level {
+        Level::Bare => LEVEL_NONE,
+        Level::Read => LEVEL_READ,
+        Level::Write => LEVEL_WRITE,
+    };
+    put_code(into, code);
+}
