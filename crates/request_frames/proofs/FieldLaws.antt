@@ -1,5 +1,5 @@
 -- What is read of one field is its spelling, and what is spelled is read.
-use Rattle.std.proofs.Common.{◌≡◌, ◌≢◌, ℕ, suc, ◌+◌, ◌*◌, ◌^◌, ◌<◌, ◌≤◌, ◌/◌, ◌%◌, true, false, cond, ◌==◌, nat_le, List, [], ◌∷◌, ◌++◌, length, take, drop, get_or, refl, sym, ◌∙◌, ap, subst, arith, append-nil, Option, Some, None}
+use Rattle.std.proofs.Common.{◌≡◌, ℕ, suc, ◌+◌, ◌*◌, ◌^◌, ◌<◌, ◌≤◌, ◌/◌, ◌%◌, true, false, cond, ◌==◌, nat_le, List, [], ◌∷◌, ◌++◌, length, take, drop, get_or, refl, sym, ◌∙◌, ap, subst, arith, append-nil, Option, Some, None}
 use Rattle.std.specs.Prelude.{option_map}
 use Rattle.std.proofs.lemmas.Bool.{leb-true, le-leb, eqb-true}
 use Rattle.std.proofs.lemmas.List.{get_or-drop, length-append, length-take, take_at, drop_at, take-append-drop}
@@ -12,8 +12,8 @@ use Rattle.tsd_model.specs.declared.requests.Hint.{Hint}
 use Rattle.tsd_model.specs.declared.requests.Hint.TheVariants.{Null, At}
 use Rattle.tsd_model.specs.declared.requests.Level.{Level}
 use Rattle.tsd_model.specs.declared.requests.Level.TheVariants as level
-use Rattle.request_frames.specs.Fields.{Field, Code, Number, Show, New, Near, Rank, Bytes, level_code, field_bytes, Fits, AllFit, bytes_of}
-use Rattle.request_frames.specs.Reading.{byte_of, num_of, cap_of, shown_of, hint_of, level_of, data_of, within, flagged, ends, ◌>>=◌}
+use Rattle.request_frames.specs.Fields.{Field, Number, Show, New, Near, Rank, Bytes, level_code, field_bytes, Fits, AllFit, bytes_of}
+use Rattle.request_frames.specs.Reading.{num_of, cap_of, shown_of, hint_of, level_of, data_of, within, flagged, ends, ◌>>=◌}
 
 -- each is below 256
 abbrev pub AreBytes : List ℕ → Type 0

@@ -1,11 +1,11 @@
 -- The frames of a text are what they are meant to be: the text is these frames, one after another, and the beginning of
 -- one more.
-use Rattle.std.proofs.Common.{◌≡◌, ◌≢◌, ℕ, zero, suc, ◌+◌, ◌-◌, ◌*◌, ◌^◌, ◌/◌, ◌%◌, ◌<◌, ◌≤◌, true, false, cond, nat_le, List, [], ◌∷◌, ◌++◌, length, take, drop, replicate, refl, sym, ◌∙◌, ap, subst, arith, append_assoc, append-nil}
+use Rattle.std.proofs.Common.{◌≡◌, ◌≢◌, ℕ, zero, suc, ◌+◌, ◌-◌, ◌*◌, ◌^◌, ◌/◌, ◌%◌, ◌<◌, ◌≤◌, true, false, List, [], ◌∷◌, ◌++◌, length, take, drop, replicate, refl, sym, ◌∙◌, ap, subst, arith, append_assoc, append-nil}
 use Rattle.std.proofs.lemmas.Bool.{leb-true, leb-false, le-leb, lt-leb}
 use Rattle.std.proofs.lemmas.List.{length-drop, length-append, length-replicate, length-take-le, take_at, drop_at, take-append-drop}
-use Rattle.byteorder.specs.Endian.{little_number, little_bytes}
-use Rattle.byteorder.specs.Numbers.{little_number-reads_back, little_from-append}
-use Rattle.request_frames.specs.Frames.{frame_of, frames_of, AllShort, IsBegun, IsCut, frame_size, has_frame, Cut, and_then, cut, frames, unended}
+use Rattle.byteorder.specs.Endian.{little_number}
+use Rattle.byteorder.specs.Numbers.{little_number-reads_back}
+use Rattle.request_frames.specs.Frames.{frame_of, frames_of, IsBegun, IsCut, frame_size, has_frame, Cut, and_then, cut, frames, unended}
 use Rattle.request_frames.proofs.FieldLaws.{AreBytes, bytes-drop}
 use Rattle.request_frames.proofs.CutLaws.{cut_whole, cut_none, same_size}
 

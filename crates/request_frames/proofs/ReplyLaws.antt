@@ -1,5 +1,5 @@
 -- What is read as a reply is a body of it, and its body is read as it.
-use Rattle.std.proofs.Common.{◌≡◌, ◌⊎◌, inl, inr, ℕ, suc, ◌≤◌, Bool, true, false, cond, ◌==◌, ◌&&◌, ◌||◌, nat_le, List, [], ◌∷◌, ◌++◌, length, refl, sym, ◌∙◌, ap, subst, arith, Option, Some, None}
+use Rattle.std.proofs.Common.{◌≡◌, inl, inr, ℕ, suc, ◌≤◌, true, false, cond, ◌==◌, ◌&&◌, ◌||◌, nat_le, List, [], ◌∷◌, ◌++◌, length, refl, sym, ◌∙◌, ap, subst, arith, Option, Some, None}
 use Rattle.std.specs.Prelude.{MatchOption}
 use Rattle.std.proofs.lemmas.Bool.{eqb-true, leb-true, le-leb, and_parts, and_from}
 use Rattle.tsd_model.specs.declared.replies.Reply.{Reply}
@@ -8,7 +8,7 @@ use Rattle.tsd_model.specs.declared.replies.Rule.{Rule}
 use Rattle.tsd_model.specs.declared.replies.Rule.TheVariants as rule
 use Rattle.request_frames.specs.Fields.{Field, Code, Number, Rank, Bytes, AllFit, bytes_of}
 use Rattle.request_frames.specs.Replies.{rule_fields, numbers, reply_fields, IsBlockSize, HasBody, reply_body, IsReply}
-use Rattle.request_frames.specs.Reading.{num_of, level_of, data_of, list_of_blocks, ends, chosen, ◌>>=◌}
+use Rattle.request_frames.specs.Reading.{num_of, level_of, data_of, list_of_blocks, ends, chosen}
 use Rattle.request_frames.specs.ReplyReading.{is_block_size, bytes_reply, blocks_reply, free_reply, gone_reply, targets_reply, bare, denied_reply, full_reply, no_run_reply, pointers_full_reply, rule_forms, ruled, refused_reply, reply_forms, answered, reply_of}
 use Rattle.request_frames.proofs.FieldLaws.{AreBytes, Spelled, some_is, bind_is, took, no_more, next, last, bind_some, num_sound, level_sound, data_sound, num_back, level_back, data_back}
 use Rattle.request_frames.proofs.BlocksLaws.{blocks_sound, blocks_back}

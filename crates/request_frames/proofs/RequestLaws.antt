@@ -1,5 +1,5 @@
 -- What is read as a request is a body of it, and its body is read as it.
-use Rattle.std.proofs.Common.{◌≡◌, ◌≢◌, ◌⊎◌, inl, inr, ℕ, suc, ◌+◌, ◌<◌, ◌≤◌, lit≤, arith, length, true, false, cond, ◌==◌, List, [], ◌∷◌, ◌++◌, refl, sym, ◌∙◌, ap, subst, Option, Some, None}
+use Rattle.std.proofs.Common.{◌≡◌, ◌≢◌, ◌⊎◌, inl, inr, ℕ, suc, ◌+◌, ◌<◌, ◌≤◌, lit≤, arith, length, true, false, cond, ◌==◌, List, [], ◌∷◌, refl, sym, ◌∙◌, ap, subst, Option, Some, None}
 use Rattle.std.specs.Prelude.{unwrap_or}
 use Rattle.std.proofs.lemmas.Bool.{eqb-true}
 use Rattle.std.proofs.lemmas.List.{length-append}
@@ -13,7 +13,7 @@ use Rattle.tsd_model.specs.declared.requests.Request.TheVariants as ask
 use Rattle.request_frames.specs.declared.reader.Place.{Place}
 use Rattle.request_frames.specs.Fields.{Field, Code, Number, Show, New, Near, Rank, Bytes, field_bytes, Fits, AllFit, bytes_of}
 use Rattle.request_frames.specs.Requests.{fields, body_of, IsBody}
-use Rattle.request_frames.specs.Reading.{num_of, cap_of, shown_of, hint_of, data_of, ends, ◌>>=◌, place_of, begin_of, end_of, read_of, write_of, alloc_of, contig_of, free_of, create_of, delete_of, set_cap_of, sweep_of, list_of, chosen, forms, coded, asked, request_of}
+use Rattle.request_frames.specs.Reading.{num_of, cap_of, shown_of, hint_of, data_of, ◌>>=◌, place_of, begin_of, end_of, read_of, write_of, alloc_of, contig_of, free_of, create_of, delete_of, set_cap_of, sweep_of, list_of, chosen, forms, coded, asked, request_of}
 use Rattle.request_frames.proofs.FieldLaws.{AreBytes, Spelled, some_is, bind_is, took, no_more, next, last, bind_some, num_sound, cap_sound, shown_sound, hint_sound, data_sound, num_back, cap_back, shown_back, hint_back, data_back}
 
 -- the fields of a place, before others

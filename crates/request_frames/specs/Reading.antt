@@ -1,5 +1,5 @@
 -- The request of a body as a function that computes.
-use Rattle.std.specs.Prelude.{ℕ, ◌==◌, Bool, cond, nat_le, List, [], ◌∷◌, length, drop, take, Option, Some, None, option_map, unwrap_or}
+use Rattle.std.specs.Prelude.{ℕ, ◌==◌, cond, nat_le, List, [], ◌∷◌, length, drop, take, Option, Some, None, option_map, unwrap_or}
 use Rattle.byteorder.specs.Endian.{little_number}
 use Rattle.tsd_model.specs.declared.caps.Cap.{Cap}
 use Rattle.tsd_model.specs.declared.caps.Shown.{Shown}

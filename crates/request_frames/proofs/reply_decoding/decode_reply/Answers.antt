@@ -1,4 +1,4 @@
-use Rattle.std.proofs.Common.{◌≡◌, sym, ◌∙◌, ap, subst, arith, Option}
+use Rattle.std.proofs.Common.{sym, ◌∙◌, ap, subst, arith, Option}
 use Rattle.std.specs.Prelude.{MatchOption}
 use Rattle.tsd_model.specs.declared.replies.Reply.{Reply}
 use Rattle.request_frames.specs.Replies.{IsReply}

@@ -1,4 +1,4 @@
-use Rattle.std.proofs.Common.{◌≡◌, ℕ, List, ◌++◌, Bool, true, false, take, ◌∙◌, ap, refl}
+use Rattle.std.proofs.Common.{◌≡◌, ℕ, List, ◌++◌, true, false, take, ◌∙◌, ap, refl}
 use Rattle.request_frames.specs.Cutting.{Cutting, Cuts, rest}
 use Rattle.request_frames.proofs.CutLaws.{cuts_whole, cuts_none, fed_more}
 use Rattle.request_frames.proofs.cutter.FrameCutter.feed.Goals as goal

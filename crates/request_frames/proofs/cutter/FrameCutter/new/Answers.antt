@@ -1,4 +1,3 @@
-use Rattle.std.specs.Prelude.{◌≡◌}
 use Rattle.request_frames.specs.Frames.{cut}
 use Rattle.request_frames.proofs.cutter.FrameCutter.new.Goals as goal
 

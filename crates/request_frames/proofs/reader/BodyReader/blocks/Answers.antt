@@ -1,7 +1,7 @@
-use Rattle.std.proofs.Common.{◌≡◌, ◌≢◌, ◌++◌, ◌∷◌, [], ◌<◌, ◌≤◌, length, sym, ◌∙◌, ap, subst, arith, rules, List, ℕ, Some, None}
+use Rattle.std.proofs.Common.{◌≡◌, ◌≢◌, ◌++◌, ◌∷◌, [], ◌≤◌, length, sym, ◌∙◌, ap, arith, rules, List, ℕ}
 use Rattle.std.specs.Prelude.{option_map}
 use Rattle.std.proofs.lemmas.Grind.{common_steps}
-use Rattle.request_frames.specs.Reading.{num_of, numbers_of, list_of_blocks}
+use Rattle.request_frames.specs.Reading.{numbers_of}
 use Rattle.request_frames.proofs.BlocksLaws.{number_more, number_none, onto_last, all_read, none_read, many_read}
 use Rattle.request_frames.proofs.reader.BodyReader.blocks.Goals as goal
 
