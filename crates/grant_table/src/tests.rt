@@ -285,6 +285,25 @@ fn new_capabilities_end_what_came_from_their_block(rt: HostRuntime) -> Result<()
 }
 
 #[test]
+fn old_capabilities_are_worth_nothing_once_there_are_new_ones(rt: HostRuntime) -> Result<(), Fail> {
+    let start = eight(&rt, rt.alloc(), &[pair(READ, WRITE)], 32);
+    let rows = [
+        (open(1), None),
+        (open(2), None),
+        (alloc_one(1, 0, key(WRITE)), None),
+        (read(2, 0, key(READ)), None),
+        (set_cap(1, 0, key(WRITE), pair(NEW_READ, NEW_WRITE)), None),
+        (read(2, 1, Shown::Nothing), DENIED_READ),
+        (alloc_one(1, 1, Shown::Nothing), DENIED_WRITE),
+        (read(2, 0, key(READ)), DENIED_READ),
+        (read(2, 0, key(NEW_READ)), None),
+        (read(2, 1, Shown::Nothing), None),
+    ];
+    let _after = run(&rt, rt.alloc(), start, rows.as_slice());
+    Ok(())
+}
+
+#[test]
 fn a_level_from_two_blocks_outlives_one(rt: HostRuntime) -> Result<(), Fail> {
     let pairs = [pair(READ, WRITE), pair(NEW_READ, NEW_WRITE)];
     let start = eight(&rt, rt.alloc(), pairs.as_slice(), 32);
