@@ -1,5 +1,5 @@
 -- One more line is answered, or isn't.
-use Rattle.std.proofs.Common.{◌≡◌, ℕ, ◌+◌, ◌<◌, subst, Bool, List, [], ◌∷◌, ◌++◌, length, take, drop, map, refl, sym, ◌∙◌, ap, arith, append_assoc, append-nil, length-append}
+use Rattle.std.proofs.Common.{◌≡◌, ℕ, ◌+◌, ◌<◌, subst, Bool, List, [], ◌∷◌, ◌++◌, length, take, drop, refl, sym, ◌∙◌, ap, arith, append_assoc, append-nil, length-append}
 use Rattle.std.proofs.lemmas.List.{map-append, length-map, length-drop, take-append-drop}
 use Rattle.tsd_model.specs.Step.{State}
 use Rattle.tsd_model.specs.Run.{answer, replies, after, wants_now}
@@ -10,7 +10,7 @@ use Rattle.script_text.specs.Reading.{request_of}
 use Rattle.tsd_serve.specs.declared.status.Status.{Status}
 use Rattle.tsd_serve.specs.declared.status.Status.TheVariants as status
 use Rattle.tsd_serve.specs.Answers.{IsAnswer, requests, answers, line_of, texts}
-use Rattle.tsd_serve.specs.Served.{Served, IsCutOff, IsBrokenOff, LeftBy, Stopped}
+use Rattle.tsd_serve.specs.Served.{Served, IsCutOff, LeftBy, Stopped}
 
 drop_one : (w : Bool) (ws : List Bool) → drop 1 (w ∷ ws) ≡ ws
 drop_one w [] = refl

@@ -1,5 +1,4 @@
-use Rattle.std.proofs.Common.{◌≡◌, ◌++◌, List, ℕ, subst, ap, ◌∙◌}
-use Rattle.script_text.specs.Reading.{request_of}
+use Rattle.std.proofs.Common.{◌++◌, subst, ap, ◌∙◌}
 use Rattle.tsd_serve.specs.Answers.{IsAnswer, state_of}
 use Rattle.tsd_serve.proofs.Replies.{served_next, stopped_put, stopped_memory, cut_reply}
 use Rattle.tsd_serve.proofs.serve.serve_line.Goals as goal

@@ -1,4 +1,4 @@
-use Rattle.std.proofs.Common.{◌≡◌, ◌++◌, ◌-◌, ◌≤◌, List, ℕ, take, min, length, arith, sym, ◌∙◌}
+use Rattle.std.proofs.Common.{take, arith}
 use Rattle.tsd_serve.specs.Answers.{state_of}
 use Rattle.tsd_serve.specs.Ran.{Came}
 use Rattle.tsd_serve.proofs.Runs.{came_first, came_more, came_none, goes_first, goes_more, ran_end, ran_stopped, rose_later}

@@ -1,4 +1,4 @@
-use Rattle.std.proofs.Common.{◌+◌, ◌-◌, ◌≤◌, List, ℕ}
+use Rattle.std.proofs.Common.{◌+◌, ◌-◌, ◌≤◌}
 use Rattle.tsd_serve.specs.Answers.{state_of}
 use Rattle.tsd_serve.specs.Ran.{Came, Goes}
 use Rattle.tsd_serve.proofs.serve.serve_lines.Given as goal

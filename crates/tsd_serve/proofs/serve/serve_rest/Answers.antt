@@ -1,4 +1,4 @@
-use Rattle.std.proofs.Common.{◌≡◌, List, ℕ, subst, sym, ◌∙◌}
+use Rattle.std.proofs.Common.{subst, sym, ◌∙◌}
 use Rattle.script_text.specs.Pieces.{lines, unended, all_lines}
 use Rattle.tsd_serve.specs.Answers.{state_of}
 use Rattle.tsd_serve.specs.Served.{Replied, Stopped}
