@@ -17,8 +17,9 @@ use std::process::Abort;
 use std::test::Fail;
 use tsd_model::{Level, PlaceKind};
 
-/// Words, input and output. In each, R, W, C and D stand for 32 digits `a`, `b`, `c` and `d`, and a slash for a line feed.
-const RUNS: [(&str, &str, &str); 20] = [
+/// Words, input and output. In each, R, W, C and D stand for 32 digits `a`, `b`, `c` and `d`, B for the 1,024
+/// digits of a block of 512 bytes, and a slash for a line feed.
+const RUNS: [(&str, &str, &str); 21] = [
     ("fresh 8 1 R W near", "", ""),
     ("fresh 8 1 R W near", "open 1/read 1 0 R/", "ok/data -/"),
     (
@@ -97,9 +98,14 @@ const RUNS: [(&str, &str, &str); 20] = [
         "ok/ok/blocks 1/blocks 2/data -/data -/ok/no denied none read/no denied none read/data -/data -/data -/",
     ),
     (
+        "fresh 8 1 R W near",
+        "open 1/write 1 0 W B00/write 1 0 W B/",
+        "ok/no bad-size/ok/",
+    ),
+    (
         "fresh 600 1 R W zone",
-        "open 1/alloc 1 0 W 512 4/contig 1 0 W 512 3/",
-        "ok/blocks 512 513 514 515/blocks 516 517 518/",
+        "open 1/alloc 1 0 W 512 32/alloc 1 0 W 512 32/alloc 1 0 W 512 32/contig 1 0 W 512 32/",
+        "ok/blocks 512 513 514 515 516 517 518 519 520 521 522 523 524 525 526 527 528 529 530 531 532 533 534 535 536 537 538 539 540 541 542 543/blocks 544 545 546 547 548 549 550 551 552 553 554 555 556 557 558 559 560 561 562 563 564 565 566 567 568 569 570 571 572 573 574 575/blocks 576 577 578 579 580 581 582 583 584 585 586 587 588 589 590 591 592 593 594 595 596 597 598 599 256 257 258 259 260 261 262 263/blocks 264 265 266 267 268 269 270 271 272 273 274 275 276 277 278 279 280 281 282 283 284 285 286 287 288 289 290 291 292 293 294 295/",
     ),
     (
         "fresh 00008 8 R W low",
@@ -146,7 +152,8 @@ fn spelled(alloc: Global, text: &str) -> Result<Vec<u8>, AllocError> {
     let mut bytes = Vec::new(alloc);
     for byte in text.as_bytes() {
         match *byte {
-            b'R' | b'W' | b'C' | b'D' => push_digits(&mut bytes, digit_of(*byte))?,
+            b'R' | b'W' | b'C' | b'D' => push_digits(&mut bytes, digit_of(*byte), 32)?,
+            b'B' => push_digits(&mut bytes, b'1', 1_024)?,
             b'/' => bytes.push(b'\n')?,
             other => bytes.push(other)?,
         }
@@ -154,8 +161,8 @@ fn spelled(alloc: Global, text: &str) -> Result<Vec<u8>, AllocError> {
     Ok(bytes)
 }
 
-fn push_digits(bytes: &mut Vec<u8>, digit: u8) -> Result<(), AllocError> {
-    for _ in 0..32 {
+fn push_digits(bytes: &mut Vec<u8>, digit: u8, count: u32) -> Result<(), AllocError> {
+    for _ in 0..count {
         bytes.push(digit)?;
     }
     Ok(())
