@@ -1,0 +1,20 @@
+use Rattle.std.proofs.Common.{◌≤◌, length, take, ◌∙◌, ap, arith}
+use Rattle.tsd_model.specs.Rank.{rank_of}
+use Rattle.tsd_model.specs.Placing.{sorted_by_rank}
+use Rattle.block_alloc.specs.Least.{blocks_of}
+use Rattle.block_alloc.specs.Choosing.{free_blocks}
+use Rattle.block_alloc.proofs.OrderLaws.{blocks_of-ranked, length-least}
+use Rattle.block_alloc.proofs.FreeLaws.{length-free_blocks}
+use Rattle.block_alloc.proofs.map.LiveMap.choose.Goals as goal
+
+pub returns-clause-chosen : goal.returns-clause-chosen
+returns-clause-chosen g c =
+    let rank = rank_of c.args.place.now.kind c.args.hint in let free = free_blocks c.args.self.now.live in
+    c.blocks-2.ensures ∙ (ap blocks_of c.least_free.ensures ∙ blocks_of-ranked rank (take c.args.count (sorted_by_rank rank free)))
+
+pub returns-clause-counted : goal.returns-clause-counted
+returns-clause-counted g c =
+    let rank = rank_of c.args.place.now.kind c.args.hint in let free = free_blocks c.args.self.now.live in
+    let all = c.blocks-2.ensures ∙ (ap blocks_of c.least_free.ensures ∙ blocks_of-ranked rank (take c.args.count (sorted_by_rank rank free))) in
+    let enough : c.args.count ≤ length free = omega (arith, length-free_blocks c.args.self.now.live, c.free_count-free.ensures, c.if-free-count.false) in
+    ap length all ∙ length-least rank c.args.count free enough

@@ -1,0 +1,17 @@
+use Rattle.std.proofs.Common.{◌≡◌, ◌+◌, ◌/◌, ◌%◌, ◌∙◌, ap}
+use Rattle.std.specs.Prelude.{slice_index}
+use Rattle.image_layout.specs.Areas.{bitmap_start}
+use Rattle.block_alloc.proofs.BitLaws.{length-bits_of}
+use Rattle.block_alloc.proofs.StoredLaws.{read_is_stored}
+use Rattle.block_alloc.proofs.map.LiveMap.load.Goals as goal
+
+pub returns-clause-sized : goal.returns-clause-sized
+returns-clause-sized g c = record { lawful = c.requires; each_block = length-bits_of c.cut_to.new.bytes.items c.args.geometry.now.blocks }
+
+pub returns-clause-stored : goal.returns-clause-stored
+returns-clause-stored g c = λ told.
+    let reads = (g.D.Device.view c.args.dev.now).reads in
+    let start : c.bitmap_start.result ≡ bitmap_start c.args.geometry.now = c.bitmap_start.ensures ∙ ap bitmap_start c.of-layout.ensures in
+    read_is_stored c.cut_to.new.bytes.items c.in_ok-bytes.bytes.items c.args.geometry.now reads c.div_ceil-sectors.result c.div_ceil-sectors.ensures
+    (λ i h. c.in_ok-bytes.ensures.read told i h ∙ ap (λ s. slice_index (reads (s + i / 512)) (i % 512)) start)
+    c.cut_to.ensures.same

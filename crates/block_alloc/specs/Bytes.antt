@@ -1,0 +1,33 @@
+-- Bits in bytes: eight blocks a byte, the first of them in the lowest bit.
+use Rattle.std.specs.Prelude.{◌≡◌, ℕ, ◌+◌, ◌*◌, ◌/◌, ◌%◌, ◌≤◌, ◌==◌, Bool, false, cond, List, [], ◌∷◌, length, map, take, drop, slice_index}
+use Rattle.std.specs.List.{range_with_len}
+use Rattle.std.specs.Int.{bit_at, div_ceil}
+use Rattle.block_alloc.specs.LiveMap.{free_count}
+
+-- ---- bits that bytes have
+abbrev pub bit_in : List ℕ → ℕ → Bool
+bit_in bytes b = bit_at (slice_index bytes (b / 8)) (b % 8) == 1
+
+-- the first so many bits
+abbrev pub bits_of : List ℕ → ℕ → List Bool
+bits_of bytes len = map (bit_in bytes) (range_with_len 0 len)
+
+-- How a map of so many blocks is kept: a bit a block, no bit past the last block, and the number of free blocks.
+pub record IsKept (blocks : ℕ) (bytes : List ℕ) (free : ℕ) : Type 0 where
+  pub whole : length bytes ≡ div_ceil blocks 8
+  pub ends : (b : ℕ) → blocks ≤ b → bit_in bytes b ≡ false
+  pub counted : free ≡ free_count (bits_of bytes blocks)
+
+-- ---- bytes that have given bits
+-- the number with these bits, the lowest first
+abbrev pub number_of : List Bool → ℕ
+number_of [] = 0
+number_of (bit ∷ bits) = cond bit 1 0 + 2 * number_of bits
+
+-- byte i of the bitmap has the bits of blocks 8i to 8i + 7, and 0 for a block that the disk doesn't have
+abbrev pub bitmap_byte : List Bool → ℕ → ℕ
+bitmap_byte live i = number_of (take 8 (drop (8 * i) live))
+
+-- a sector of the bitmap, counted from its first one: 512 bytes
+abbrev pub bitmap_sector_bytes : List Bool → ℕ → List ℕ
+bitmap_sector_bytes live sector = map (bitmap_byte live) (range_with_len (512 * sector) 512)

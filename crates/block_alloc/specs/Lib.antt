@@ -1,0 +1,6 @@
+pub mod LiveMap
+pub mod Choosing
+pub mod Bytes
+pub mod Stored
+pub mod Least
+pub mod Worlds

@@ -1,0 +1,24 @@
+-- Which blocks are live and which are free.
+use Rattle.std.specs.Prelude.{◌≡◌, ℕ, ◌&&◌, Bool, false, not, nat_lt, List, length, count_by, slice_index_or}
+use Rattle.tsd_model.specs.Geometry.{IsLawful}
+use Rattle.tsd_model.specs.declared.geometry.Geometry.{Geometry}
+
+pub record LiveMap : Type 0 where
+  pub geometry : Geometry
+  -- at place b whether block b is live
+  pub live : List Bool
+
+-- a lawful geometry, and a place for each of its blocks
+pub record IsSized (m : LiveMap) : Type 0 where
+  pub lawful : IsLawful m.geometry
+  pub each_block : length m.live ≡ m.geometry.blocks
+
+abbrev pub is_live : List Bool → ℕ → Bool
+is_live live b = slice_index_or live b false
+
+-- a block of the disk that isn't live
+abbrev pub is_free : List Bool → ℕ → Bool
+is_free live b = nat_lt b (length live) && not (is_live live b)
+
+abbrev pub free_count : List Bool → ℕ
+free_count live = count_by not live

@@ -1,0 +1,27 @@
+//! Free space: which blocks are live, kept in memory as the image's bitmap has it, and which free blocks are taken.
+//!
+//! What it stands on: `tsd_model` for the ranks and the order by them, `place_policy` for the stored closures that rank
+//! blocks, `image_layout` for where the bitmap stands, `image_device` for reading it, `arrayvec` for the blocks of
+//! least rank while they are sought.
+//!
+//! What it promises: after `load` a map says what the bitmap's sectors say; each change followed by its `patch` keeps
+//! map and sectors equal. `choose` and `choose_run` answer exactly the blocks that the definitions choose, and refuse
+//! exactly where there are too few or no run is long enough, with both numbers. Of all this it keeps one bit a block,
+//! and only `load` takes memory.
+#![tactic(auto)]
+
+mod bits;
+mod choose;
+mod least;
+mod map;
+mod patches;
+mod sectors;
+#[cfg(test)]
+mod tests;
+mod worlds;
+
+pub use choose::{RunRefusal, Short};
+pub use map::LiveMap;
+pub use patches::patches_keep_the_bitmap;
+pub use sectors::LoadFault;
+pub use worlds::choices_are_the_worlds;

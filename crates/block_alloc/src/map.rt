@@ -1,0 +1,138 @@
+//! Which blocks are live, a bit a block.
+
+ghost use Rattle.std.specs.Prelude.{◌≡◌, ℕ, ◌/◌, ◌<◌, ◌≤◌, ◌≢◌, true, false, slice_set, IfOk, IfErr};
+ghost use Rattle.image_device.specs.Calls.{Rests, Uses};
+ghost use Rattle.image_device.specs.Counts.{Rose};
+ghost use Rattle.image_device.specs.Image.{Image, put_at};
+ghost use Rattle.image_layout.specs.Areas.{bitmap_start, slots_start};
+ghost use Rattle.tsd_model.specs.Geometry.{IsLawful};
+ghost use Rattle.block_alloc.specs.LiveMap.{IsSized, is_live, free_count};
+ghost use Rattle.block_alloc.specs.Bytes.{bitmap_sector_bytes};
+ghost use Rattle.block_alloc.specs.Stored.{IsStoredAt, IsStored, sector_of};
+
+use crate::bits::{bit_in, count_zeros, cut_to, put_bit, sector_from};
+use crate::sectors::{LoadFault, read_sectors};
+use image_device::Device;
+use image_layout::sectors::SECTOR_BYTES;
+use image_layout::{Layout, Patch};
+use std::alloc::Global;
+use std::marker::Model;
+use tsd_model::Geometry;
+
+/// The blocks of a sector of the bitmap.
+const SECTOR_BLOCKS: u32 = 4096;
+
+/// Which blocks are live and which are free.
+#[derive(Drop)]
+pub struct LiveMap {
+    geometry: Geometry,
+    /// The bytes of the bitmap that have the blocks' bits; those past the last block are 0.
+    bytes: Vec<u8>,
+    /// How many blocks are free.
+    free: u32,
+}
+
+impl Model for LiveMap {
+    ghost use Rattle.block_alloc.specs.LiveMap.{LiveMap as Value_of};
+    ghost use Rattle.block_alloc.specs.Bytes.{bits_of, IsKept};
+    ghost use Rattle.tsd_model.specs.Geometry.{IsLawful};
+
+    ghost Value = { Value_of };
+
+    ghost view = { λ m. record { geometry = m.geometry; live = bits_of m.bytes.items m.geometry.blocks } };
+
+    ghost invariant = { λ m. IsLawful m.geometry × IsKept m.geometry.blocks m.bytes.items m.free };
+}
+
+impl LiveMap {
+    /// Reads the bitmap. Bits past the last block don't matter. `Device` comes only where `faults` rose.
+    pub fn load<D: Device>(
+        alloc: Global,
+        dev: &mut D,
+        geometry: &Geometry,
+    ) -> Result<LiveMap, LoadFault>
+        requires { IsLawful geometry.now }
+        ensures geometry { IfOk result (λ m. m.geometry ≡ geometry.now) }
+        ensures sized { IfOk result (λ m. IsSized m) }
+        ensures stored { D.told → IfOk result (λ m. IsStored m.live geometry.now (D.view dev.old).reads) }
+        ensures rests { D.told → Rests (D.view dev.old) (D.view dev.new) }
+        ensures uses { Uses 0 (D.view dev.old) (D.view dev.new) }
+        ensures cause { IfErr result (λ e. e ≡ LoadFault.Device → Rose (D.view dev.old).faults (D.view dev.new).faults) }
+    {
+        let layout = Layout::of(geometry);
+        let sectors = geometry.blocks.div_ceil(SECTOR_BLOCKS);
+        let mut bytes = read_sectors(alloc, dev, layout.bitmap_start(), sectors)?;
+        cut_to(&mut bytes, geometry.blocks);
+        let free = count_zeros(&bytes, geometry.blocks);
+        Ok(LiveMap {
+            geometry: *geometry,
+            bytes,
+            free,
+        })
+    }
+
+    /// How large the disk is.
+    pub fn geometry(&self) -> Geometry
+        ensures value { result ≡ self.now.geometry }
+        ensures sized { IsSized self.now }
+    {
+        self.geometry
+    }
+
+    /// How many blocks are free.
+    pub fn free_count(&self) -> u32
+        ensures { result ≡ free_count self.now.live }
+    {
+        self.free
+    }
+
+    /// Whether a block is live.
+    pub fn is_live(&self, block: u32) -> bool
+        requires { block < self.now.geometry.blocks }
+        ensures { result ≡ is_live self.now.live block }
+    {
+        bit_in(&self.bytes, block)
+    }
+
+    /// Makes a block live, whatever it was.
+    pub fn set_live(&mut self, block: u32)
+        requires { block < self.old.geometry.blocks }
+        ensures { self.new ≡ record self.old { live = slice_set self.old.live block true } }
+    {
+        if !bit_in(&self.bytes, block) {
+            put_bit(&mut self.bytes, block, true);
+            self.free -= 1;
+        }
+    }
+
+    /// Makes a block free, whatever it was.
+    pub fn set_free(&mut self, block: u32)
+        requires { block < self.old.geometry.blocks }
+        ensures { self.new ≡ record self.old { live = slice_set self.old.live block false } }
+    {
+        if bit_in(&self.bytes, block) {
+            put_bit(&mut self.bytes, block, false);
+            self.free += 1;
+        }
+    }
+
+    /// The sector of the bitmap that has a block's bit, as it now must read.
+    pub fn patch(&self, block: u32) -> Patch
+        requires { block < self.now.geometry.blocks }
+        ensures sector { result.sector ≡ sector_of self.now.geometry block }
+        ensures inside { (bitmap_start self.now.geometry ≤ result.sector) × (result.sector < slots_start self.now.geometry) }
+        ensures bytes { result.bytes ≡ bitmap_sector_bytes self.now.live (block / 4096) }
+
+        // The bits of all blocks that have theirs in this sector are right, whatever the others are.
+        ensures here { (x : Image) (b : ℕ) → b < self.now.geometry.blocks → sector_of self.now.geometry b ≡ result.sector → IsStoredAt self.now.live self.now.geometry (put_at result.sector result.bytes x) b }
+
+        // So where those of all other blocks were right, all are.
+        ensures stored { (x : Image) → ((b : ℕ) → b < self.now.geometry.blocks → sector_of self.now.geometry b ≢ result.sector → IsStoredAt self.now.live self.now.geometry x b) → IsStored self.now.live self.now.geometry (put_at result.sector result.bytes x) }
+    {
+        let first = SECTOR_BYTES * (block / SECTOR_BLOCKS) as usize;
+        Patch {
+            sector: Layout::of(&self.geometry).bit_place(block).sector,
+            bytes: sector_from(&self.bytes, first),
+        }
+    }
+}

@@ -1,0 +1,5 @@
+use Rattle.cap_store.proofs.StoredLaws.{one_store, same_sectors}
+use Rattle.cap_store.proofs.laws.sectors_have_one_store.Goals as goal
+
+pub returns : goal.returns
+returns c = record { one_store = one_store; same_sectors = same_sectors }

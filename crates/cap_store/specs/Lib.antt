@@ -1,0 +1,4 @@
+pub mod Store
+pub mod Stored
+pub mod Loading
+pub mod Seeds

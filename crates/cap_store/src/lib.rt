@@ -1,0 +1,25 @@
+//! What an image keeps of the capabilities of its primary blocks: the capabilities themselves in version 1, their SHA-256
+//! digests in version 2. And the capabilities that a seed gives.
+//!
+//! What it stands on: `tsd_model` for what a version keeps and which level a shown capability attains, `image_device` for
+//! the reads, `image_layout` for the places, `rand_chacha` for the words of a seed.
+//!
+//! What it promises: after `load` the store is what the sectors say; `level_shown` is the level of the abstract disk;
+//! `patch` is the sector of a block's record as it must read now, so that store and image agree again once it stands
+//! there. Only `load` takes memory.
+#![tactic(auto)]
+
+mod fault;
+mod laws;
+mod loading;
+mod records;
+mod sector;
+mod seeds;
+mod store;
+#[cfg(test)]
+mod tests;
+
+pub use fault::LoadFault;
+pub use laws::sectors_have_one_store;
+pub use seeds::seed_caps;
+pub use store::CapStore;

@@ -1,0 +1,36 @@
+//! Records as a version keeps them.
+
+ghost use Rattle.std.specs.Prelude.{◌≡◌, length, map};
+ghost use Rattle.image_layout.specs.Header.{IsVersion};
+ghost use Rattle.tsd_model.specs.Records.{kept, upgraded_record};
+ghost use Rattle.cap_store.specs.Store.{IsRecord};
+
+use tsd_model::records::{kept, upgraded_record};
+use tsd_model::{Cap, CapPair, Record};
+
+/// A capability has sixteen bytes.
+fn sixteen_bytes(cap: &Cap)
+    ensures { length cap.now.bytes ≡ 16 }
+{
+    let _bytes = &cap.bytes;
+}
+
+/// What a version keeps of a pair of capabilities.
+pub(crate) fn record_of(version: u32, caps: &CapPair) -> Record
+    requires { IsVersion version }
+    ensures value { result ≡ kept version caps.now }
+    ensures kept { IsRecord version result }
+{
+    sixteen_bytes(&caps.read);
+    sixteen_bytes(&caps.write);
+    kept(version, caps)
+}
+
+/// Keeps of each capability its digest alone.
+pub(crate) fn upgrade_each(records: &mut [Record])
+    ensures { records.new ≡ map upgraded_record records.old }
+{
+    for held in records.iter_mut() {
+        *held = upgraded_record(held);
+    }
+}

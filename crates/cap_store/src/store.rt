@@ -1,0 +1,155 @@
+//! The store of records.
+
+ghost use Rattle.std.specs.Prelude.{◌≡◌, ℕ, ◌+◌, ◌<◌, ◌≤◌, ◌==◌, ◌||◌, Bool, slice_set, IfOk, IfErr};
+ghost use Rattle.tsd_model.specs.Attained.{shown_level};
+ghost use Rattle.tsd_model.specs.Geometry.{IsLawful};
+ghost use Rattle.tsd_model.specs.Records.{kept};
+ghost use Rattle.tsd_model.specs.World.{World};
+ghost use Rattle.image_layout.specs.Areas.{caps_start, counts_start};
+ghost use Rattle.image_layout.specs.Header.{IsVersion};
+ghost use Rattle.image_layout.specs.Image.{Image};
+ghost use Rattle.image_device.specs.Image.{put_at};
+ghost use Rattle.image_device.specs.Calls.{Rests, Uses};
+ghost use Rattle.cap_store.specs.Store.{level_shown, upgraded, IsWhole};
+ghost use Rattle.cap_store.specs.Stored.{IsStored, IsStoredBut, caps_sector, caps_sector_bytes, part_of};
+ghost use Rattle.cap_store.specs.Loading.{IsCaused};
+
+use crate::fault::LoadFault;
+use crate::loading::read_records;
+use crate::records::{record_of, upgrade_each};
+use crate::sector::{per_sector, sector_of_part};
+use image_device::Device;
+use image_layout::header::DIGEST_VERSION;
+use image_layout::sectors::CAPS_START;
+use image_layout::{Header, Patch};
+use std::alloc::Global;
+use std::marker::Model;
+use tsd_model::caps::CAP_BYTES;
+use tsd_model::records::{kept_of, record_level};
+use tsd_model::{Cap, CapPair, Geometry, KeptCap, Level, Record, Shown};
+
+/// What a place has before it is read.
+const BLANK: Record = Record {
+    read: KeptCap::Plain(Cap {
+        bytes: [0; CAP_BYTES],
+    }),
+    write: KeptCap::Plain(Cap {
+        bytes: [0; CAP_BYTES],
+    }),
+};
+
+/// What is kept of the capabilities of each primary block.
+#[derive(Drop)]
+pub struct CapStore {
+    version: u32,
+    geometry: Geometry,
+    records: Vec<Record>,
+}
+
+impl Model for CapStore {
+    ghost use Rattle.cap_store.specs.Store.{Store, IsWhole};
+
+    ghost Value = { Store };
+
+    ghost view = { λ s. record { version = s.version; geometry = s.geometry; records = s.records.items } };
+
+    ghost invariant = { λ s. IsWhole (record { version = s.version; geometry = s.geometry; records = s.records.items }) };
+}
+
+impl CapStore {
+    /// The records that a disk with this header has on its device. Each sector of records is read once, and nothing is
+    /// written. `Device` comes only where the device's faults rose.
+    pub fn load<D: Device>(
+        alloc: Global,
+        dev: &mut D,
+        header: &Header,
+    ) -> Result<CapStore, LoadFault>
+        requires version { IsVersion header.now.version }
+        requires lawful { IsLawful header.now.geometry }
+        ensures version { IfOk result (λ s. s.version ≡ header.now.version) }
+        ensures geometry { IfOk result (λ s. s.geometry ≡ header.now.geometry) }
+        ensures whole { IfOk result (λ s. IsWhole s) }
+        ensures stored { D.told → IfOk result (λ s. IsStored s.version s.records (D.view dev.old).reads) }
+        ensures rests { D.told → Rests (D.view dev.old) (D.view dev.new) }
+        ensures uses { Uses 0 (D.view dev.old) (D.view dev.new) }
+        ensures cause { IfErr result (λ fault. IsCaused (D.view dev.old) (D.view dev.new) fault) }
+    {
+        let mut records = vec![in alloc; BLANK; header.geometry.primaries as usize]?;
+        read_records(dev, header.version, &mut records)?;
+        Ok(CapStore {
+            version: header.version,
+            geometry: header.geometry,
+            records,
+        })
+    }
+
+    /// 1 or 2.
+    pub fn version(&self) -> u32
+        ensures value { result ≡ self.now.version }
+        ensures whole { IsWhole self.now }
+    {
+        self.version
+    }
+
+    /// The level that a shown capability attains at a primary block.
+    pub fn level_shown(&self, block: u32, shown: &Shown) -> Level
+        requires { block < self.now.geometry.primaries }
+        ensures value { result ≡ level_shown self.now block shown.now }
+
+        // That is the level by the abstract disk's rule, in any world with these records.
+        ensures rule { (w : World) → w.version ≡ self.now.version → w.records ≡ self.now.records → result ≡ shown_level w block shown.now }
+    {
+        match shown {
+            Shown::Nothing => Level::Bare,
+            Shown::Key(cap) => {
+                record_level(&self.records[block as usize], &kept_of(self.version, cap))
+            }
+        }
+    }
+
+    /// A primary block has these capabilities from now on.
+    pub fn set(&mut self, block: u32, caps: &CapPair)
+        requires { block < self.old.geometry.primaries }
+        ensures set { self.new ≡ record self.old { records = slice_set self.old.records block (kept self.old.version caps.now) } }
+
+        // What an image had of the store it has still, but for the sector of this record.
+        ensures elsewhere { (some : ℕ → Bool) (x : Image) → IsStoredBut some self.old.version self.old.records x → IsStoredBut (λ n. n == caps_sector self.old.version block || some n) self.new.version self.new.records x }
+    {
+        self.records[block as usize] = record_of(self.version, caps);
+    }
+
+    /// Of each capability only its digest is kept from now on: the store becomes one of version 2. One of version 2
+    /// stays as it is.
+    pub fn upgrade(&mut self)
+        ensures upgraded { self.new ≡ upgraded self.old }
+        ensures same { self.old.version ≡ 2 → self.new ≡ self.old }
+
+        // Any image has all the records, once the patches of block 0 and of block 8, where that is primary, stand there.
+        ensures one { self.new.geometry.primaries ≤ 8 → (x : Image) → IsStored 2 self.new.records (put_at caps_start (caps_sector_bytes 2 self.new.records 0) x) }
+        ensures both { (x : Image) → IsStored 2 self.new.records (put_at (caps_start + 1) (caps_sector_bytes 2 self.new.records 1) (put_at caps_start (caps_sector_bytes 2 self.new.records 0) x)) }
+    {
+        upgrade_each(&mut self.records);
+        self.version = DIGEST_VERSION;
+    }
+
+    /// The sector that has the record of a primary block, as it must read now. It depends on the records as they are now
+    /// alone, so the patches of one sector replace each other.
+    pub fn patch(&self, block: u32) -> Patch
+        requires { block < self.now.geometry.primaries }
+        ensures sector { result.sector ≡ caps_sector self.now.version block }
+        ensures inside { (caps_start ≤ result.sector) × (result.sector < counts_start) }
+        ensures bytes { result.bytes ≡ caps_sector_bytes self.now.version self.now.records (part_of self.now.version block) }
+
+        // An image that has the records of the other sector has all of them, once the patch stands there.
+        ensures stored { (x : Image) → IsStoredBut (λ n. n == result.sector) self.now.version self.now.records x → IsStored self.now.version self.now.records (put_at result.sector result.bytes x) }
+
+        // The same where more sectors are still to be patched.
+        ensures more { (some : ℕ → Bool) (x : Image) → IsStoredBut (λ n. n == result.sector || some n) self.now.version self.now.records x → IsStoredBut some self.now.version self.now.records (put_at result.sector result.bytes x) }
+    {
+        let part = block as usize / per_sector(self.version);
+        Patch {
+            sector: CAPS_START + part as u32,
+            bytes: sector_of_part(self.version, &self.records, part),
+        }
+    }
+}

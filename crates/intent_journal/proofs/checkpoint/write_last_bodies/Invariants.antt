@@ -1,0 +1,18 @@
+use Rattle.std.proofs.Common.{◌≡◌, ℕ, ◌+◌, ◌≤◌, cond, length, drop}
+use Rattle.image_device.specs.Calls.{Uses}
+use Rattle.image_device.specs.Runs.{IsConfined}
+use Rattle.intent_journal.specs.Batch.{has_home}
+use Rattle.intent_journal.specs.Home.{overlaid}
+use Rattle.intent_journal.specs.Ring.{last_patches}
+use Rattle.intent_journal.proofs.checkpoint.write_last_bodies.Given as goal
+
+abbrev pub invariant-loop-index : goal.invariant-loop-index
+invariant-loop-index g l =
+    let view = g.D.Device.view in
+    record {
+      homes : l.homes + length (last_patches (drop l.index l.patches)) ≡ length (last_patches l.patches);
+      few : l.homes ≤ l.index;
+      placed : g.D.Device.told → (n : ℕ) → (view l.dev).reads n ≡ cond (has_home (drop l.index l.patches) n) ((view l.fn.dev).reads n) (overlaid l.patches (view l.fn.dev).reads n);
+      confined : g.D.Device.told → IsConfined (has_home l.patches) (view l.fn.dev) (view l.dev);
+      uses : Uses l.homes (view l.fn.dev) (view l.dev);
+    }

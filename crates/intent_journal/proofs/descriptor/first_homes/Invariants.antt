@@ -1,0 +1,7 @@
+use Rattle.std.proofs.Common.{◌≡◌, map}
+use Rattle.std.specs.List.{range_with_len}
+use Rattle.intent_journal.specs.Descriptor.{home_in}
+use Rattle.intent_journal.proofs.descriptor.first_homes.Given as goal
+
+abbrev pub invariant-loop-index : goal.invariant-loop-index
+invariant-loop-index l = l.homes.items ≡ map (home_in l.sector) (range_with_len 0 l.index)

@@ -1,0 +1,10 @@
+use Rattle.std.proofs.Common.{◌≡◌, ◌+◌, ◌*◌, ◌-◌, ◌++◌, take, length, flat_map, replicate}
+use Rattle.byteorder.specs.Endian.{little_bytes}
+use Rattle.intent_journal.specs.Batch.{homes_of}
+use Rattle.intent_journal.proofs.descriptor.write_descriptor.Given as goal
+
+abbrev pub invariant-loop-patch : goal.invariant-loop-patch
+invariant-loop-patch l = record {
+  place : l.at ≡ 4 + 4 * l.patch-index;
+  written : l.sector ≡ little_bytes 4 (length l.patches) ++ flat_map (little_bytes 4) (homes_of (take l.patch-index l.patches)) ++ replicate (508 - 4 * l.patch-index) 0;
+}

@@ -1,0 +1,39 @@
+-- What a disk is before records are put in place and their gates closed.
+use Rattle.std.specs.Prelude.{ℕ, suc, zero, ◌+◌, ◌<◌, ◌≡◌, ◌==◌, ◌&&◌, ◌||◌, nat_le, nat_lt, Bool, true, false, cond, List, length, slice_index_or}
+use Rattle.image_device.specs.View.{View}
+use Rattle.image_layout.specs.declared.place.Patch.{Patch}
+use Rattle.image_layout.specs.Ring.{records, descriptor_sector, body_sector}
+use Rattle.intent_journal.specs.Home.{is_journal}
+use Rattle.intent_journal.specs.Records.{patches_of, open_records, is_open_gate, has_valid_records}
+use Rattle.intent_journal.specs.Ring.{last_patches}
+
+abbrev pub is_listed_open : List Bool → ℕ → Bool
+is_listed_open gates index = slice_index_or gates index false
+
+-- The open records have these patches and are valid, the gates are as listed, and no sector of the journal is loose.
+pub record IsListed (ps : List Patch) (listed : List Bool) (v : View) : Type 0 where
+  pub patches : patches_of (open_records v.reads) ≡ ps
+  pub valid : has_valid_records v.reads ≡ true
+  pub gates : (index : ℕ) → index < records → is_listed_open listed index ≡ is_open_gate v.reads index
+  pub journal_firm : (n : ℕ) → is_journal n ≡ true → v.loose n ≡ false
+
+abbrev pub one_if : Bool → ℕ
+one_if b = cond b 1 0
+
+-- how many gates from 1 on and below this one are listed open
+abbrev pub later_open : List Bool → ℕ → ℕ
+later_open gates zero = 0
+later_open gates (suc zero) = 0
+later_open gates (suc (suc i)) = later_open gates (suc i) + one_if (is_listed_open gates (suc i))
+
+-- each home once, and each gate that is listed open
+abbrev pub closing_writes : List Patch → List Bool → ℕ
+closing_writes ps gates = length (last_patches ps) + one_if (is_listed_open gates 0) + later_open gates 8
+
+-- the sectors of so many bodies from this one on
+abbrev pub is_body_of : ℕ → ℕ → ℕ → Bool
+is_body_of start len n = nat_le (body_sector start) n && nat_lt n (body_sector start + len)
+
+-- the sectors of a record but its gate
+abbrev pub is_in_record : ℕ → ℕ → ℕ → ℕ → Bool
+is_in_record index start len n = (n == descriptor_sector index) || is_body_of start len n

@@ -1,0 +1,10 @@
+pub mod Homes
+pub mod Descriptor
+pub mod Records
+pub mod Home
+pub mod Ring
+pub mod Parts
+pub mod Closing
+pub mod Batch
+pub mod Written
+pub mod Crash

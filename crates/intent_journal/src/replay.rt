@@ -1,0 +1,257 @@
+//! Replays: the open records that a disk has are put in place, and its gates are closed.
+
+ghost use Rattle.std.specs.Prelude.{◌≡◌, ◌≤◌, ◌<◌, ◌+◌, ◌++◌, [], ℕ, length, map, true, false, slice_index, slice_index_or, OnOk, OnErr, IfOk, IsErrOf};
+ghost use Rattle.std.specs.List.{range_with_len};
+ghost use Rattle.image_device.specs.Image.{Image};
+ghost use Rattle.image_device.specs.Calls.{Rests, Uses};
+ghost use Rattle.image_device.specs.Counts.{Rose};
+ghost use Rattle.image_device.specs.Runs.{IsFirm, LeavesOnly};
+ghost use Rattle.image_layout.specs.Ring.{records, bodies, gate_sector, body_sector};
+ghost use Rattle.intent_journal.specs.Descriptor.{homes_in, is_valid};
+ghost use Rattle.intent_journal.specs.Home.{home, is_journal, AgreeBut};
+ghost use Rattle.intent_journal.specs.Records.{patches_of, open_records, is_open_gate, descriptor_of, has_valid_records, record_at};
+ghost use Rattle.intent_journal.specs.Ring.{IsAt, IsFound, distinct_homes, replay_writes};
+ghost use Rattle.intent_journal.specs.Closing.{is_listed_open};
+ghost use Rattle.intent_journal.specs.Written.{ClosesGates};
+ghost use Rattle.intent_journal.specs.Crash.{IsTheSame};
+
+use crate::checkpoint::{Gates, put_in_place};
+use crate::descriptor::{MOST_HOMES, read_descriptor};
+use crate::patches::PatchList;
+use crate::ring::{ReplayFault, Replayed, Ring, read_over};
+use arrayvec::ArrayVec;
+use image_device::{Device, Failed};
+use image_layout::gate::is_open;
+use image_layout::ring::{RECORDS, body_sector, descriptor_sector, gate_sector};
+
+impl Ring {
+    /// Puts the open records of a disk in place and closes the gates that are open. Nothing may be loose. Whatever the ring
+    /// held before, it is empty after. `BadDescriptor` comes exactly where an open record has no valid descriptor, and then
+    /// nothing was written; `Device` comes only where the device's count of faults rose.
+    pub fn replay<D: Device>(&mut self, dev: &mut D) -> Result<Replayed, ReplayFault>
+        requires { D.told → IsFirm (D.view dev.old) }
+        ensures empty { self.new ≡ [] }
+        ensures at { D.told → OnOk result (IsAt [] (D.view dev.new)) }
+        ensures found { D.told → IfOk result (λ r. IsFound (open_records (D.view dev.old).reads) r) }
+        ensures valid { D.told → OnOk result (has_valid_records (D.view dev.old).reads ≡ true) }
+        ensures bad { D.told → IsErrOf result ReplayFault.BadDescriptor → (has_valid_records (D.view dev.old).reads ≡ false) × Rests (D.view dev.old) (D.view dev.new) }
+        ensures unwritten { IsErrOf result ReplayFault.BadDescriptor → Uses 0 (D.view dev.old) (D.view dev.new) }
+        ensures done { D.told → OnOk result (AgreeBut is_journal (home (D.view dev.old).reads) (D.view dev.new).reads) }
+        ensures gates { D.told → OnOk result (ClosesGates (D.view dev.old).reads (D.view dev.new).reads) }
+        ensures firm { D.told → OnOk result (IsFirm (D.view dev.new)) }
+        ensures sent { D.told → (D.view dev.new).sent ≡ (D.view dev.old).sent }
+
+        // A crash at any moment leaves what the disk stood for at the start.
+        ensures any_moment { D.told → LeavesOnly (D.view dev.old) (D.view dev.new)
+            (λ x f. IsTheSame (D.view dev.old).reads x × (f ≡ (D.view dev.old).sent)) }
+
+        ensures uses { Uses 121 (D.view dev.old) (D.view dev.new) }
+        ensures needed { D.told → Uses (replay_writes (D.view dev.old).reads) (D.view dev.old) (D.view dev.new) }
+        ensures cause { IsErrOf result ReplayFault.Device → Rose (D.view dev.old).faults (D.view dev.new).faults }
+    {
+        self.counts.clear();
+        self.patches.clear();
+        let outcome = replay_into(dev, &mut self.patches);
+        self.patches.clear();
+        outcome
+    }
+}
+
+impl Ring {
+    /// Reads what a sector is to hold once the open records of a disk are in place, and writes nothing. Whatever it held
+    /// before, the ring is empty after. `Device` comes only where the device's count of faults rose.
+    pub fn look<D: Device>(
+        &mut self,
+        dev: &mut D,
+        sector: u32,
+        into: &mut [u8; 512],
+    ) -> Result<(), ReplayFault>
+        ensures empty { self.new ≡ [] }
+        ensures bytes { D.told → OnOk result (into.new ≡ home (D.view dev.old).reads sector) }
+        ensures valid { D.told → OnOk result (has_valid_records (D.view dev.old).reads ≡ true) }
+        ensures bad { D.told → IsErrOf result ReplayFault.BadDescriptor → has_valid_records (D.view dev.old).reads ≡ false }
+        ensures rests { D.told → Rests (D.view dev.old) (D.view dev.new) }
+        ensures uses { Uses 0 (D.view dev.old) (D.view dev.new) }
+        ensures cause { IsErrOf result ReplayFault.Device → Rose (D.view dev.old).faults (D.view dev.new).faults }
+    {
+        self.counts.clear();
+        self.patches.clear();
+        let outcome = look_through(dev, &mut self.patches, sector, into);
+        self.patches.clear();
+        outcome
+    }
+}
+
+/// Reads a sector over the open records, through an empty list of patches.
+#[tactic(auto, using(crate::proofs::Resting::rests_calls))]
+fn look_through<D: Device>(
+    dev: &mut D,
+    patches: &mut PatchList,
+    sector: u32,
+    into: &mut [u8; 512],
+) -> Result<(), ReplayFault>
+    requires { patches.old ≡ [] }
+    ensures bytes { D.told → OnOk result (into.new ≡ home (D.view dev.old).reads sector) }
+    ensures valid { D.told → OnOk result (has_valid_records (D.view dev.old).reads ≡ true) }
+    ensures bad { D.told → IsErrOf result ReplayFault.BadDescriptor → has_valid_records (D.view dev.old).reads ≡ false }
+    ensures rests { D.told → Rests (D.view dev.old) (D.view dev.new) }
+    ensures uses { Uses 0 (D.view dev.old) (D.view dev.new) }
+    ensures cause { IsErrOf result ReplayFault.Device → Rose (D.view dev.old).faults (D.view dev.new).faults }
+{
+    read_records(dev, patches)?;
+    read_over(dev, patches.as_slice(), sector, into)?;
+    Ok(())
+}
+
+/// Replays through an empty list of patches.
+fn replay_into<D: Device>(dev: &mut D, patches: &mut PatchList) -> Result<Replayed, ReplayFault>
+    requires none { patches.old ≡ [] }
+    requires firm { D.told → IsFirm (D.view dev.old) }
+    ensures at { D.told → OnOk result (IsAt [] (D.view dev.new)) }
+    ensures found { D.told → IfOk result (λ r. IsFound (open_records (D.view dev.old).reads) r) }
+    ensures valid { D.told → OnOk result (has_valid_records (D.view dev.old).reads ≡ true) }
+    ensures bad { D.told → IsErrOf result ReplayFault.BadDescriptor → (has_valid_records (D.view dev.old).reads ≡ false) × Rests (D.view dev.old) (D.view dev.new) }
+    ensures unwritten { IsErrOf result ReplayFault.BadDescriptor → Uses 0 (D.view dev.old) (D.view dev.new) }
+    ensures done { D.told → OnOk result (AgreeBut is_journal (home (D.view dev.old).reads) (D.view dev.new).reads) }
+    ensures gates { D.told → OnOk result (ClosesGates (D.view dev.old).reads (D.view dev.new).reads) }
+    ensures firm { D.told → OnOk result (IsFirm (D.view dev.new)) }
+    ensures sent { D.told → (D.view dev.new).sent ≡ (D.view dev.old).sent }
+    ensures any_moment { D.told → LeavesOnly (D.view dev.old) (D.view dev.new)
+        (λ x f. IsTheSame (D.view dev.old).reads x × (f ≡ (D.view dev.old).sent)) }
+    ensures uses { Uses 121 (D.view dev.old) (D.view dev.new) }
+    ensures needed { D.told → Uses (replay_writes (D.view dev.old).reads) (D.view dev.old) (D.view dev.new) }
+    ensures cause { IsErrOf result ReplayFault.Device → Rose (D.view dev.old).faults (D.view dev.new).faults }
+{
+    read_records(dev, patches)?;
+    let gates = read_gates(dev)?;
+    let homes = put_in_place(dev, patches.as_slice(), &gates)?;
+    Ok(found(homes))
+}
+
+/// What a replay answers that wrote to so many homes.
+fn found(homes: u32) -> Replayed
+    ensures { (image : Image) → homes ≡ distinct_homes (open_records image) → IsFound (open_records image) result }
+{
+    if homes == 0 {
+        Replayed::Nothing
+    } else {
+        Replayed::Homes(homes)
+    }
+}
+
+/// Reads the patches of the open records.
+#[tactic(auto, using(crate::proofs::Resting::rests_calls))]
+fn read_records<D: Device>(dev: &mut D, patches: &mut PatchList) -> Result<(), ReplayFault>
+    requires { patches.old ≡ [] }
+    ensures found { D.told → OnOk result (patches.new ≡ patches_of (open_records (D.view dev.old).reads)) }
+    ensures valid { D.told → OnOk result (has_valid_records (D.view dev.old).reads ≡ true) }
+    ensures bad { D.told → IsErrOf result ReplayFault.BadDescriptor → has_valid_records (D.view dev.old).reads ≡ false }
+    ensures rests { D.told → Rests (D.view dev.old) (D.view dev.new) }
+    ensures uses { Uses 0 (D.view dev.old) (D.view dev.new) }
+    ensures cause { IsErrOf result ReplayFault.Device → Rose (D.view dev.old).faults (D.view dev.new).faults }
+{
+    for index in 0..RECORDS {
+        if !read_record(dev, index, patches)? {
+            return Ok(());
+        }
+    }
+    Ok(())
+}
+
+/// Reads a record behind the patches of those before it. False where its gate is closed.
+#[tactic(auto, using(crate::proofs::Resting::rests_calls))]
+fn read_record<D: Device>(
+    dev: &mut D,
+    index: u32,
+    patches: &mut PatchList,
+) -> Result<bool, ReplayFault>
+    requires { index < records }
+    ensures closed { D.told → IfOk result (λ more. more ≡ false → (is_open_gate (D.view dev.old).reads index ≡ false) × (patches.new ≡ patches.old)) }
+    ensures more { D.told → IfOk result (λ more. more ≡ true → (is_open_gate (D.view dev.old).reads index ≡ true)
+        × (is_valid (length patches.old) (descriptor_of (D.view dev.old).reads index) ≡ true)
+        × (patches.new ≡ patches.old ++ record_at (D.view dev.old).reads index (length patches.old))) }
+    ensures bad { D.told → IsErrOf result ReplayFault.BadDescriptor → (is_open_gate (D.view dev.old).reads index ≡ true)
+        × (is_valid (length patches.old) (descriptor_of (D.view dev.old).reads index) ≡ false) }
+    ensures rests { D.told → Rests (D.view dev.old) (D.view dev.new) }
+    ensures uses { Uses 0 (D.view dev.old) (D.view dev.new) }
+    ensures cause { IsErrOf result ReplayFault.Device → Rose (D.view dev.old).faults (D.view dev.new).faults }
+{
+    if !is_gate_open(dev, index)? {
+        return Ok(false);
+    }
+    let homes = read_homes(dev, index, patches.len())?;
+    read_bodies(dev, homes.as_slice(), patches)?;
+    Ok(true)
+}
+
+/// Reads the homes of a record whose bodies begin at this one.
+#[tactic(auto, using(crate::proofs::Resting::rests_calls))]
+fn read_homes<D: Device>(
+    dev: &mut D,
+    index: u32,
+    start: u32,
+) -> Result<ArrayVec<u32, MOST_HOMES>, ReplayFault>
+    requires { index < records }
+    ensures valid { D.told → IfOk result (λ homes. (is_valid start (descriptor_of (D.view dev.old).reads index) ≡ true)
+        × (homes.items ≡ homes_in (descriptor_of (D.view dev.old).reads index))) }
+    ensures room { IfOk result (λ homes. start + length homes.items ≤ bodies) }
+    ensures bad { D.told → IsErrOf result ReplayFault.BadDescriptor → is_valid start (descriptor_of (D.view dev.old).reads index) ≡ false }
+    ensures rests { D.told → Rests (D.view dev.old) (D.view dev.new) }
+    ensures uses { Uses 0 (D.view dev.old) (D.view dev.new) }
+    ensures cause { IsErrOf result ReplayFault.Device → Rose (D.view dev.old).faults (D.view dev.new).faults }
+{
+    let mut sector = [0; 512];
+    dev.read(descriptor_sector(index), &mut sector)?;
+    match read_descriptor(&sector, start) {
+        Some(homes) => Ok(homes),
+        None => Err(ReplayFault::BadDescriptor),
+    }
+}
+
+/// Reads the body of each home, behind those read before.
+#[tactic(auto, using(crate::proofs::Resting::rests_calls))]
+fn read_bodies<D: Device>(dev: &mut D, homes: &[u32], patches: &mut PatchList) -> Result<(), Failed>
+    requires { length patches.old + length homes.now ≤ bodies }
+    ensures read { D.told → OnOk result (patches.new ≡ patches.old
+        ++ map (λ k. record { sector = slice_index homes.now k; bytes = (D.view dev.old).reads (body_sector (length patches.old + k)) })
+        (range_with_len 0 (length homes.now))) }
+    ensures rests { D.told → Rests (D.view dev.old) (D.view dev.new) }
+    ensures uses { Uses 0 (D.view dev.old) (D.view dev.new) }
+    ensures cause { OnErr result (Rose (D.view dev.old).faults (D.view dev.new).faults) }
+{
+    let mut body = [0; 512];
+    for home in homes {
+        dev.read(body_sector(patches.len()), &mut body)?;
+        patches.push(*home, &body);
+    }
+    Ok(())
+}
+
+/// Reads whether a gate is open.
+#[tactic(auto, using(crate::proofs::Resting::rests_calls))]
+fn is_gate_open<D: Device>(dev: &mut D, index: u32) -> Result<bool, Failed>
+    requires { index < records }
+    ensures gate { D.told → IfOk result (λ b. b ≡ is_open_gate (D.view dev.old).reads index) }
+    ensures rests { D.told → Rests (D.view dev.old) (D.view dev.new) }
+    ensures uses { Uses 0 (D.view dev.old) (D.view dev.new) }
+    ensures cause { OnErr result (Rose (D.view dev.old).faults (D.view dev.new).faults) }
+{
+    let mut gate = [0; 512];
+    dev.read(gate_sector(index), &mut gate)?;
+    Ok(is_open(&gate))
+}
+
+/// Reads which gates are open, also those behind a closed one.
+#[tactic(auto, using(crate::proofs::Resting::rests_calls))]
+fn read_gates<D: Device>(dev: &mut D) -> Result<Gates, Failed>
+    ensures gates { D.told → IfOk result (λ gates. (index : ℕ) → index < records → is_listed_open gates index ≡ is_open_gate (D.view dev.old).reads index) }
+    ensures rests { D.told → Rests (D.view dev.old) (D.view dev.new) }
+    ensures uses { Uses 0 (D.view dev.old) (D.view dev.new) }
+    ensures cause { OnErr result (Rose (D.view dev.old).faults (D.view dev.new).faults) }
+{
+    let mut gates = [false; 8];
+    for index in 0..RECORDS {
+        gates[index as usize] = is_gate_open(dev, index)?;
+    }
+    Ok(gates)
+}

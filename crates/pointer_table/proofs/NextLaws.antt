@@ -1,0 +1,212 @@
+-- The next number that has something, with one slot more, and the targets of a block one after another.
+use Rattle.std.proofs.Common.{◌≡◌, ℕ, ◌+◌, ◌<◌, ◌≤◌, Bool, true, false, cond, nat_lt, nat_le, ◌&&◌, ◌||◌, ◌==◌, ◌⊎◌, inl, inr, List, [], ◌∷◌, ◌++◌, length, take, get_or, refl, sym, ◌∙◌, ap, arith}
+use Rattle.std.proofs.Common.{Option, Some, None}
+use Rattle.std.specs.Prelude.{filter, map}
+use Rattle.std.proofs.lemmas.Bool.{or_cases, or_left, or_right, or_parts, and_parts, and_from, and_left, and_right, eqb-true, eq-eqb, ltb-true, ltb-false, leb-true, leb-false, le-leb, lt-leb, both_ways, false_from_ne_true}
+use Rattle.std.proofs.lemmas.Bool.Decides.{nat_tests}
+use Rattle.std.proofs.lemmas.List.{append_assoc, append-nil, length_push, take_all, take_at}
+use Rattle.tsd_model.proofs.StepLaws.{take-take-append}
+use Rattle.tsd_model.specs.Pairs.{is_pair, holds, pair_lt, is_below_first, is_rising}
+use Rattle.pointer_table.specs.declared.raw.RawSlot.{RawSlot}
+use Rattle.pointer_table.specs.Next.{IsNext, IsNextSource, IsNextTarget}
+use Rattle.pointer_table.specs.Raw.{slot_in, slots_in}
+use Rattle.pointer_table.specs.Slots.{pairs_in}
+use Rattle.pointer_table.specs.Scanning.{is_at, lesser_from, source_to, target_from}
+use Rattle.pointer_table.proofs.PairLaws.{above_first}
+use Rattle.pointer_table.proofs.RawLaws.{holds_more}
+
+-- ---- one slot more
+
+-- a number more that has it
+with_number : (had has : ℕ → Bool) (start n : ℕ) (best : Option ℕ) → ((a : ℕ) → has a ≡ true → (had a ≡ true) ⊎ (a ≡ n)) → ((a : ℕ) → had a ≡ true → has a ≡ true) → has n ≡ true
+    → IsNext had start best → IsNext has start (lesser_from start best (Some n))
+with_number had has start n None only still new none =
+    elim (nat_lt n start) as (λ t. nat_lt n start ≡ t → IsNext has start (cond t None (Some n))) [
+      | true ↦ λ low a h. elim (only a h) [ inl old ↦ none a old | inr same ↦ (let below = ltb-true n start low in omega arith) ]
+      | false ↦ λ high. record {
+        there = new;
+        from = ltb-false n start high;
+        least = λ c h from. elim (only c h) [ inl old ↦ (let below = none c old in absurd (omega arith)) | inr same ↦ omega arith ];
+      }
+    ] refl
+with_number had has start n (Some b) only still new least =
+    elim (nat_lt n start || nat_le b n) as (λ t. (nat_lt n start || nat_le b n) ≡ t → IsNext has start (cond t (Some b) (Some n))) [
+      | true ↦ λ above. record {
+        there = still b least.there;
+        from = least.from;
+        least = λ c h from. elim (only c h) [
+          | inl old ↦ least.least c old from
+          | inr same ↦ elim (or_cases (nat_lt n start) (nat_le b n) above) [
+            | inl low ↦ (let below = ltb-true n start low in absurd (omega arith))
+            | inr far ↦ (let more = leb-true b n far in omega arith)
+          ]
+        ];
+      }
+      | false ↦ λ below. let parts = or_parts (nat_lt n start) (nat_le b n) below in
+          let high = ltb-false n start parts.0 in
+          let lower = leb-false b n parts.1 in
+          record {
+            there = new;
+            from = high;
+            least = λ c h from. elim (only c h) [ inl old ↦ (let more = least.least c old from in omega arith) | inr same ↦ omega arith ];
+          }
+    ] refl
+
+-- nothing more
+with_none : (had has : ℕ → Bool) (start : ℕ) (best : Option ℕ) → ((a : ℕ) → has a ≡ had a) → IsNext had start best → IsNext has start (lesser_from start best None)
+with_none had has start None same none = λ a h. none a (sym (same a) ∙ h)
+with_none had has start (Some b) same least = record {
+  there = same b ∙ least.there;
+  from = least.from;
+  least = λ c h from. least.least c (sym (same c) ∙ h) from;
+}
+
+or_nothing : (t : Bool) → (t || false) ≡ t
+or_nothing true = refl
+or_nothing false = refl
+
+source_step : (had has : ℕ → Bool) (start b : ℕ) (best : Option ℕ) (slot : Option (ℕ × ℕ)) → ((a : ℕ) → has a ≡ (had a || is_at a b slot)) → IsNext had start best
+    → IsNext has start (lesser_from start best (source_to b slot))
+source_step had has start b best None more next = with_none had has start best (λ a. more a ∙ or_nothing (had a)) next
+source_step had has start b best (Some e) more next =
+    elim (e.1 == b) as (λ t. (e.1 == b) ≡ t → IsNext has start (lesser_from start best (cond t (Some e.0) None))) [
+      | true ↦ λ here. with_number had has start e.0 best
+          (λ a h. elim (or_cases (had a) (is_pair a b e) (sym (more a) ∙ h)) [ inl old ↦ inl old | inr new ↦ inr (sym (eqb-true e.0 a ((and_parts (e.0 == a) (e.1 == b) new).0))) ])
+          (λ a h. more a ∙ or_left (had a) (is_pair a b e) h)
+          (more e.0 ∙ or_right (had e.0) (is_pair e.0 b e) (and_from (e.0 == e.0) (e.1 == b) (eq-eqb e.0 e.0 refl) here))
+          next
+      | false ↦ λ off. with_none had has start best (λ a. more a ∙ ap (λ t. had a || t) (and_right (e.0 == a) (e.1 == b) off) ∙ or_nothing (had a)) next
+    ] refl
+
+target_step : (had has : ℕ → Bool) (start a : ℕ) (best : Option ℕ) (slot : Option (ℕ × ℕ)) → ((b : ℕ) → has b ≡ (had b || is_at a b slot)) → IsNext had start best
+    → IsNext has start (lesser_from start best (target_from a slot))
+target_step had has start a best None more next = with_none had has start best (λ b. more b ∙ or_nothing (had b)) next
+target_step had has start a best (Some e) more next =
+    elim (e.0 == a) as (λ t. (e.0 == a) ≡ t → IsNext has start (lesser_from start best (cond t (Some e.1) None))) [
+      | true ↦ λ here. with_number had has start e.1 best
+          (λ b h. elim (or_cases (had b) (is_pair a b e) (sym (more b) ∙ h)) [ inl old ↦ inl old | inr new ↦ inr (sym (eqb-true e.1 b ((and_parts (e.0 == a) (e.1 == b) new).1))) ])
+          (λ b h. more b ∙ or_left (had b) (is_pair a b e) h)
+          (more e.1 ∙ or_right (had e.1) (is_pair a e.1 e) (and_from (e.0 == a) (e.1 == e.1) here (eq-eqb e.1 e.1 refl)))
+          next
+      | false ↦ λ off. with_none had has start best (λ b. more b ∙ ap (λ t. had b || t) (and_left (e.0 == a) (e.1 == b) off) ∙ or_nothing (had b)) next
+    ] refl
+
+pub source_more : (raws : List RawSlot) (i b start : ℕ) (d : RawSlot) (best : Option ℕ) → i < length raws
+    → IsNextSource (pairs_in (slots_in (take i raws))) b start best
+    → IsNextSource (pairs_in (slots_in (take (i + 1) raws))) b start (lesser_from start best (source_to b (slot_in (get_or raws i d))))
+source_more raws i b start d best h next =
+    source_step (λ a. holds (pairs_in (slots_in (take i raws))) a b) (λ a. holds (pairs_in (slots_in (take (i + 1) raws))) a b) start b best
+    (slot_in (get_or raws i d)) (λ a. holds_more raws i d a b h) next
+
+pub target_more : (raws : List RawSlot) (i a start : ℕ) (d : RawSlot) (best : Option ℕ) → i < length raws
+    → IsNextTarget (pairs_in (slots_in (take i raws))) a start best
+    → IsNextTarget (pairs_in (slots_in (take (i + 1) raws))) a start (lesser_from start best (target_from a (slot_in (get_or raws i d))))
+target_more raws i a start d best h next =
+    target_step (λ b. holds (pairs_in (slots_in (take i raws))) a b) (λ b. holds (pairs_in (slots_in (take (i + 1) raws))) a b) start a best
+    (slot_in (get_or raws i d)) (λ b. holds_more raws i d a b h) next
+
+-- ---- the targets of a block that are not below a number, ascending
+
+abbrev pub all_targets : List (ℕ × ℕ) → ℕ → ℕ → List ℕ
+all_targets es a start = map (λ e. e.1) (filter (λ e. (e.0 == a) && nat_le start e.1) es)
+
+-- where the same targets count, they are the same
+targets_same : (es : List (ℕ × ℕ)) (a s t : ℕ) → ((b : ℕ) → holds es a b ≡ true → nat_le s b ≡ nat_le t b) → all_targets es a s ≡ all_targets es a t
+targets_same [] a s t same = refl
+targets_same (e ∷ es) a s t same =
+    let rest = targets_same es a s t (λ b h. same b (or_right (is_pair a b e) (holds es a b) h)) in
+    let test : ((e.0 == a) && nat_le s e.1) ≡ ((e.0 == a) && nat_le t e.1) =
+    elim (e.0 == a) as (λ u. (e.0 == a) ≡ u → (u && nat_le s e.1) ≡ (u && nat_le t e.1)) [
+      | true ↦ λ here. same e.1 (or_left (is_pair a e.1 e) (holds es a e.1) (and_from (e.0 == a) (e.1 == e.1) here (eq-eqb e.1 e.1 refl)))
+      | false ↦ λ off. refl
+    ] refl in
+    let one : all_targets (e ∷ es) a s ≡ map (λ f. f.1) (cond ((e.0 == a) && nat_le t e.1) (e ∷ filter (λ f. (f.0 == a) && nat_le s f.1) es) (filter (λ f. (f.0 == a) && nat_le s f.1) es)) =
+    ap (λ u. map (λ f. f.1) (cond u (e ∷ filter (λ f. (f.0 == a) && nat_le s f.1) es) (filter (λ f. (f.0 == a) && nat_le s f.1) es))) test in
+    one ∙ elim ((e.0 == a) && nat_le t e.1) as (λ u. map (λ f. f.1) (cond u (e ∷ filter (λ f. (f.0 == a) && nat_le s f.1) es) (filter (λ f. (f.0 == a) && nat_le s f.1) es)) ≡ map (λ f. f.1) (cond u (e ∷ filter (λ f. (f.0 == a) && nat_le t f.1) es) (filter (λ f. (f.0 == a) && nat_le t f.1) es))) [
+      | true ↦ ap (λ xs. e.1 ∷ xs) rest
+      | false ↦ rest
+    ]
+
+pub no_targets : (es : List (ℕ × ℕ)) (a s : ℕ) → IsNextTarget es a s None → all_targets es a s ≡ []
+no_targets [] a s none = refl
+no_targets (e ∷ es) a s none =
+    let rest = no_targets es a s (λ b h. none b (or_right (is_pair a b e) (holds es a b) h)) in
+    elim ((e.0 == a) && nat_le s e.1) as (λ u. ((e.0 == a) && nat_le s e.1) ≡ u → map (λ f. f.1) (cond u (e ∷ filter (λ f. (f.0 == a) && nat_le s f.1) es) (filter (λ f. (f.0 == a) && nat_le s f.1) es)) ≡ []) [
+      | true ↦ λ h. let parts = and_parts (e.0 == a) (nat_le s e.1) h in
+          let below = none e.1 (or_left (is_pair a e.1 e) (holds es a e.1) (and_from (e.0 == a) (e.1 == e.1) parts.0 (eq-eqb e.1 e.1 refl))) in
+          let above = leb-true s e.1 parts.1 in
+          absurd (omega arith)
+      | false ↦ λ h. rest
+    ] refl
+
+-- the least one, and then the rest
+pub first_target : (es : List (ℕ × ℕ)) (a s t : ℕ) → is_rising es ≡ true → IsNextTarget es a s (Some t) → all_targets es a s ≡ t ∷ all_targets es a (t + 1)
+first_target [] a s t rising least = absurd (both_ways false refl least.there)
+first_target (e ∷ es) a s t rising least =
+    let parts = and_parts (is_below_first e es) (is_rising es) rising in
+    elim ((e.0 == a) && nat_le s e.1) as (λ u. ((e.0 == a) && nat_le s e.1) ≡ u
+    → map (λ f. f.1) (cond u (e ∷ filter (λ f. (f.0 == a) && nat_le s f.1) es) (filter (λ f. (f.0 == a) && nat_le s f.1) es)) ≡ t ∷ all_targets (e ∷ es) a (t + 1)) [
+      | true ↦ λ h. let tests = and_parts (e.0 == a) (nat_le s e.1) h in
+          let source : e.0 ≡ a = eqb-true e.0 a tests.0 in
+          let from : s ≤ e.1 = leb-true s e.1 tests.1 in
+          let below : t ≤ e.1 = least.least e.1 (or_left (is_pair a e.1 e) (holds es a e.1) (and_from (e.0 == a) (e.1 == e.1) tests.0 (eq-eqb e.1 e.1 refl))) from in
+          let same : e.1 ≡ t = elim (or_cases (is_pair a t e) (holds es a t) least.there) [
+            | inl here ↦ eqb-true e.1 t ((and_parts (e.0 == a) (e.1 == t) here).1)
+            | inr later ↦ absurd (not_above e a t source below (above_first e es a t parts.0 parts.1 later))
+          ] in
+          let rest : all_targets es a s ≡ all_targets es a (t + 1) = targets_same es a s (t + 1) (λ b held.
+          let up = above_target e a b source (above_first e es a b parts.0 parts.1 held) in
+          le-leb s b (omega arith) ∙ sym (le-leb (t + 1) b (omega arith))) in
+          let skipped : all_targets (e ∷ es) a (t + 1) ≡ all_targets es a (t + 1) =
+          ap (λ u. map (λ f. f.1) (cond u (e ∷ filter (λ f. (f.0 == a) && nat_le (t + 1) f.1) es) (filter (λ f. (f.0 == a) && nat_le (t + 1) f.1) es)))
+          (and_right (e.0 == a) (nat_le (t + 1) e.1) (lt-leb (t + 1) e.1 (omega arith))) in
+          ap (λ x. x ∷ all_targets es a s) same ∙ ap (λ xs. t ∷ xs) (rest ∙ sym skipped)
+      | false ↦ λ h.
+          let later : holds es a t ≡ true = elim (or_cases (is_pair a t e) (holds es a t) least.there) [
+            | inl here ↦ let at = and_parts (e.0 == a) (e.1 == t) here in
+                let same = eqb-true e.1 t at.1 in
+                let from = least.from in
+                absurd (both_ways ((e.0 == a) && nat_le s e.1) h (and_from (e.0 == a) (nat_le s e.1) at.0 (le-leb s e.1 (omega arith))))
+            | inr later ↦ later
+          ] in
+          let rest = first_target es a s t parts.1 (record {
+            there = later;
+            from = least.from;
+            least = λ c held from. least.least c (or_right (is_pair a c e) (holds es a c) held) from;
+          }) in
+          let off : ((e.0 == a) && nat_le (t + 1) e.1) ≡ false = false_from_ne_true ((e.0 == a) && nat_le (t + 1) e.1) (λ on.
+          let at = and_parts (e.0 == a) (nat_le (t + 1) e.1) on in
+          let up = leb-true (t + 1) e.1 at.1 in
+          let from = least.from in
+          both_ways ((e.0 == a) && nat_le s e.1) h (and_from (e.0 == a) (nat_le s e.1) at.0 (le-leb s e.1 (omega arith)))) in
+          let skipped : all_targets (e ∷ es) a (t + 1) ≡ all_targets es a (t + 1) =
+          ap (λ u. map (λ f. f.1) (cond u (e ∷ filter (λ f. (f.0 == a) && nat_le (t + 1) f.1) es) (filter (λ f. (f.0 == a) && nat_le (t + 1) f.1) es))) off in
+          rest ∙ ap (λ xs. t ∷ xs) (sym skipped)
+    ] refl
+  where
+    above_target : (e : ℕ × ℕ) (a b : ℕ) → e.0 ≡ a → pair_lt e (a, b) ≡ true → e.1 < b
+    above_target e a b source lt = grind (arith, nat_tests)
+
+    not_above : (e : ℕ × ℕ) (a t : ℕ) → e.0 ≡ a → t ≤ e.1 → pair_lt e (a, t) ≡ true → ⊥
+    not_above e a t source below lt = grind (arith, nat_tests)
+
+-- ---- a list of targets, one after another
+
+-- one target more
+pub targets_more : (targets new rest all : List ℕ) (t : ℕ) → new ≡ take 64 (targets ++ t ∷ []) → take 64 (targets ++ t ∷ rest) ≡ all → take 64 (new ++ rest) ≡ all
+targets_more targets new rest all t is so_far =
+    ap (λ xs. take 64 (xs ++ rest)) is ∙ (take-take-append 64 (targets ++ t ∷ []) rest ∙ (ap (take 64) (append_assoc targets (t ∷ []) rest) ∙ so_far))
+
+pub targets_longer : (targets new : List ℕ) (t : ℕ) → length targets < 64 → new ≡ take 64 (targets ++ t ∷ []) → length new ≡ length targets + 1
+targets_longer targets new t room is =
+    let longer = length_push targets t in
+    ap length (is ∙ take_all 64 (targets ++ t ∷ []) (omega arith)) ∙ longer
+
+-- as many as there may be
+pub targets_full : (targets rest all : List ℕ) → length targets ≤ 64 → 64 ≤ length targets → take 64 (targets ++ rest) ≡ all → targets ≡ all
+targets_full targets rest all most least so_far = sym (take_at targets rest 64 (omega arith)) ∙ so_far
+
+-- no more to come
+pub targets_ended : (targets rest all : List ℕ) → length targets ≤ 64 → rest ≡ [] → take 64 (targets ++ rest) ≡ all → targets ≡ all
+targets_ended targets rest all most none so_far =
+    sym (take_all 64 targets most) ∙ (ap (take 64) (sym (append-nil targets)) ∙ (ap (λ xs. take 64 (targets ++ xs)) (sym none) ∙ so_far))

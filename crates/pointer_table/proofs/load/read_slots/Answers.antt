@@ -1,0 +1,39 @@
+use Rattle.std.proofs.Common.{◌≡◌, ℕ, ◌+◌, ◌*◌, ◌<◌, min, refl, sym, subst, ap, ◌∙◌, arith}
+use Rattle.std.specs.Int.{div_ceil}
+use Rattle.image_layout.specs.Areas.{slots_start, data_start}
+use Rattle.pointer_table.specs.Raw.{slots_in}
+use Rattle.pointer_table.specs.Reading.{IsReadTo, AreWithinTo}
+use Rattle.pointer_table.proofs.DeviceLaws.{rests_more, uses_more, on_ok}
+use Rattle.pointer_table.proofs.LoadLaws.{part_inside}
+use Rattle.pointer_table.proofs.load.read_slots.Goals as goal
+
+pub loop-part-preserved : goal.loop-part-preserved
+loop-part-preserved g c =
+    let view = g.D.Device.view in
+    let v0 = view c.args.dev.now in
+    let v = view c.loop-part.dev in
+    let v' = view c.read.new.self in
+    let size = c.args.geometry.now in
+    let part = c.loop-part.part in
+    let so_far = c.loop-part.invariant in
+    let ends : c.data_start.result ≡ data_start size = c.data_start.ensures ∙ ap data_start c.of-layout.ensures in
+    let starts : c.slots_start-start.result ≡ slots_start size = c.slots_start-start.ensures ∙ ap slots_start c.of-layout.ensures in
+    let area : data_start size ≡ slots_start size + div_ceil (8 * size.slots) 512 = refl in
+    let before : part < div_ceil (8 * size.slots) 512 = omega arith in
+    let inside : 64 * part < size.slots = part_inside size.slots part before in
+    let first : min size.slots (64 * part) ≡ 64 * part = omega arith in
+    let end : min size.slots (64 * part + 64) ≡ min size.slots (64 * (part + 1)) = omega arith in
+    record {
+      read = λ told.
+          let still = (so_far.rests told).reads in
+          let bytes = on_ok c.read.result c.is_err.result c.is_err.ensures.value c.if-is_err.false (c.read.ensures.bytes told) in
+          let sector : v0.reads (slots_start size + part) ≡ c.read.new.into =
+          ap (λ (s : ℕ). v0.reads (s + part)) (sym starts) ∙ (sym (ap (λ r. r (c.slots_start-start.result + part)) still) ∙ sym bytes) in
+          subst (λ (n : ℕ). IsReadTo v0.reads size n (slots_in c.take_sector.new.slots)) end
+          (c.in_default.ensures.read v0.reads sector (subst (λ (n : ℕ). IsReadTo v0.reads size n (slots_in c.loop-part.slots)) first (so_far.read told)));
+      within =
+          subst (λ (n : ℕ). AreWithinTo size n (slots_in c.take_sector.new.slots)) end
+          (c.in_default.ensures.within (subst (λ (n : ℕ). AreWithinTo size n (slots_in c.loop-part.slots)) first so_far.within));
+      rests = λ told. rests_more v0 v v' (so_far.rests told) (c.read.ensures.rests told);
+      uses = uses_more v0 v v' so_far.uses c.read.ensures.uses;
+    }

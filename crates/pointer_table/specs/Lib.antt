@@ -1,0 +1,11 @@
+pub mod Slots
+pub mod Table
+pub mod Sectors
+pub mod Scanning
+pub mod Repeats
+pub mod Repeating
+pub mod Raw
+pub mod Loading
+pub mod Reading
+pub mod Changes
+pub mod Next

@@ -1,0 +1,117 @@
+//! Reading the slots of an image, a sector at a time.
+
+ghost use Rattle.std.specs.Prelude.{◌≡◌, ℕ, ◌+◌, ◌*◌, ◌^◌, ◌<◌, ◌≤◌, List, min, length, vec_len, IfOk, OnOk, IfErr, MatchResult};
+ghost use Rattle.image_device.specs.Calls.{Rests, Uses};
+ghost use Rattle.image_device.specs.Counts.{Rose};
+ghost use Rattle.image_layout.specs.Areas.{slots_start};
+ghost use Rattle.pointer_table.specs.Loading.{is_bad, IsLeastBad, IfDevice};
+ghost use Rattle.pointer_table.specs.Raw.{slots_in};
+ghost use Rattle.pointer_table.specs.Reading.{IsReadTo, IsReading, AreWithinTo};
+ghost use Rattle.tsd_model.specs.Geometry.{IsLawful};
+
+use crate::fault::TableFault;
+use crate::raw::RawSlot;
+use crate::sector::{SECTOR_SLOTS, read_slot};
+use image_device::Device;
+use image_layout::Layout;
+use image_layout::sectors::SECTOR_BYTES;
+use std::alloc::Global;
+use tsd_model::Geometry;
+
+/// A bad slot, with its two numbers as they stand.
+#[derive(Clone, Copy, Debug)]
+struct BadSlot {
+    slot: u32,
+    source: u32,
+    target: u32,
+}
+
+/// Whether a slot is bad.
+fn is_bad(slot: &RawSlot, geometry: &Geometry) -> bool
+    ensures { result ≡ is_bad geometry.now slot.now.source slot.now.target }
+{
+    slot.source != 0
+        && (geometry.blocks < slot.source
+            || geometry.blocks <= slot.target
+            || slot.target < geometry.primaries)
+}
+
+/// Room for all slots.
+pub(crate) fn empty_slots(alloc: Global, geometry: &Geometry) -> Result<Vec<RawSlot>, TableFault>
+    ensures len { IfOk result (λ slots. vec_len slots ≡ geometry.now.slots) }
+    ensures err { IfErr result (λ e. e ≡ TableFault.NoMemory) }
+{
+    match vec![in alloc; RawSlot::EMPTY; geometry.slots as usize] {
+        Ok(slots) => Ok(slots),
+        Err(_) => Err(TableFault::NoMemory),
+    }
+}
+
+/// Takes the slots of a sector, counted from the first sector of slots, up to the first bad one.
+fn take_sector(
+    geometry: &Geometry,
+    part: usize,
+    sector: &[u8; SECTOR_BYTES],
+    slots: &mut [RawSlot],
+) -> Result<(), BadSlot>
+    requires lawful { IsLawful geometry.now }
+    requires all { length slots.old ≡ geometry.now.slots }
+    requires inside { SECTOR_SLOTS * part < geometry.now.slots }
+    ensures read { let end = min geometry.now.slots (SECTOR_SLOTS * part + SECTOR_SLOTS) in
+        (image : ℕ → List ℕ) → image (slots_start geometry.now + part) ≡ sector.now
+        → IsReadTo image geometry.now (SECTOR_SLOTS * part) (slots_in slots.old)
+        → MatchResult result
+        (λ _. IsReadTo image geometry.now end (slots_in slots.new))
+        (λ bad. IsLeastBad image geometry.now bad.slot bad.source bad.target) }
+    ensures within { let end = min geometry.now.slots (SECTOR_SLOTS * part + SECTOR_SLOTS) in
+        AreWithinTo geometry.now (SECTOR_SLOTS * part) (slots_in slots.old)
+        → OnOk result (AreWithinTo geometry.now end (slots_in slots.new)) }
+{
+    let first = SECTOR_SLOTS * part;
+    let end = slots.len().min(first + SECTOR_SLOTS);
+    for place in first..end {
+        let slot = read_slot(sector, place - first);
+        if is_bad(&slot, geometry) {
+            return Err(BadSlot {
+                slot: place as u32,
+                source: slot.source,
+                target: slot.target,
+            });
+        }
+        slots[place] = slot;
+    }
+    Ok(())
+}
+
+/// Reads all slots, up to the first bad one.
+pub(crate) fn read_slots<D: Device>(
+    dev: &mut D,
+    geometry: &Geometry,
+    slots: &mut [RawSlot],
+) -> Result<(), TableFault>
+    requires lawful { IsLawful geometry.now }
+    requires all { length slots.old ≡ geometry.now.slots }
+    ensures read { D.told → IsReading (D.view dev.old).reads geometry.now (slots_in slots.new) result }
+    ensures within { OnOk result (AreWithinTo geometry.now geometry.now.slots (slots_in slots.new)) }
+    ensures rests { D.told → Rests (D.view dev.old) (D.view dev.new) }
+    ensures uses { Uses 0 (D.view dev.old) (D.view dev.new) }
+    ensures cause { IfErr result (λ e. IfDevice e (Rose (D.view dev.old).faults (D.view dev.new).faults)) }
+{
+    let layout = Layout::of(geometry);
+    let start = layout.slots_start();
+    let parts = layout.data_start() - start;
+    let mut sector = [0; SECTOR_BYTES];
+    for part in 0..parts {
+        if dev.read(start + part, &mut sector).is_err() {
+            return Err(TableFault::Device);
+        }
+        if let Err(bad) = take_sector(geometry, part as usize, &sector, slots) {
+            return Err(TableFault::Slot {
+                slot: bad.slot,
+                source: bad.source,
+                target: bad.target,
+            });
+        }
+    }
+    Ok(())
+}

@@ -1,0 +1,215 @@
+//! The table.
+
+ghost use Rattle.std.specs.Prelude.{◌≡◌, ◌↔◌, ◌<◌, ◌/◌, false, None, Some, length, slice_set, IsErr, IfOk, OnOk, IfErr, OnErr, MatchResult};
+ghost use Rattle.image_device.specs.Calls.{Rests, Uses};
+ghost use Rattle.image_device.specs.Counts.{Rose};
+ghost use Rattle.tsd_model.specs.Geometry.{IsLawful};
+ghost use Rattle.tsd_model.specs.Pairs.{holds, with_pair, without_pair};
+ghost use Rattle.tsd_model.specs.Step.{targets_from};
+ghost use Rattle.pointer_table.specs.Changes.{IsChange, IsSlotSector, KeepsStored};
+ghost use Rattle.pointer_table.specs.Loading.{IsLoading, IfDevice};
+ghost use Rattle.pointer_table.specs.Next.{IsNextSource, IsNextTarget};
+ghost use Rattle.pointer_table.specs.Raw.{slot_in, slots_in};
+ghost use Rattle.pointer_table.specs.Reading.{AreWithinTo};
+ghost use Rattle.pointer_table.specs.Repeating.{IsRepeating};
+ghost use Rattle.pointer_table.specs.Sectors.{slot_sector_bytes};
+ghost use Rattle.pointer_table.specs.Slots.{slot_at};
+ghost use Rattle.pointer_table.specs.Table.{pairs, IsWithin, IsTable, ArePairs};
+ghost use Rattle.image_layout.specs.Places.{slot_place};
+
+use crate::fault::{NoPointer, TableFault, TableFull};
+use crate::load::{empty_slots, read_slots};
+use crate::next::{
+    count_held, empty_place, holds, next_source, next_target, place_of, targets_from,
+};
+use crate::raw::RawSlot;
+use crate::repeats::least_repeated;
+use crate::sector::{SECTOR_SLOTS, sector_bytes};
+use image_device::Device;
+use image_layout::{Layout, Patch};
+use std::alloc::Global;
+use std::marker::Model;
+use tsd_model::{BlockList, Geometry};
+
+/// The pointers of a disk. Contracts see the size of the disk and the list of the slots, each a pair or empty; the pairs that
+/// the slots hold, ascending, are `pairs` of that.
+#[derive(Drop)]
+pub struct PointerTable {
+    geometry: Geometry,
+    slots: Vec<RawSlot>,
+    /// How many slots hold a pair.
+    held: u32,
+}
+
+impl Model for PointerTable {
+    ghost use Rattle.std.specs.Prelude.{◌≡◌, length};
+    ghost use Rattle.pointer_table.specs.Raw.{slots_in};
+    ghost use Rattle.pointer_table.specs.Table.{Table, pairs, IsTable};
+
+    ghost Value = { Table };
+
+    ghost view = { λ t. record { geometry = t.geometry; slots = slots_in t.slots.items } };
+
+    ghost invariant = { λ t.
+        IsTable (record { geometry = t.geometry; slots = slots_in t.slots.items })
+        × (t.held ≡ length (pairs (record { geometry = t.geometry; slots = slots_in t.slots.items }))) };
+}
+
+impl PointerTable {
+    /// Reads the table of a disk. The device is only read.
+    ///
+    /// Fails with `NoMemory` where memory is short; with `Device` only where the device's faults rose; with `Slot` where a slot
+    /// is bad, for the least one; with `Repeated` where none is bad and two slots hold one pair, for the least such pair.
+    pub fn load<D: Device>(
+        alloc: Global,
+        dev: &mut D,
+        geometry: &Geometry,
+    ) -> Result<PointerTable, TableFault>
+        requires { IsLawful geometry.now }
+        ensures table { IfOk result (λ t. (t.geometry ≡ geometry.now) × IsTable t) }
+        ensures read { D.told → IsLoading (D.view dev.old).reads geometry.now result }
+        ensures rests { D.told → Rests (D.view dev.old) (D.view dev.new) }
+        ensures uses { Uses 0 (D.view dev.old) (D.view dev.new) }
+        ensures cause { IfErr result (λ e. IfDevice e (Rose (D.view dev.old).faults (D.view dev.new).faults)) }
+    {
+        let mut slots = empty_slots(alloc, geometry)?;
+        read_slots(dev, geometry, &mut slots)?;
+        PointerTable::of_slots(geometry, slots)
+    }
+
+    /// The size of the disk.
+    pub fn geometry(&self) -> Geometry
+        ensures { result ≡ self.now.geometry }
+    {
+        self.geometry
+    }
+
+    /// How many pairs are held.
+    pub fn len(&self) -> u32
+        ensures value { result ≡ length (pairs self.now) }
+        ensures table { IsTable self.now }
+        ensures pairs { ArePairs self.now }
+    {
+        self.held
+    }
+
+    /// Whether a pair is held.
+    pub fn has(&self, source: u32, target: u32) -> bool
+        ensures { result ≡ holds (pairs self.now) source target }
+    {
+        holds(&self.slots, source, target)
+    }
+
+    /// The least 64 targets of the pairs from a block that are not below `start`, ascending.
+    pub fn targets_from(&self, source: u32, start: u32) -> BlockList
+        ensures { result ≡ targets_from (pairs self.now) source start }
+    {
+        targets_from(&self.slots, source, start)
+    }
+
+    /// The least target of the pairs from a block.
+    pub fn next_out(&self, source: u32) -> Option<u32>
+        ensures { IsNextTarget (pairs self.now) source 0 result }
+    {
+        next_target(&self.slots, source, 0)
+    }
+
+    /// The least source of the pairs to a block that is not below `start`.
+    pub fn next_source(&self, target: u32, start: u32) -> Option<u32>
+        ensures { IsNextSource (pairs self.now) target start result }
+    {
+        next_source(&self.slots, target, start)
+    }
+}
+
+impl PointerTable {
+    /// Holds a pair that isn't held, in an empty slot, and gives the sector of that slot as it now must read.
+    pub fn add(&mut self, source: u32, target: u32) -> Result<Patch, TableFull>
+        requires absent { holds (pairs self.old) source target ≡ false }
+        requires within { IsWithin self.old.geometry (source, target) }
+        ensures full { IsErr result ↔ (length (pairs self.old) ≡ self.old.geometry.slots) }
+        ensures unchanged { OnErr result (self.new ≡ self.old) }
+        ensures pairs { OnOk result (pairs self.new ≡ with_pair (source, target) (pairs self.old)) }
+        ensures change { IfOk result (IsChange self.old self.new None (Some (source, target))) }
+        ensures sector { IfOk result (IsSlotSector self.old) }
+        ensures stored { IfOk result (KeepsStored self.old self.new) }
+        ensures table { IsTable self.new }
+    {
+        match empty_place(&self.slots) {
+            Some(place) => {
+                let held = self.held + 1;
+                Ok(self.set(place, RawSlot::of(source, target), held))
+            }
+            None => Err(TableFull),
+        }
+    }
+
+    /// Takes a pair away, and gives the sector of its slot as it now must read.
+    pub fn remove(&mut self, source: u32, target: u32) -> Result<Patch, NoPointer>
+        ensures absent { IsErr result ↔ (holds (pairs self.old) source target ≡ false) }
+        ensures unchanged { OnErr result (self.new ≡ self.old) }
+        ensures pairs { OnOk result (pairs self.new ≡ without_pair source target (pairs self.old)) }
+        ensures change { IfOk result (IsChange self.old self.new (Some (source, target)) None) }
+        ensures sector { IfOk result (IsSlotSector self.old) }
+        ensures stored { IfOk result (KeepsStored self.old self.new) }
+        ensures table { IsTable self.new }
+    {
+        match place_of(&self.slots, source, target) {
+            Some(place) => {
+                let held = self.held - 1;
+                Ok(self.set(place, RawSlot::EMPTY, held))
+            }
+            None => Err(NoPointer),
+        }
+    }
+
+    /// The table of slots that were read, of which none is bad.
+    fn of_slots(geometry: &Geometry, slots: Vec<RawSlot>) -> Result<PointerTable, TableFault>
+        requires lawful { IsLawful geometry.now }
+        requires count { length slots.items ≡ geometry.now.slots }
+        requires within { AreWithinTo geometry.now geometry.now.slots (slots_in slots.items) }
+        ensures table { IfOk result (λ t. (t.geometry ≡ geometry.now) × (t.slots ≡ slots_in slots.items)) }
+        ensures repeated { IsRepeating (slots_in slots.items) result }
+    {
+        match least_repeated(&slots) {
+            Some((source, target)) => Err(TableFault::Repeated { source, target }),
+            None => {
+                let held = count_held(&slots);
+                Ok(PointerTable {
+                    geometry: *geometry,
+                    slots,
+                    held,
+                })
+            }
+        }
+    }
+
+    /// Sets a slot, with the number of pairs that are held then, and gives its sector.
+    fn set(&mut self, place: usize, slot: RawSlot, held: u32) -> Patch
+        requires inside { place < self.old.geometry.slots }
+        requires table { IsTable (record self.old { slots = slice_set self.old.slots place (slot_in slot) }) }
+        requires held { held ≡ length (pairs (record self.old { slots = slice_set self.old.slots place (slot_in slot) })) }
+        ensures change { IsChange self.old self.new (slot_at self.old.slots place) (slot_in slot) result }
+        ensures sector { IsSlotSector self.old result }
+        ensures stored { KeepsStored self.old self.new result }
+        ensures table { IsTable self.new }
+    {
+        self.slots[place] = slot;
+        self.held = held;
+        self.patch(place)
+    }
+
+    /// The sector of a slot.
+    fn patch(&self, place: usize) -> Patch
+        requires { place < self.now.geometry.slots }
+        ensures place { result.sector ≡ (slot_place self.now.geometry place).sector }
+        ensures bytes { result.bytes ≡ slot_sector_bytes self.now.slots (place / SECTOR_SLOTS) }
+        ensures sector { IsSlotSector self.now result }
+    {
+        let at = Layout::of(&self.geometry).slot_place(place as u32);
+        Patch {
+            sector: at.sector,
+            bytes: sector_bytes(&self.slots, place / SECTOR_SLOTS),
+        }
+    }
+}

@@ -1,0 +1,4 @@
+mod Rests
+mod Reading
+mod Sectors
+pub mod StoredLaws

@@ -1,0 +1,35 @@
+-- The sectors that keep the counts, 128 counts to a sector.
+use Rattle.std.specs.Prelude.{◌≡◌, ℕ, ◌-◌, ◌*◌, ◌/◌, ◌<◌, Bool, false, List, ◌++◌, length, take, drop, replicate, slice_index}
+use Rattle.std.specs.List.{flat_map}
+use Rattle.byteorder.specs.Endian.{little_bytes}
+use Rattle.tsd_model.specs.declared.geometry.Geometry.{Geometry}
+use Rattle.image_layout.specs.Places.{count_place}
+use Rattle.image_layout.specs.Image.{Image, stored_count}
+
+-- ---- the bytes
+-- which of the counts' sectors has the count of a block, from 0
+abbrev pub part_of : ℕ → ℕ
+part_of block = block / 128
+
+-- the counts that this one of their sectors has
+abbrev pub counts_in : List ℕ → ℕ → List ℕ
+counts_in counts part = take 128 (drop (128 * part) counts)
+
+-- its 512 bytes: each of its counts in four bytes, the lowest first, and zeros behind the last count
+abbrev pub counts_sector_bytes : List ℕ → ℕ → List ℕ
+counts_sector_bytes counts part =
+    flat_map (little_bytes 4) (counts_in counts part) ++ replicate (512 - 4 * length (counts_in counts part)) 0
+
+-- ---- table and sectors
+-- the sector that has the count of a block
+abbrev pub count_sector : Geometry → ℕ → ℕ
+count_sector g block = (count_place g block).sector
+
+-- the image has the count of each block
+abbrev pub IsStored : List ℕ → Geometry → Image → Type 0
+IsStored counts g x = (block : ℕ) → block < g.blocks → stored_count x g block ≡ slice_index counts block
+
+-- the same, where the counts in some sectors don't matter
+abbrev pub IsStoredBut : (ℕ → Bool) → List ℕ → Geometry → Image → Type 0
+IsStoredBut some counts g x =
+    (block : ℕ) → block < g.blocks → some (count_sector g block) ≡ false → stored_count x g block ≡ slice_index counts block

@@ -1,0 +1,119 @@
+//! The table of counts.
+
+ghost use Rattle.std.specs.Prelude.{◌≡◌, ℕ, ◌+◌, ◌-◌, ◌<◌, ◌≤◌, ◌==◌, ◌||◌, Bool, slice_index, slice_set, IfOk, IfErr};
+ghost use Rattle.tsd_model.specs.Geometry.{IsLawful};
+ghost use Rattle.image_layout.specs.Areas.{bitmap_start, counts_start};
+ghost use Rattle.image_layout.specs.Image.{Image};
+ghost use Rattle.image_device.specs.Image.{put_at};
+ghost use Rattle.image_device.specs.Calls.{Rests, Uses};
+ghost use Rattle.ref_counts.specs.Table.{IsWhole};
+ghost use Rattle.ref_counts.specs.Stored.{IsStored, IsStoredBut, count_sector, counts_sector_bytes, part_of};
+ghost use Rattle.ref_counts.specs.Loading.{IsCaused};
+
+use crate::fault::LoadFault;
+use crate::loading::read_counts;
+use crate::sector::sector_of_part;
+use image_device::Device;
+use image_layout::sectors::COUNTS_START;
+use image_layout::{Layout, Patch};
+use std::alloc::Global;
+use std::marker::Model;
+use tsd_model::Geometry;
+
+/// The count of each block: how many pointers lead to it. It takes four bytes a block.
+#[derive(Drop)]
+pub struct RefCounts {
+    geometry: Geometry,
+    counts: Vec<u32>,
+}
+
+impl Model for RefCounts {
+    ghost use Rattle.ref_counts.specs.Table.{Table, IsWhole};
+
+    ghost Value = { Table };
+
+    ghost view = { λ t. record { geometry = t.geometry; counts = t.counts.items } };
+
+    ghost invariant = { λ t. IsWhole (record { geometry = t.geometry; counts = t.counts.items }) };
+}
+
+impl RefCounts {
+    /// The counts that a disk of this size has on its device. Any number may stand there. Each sector of counts is read
+    /// once, and nothing is written. `Device` comes only where the device's faults rose.
+    pub fn load<D: Device>(
+        alloc: Global,
+        dev: &mut D,
+        geometry: &Geometry,
+    ) -> Result<RefCounts, LoadFault>
+        requires { IsLawful geometry.now }
+        ensures geometry { IfOk result (λ t. t.geometry ≡ geometry.now) }
+        ensures whole { IfOk result (λ t. IsWhole t) }
+        ensures stored { D.told → IfOk result (λ t. IsStored t.counts t.geometry (D.view dev.old).reads) }
+        ensures rests { D.told → Rests (D.view dev.old) (D.view dev.new) }
+        ensures uses { Uses 0 (D.view dev.old) (D.view dev.new) }
+        ensures cause { IfErr result (λ fault. IsCaused (D.view dev.old) (D.view dev.new) fault) }
+    {
+        let mut counts = vec![in alloc; 0u32; geometry.blocks as usize]?;
+        read_counts(dev, &mut counts)?;
+        Ok(RefCounts {
+            geometry: *geometry,
+            counts,
+        })
+    }
+
+    /// How many pointers lead to a block.
+    pub fn count(&self, block: u32) -> u32
+        requires { block < self.now.geometry.blocks }
+        ensures value { result ≡ slice_index self.now.counts block }
+        ensures whole { IsWhole self.now }
+    {
+        let place = block as usize;
+        self.counts[place]
+    }
+
+    /// One pointer more leads to a block.
+    pub fn raise(&mut self, block: u32)
+        requires block { block < self.old.geometry.blocks }
+        requires room { slice_index self.old.counts block < self.old.geometry.blocks }
+        ensures raised { self.new ≡ record self.old { counts = slice_set self.old.counts block (slice_index self.old.counts block + 1) } }
+
+        // What an image had of the table it has still, but for the sector of this count.
+        ensures elsewhere { (some : ℕ → Bool) (x : Image) → IsStoredBut some self.old.counts self.old.geometry x → IsStoredBut (λ n. n == count_sector self.old.geometry block || some n) self.new.counts self.new.geometry x }
+    {
+        self.counts[block as usize] += 1;
+    }
+
+    /// One pointer less leads to a block.
+    pub fn lower(&mut self, block: u32)
+        requires block { block < self.old.geometry.blocks }
+        requires some { 0 < slice_index self.old.counts block }
+        ensures lowered { self.new ≡ record self.old { counts = slice_set self.old.counts block (slice_index self.old.counts block - 1) } }
+
+        // What an image had of the table it has still, but for the sector of this count.
+        ensures elsewhere { (some : ℕ → Bool) (x : Image) → IsStoredBut some self.old.counts self.old.geometry x → IsStoredBut (λ n. n == count_sector self.old.geometry block || some n) self.new.counts self.new.geometry x }
+    {
+        self.counts[block as usize] -= 1;
+    }
+
+    /// The sector that has the count of a block, as it must read now. It depends on the counts as they are now alone, so
+    /// the patches of one sector replace each other.
+    pub fn patch(&self, block: u32) -> Patch
+        requires { block < self.now.geometry.blocks }
+        ensures sector { result.sector ≡ count_sector self.now.geometry block }
+        ensures inside { (counts_start ≤ result.sector) × (result.sector < bitmap_start self.now.geometry) }
+        ensures bytes { result.bytes ≡ counts_sector_bytes self.now.counts (part_of block) }
+
+        // An image that has the counts of all other sectors has all of them, once the patch stands there.
+        ensures stored { (x : Image) → IsStoredBut (λ n. n == result.sector) self.now.counts self.now.geometry x → IsStored self.now.counts self.now.geometry (put_at result.sector result.bytes x) }
+
+        // The same where more sectors are still to be patched.
+        ensures more { (some : ℕ → Bool) (x : Image) → IsStoredBut (λ n. n == result.sector || some n) self.now.counts self.now.geometry x → IsStoredBut some self.now.counts self.now.geometry (put_at result.sector result.bytes x) }
+    {
+        let place = Layout::of(&self.geometry).count_place(block);
+        let part = place.sector - COUNTS_START;
+        Patch {
+            sector: place.sector,
+            bytes: sector_of_part(&self.counts, part as usize),
+        }
+    }
+}
