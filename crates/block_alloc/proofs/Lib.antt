@@ -5,3 +5,4 @@ pub mod OrderLaws
 pub mod RunLaws
 pub mod FreeLaws
 pub mod WorldLaws
+pub mod ChosenLaws

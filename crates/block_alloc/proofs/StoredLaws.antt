@@ -1,12 +1,13 @@
 -- A patched image says what the map says.
-use Rattle.std.proofs.Common.{inl, inr, ◌⊎◌, ◌≡◌, ◌≢◌, ℕ, ◌+◌, ◌*◌, ◌/◌, ◌%◌, ◌<◌, Bool, false, cond, ◌==◌, List, sym, ◌∙◌, ap, arith}
-use Rattle.std.specs.Prelude.{slice_index, slice_index_or, slice_set}
+use Rattle.std.proofs.Common.{inl, inr, ◌⊎◌, ◌≡◌, ◌≢◌, ℕ, ◌+◌, ◌*◌, ◌/◌, ◌%◌, ◌<◌, ◌≤◌, Bool, false, cond, ◌==◌, List, length, sym, ◌∙◌, ap, arith}
+use Rattle.std.specs.Prelude.{map, slice_index, slice_index_or, slice_set}
+use Rattle.std.specs.List.{range_with_len}
 use Rattle.std.specs.Int.{bit_at, div_ceil}
 use Rattle.std.proofs.lemmas.Bool.{cases_eq, eq-eqb, ne_eqb}
 use Rattle.std.proofs.lemmas.List.{get_or-set_other}
-use Rattle.std.proofs.lemmas.List.FromFn.{get_or-map-range_with_len}
+use Rattle.std.proofs.lemmas.List.FromFn.{get_or-map-range_with_len, fill_by_all}
 use Rattle.image_device.specs.Image.{Image, put_at}
-use Rattle.image_layout.specs.Areas.{bitmap_start}
+use Rattle.image_layout.specs.Areas.{bitmap_start, slots_start}
 use Rattle.image_layout.specs.Image.{is_marked}
 use Rattle.tsd_model.specs.declared.geometry.Geometry.{Geometry}
 use Rattle.block_alloc.specs.LiveMap.{is_live}
@@ -77,3 +78,15 @@ batch_is_stored live now g x y stored patched = λ b h. elim (patched b h) [
   | inl e ↦ marked_by y g b (bitmap_sector_bytes now (b / 4096)) e ∙ bit_here now (b / 4096) b (omega arith)
   | inr as_before ↦ marked_by y g b (x (sector_of g b)) as_before.0 ∙ (stored b h ∙ sym as_before.1)
 ]
+
+-- ---- the sectors of an image's bitmap decide what it says
+-- an image has the bits of one map alone
+pub one_map : (live : List Bool) (g : Geometry) (x : Image) → length live ≡ g.blocks → IsStored live g x → live ≡ map (is_marked x g) (range_with_len 0 g.blocks)
+one_map live g x each stored = fill_by_all (is_marked x g) live g.blocks false each (λ b h. sym (stored b h))
+
+-- and another one with the same sectors has them too
+pub same_sectors : (live : List Bool) (g : Geometry) (x y : Image) → ((n : ℕ) → bitmap_start g ≤ n → n < slots_start g → y n ≡ x n) → IsStored live g x → IsStored live g y
+same_sectors live g x y same stored = λ b h.
+    let from : bitmap_start g ≤ sector_of g b = omega arith in
+    let to : sector_of g b < slots_start g = omega arith in
+    marked_by y g b (x (sector_of g b)) (same (sector_of g b) from to) ∙ stored b h

@@ -12,6 +12,8 @@
 
 mod bits;
 mod choose;
+mod fault;
+mod free;
 mod least;
 mod map;
 mod patches;
@@ -21,7 +23,8 @@ mod tests;
 mod worlds;
 
 pub use choose::{RunRefusal, Short};
+pub use fault::LoadFault;
+pub use free::choices_are_free;
 pub use map::LiveMap;
 pub use patches::patches_keep_the_bitmap;
-pub use sectors::LoadFault;
 pub use worlds::choices_are_the_worlds;

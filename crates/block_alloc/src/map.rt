@@ -1,6 +1,6 @@
 //! Which blocks are live, a bit a block.
 
-ghost use Rattle.std.specs.Prelude.{◌≡◌, ℕ, ◌/◌, ◌<◌, ◌≤◌, ◌≢◌, true, false, slice_set, IfOk, IfErr};
+ghost use Rattle.std.specs.Prelude.{◌≡◌, ℕ, ◌/◌, ◌<◌, ◌≤◌, ◌≢◌, true, false, slice_set, IfOk, IsErrOf};
 ghost use Rattle.image_device.specs.Calls.{Rests, Uses};
 ghost use Rattle.image_device.specs.Counts.{Rose};
 ghost use Rattle.image_device.specs.Image.{Image, put_at};
@@ -11,7 +11,8 @@ ghost use Rattle.block_alloc.specs.Bytes.{bitmap_sector_bytes};
 ghost use Rattle.block_alloc.specs.Stored.{IsStoredAt, IsStored, sector_of};
 
 use crate::bits::{bit_in, count_zeros, cut_to, put_bit, sector_from};
-use crate::sectors::{LoadFault, read_sectors};
+use crate::fault::LoadFault;
+use crate::sectors::read_sectors;
 use image_device::Device;
 use image_layout::sectors::SECTOR_BYTES;
 use image_layout::{Layout, Patch};
@@ -57,7 +58,7 @@ impl LiveMap {
         ensures stored { D.told → IfOk result (λ m. IsStored m.live geometry.now (D.view dev.old).reads) }
         ensures rests { D.told → Rests (D.view dev.old) (D.view dev.new) }
         ensures uses { Uses 0 (D.view dev.old) (D.view dev.new) }
-        ensures cause { IfErr result (λ e. e ≡ LoadFault.Device → Rose (D.view dev.old).faults (D.view dev.new).faults) }
+        ensures cause { IsErrOf result LoadFault.Device → Rose (D.view dev.old).faults (D.view dev.new).faults }
     {
         let layout = Layout::of(geometry);
         let sectors = geometry.blocks.div_ceil(SECTOR_BLOCKS);

@@ -1,7 +1,10 @@
 //! That a changed map and patched sectors say the same.
 
-ghost use Rattle.std.specs.Prelude.{◌≡◌, ◌⊎◌, ℕ, ◌/◌, ◌<◌, Bool, List, slice_set};
+ghost use Rattle.std.specs.Prelude.{◌≡◌, ◌⊎◌, ℕ, ◌/◌, ◌<◌, ◌≤◌, Bool, List, length, map, slice_set};
+ghost use Rattle.std.specs.List.{range_with_len};
 ghost use Rattle.image_device.specs.Image.{Image, put_at};
+ghost use Rattle.image_layout.specs.Areas.{bitmap_start, slots_start};
+ghost use Rattle.image_layout.specs.Image.{is_marked};
 ghost use Rattle.tsd_model.specs.declared.geometry.Geometry.{Geometry};
 ghost use Rattle.block_alloc.specs.Bytes.{bitmap_sector_bytes};
 ghost use Rattle.block_alloc.specs.LiveMap.{is_live};
@@ -14,4 +17,8 @@ pub fn patches_keep_the_bitmap()
 
     // Each block's sector is patched, or it is as before and the block didn't change.
     ensures many { (live now : List Bool) (g : Geometry) (x y : Image) → IsStored live g x → ((b : ℕ) → b < g.blocks → (y (sector_of g b) ≡ bitmap_sector_bytes now (b / 4096)) ⊎ ((y (sector_of g b) ≡ x (sector_of g b)) × (is_live now b ≡ is_live live b))) → IsStored now g y }
+
+    // An image has the bits of one map alone, and the bitmap's sectors decide which.
+    ensures one_map { (live : List Bool) (g : Geometry) (x : Image) → length live ≡ g.blocks → IsStored live g x → live ≡ map (is_marked x g) (range_with_len 0 g.blocks) }
+    ensures same_sectors { (live : List Bool) (g : Geometry) (x y : Image) → ((n : ℕ) → bitmap_start g ≤ n → n < slots_start g → y n ≡ x n) → IsStored live g x → IsStored live g y }
 {}

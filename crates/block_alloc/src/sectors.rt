@@ -1,44 +1,13 @@
 //! The bitmap's sectors on a device.
 
-ghost use Rattle.std.specs.Prelude.{◌≡◌, ℕ, ◌*◌, ◌+◌, ◌/◌, ◌%◌, ◌^◌, ◌<◌, length, slice_index, IfOk, IfErr};
+ghost use Rattle.std.specs.Prelude.{◌≡◌, ℕ, ◌*◌, ◌+◌, ◌/◌, ◌%◌, ◌^◌, ◌<◌, length, slice_index, IfOk, IsErrOf};
 ghost use Rattle.image_device.specs.Calls.{Rests, Uses};
 ghost use Rattle.image_device.specs.Counts.{Rose};
 
-use image_device::{Device, Failed};
+use crate::fault::LoadFault;
+use image_device::Device;
 use image_layout::sectors::SECTOR_BYTES;
-use std::alloc::{AllocError, Global};
-
-/// Why a map was not loaded.
-#[derive(Clone, Copy, Debug, PartialEq, Eq)]
-pub enum LoadFault {
-    /// No memory was found.
-    NoMemory,
-
-    /// A call of the device failed.
-    Device,
-}
-
-impl From<AllocError> for LoadFault {
-    ghost use Rattle.std.specs.Prelude.{◌≡◌};
-    ghost use Rattle.block_alloc.specs.declared.sectors.LoadFault.TheVariants.{NoMemory};
-
-    ghost from_gives = { λ _ e. e ≡ NoMemory };
-
-    fn from(_error: AllocError) -> LoadFault {
-        LoadFault::NoMemory
-    }
-}
-
-impl From<Failed> for LoadFault {
-    ghost use Rattle.std.specs.Prelude.{◌≡◌};
-    ghost use Rattle.block_alloc.specs.declared.sectors.LoadFault.TheVariants.{Device as TheDevice};
-
-    ghost from_gives = { λ _ e. e ≡ TheDevice };
-
-    fn from(_error: Failed) -> LoadFault {
-        LoadFault::Device
-    }
-}
+use std::alloc::Global;
 
 /// The bytes of so many sectors in a row.
 pub fn read_sectors<D: Device>(
@@ -52,7 +21,7 @@ pub fn read_sectors<D: Device>(
     ensures read { D.told → IfOk result (λ bytes. (i : ℕ) → i < 512 * count → slice_index bytes.items i ≡ slice_index ((D.view dev.old).reads (first + i / 512)) (i % 512)) }
     ensures rests { D.told → Rests (D.view dev.old) (D.view dev.new) }
     ensures uses { Uses 0 (D.view dev.old) (D.view dev.new) }
-    ensures cause { IfErr result (λ e. e ≡ LoadFault.Device → Rose (D.view dev.old).faults (D.view dev.new).faults) }
+    ensures cause { IsErrOf result LoadFault.Device → Rose (D.view dev.old).faults (D.view dev.new).faults }
 {
     let mut bytes = Vec::with_capacity(alloc, SECTOR_BYTES * count as usize)?;
     let mut sector = [0; SECTOR_BYTES];

@@ -1,7 +1,8 @@
 -- Records of a version, and their bytes.
-use Rattle.std.proofs.Common.{◌≡◌, inl, inr, ℕ, zero, suc, ◌+◌, ◌-◌, ◌*◌, ◌<◌, ◌≤◌, List, [], ◌∷◌, ◌++◌, length, take, drop, get_or, set, replicate, Some, refl, sym, ◌∙◌, ap, subst, arith, append_assoc, append-nil}
+use Rattle.std.proofs.Common.{◌≡◌, inl, inr, ℕ, zero, suc, ◌+◌, ◌-◌, ◌*◌, ◌<◌, ◌≤◌, ◌==◌, true, List, [], ◌∷◌, ◌++◌, length, take, drop, get_or, set, replicate, Some, refl, sym, ◌∙◌, ap, subst, arith, append_assoc, append-nil}
 use Rattle.std.specs.Prelude.{map, slice_get}
-use Rattle.std.specs.List.{flat_map}
+use Rattle.std.specs.List.{flat_map, list_all}
+use Rattle.std.proofs.lemmas.Bool.{and_from}
 use Rattle.std.proofs.lemmas.List.{length-append, length-map, length-take-le, map-append, take_at, take_all, take_more, take-append-drop, drop_at, drop_all, drop_more, drop-drop, drop-replicate, get_or_at, set_at}
 use Rattle.std.proofs.lemmas.List.Concat.{flat_map-append}
 use Rattle.std.proofs.lemmas.Option.{same_Some, none-some}
@@ -11,7 +12,7 @@ use Rattle.tsd_model.specs.declared.caps.CapPair.{CapPair}
 use Rattle.tsd_model.specs.declared.records.KeptCap.{KeptCap}
 use Rattle.tsd_model.specs.declared.records.KeptCap.TheVariants.{Plain, Digested}
 use Rattle.tsd_model.specs.declared.records.Record.{Record}
-use Rattle.tsd_model.specs.Records.{kept, kept_of, upgraded_kept, upgraded_record}
+use Rattle.tsd_model.specs.Records.{is_of_version, is_record_of, kept, kept_of, upgraded_kept, upgraded_record}
 use Rattle.image_layout.specs.Header.{IsVersion}
 use Rattle.image_layout.specs.Image.{kept_len}
 use Rattle.cap_store.specs.Store.{IsKept, IsRecord, AreRecords}
@@ -28,6 +29,19 @@ kept_is c long = for_version (λ v. IsKept v (kept_of v c)) (refl, long) (refl, 
 
 pub record_is : (version : ℕ) (caps : CapPair) → IsVersion version → length caps.read.bytes ≡ 16 → length caps.write.bytes ≡ 16 → IsRecord version (kept version caps)
 record_is version caps is read write = record { read = kept_is caps.read read version is; write = kept_is caps.write write version is }
+
+is_of_version_kept : (version : ℕ) (k : KeptCap) → IsKept version k → is_of_version version k ≡ true
+is_of_version_kept version (Plain c) is = subst (λ v. (v == 1) ≡ true) (sym is.0) refl
+is_of_version_kept version (Digested d) is = subst (λ v. (v == 2) ≡ true) (sym is.0) refl
+
+-- each record is of the version, as a world asks it
+pub all_of_version : (version : ℕ) (rs : List Record) → AreRecords version rs → list_all (is_record_of version) rs ≡ true
+all_of_version version [] are = refl
+all_of_version version (x ∷ xs) are =
+    let first = are zero x refl in
+    and_from (is_record_of version x) (list_all (is_record_of version) xs)
+    (and_from (is_of_version version x.read) (is_of_version version x.write) (is_of_version_kept version x.read first.read) (is_of_version_kept version x.write first.write))
+    (all_of_version version xs (λ b s at. are (suc b) s at))
 
 upgraded_is : (k : KeptCap) (version : ℕ) → IsKept version k → IsKept 2 (upgraded_kept k)
 upgraded_is (Plain c) version is = (refl, length-sha256 c.bytes)

@@ -1,13 +1,13 @@
 -- What the sectors of records say, once one of them is replaced.
-use Rattle.std.proofs.Common.{◌≡◌, ◌≢◌, ◌⊎◌, inl, inr, ℕ, zero, suc, ◌+◌, ◌-◌, ◌*◌, ◌%◌, ◌<◌, ◌≤◌, ◌==◌, ◌||◌, Bool, true, false, cond, List, [], ◌∷◌, ◌++◌, length, min, take, drop, get_or, set, replicate, Some, refl, sym, ◌∙◌, ap, subst, arith}
+use Rattle.std.proofs.Common.{◌≡◌, ◌≢◌, inl, inr, ℕ, zero, suc, ◌+◌, ◌-◌, ◌*◌, ◌%◌, ◌<◌, ◌≤◌, ◌==◌, ◌||◌, Bool, true, false, cond, List, [], ◌∷◌, ◌++◌, length, min, take, drop, get_or, set, replicate, Some, refl, sym, ◌∙◌, ap, subst, arith}
 use Rattle.std.specs.Prelude.{slice_get}
 use Rattle.std.specs.List.{flat_map}
 use Rattle.std.proofs.lemmas.Bool.{cases_Bool, cases_eq, cases_lt}
 use Rattle.std.proofs.lemmas.Bool.Decides.{nat_tests}
-use Rattle.std.proofs.lemmas.List.{length-set, length-take, length-drop, take_all}
+use Rattle.std.proofs.lemmas.List.{length-set, length-take, length-drop, take_all, drop_all}
 use Rattle.std.proofs.lemmas.Option.{none-some, same_Some, slice_get-get_or}
 use Rattle.tsd_model.specs.declared.records.Record.{Record}
-use Rattle.image_device.specs.Image.{put_at}
+use Rattle.image_device.specs.Image.{put_at, zeros}
 use Rattle.image_device.proofs.Sets.{or_false, or_false_left, or_false_right, not_same}
 use Rattle.image_layout.specs.Header.{IsVersion}
 use Rattle.image_layout.specs.Image.{Image, kept_len, kept_place}
@@ -106,6 +106,26 @@ place_is block = for_version (λ v. block < 16 → caps_sector v block ≡ 132 +
 rest_is : (block version : ℕ) → IsVersion version → (k : ℕ) × (k < per_sector version) × (block ≡ part_of version block * per_sector version + k)
 rest_is block = for_version (λ v. (k : ℕ) × (k < per_sector v) × (block ≡ part_of v block * per_sector v + k)) (block % 16, omega arith, omega arith) (block % 8, omega arith, omega arith)
 
+-- a record whose sector an image has
+read_there : (version : ℕ) (rs : List Record) (y : Image) → IsVersion version → length rs ≤ 16 → AreRecords version rs → (other : ℕ) → other < length rs
+    → y (132 + part_of version other) ≡ caps_sector_bytes version rs (part_of version other) → slice_get rs other ≡ Some (stored_record version y other)
+read_there version rs y is few are other less put =
+    let per : ℕ = per_sector version in
+    let part : ℕ = part_of version other in
+    let rest = rest_is other version is in
+    let k : ℕ = rest.0 in
+    let here : other ≡ part * per + k = rest.2 in
+    let r : Record = get_or rs other blank in
+    let held : slice_get rs other ≡ Some r = slice_get-get_or rs other blank less in
+    let turned : per * part + k ≡ other = omega (arith, here) in
+    let cut : slice_get (records_in version rs part) k ≡ Some r = slice_get-take per (drop (per * part) rs) k rest.1 ∙ slice_get-drop (per * part) rs k ∙ ap (slice_get rs) turned ∙ held in
+    let zeros : List ℕ = replicate (512 - 2 * kept_len version * length (records_in version rs part)) 0 in
+    let stored : stored_record version y other ≡ r =
+    ap (stored_record version y) here ∙ record_in y part k version is rest.1
+    ∙ ap (λ l. record_at version l k) put
+    ∙ records_back version (records_in version rs part) zeros k r (part_are version rs part are) cut in
+    held ∙ ap Some (sym stored)
+
 module _ (version : ℕ) (rs : List Record) (x : Image) (block sector : ℕ) (bytes : List ℕ) (is : IsVersion version) (few : length rs ≤ 16) (are : AreRecords version rs) (inside : block < 16) (place : sector ≡ caps_sector version block) (bytes_are : bytes ≡ caps_sector_bytes version rs (part_of version block)) where
   abbrev after : Image
   after = put_at sector bytes x
@@ -113,26 +133,13 @@ module _ (version : ℕ) (rs : List Record) (x : Image) (block sector : ℕ) (by
   -- a record that the patch has
   there : (other : ℕ) → other < length rs → caps_sector version other ≡ sector → slice_get rs other ≡ Some (stored_record version after other)
   there other less same =
-      let per : ℕ = per_sector version in
       let part : ℕ = part_of version other in
-      let rest = rest_is other version is in
-      let k : ℕ = rest.0 in
-      let here : other ≡ part * per + k = rest.2 in
-      let r : Record = get_or rs other blank in
-      let held : slice_get rs other ≡ Some r = slice_get-get_or rs other blank less in
-      let turned : per * part + k ≡ other = omega (arith, here) in
-      let cut : slice_get (records_in version rs part) k ≡ Some r = slice_get-take per (drop (per * part) rs) k rest.1 ∙ slice_get-drop (per * part) rs k ∙ ap (slice_get rs) turned ∙ held in
       let stands : caps_sector version other ≡ 132 + part = place_is other version is (omega arith) in
       let patched : caps_sector version block ≡ 132 + part_of version block = place_is block version is inside in
       let parts : part_of version block ≡ part = omega (arith, stands, patched, place, same) in
       let at : 132 + part ≡ sector = sym stands ∙ same in
       let put : after (132 + part) ≡ bytes = ap (λ t. cond t bytes (x (132 + part))) (tested (132 + part) sector at) in
-      let zeros : List ℕ = replicate (512 - 2 * kept_len version * length (records_in version rs part)) 0 in
-      let stored : stored_record version after other ≡ r =
-      ap (stored_record version after) here ∙ record_in after part k version is rest.1
-      ∙ ap (λ l. record_at version l k) (put ∙ bytes_are ∙ ap (caps_sector_bytes version rs) parts)
-      ∙ records_back version (records_in version rs part) zeros k r (part_are version rs part are) cut in
-      held ∙ ap Some (sym stored)
+      read_there version rs after is few are other less (put ∙ bytes_are ∙ ap (caps_sector_bytes version rs) parts)
     where
       tested : (n m : ℕ) → n ≡ m → (n == m) ≡ true
       tested n m e = grind (arith, nat_tests)
@@ -159,25 +166,18 @@ module _ (version : ℕ) (rs : List Record) (x : Image) (block sector : ℕ) (by
   stored_all stored other less = more (λ n. false) (λ b h out. stored b h (or_false_left (caps_sector version b == sector) false out)) other less refl
 
 -- ---- both sectors are replaced, after an upgrade
-module _ (rs : List Record) (x : Image) (are : AreRecords 2 rs) where
-  pub first_is_all : length rs ≤ 8 → IsStored 2 rs (put_at 132 (caps_sector_bytes 2 rs 0) x)
-  first_is_all few = stored_all 2 rs x 0 132 (caps_sector_bytes 2 rs 0) (inr refl) (omega arith) are (omega arith) refl refl
-      (λ other less out. absurd (not_same (caps_sector 2 other) 132 out (first other (omega arith))))
-    where
-      first : (b : ℕ) → b < 8 → caps_sector 2 b ≡ 132
-      first b less = omega arith
+module _ (rs : List Record) (y : Image) (are : AreRecords 2 rs) where
+  pub first_is_all : length rs ≤ 8 → y 132 ≡ caps_sector_bytes 2 rs 0 → IsStored 2 rs y
+  first_is_all few first other less =
+      let part : part_of 2 other ≡ 0 = omega arith in
+      read_there 2 rs y (inr refl) (omega arith) are other less (subst (λ n. y (132 + n) ≡ caps_sector_bytes 2 rs n) (sym part) first)
 
-  pub both_are_all : length rs ≤ 16 → IsStored 2 rs (put_at 133 (caps_sector_bytes 2 rs 1) (put_at 132 (caps_sector_bytes 2 rs 0) x))
-  both_are_all few =
-      stored_all 2 rs (put_at 132 (caps_sector_bytes 2 rs 0) x) 8 133 (caps_sector_bytes 2 rs 1) (inr refl) few are (omega arith) refl refl
-      (more 2 rs x 0 132 (caps_sector_bytes 2 rs 0) (inr refl) few are (omega arith) refl refl (λ n. n == 133)
-      (λ other less out. elim (either other (omega arith)) [
-        | inl one ↦ absurd (not_same (caps_sector 2 other) 132 (or_false_left (caps_sector 2 other == 132) (caps_sector 2 other == 133) out) one)
-        | inr two ↦ absurd (not_same (caps_sector 2 other) 133 (or_false_right (caps_sector 2 other == 132) (caps_sector 2 other == 133) out) two)
-      ]))
-    where
-      either : (b : ℕ) → b < 16 → (caps_sector 2 b ≡ 132) ⊎ (caps_sector 2 b ≡ 133)
-      either b less = elim (cases_lt b 8) [
-        | inl below ↦ inl (omega arith)
-        | inr at ↦ inr (omega arith)
-      ]
+  pub both_are_all : length rs ≤ 16 → y 132 ≡ caps_sector_bytes 2 rs 0 → y 133 ≡ caps_sector_bytes 2 rs 1 → IsStored 2 rs y
+  both_are_all few first second other less = read_there 2 rs y (inr refl) few are other less (elim (cases_lt other 8) [
+    | inl below ↦ let part : part_of 2 other ≡ 0 = omega arith in subst (λ n. y (132 + n) ≡ caps_sector_bytes 2 rs n) (sym part) first
+    | inr at ↦ let part : part_of 2 other ≡ 1 = omega arith in subst (λ n. y (132 + n) ≡ caps_sector_bytes 2 rs n) (sym part) second
+  ])
+
+-- eight records have no second sector
+pub second_is_zeros : (rs : List Record) → length rs ≤ 8 → caps_sector_bytes 2 rs 1 ≡ zeros
+second_is_zeros rs few = ap (λ (l : List Record). flat_map record_bytes (take 8 l) ++ replicate (512 - 64 * length (take 8 l)) 0) (drop_all 8 rs few)

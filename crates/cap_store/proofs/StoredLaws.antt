@@ -1,5 +1,5 @@
 -- What it is for an image to have the records.
-use Rattle.std.proofs.Common.{◌≡◌, ℕ, ◌+◌, ◌<◌, ◌≤◌, List, length, take, drop, Some, refl, sym, ◌∙◌, ap, arith}
+use Rattle.std.proofs.Common.{◌≡◌, ℕ, ◌+◌, ◌<◌, ◌≤◌, Bool, false, List, length, take, drop, Some, refl, sym, ◌∙◌, ap, arith}
 use Rattle.std.specs.Prelude.{map}
 use Rattle.std.specs.List.{range_with_len}
 use Rattle.std.proofs.lemmas.List.FromFn.{fill_by_all}
@@ -8,7 +8,7 @@ use Rattle.tsd_model.specs.declared.records.Record.{Record}
 use Rattle.image_layout.specs.Areas.{caps_start, counts_start}
 use Rattle.image_layout.specs.Header.{IsVersion}
 use Rattle.image_layout.specs.Image.{Image, kept_len, kept_place}
-use Rattle.cap_store.specs.Stored.{caps_sector, kept_as, part_of, stored_record, IsStored}
+use Rattle.cap_store.specs.Stored.{caps_sector, kept_as, part_of, stored_record, IsStored, IsStoredBut}
 use Rattle.cap_store.proofs.RecordLaws.{blank, for_version}
 use Rattle.cap_store.proofs.Sectors.{place_is}
 
@@ -30,10 +30,15 @@ part_below : (block version : ℕ) → IsVersion version → block < 16 → part
 part_below block = for_version (λ v. block < 16 → part_of v block < 2) (λ inside. omega arith) (λ inside. omega arith)
 
 -- images with the same two sectors have the same records
+pub same_sectors_but : (some : ℕ → Bool) (version : ℕ) (rs : List Record) (x y : Image) → IsVersion version → length rs ≤ 16
+    → ((n : ℕ) → caps_start ≤ n → n < counts_start → some n ≡ false → y n ≡ x n) → IsStoredBut some version rs x → IsStoredBut some version rs y
+same_sectors_but some version rs x y is few same stored block inside out =
+    let place = place_is block version is (omega arith) in
+    let part = part_below block version is (omega arith) in
+    let there = same (caps_sector version block) (omega (arith, place)) (omega (arith, place, part)) out in
+    stored block inside out ∙ ap Some (sym (same_record version x y block there))
+
 pub same_sectors : (version : ℕ) (rs : List Record) (x y : Image) → IsVersion version → length rs ≤ 16
     → ((n : ℕ) → caps_start ≤ n → n < counts_start → y n ≡ x n) → IsStored version rs x → IsStored version rs y
 same_sectors version rs x y is few same stored block inside =
-    let place = place_is block version is (omega arith) in
-    let part = part_below block version is (omega arith) in
-    let there = same (caps_sector version block) (omega (arith, place)) (omega (arith, place, part)) in
-    stored block inside ∙ ap Some (sym (same_record version x y block there))
+    same_sectors_but (λ n. false) version rs x y is few (λ n from to out. same n from to) (λ b h out. stored b h) block inside refl

@@ -1,4 +1,3 @@
 pub mod Store
 pub mod Stored
-pub mod Loading
 pub mod Seeds

@@ -26,7 +26,7 @@ fn set_records(version: u32, bytes: &[u8; SECTOR_BYTES], first: usize, records: 
     }
 }
 
-/// Reads each record. Each sector is read once.
+/// Reads each record. Each sector is read once (tested).
 pub(crate) fn read_records<D: Device>(
     dev: &mut D,
     version: u32,

@@ -1,18 +1,19 @@
 //! The store of records.
 
-ghost use Rattle.std.specs.Prelude.{◌≡◌, ℕ, ◌+◌, ◌<◌, ◌≤◌, ◌==◌, ◌||◌, Bool, slice_set, IfOk, IfErr};
+ghost use Rattle.std.specs.Prelude.{◌≡◌, ℕ, ◌+◌, ◌<◌, ◌≤◌, ◌==◌, ◌||◌, Bool, length, slice_set, IfOk, IsErrOf, IsTrue};
+ghost use Rattle.std.specs.List.{list_all};
 ghost use Rattle.tsd_model.specs.Attained.{shown_level};
 ghost use Rattle.tsd_model.specs.Geometry.{IsLawful};
-ghost use Rattle.tsd_model.specs.Records.{kept};
+ghost use Rattle.tsd_model.specs.Records.{kept, is_record_of};
 ghost use Rattle.tsd_model.specs.World.{World};
 ghost use Rattle.image_layout.specs.Areas.{caps_start, counts_start};
 ghost use Rattle.image_layout.specs.Header.{IsVersion};
 ghost use Rattle.image_layout.specs.Image.{Image};
-ghost use Rattle.image_device.specs.Image.{put_at};
+ghost use Rattle.image_device.specs.Image.{put_at, zeros};
 ghost use Rattle.image_device.specs.Calls.{Rests, Uses};
+ghost use Rattle.image_device.specs.Counts.{Rose};
 ghost use Rattle.cap_store.specs.Store.{level_shown, upgraded, IsWhole};
 ghost use Rattle.cap_store.specs.Stored.{IsStored, IsStoredBut, caps_sector, caps_sector_bytes, part_of};
-ghost use Rattle.cap_store.specs.Loading.{IsCaused};
 
 use crate::fault::LoadFault;
 use crate::loading::read_records;
@@ -57,8 +58,8 @@ impl Model for CapStore {
 }
 
 impl CapStore {
-    /// The records that a disk with this header has on its device. Each sector of records is read once, and nothing is
-    /// written. `Device` comes only where the device's faults rose.
+    /// The records that a disk with this header has on its device. Each sector of records is read once (tested), and
+    /// nothing is written. `Device` comes only where the device's faults rose.
     pub fn load<D: Device>(
         alloc: Global,
         dev: &mut D,
@@ -72,7 +73,7 @@ impl CapStore {
         ensures stored { D.told → IfOk result (λ s. IsStored s.version s.records (D.view dev.old).reads) }
         ensures rests { D.told → Rests (D.view dev.old) (D.view dev.new) }
         ensures uses { Uses 0 (D.view dev.old) (D.view dev.new) }
-        ensures cause { IfErr result (λ fault. IsCaused (D.view dev.old) (D.view dev.new) fault) }
+        ensures cause { IsErrOf result LoadFault.Device → Rose (D.view dev.old).faults (D.view dev.new).faults }
     {
         let mut records = vec![in alloc; BLANK; header.geometry.primaries as usize]?;
         read_records(dev, header.version, &mut records)?;
@@ -87,6 +88,10 @@ impl CapStore {
     pub fn version(&self) -> u32
         ensures value { result ≡ self.now.version }
         ensures whole { IsWhole self.now }
+
+        // What a world asks of its records.
+        ensures of_version { IsTrue (list_all (is_record_of self.now.version) self.now.records) }
+        ensures each { length self.now.records ≡ self.now.geometry.primaries }
     {
         self.version
     }
@@ -124,9 +129,12 @@ impl CapStore {
         ensures upgraded { self.new ≡ upgraded self.old }
         ensures same { self.old.version ≡ 2 → self.new ≡ self.old }
 
-        // Any image has all the records, once the patches of block 0 and of block 8, where that is primary, stand there.
-        ensures one { self.new.geometry.primaries ≤ 8 → (x : Image) → IsStored 2 self.new.records (put_at caps_start (caps_sector_bytes 2 self.new.records 0) x) }
-        ensures both { (x : Image) → IsStored 2 self.new.records (put_at (caps_start + 1) (caps_sector_bytes 2 self.new.records 1) (put_at caps_start (caps_sector_bytes 2 self.new.records 0) x)) }
+        // An image has all the records where the two sectors stand there, and with 8 primary blocks or fewer the first.
+        ensures one { self.new.geometry.primaries ≤ 8 → (y : Image) → y caps_start ≡ caps_sector_bytes 2 self.new.records 0 → IsStored 2 self.new.records y }
+        ensures both { (y : Image) → y caps_start ≡ caps_sector_bytes 2 self.new.records 0 → y (caps_start + 1) ≡ caps_sector_bytes 2 self.new.records 1 → IsStored 2 self.new.records y }
+
+        // The second sector is then zeros.
+        ensures empty { self.new.geometry.primaries ≤ 8 → caps_sector_bytes 2 self.new.records 1 ≡ zeros }
     {
         upgrade_each(&mut self.records);
         self.version = DIGEST_VERSION;

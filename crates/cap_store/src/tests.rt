@@ -112,6 +112,98 @@ fn records_come_back_from_their_sectors(rt: HostRuntime) -> Result<(), Fail> {
     Ok(())
 }
 
+/// Gives a block the capabilities of these bytes, and writes its patch.
+fn change(
+    station: &mut MemStation,
+    store: &mut CapStore,
+    block: u32,
+    read: u8,
+    write: u8,
+) -> Result<(), Failed>
+    requires { block < store.old.geometry.primaries }
+    ensures { store.new.geometry ≡ store.old.geometry }
+{
+    store.set(block, &pair(read, write));
+    write_patch(station, store, block)
+}
+
+/// The level that a byte attains by a plain list of pairs.
+fn level_plain(pairs: &[(u8, u8)], block: u32, byte: u8) -> Level {
+    match pairs.get(block as usize) {
+        Some((_, write)) if *write == byte => Level::Write,
+        Some((read, _)) if *read == byte => Level::Read,
+        _ => Level::Bare,
+    }
+}
+
+/// Compares each level with that of a plain list of pairs.
+fn compare(rt: &impl Abort, store: &CapStore, pairs: &[(u8, u8)])
+    requires { store.now.geometry.primaries ≡ 16 }
+{
+    for block in 0..16 {
+        for byte in 1..8 {
+            let level = store.level_shown(block, &key(byte));
+            assert_eq!(rt; level, level_plain(pairs, block, byte), "{byte} at {block}");
+        }
+    }
+}
+
+#[test]
+fn random_changes_come_back_from_their_sectors(rt: HostRuntime) -> Result<(), Fail> {
+    let alloc = rt.alloc();
+    for version in [1, 2] {
+        let header = header_of(&rt, version, 16);
+        let mut station = MemStation::new(alloc, Vec::new(alloc));
+        let mut store = CapStore::load(alloc, &mut station, &header)?;
+        let mut pairs = [(0, 0); 16];
+        let mut state: u64 = 0x0123_4567_89ab_cdef;
+        for turn in 0..300 {
+            state = state
+                .wrapping_mul(6_364_136_223_846_793_005)
+                .wrapping_add(1_442_695_040_888_963_407);
+            let block = ((state >> 40) % 16) as u32;
+            let read = ((state >> 48) % 6) as u8 + 1;
+            let write = ((state >> 56) % 6) as u8 + 1;
+            change(&mut station, &mut store, block, read, write)?;
+            pairs[block as usize] = (read, write);
+            assert_eq!(rt;
+                store.level_shown(block, &key(write)),
+                Level::Write,
+                "turn {turn}"
+            );
+        }
+        compare(&rt, &store, &pairs);
+        let again = CapStore::load(alloc, &mut station, &header)?;
+        compare(&rt, &again, &pairs);
+    }
+    Ok(())
+}
+
+/// The largest disk.
+const LARGE: Geometry = Geometry {
+    sectors: 1,
+    blocks: 1_048_576,
+    primaries: 16,
+    slots: 4_194_304,
+};
+
+#[test]
+fn the_largest_disk_has_each_sector_read_once(rt: HostRuntime) -> Result<(), Fail> {
+    let alloc = rt.alloc();
+    assert!(rt; lawful(&LARGE));
+    for (version, reads) in [(1, 1), (2, 2)] {
+        let header = Header {
+            version,
+            geometry: LARGE,
+        };
+        let mut station = MemStation::new(alloc, Vec::new(alloc));
+        let store = CapStore::load(alloc, &mut station, &header)?;
+        assert_eq!(rt; store.version(), version);
+        assert_eq!(rt; (station.calls(), station.write_calls()), (reads, 0));
+    }
+    Ok(())
+}
+
 /// One that is kept for reading and for writing attains write. The latest capabilities count.
 #[test]
 fn write_comes_before_read(rt: HostRuntime) -> Result<(), Fail> {

@@ -1,29 +1,27 @@
 //! Checkpoints: the records are put in place, and their gates are closed.
 
-ghost use Rattle.std.specs.Prelude.{◌≡◌, ◌≤◌, ◌<◌, ◌+◌, ◌==◌, ◌&&◌, nat_le, nat_lt, not, [], ℕ, length, true, false, cond, IsTrue, slice_index_or, OnOk, OnErr, IfOk};
-ghost use Rattle.std.specs.List.{list_all};
+ghost use Rattle.std.specs.Prelude.{◌≡◌, ◌≤◌, ◌<◌, ◌+◌, ◌==◌, ◌&&◌, nat_le, nat_lt, not, [], ℕ, length, false, cond, OnOk, OnErr, IfOk};
 ghost use Rattle.image_device.specs.Calls.{Uses};
 ghost use Rattle.image_device.specs.Counts.{Rose};
 ghost use Rattle.image_device.specs.Runs.{IsConfined, IsFirm, LeavesOnly};
 ghost use Rattle.image_layout.specs.Image.{gate_bytes};
 ghost use Rattle.image_layout.specs.Ring.{records, bodies, gate_sector};
-ghost use Rattle.intent_journal.specs.Batch.{has_home, homes_of};
-ghost use Rattle.intent_journal.specs.Homes.{is_lawful_home};
+ghost use Rattle.intent_journal.specs.Batch.{has_home};
 ghost use Rattle.intent_journal.specs.Home.{home, overlaid, is_journal, AgreeBut};
-ghost use Rattle.intent_journal.specs.Records.{patches_of, is_open_gate};
-ghost use Rattle.intent_journal.specs.Ring.{IsRing, IsAt, last_patches, checkpoint_writes};
+ghost use Rattle.intent_journal.specs.Records.{is_open_gate};
+ghost use Rattle.intent_journal.specs.Ring.{IsAt, last_patches, checkpoint_writes};
 ghost use Rattle.intent_journal.specs.Closing.{IsListed, is_listed_open, one_if, later_open, closing_writes};
 ghost use Rattle.intent_journal.specs.Written.{ClosesGates};
 ghost use Rattle.intent_journal.specs.Crash.{IsBefore};
 
-use crate::ring::{Ring, has_home};
+use crate::ring::{RECORD_PLACES, Ring, has_home};
 use image_device::{Device, Failed};
 use image_layout::Patch;
 use image_layout::gate::gate_bytes;
 use image_layout::ring::{RECORDS, gate_sector};
 
 /// Whether each gate is open.
-pub(crate) type Gates = [bool; 8];
+pub(crate) type Gates = [bool; RECORD_PLACES];
 
 impl Ring {
     /// Puts all records in place and closes their gates. `Failed` comes only where the device's count of faults rose; the
@@ -38,7 +36,7 @@ impl Ring {
         ensures firm { D.told → OnOk result (IsFirm (D.view dev.new)) }
         ensures sent { D.told → (D.view dev.new).sent ≡ (D.view dev.old).sent }
 
-        // A crash at any moment leaves what the disk stood for before.
+        // A crash at any moment leaves what the disk stood for before, but in sectors that were loose.
         ensures any_moment { D.told → LeavesOnly (D.view dev.old) (D.view dev.new)
             (λ x f. IsBefore (D.view dev.old) x × (f ≡ (D.view dev.old).sent)) }
 

@@ -1,6 +1,6 @@
 //! Commits: a whole batch counts, or nothing of it.
 
-ghost use Rattle.std.specs.Prelude.{◌≡◌, ◌≢◌, ◌≤◌, ◌<◌, ◌+◌, ◌-◌, ◌^◌, ◌==◌, ◌||◌, ◌&&◌, nat_le, nat_lt, [], ◌∷◌, ◌++◌, ◌⊎◌, ℕ, length, true, false, cond, slice_get, Some, OnOk, OnErr};
+ghost use Rattle.std.specs.Prelude.{◌≡◌, ◌≢◌, ◌≤◌, ◌<◌, ◌+◌, ◌-◌, ◌==◌, ◌||◌, [], ◌∷◌, ◌++◌, ◌⊎◌, ℕ, length, true, false, cond, slice_get, Some, OnOk, OnErr};
 ghost use Rattle.image_device.specs.Calls.{Uses};
 ghost use Rattle.image_device.specs.Counts.{Rose};
 ghost use Rattle.image_device.specs.Runs.{IsConfined, IsFirm, LeavesOnly};
@@ -9,11 +9,10 @@ ghost use Rattle.image_layout.specs.declared.place.Patch.{Patch};
 ghost use Rattle.intent_journal.specs.Batch.{IsBatch, homes_of};
 ghost use Rattle.intent_journal.specs.Descriptor.{descriptor_bytes};
 ghost use Rattle.intent_journal.specs.Home.{home, overlaid, is_journal, AgreeBut};
-ghost use Rattle.intent_journal.specs.Records.{patches_of};
-ghost use Rattle.intent_journal.specs.Ring.{IsRing, IsAt, is_full_for, committed, commit_writes, checkpoint_writes};
+ghost use Rattle.intent_journal.specs.Ring.{IsAt, is_full_for, committed, commit_writes, checkpoint_writes};
 ghost use Rattle.intent_journal.specs.Closing.{is_body_of, is_in_record};
 ghost use Rattle.intent_journal.specs.Written.{IsWritten};
-ghost use Rattle.intent_journal.specs.Crash.{IsBefore, IsAfter, IsBeforeOrAfter};
+ghost use Rattle.intent_journal.specs.Crash.{IsBefore, IsBeforeOrAfter};
 
 use crate::batch::Batch;
 use crate::descriptor::write_descriptor;
@@ -37,7 +36,8 @@ impl Ring {
         ensures firm { D.told → OnOk result (IsFirm (D.view dev.new)) }
         ensures sent { D.told → (D.view dev.new).sent ≡ (D.view dev.old).sent }
 
-        // A crash at any moment leaves what the disk stood for before, or that with the whole batch in place.
+        // A crash at any moment leaves what the disk stood for before, but in sectors that were loose, or that with the whole
+        // batch in place.
         ensures any_moment { D.told → LeavesOnly (D.view dev.old) (D.view dev.new)
             (λ x f. IsBeforeOrAfter batch.now (D.view dev.old) x × (f ≡ (D.view dev.old).sent)) }
 

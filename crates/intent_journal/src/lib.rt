@@ -1,7 +1,7 @@
 //! The journal: a ring of eight records, by which many sectors change as one.
 //!
 //! What it stands on: `image_device` for disks and what a crash leaves of them, `image_layout` for the journal's places,
-//! `arrayvec` and `byteorder` for descriptors.
+//! `tsd_model` for want of memory, `arrayvec` and `byteorder` for descriptors.
 //!
 //! What it promises: a `Batch` of new bytes for up to 113 sectors, its homes, is committed whole or not at all, whatever
 //! call a crash stops. What an image stands for is a definition over the image alone, `home` in `specs/Home.antt`: the

@@ -1,6 +1,6 @@
 //! Replays: the open records that a disk has are put in place, and its gates are closed.
 
-ghost use Rattle.std.specs.Prelude.{◌≡◌, ◌≤◌, ◌<◌, ◌+◌, ◌++◌, [], ℕ, length, map, true, false, slice_index, slice_index_or, OnOk, OnErr, IfOk, IsErrOf};
+ghost use Rattle.std.specs.Prelude.{◌≡◌, ◌≤◌, ◌<◌, ◌+◌, ◌++◌, [], ℕ, length, map, true, false, slice_index, OnOk, OnErr, IfOk, IsErrOf};
 ghost use Rattle.std.specs.List.{range_with_len};
 ghost use Rattle.image_device.specs.Image.{Image};
 ghost use Rattle.image_device.specs.Calls.{Rests, Uses};
@@ -18,7 +18,7 @@ ghost use Rattle.intent_journal.specs.Crash.{IsTheSame};
 use crate::checkpoint::{Gates, put_in_place};
 use crate::descriptor::{MOST_HOMES, read_descriptor};
 use crate::patches::PatchList;
-use crate::ring::{ReplayFault, Replayed, Ring, read_over};
+use crate::ring::{RECORD_PLACES, ReplayFault, Replayed, Ring, read_over};
 use arrayvec::ArrayVec;
 use image_device::{Device, Failed};
 use image_layout::gate::is_open;
@@ -249,7 +249,7 @@ fn read_gates<D: Device>(dev: &mut D) -> Result<Gates, Failed>
     ensures uses { Uses 0 (D.view dev.old) (D.view dev.new) }
     ensures cause { OnErr result (Rose (D.view dev.old).faults (D.view dev.new).faults) }
 {
-    let mut gates = [false; 8];
+    let mut gates = [false; RECORD_PLACES];
     for index in 0..RECORDS {
         gates[index as usize] = is_gate_open(dev, index)?;
     }

@@ -1,6 +1,6 @@
 //! The ring of records on a disk, as memory holds it.
 
-ghost use Rattle.std.specs.Prelude.{◌≡◌, ◌≤◌, ◌+◌, [], ◌∷◌, ◌++◌, ℕ, length, false, ◌≢◌, OnOk, OnErr, IfOk, IfSome, IfNone};
+ghost use Rattle.std.specs.Prelude.{◌≡◌, ◌≤◌, ◌+◌, [], ◌∷◌, ◌++◌, length, false, ◌≢◌, OnOk, OnErr, IfOk, IfSome, IfNone};
 ghost use Rattle.image_device.specs.Image.{Image};
 ghost use Rattle.image_device.specs.Calls.{Rests, Uses};
 ghost use Rattle.image_device.specs.Counts.{Rose};
@@ -14,12 +14,13 @@ use crate::patches::PatchList;
 use arrayvec::ArrayVec;
 use image_device::{Device, Failed};
 use image_layout::Patch;
+use image_layout::ring::RECORDS;
 use std::alloc::Global;
 use std::marker::Model;
 use tsd_model::NoMemory;
 
 /// How many records there are.
-const RECORDS_MOST: usize = 8;
+pub(crate) const RECORD_PLACES: usize = RECORDS as usize;
 
 /// What a replay found.
 #[derive(Clone, Copy, Debug, PartialEq, Eq)]
@@ -60,7 +61,7 @@ pub struct Ring {
     pub(crate) patches: PatchList,
 
     /// How many of them each record has.
-    pub(crate) counts: ArrayVec<u32, RECORDS_MOST>,
+    pub(crate) counts: ArrayVec<u32, RECORD_PLACES>,
 }
 
 impl Model for Ring {

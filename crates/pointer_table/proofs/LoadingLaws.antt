@@ -1,16 +1,19 @@
 -- The slots of an image have one answer, which no write elsewhere changes.
 use Rattle.std.proofs.Common.{◌≡◌, ℕ, ◌+◌, ◌*◌, ◌/◌, ◌%◌, ◌<◌, ◌≤◌, true, inl, inr, List, refl, sym, ◌∙◌, ap, arith}
 use Rattle.std.proofs.Common.{Option, None, Result, Ok, Err}
+use Rattle.std.specs.Prelude.{map}
 use Rattle.std.specs.Int.{div_ceil}
+use Rattle.std.specs.List.{range_with_len}
 use Rattle.std.proofs.lemmas.Bool.{cases_order, both_ways}
 use Rattle.std.proofs.lemmas.Grind.{div_ceil_times}
 use Rattle.std.proofs.lemmas.List.{ext_get_or}
+use Rattle.std.proofs.lemmas.List.FromFn.{fill_by_all}
 use Rattle.tsd_model.specs.declared.geometry.Geometry.{Geometry}
 use Rattle.tsd_model.proofs.PlaceLaws.{same_pair}
 use Rattle.image_layout.specs.Areas.{slots_start, data_start}
 use Rattle.image_layout.specs.Image.{Image, source_field, target_field}
 use Rattle.pointer_table.specs.Loading.{is_bad, is_bad_at, HasNoBad, IsLeastBad, IsLeastRepeated, IsLoaded, IsJudged, IsLoading}
-use Rattle.pointer_table.specs.Sectors.{IsStored}
+use Rattle.pointer_table.specs.Sectors.{stored_slot, IsStored}
 use Rattle.pointer_table.specs.Table.{Table}
 use Rattle.pointer_table.specs.declared.fault.TableFault.{TableFault}
 use Rattle.pointer_table.specs.declared.fault.TableFault.TheVariants as fault
@@ -69,6 +72,9 @@ one_answer image g (Err (fault.Repeated c d)) (Err fault.NoMemory) j k a b = abs
 one_answer image g (Err (fault.Repeated c d)) (Err fault.Device) j k a b = absurd k
 one_answer image g (Err (fault.Repeated c d)) (Err (fault.Slot n u v)) j k a b = absurd (not_bad image g n u v a.0 b)
 one_answer image g (Err (fault.Repeated c d)) (Err (fault.Repeated e f)) j k a b = same_repeated image g c d e f a.1 b.1
+
+pub one_table : (slots : List (Option (ℕ × ℕ))) (g : Geometry) (x : Image) → IsStored slots g x → slots ≡ map (stored_slot x g) (range_with_len 0 g.slots)
+one_table slots g x stored = fill_by_all (stored_slot x g) slots g.slots None stored.count (λ k inside. sym (stored.each k inside))
 
 -- ---- writes elsewhere
 

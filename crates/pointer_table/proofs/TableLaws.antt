@@ -1,5 +1,5 @@
 -- Tables: made, changed, and compared with an image.
-use Rattle.std.proofs.Common.{◌≡◌, ℕ, ◌+◌, ◌<◌, ◌==◌, false, inl, inr, List, length, set, sym, ◌∙◌, ap, subst, arith}
+use Rattle.std.proofs.Common.{◌≡◌, ℕ, ◌+◌, ◌*◌, ◌/◌, ◌%◌, ◌<◌, ◌==◌, false, inl, inr, ◌⊎◌, List, length, set, sym, ◌∙◌, ap, subst, arith}
 use Rattle.std.proofs.Common.{Option, Some, None}
 use Rattle.std.specs.Prelude.{◌≢◌}
 use Rattle.std.proofs.lemmas.Bool.{cases_eq, cases_order, both_ways, false_from_ne_true}
@@ -26,7 +26,10 @@ use Rattle.std.specs.List.{position}
 use Rattle.pointer_table.specs.Changes.{IsChange}
 use Rattle.pointer_table.specs.Scanning.{is_at}
 use Rattle.pointer_table.proofs.RawLaws.{slots_in-set, length-slots_in, empty_some, empty_none, place_some, place_none}
-use Rattle.pointer_table.proofs.SectorLaws.{Fits4}
+use Rattle.image_layout.specs.Areas.{slots_start}
+use Rattle.image_layout.specs.Places.{slot_place}
+use Rattle.pointer_table.specs.Sectors.{IsStored, slot_sector_bytes}
+use Rattle.pointer_table.proofs.SectorLaws.{Fits4, read_at, sector_read, slot_sector, stored_at}
 use Rattle.pointer_table.proofs.SlotLaws.{some_inside, holds_from_slot, slot_from_holds, rising-pairs_in, set_same, set_other, pairs_added, pairs_removed, length-pairs_in_le}
 
 -- what follows of the pairs
@@ -178,6 +181,24 @@ load_answers image g slots (Err fault.NoMemory) count read is found = absurd fou
 load_answers image g slots (Err fault.Device) count read is found = absurd found
 load_answers image g slots (Err (fault.Slot k source target)) count read is found = absurd found
 load_answers image g slots (Err (fault.Repeated a b)) count read is found = (read.no_bad, least_on image g slots (a, b) count read found)
+
+-- many slots that change, and the sectors patched that have them
+pub batch_stored : (slots now : List (Option (ℕ × ℕ))) (g : Geometry) (x y : Image) → IsTable (record { geometry = g; slots = now }) → IsStored slots g x
+    → ((k : ℕ) → k < g.slots → (y (slot_place g k).sector ≡ slot_sector_bytes now (k / 64)) ⊎ ((y (slot_place g k).sector ≡ x (slot_place g k).sector) × (slot_at now k ≡ slot_at slots k)))
+    → IsStored now g y
+batch_stored slots now g x y table stored patched = record {
+  count = table.count;
+  each = λ k inside.
+      let here : (z : Image) → z (slots_start g + k / 64) ≡ z (slot_place g k).sector = λ z. ap (λ s. z (slots_start g + s)) (sym (slot_sector k)) in
+      stored_at y g k ∙ elim (patched k inside) [
+        | inl written ↦
+            ap (λ bytes. read_at bytes (8 * (k % 64))) (here y ∙ written)
+            ∙ sector_read now (k / 64) (k % 64) k (fits (record { geometry = g; slots = now }) table) (omega arith) (omega arith)
+        | inr as_before ↦
+            ap (λ bytes. read_at bytes (8 * (k % 64))) (here y ∙ (as_before.0 ∙ sym (here x)))
+            ∙ (sym (stored_at x g k) ∙ (stored.each k inside ∙ sym as_before.1))
+      ];
+}
 
 -- ---- the fields of a table in memory
 

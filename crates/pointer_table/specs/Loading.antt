@@ -60,10 +60,3 @@ IsJudged (Err fault.NoMemory) = ⊥
 IsJudged (Err fault.Device) = ⊥
 IsJudged (Err (fault.Slot k source target)) = ⊤
 IsJudged (Err (fault.Repeated a b)) = ⊤
-
--- a fact that holds wherever the fault is the device's
-abbrev pub IfDevice : TableFault → Type 0 → Type 0
-IfDevice fault.NoMemory P = ⊤
-IfDevice fault.Device P = P
-IfDevice (fault.Slot k source target) P = ⊤
-IfDevice (fault.Repeated a b) P = ⊤

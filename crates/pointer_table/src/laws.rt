@@ -1,10 +1,13 @@
 //! What follows of the definitions, whatever a table does.
 
-ghost use Rattle.std.specs.Prelude.{◌≡◌, ℕ, ◌<◌, ◌≤◌, List, Option, Result};
+ghost use Rattle.std.specs.Prelude.{◌≡◌, ◌⊎◌, ℕ, ◌/◌, ◌<◌, ◌≤◌, List, map, Option, Result};
+ghost use Rattle.std.specs.List.{range_with_len};
 ghost use Rattle.image_layout.specs.Areas.{slots_start, data_start};
+ghost use Rattle.image_layout.specs.Places.{slot_place};
 ghost use Rattle.pointer_table.specs.Loading.{IsJudged, IsLoading};
-ghost use Rattle.pointer_table.specs.Sectors.{IsStored};
-ghost use Rattle.pointer_table.specs.Table.{Table};
+ghost use Rattle.pointer_table.specs.Sectors.{sector_slots, stored_slot, slot_sector_bytes, IsStored};
+ghost use Rattle.pointer_table.specs.Slots.{slot_at};
+ghost use Rattle.pointer_table.specs.Table.{Table, IsTable};
 ghost use Rattle.pointer_table.specs.declared.fault.TableFault.{TableFault};
 ghost use Rattle.tsd_model.specs.declared.geometry.Geometry.{Geometry};
 
@@ -20,4 +23,20 @@ pub fn slots_stay_elsewhere()
     ensures { (slots : List (Option (ℕ × ℕ))) (g : Geometry) (x y : ℕ → List ℕ)
         → ((n : ℕ) → slots_start g ≤ n → n < data_start g → y n ≡ x n)
         → IsStored slots g x → IsStored slots g y }
+{}
+
+/// An image has the slots of one table alone, which are those that it says.
+pub fn sectors_have_one_table()
+    ensures one_table { (slots : List (Option (ℕ × ℕ))) (g : Geometry) (x : ℕ → List ℕ)
+        → IsStored slots g x → slots ≡ map (stored_slot x g) (range_with_len 0 g.slots) }
+{}
+
+/// Where an image has the slots of a table, it has those of a changed one after a change of many slots in many sectors.
+pub fn patches_keep_the_slots()
+    // Each slot's sector is patched, or it is as before and the slot didn't change.
+    ensures many { (slots now : List (Option (ℕ × ℕ))) (g : Geometry) (x y : ℕ → List ℕ)
+        → IsTable (record { geometry = g; slots = now }) → IsStored slots g x
+        → ((k : ℕ) → k < g.slots → (y (slot_place g k).sector ≡ slot_sector_bytes now (k / sector_slots))
+        ⊎ ((y (slot_place g k).sector ≡ x (slot_place g k).sector) × (slot_at now k ≡ slot_at slots k)))
+        → IsStored now g y }
 {}

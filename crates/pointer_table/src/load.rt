@@ -1,10 +1,10 @@
 //! Reading the slots of an image, a sector at a time.
 
-ghost use Rattle.std.specs.Prelude.{◌≡◌, ℕ, ◌+◌, ◌*◌, ◌^◌, ◌<◌, ◌≤◌, List, min, length, vec_len, IfOk, OnOk, IfErr, MatchResult};
+ghost use Rattle.std.specs.Prelude.{◌≡◌, ℕ, ◌+◌, ◌*◌, ◌^◌, ◌<◌, ◌≤◌, List, min, length, vec_len, IfOk, OnOk, IfErr, IsErrOf, MatchResult};
 ghost use Rattle.image_device.specs.Calls.{Rests, Uses};
 ghost use Rattle.image_device.specs.Counts.{Rose};
 ghost use Rattle.image_layout.specs.Areas.{slots_start};
-ghost use Rattle.pointer_table.specs.Loading.{is_bad, IsLeastBad, IfDevice};
+ghost use Rattle.pointer_table.specs.Loading.{is_bad, IsLeastBad};
 ghost use Rattle.pointer_table.specs.Raw.{slots_in};
 ghost use Rattle.pointer_table.specs.Reading.{IsReadTo, IsReading, AreWithinTo};
 ghost use Rattle.tsd_model.specs.Geometry.{IsLawful};
@@ -95,7 +95,7 @@ pub(crate) fn read_slots<D: Device>(
     ensures within { OnOk result (AreWithinTo geometry.now geometry.now.slots (slots_in slots.new)) }
     ensures rests { D.told → Rests (D.view dev.old) (D.view dev.new) }
     ensures uses { Uses 0 (D.view dev.old) (D.view dev.new) }
-    ensures cause { IfErr result (λ e. IfDevice e (Rose (D.view dev.old).faults (D.view dev.new).faults)) }
+    ensures cause { IsErrOf result TableFault.Device → Rose (D.view dev.old).faults (D.view dev.new).faults }
 {
     let layout = Layout::of(geometry);
     let start = layout.slots_start();

@@ -3,7 +3,7 @@
 use tsd_model::BlockList;
 
 /// Pairs to take away from one block.
-#[derive(Debug, Drop)]
+#[derive(Debug, PartialEq, Eq, Drop)]
 pub struct OutStep {
     /// The source of the pairs.
     pub block: u32,

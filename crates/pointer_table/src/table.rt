@@ -1,13 +1,13 @@
 //! The table.
 
-ghost use Rattle.std.specs.Prelude.{◌≡◌, ◌↔◌, ◌<◌, ◌/◌, false, None, Some, length, slice_set, IsErr, IfOk, OnOk, IfErr, OnErr, MatchResult};
+ghost use Rattle.std.specs.Prelude.{◌≡◌, ◌↔◌, ◌<◌, ◌/◌, false, None, Some, length, slice_set, IsErr, IfOk, OnOk, OnErr, IsErrOf};
 ghost use Rattle.image_device.specs.Calls.{Rests, Uses};
 ghost use Rattle.image_device.specs.Counts.{Rose};
 ghost use Rattle.tsd_model.specs.Geometry.{IsLawful};
 ghost use Rattle.tsd_model.specs.Pairs.{holds, with_pair, without_pair};
 ghost use Rattle.tsd_model.specs.Step.{targets_from};
 ghost use Rattle.pointer_table.specs.Changes.{IsChange, IsSlotSector, KeepsStored};
-ghost use Rattle.pointer_table.specs.Loading.{IsLoading, IfDevice};
+ghost use Rattle.pointer_table.specs.Loading.{IsLoading};
 ghost use Rattle.pointer_table.specs.Next.{IsNextSource, IsNextTarget};
 ghost use Rattle.pointer_table.specs.Raw.{slot_in, slots_in};
 ghost use Rattle.pointer_table.specs.Reading.{AreWithinTo};
@@ -70,7 +70,7 @@ impl PointerTable {
         ensures read { D.told → IsLoading (D.view dev.old).reads geometry.now result }
         ensures rests { D.told → Rests (D.view dev.old) (D.view dev.new) }
         ensures uses { Uses 0 (D.view dev.old) (D.view dev.new) }
-        ensures cause { IfErr result (λ e. IfDevice e (Rose (D.view dev.old).faults (D.view dev.new).faults)) }
+        ensures cause { IsErrOf result TableFault.Device → Rose (D.view dev.old).faults (D.view dev.new).faults }
     {
         let mut slots = empty_slots(alloc, geometry)?;
         read_slots(dev, geometry, &mut slots)?;

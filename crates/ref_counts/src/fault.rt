@@ -9,7 +9,7 @@ pub enum LoadFault {
     /// No memory was found.
     NoMemory,
 
-    /// A read failed.
+    /// A read failed, and the device's count of faults rose.
     Device,
 }
 

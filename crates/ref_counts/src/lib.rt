@@ -1,6 +1,7 @@
 //! How many pointers lead to each block, as the image keeps it: a number of four bytes for each block.
 //!
-//! What it stands on: `image_device` for the reads, `image_layout` for the places, `byteorder` for numbers in bytes.
+//! What it stands on: `tsd_model` for the size of a disk, `image_device` for the reads, `image_layout` for the places,
+//! `byteorder` for numbers in bytes.
 //!
 //! What it promises: after `load` the table is what the sectors say, whatever numbers they have; `patch` is the sector of
 //! a block's count as it must read now, so that table and image agree again once it stands there. The table takes four

@@ -20,7 +20,7 @@ fn set_counts(bytes: &[u8; SECTOR_BYTES], first: usize, counts: &mut [u32])
     take_counts(bytes, &mut counts[first..end]);
 }
 
-/// Reads each count. Each sector is read once.
+/// Reads each count. Each sector is read once (tested).
 pub(crate) fn read_counts<D: Device>(dev: &mut D, counts: &mut [u32]) -> Result<(), Failed>
     requires { length counts.old ≤ 1048576 }
     ensures read { D.told → OnOk result (AreRead (length counts.old) counts.new (D.view dev.old).reads) }

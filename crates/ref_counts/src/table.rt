@@ -1,14 +1,14 @@
 //! The table of counts.
 
-ghost use Rattle.std.specs.Prelude.{◌≡◌, ℕ, ◌+◌, ◌-◌, ◌<◌, ◌≤◌, ◌==◌, ◌||◌, Bool, slice_index, slice_set, IfOk, IfErr};
+ghost use Rattle.std.specs.Prelude.{◌≡◌, ℕ, ◌+◌, ◌-◌, ◌<◌, ◌≤◌, ◌==◌, ◌||◌, Bool, slice_index, slice_set, IfOk, IsErrOf};
 ghost use Rattle.tsd_model.specs.Geometry.{IsLawful};
 ghost use Rattle.image_layout.specs.Areas.{bitmap_start, counts_start};
 ghost use Rattle.image_layout.specs.Image.{Image};
 ghost use Rattle.image_device.specs.Image.{put_at};
 ghost use Rattle.image_device.specs.Calls.{Rests, Uses};
+ghost use Rattle.image_device.specs.Counts.{Rose};
 ghost use Rattle.ref_counts.specs.Table.{IsWhole};
 ghost use Rattle.ref_counts.specs.Stored.{IsStored, IsStoredBut, count_sector, counts_sector_bytes, part_of};
-ghost use Rattle.ref_counts.specs.Loading.{IsCaused};
 
 use crate::fault::LoadFault;
 use crate::loading::read_counts;
@@ -39,7 +39,7 @@ impl Model for RefCounts {
 
 impl RefCounts {
     /// The counts that a disk of this size has on its device. Any number may stand there. Each sector of counts is read
-    /// once, and nothing is written. `Device` comes only where the device's faults rose.
+    /// once (tested), and nothing is written. `Device` comes only where the device's faults rose.
     pub fn load<D: Device>(
         alloc: Global,
         dev: &mut D,
@@ -51,7 +51,7 @@ impl RefCounts {
         ensures stored { D.told → IfOk result (λ t. IsStored t.counts t.geometry (D.view dev.old).reads) }
         ensures rests { D.told → Rests (D.view dev.old) (D.view dev.new) }
         ensures uses { Uses 0 (D.view dev.old) (D.view dev.new) }
-        ensures cause { IfErr result (λ fault. IsCaused (D.view dev.old) (D.view dev.new) fault) }
+        ensures cause { IsErrOf result LoadFault.Device → Rose (D.view dev.old).faults (D.view dev.new).faults }
     {
         let mut counts = vec![in alloc; 0u32; geometry.blocks as usize]?;
         read_counts(dev, &mut counts)?;
@@ -59,6 +59,14 @@ impl RefCounts {
             geometry: *geometry,
             counts,
         })
+    }
+
+    /// How large the disk is.
+    pub fn geometry(&self) -> Geometry
+        ensures value { result ≡ self.now.geometry }
+        ensures whole { IsWhole self.now }
+    {
+        self.geometry
     }
 
     /// How many pointers lead to a block.

@@ -4,12 +4,12 @@ use Rattle.std.specs.Vec.{with_items}
 use Rattle.std.proofs.lemmas.List.{length-map, with_items_is}
 use Rattle.tsd_model.specs.declared.records.Record.{Record}
 use Rattle.tsd_model.specs.Records.{upgraded_record}
-use Rattle.image_device.specs.Image.{put_at}
+use Rattle.image_device.specs.Image.{zeros}
 use Rattle.image_layout.specs.Image.{Image}
 use Rattle.cap_store.specs.Store.{AreRecords, IsWhole, Store}
 use Rattle.cap_store.specs.Stored.{caps_sector_bytes, IsStored}
 use Rattle.cap_store.proofs.RecordLaws.{upgraded_are, upgraded_stays}
-use Rattle.cap_store.proofs.Sectors.{both_are_all, first_is_all}
+use Rattle.cap_store.proofs.Sectors.{both_are_all, first_is_all, second_is_zeros}
 use Rattle.cap_store.proofs.store.CapStore.upgrade.Goals as goal
 
 module _ (c : goal.After-self-2-1) where
@@ -39,9 +39,13 @@ returns-clause-same c is =
     (λ i. record { version = sym version i; geometry = c.self.inside.geometry; records = stays i }) ∙ c.self.view_is
 
 pub returns-clause-one : goal.returns-clause-one
-returns-clause-one c few = subst (λ (rs : List Record). (x : Image) → IsStored 2 rs (put_at 132 (caps_sector_bytes 2 rs 0) x)) (sym (new_is c))
-    (λ x. first_is_all (map upgraded_record (held c)) x (are c) (let many = each c in omega (arith, many, few)))
+returns-clause-one c few = subst (λ (rs : List Record). (y : Image) → y 132 ≡ caps_sector_bytes 2 rs 0 → IsStored 2 rs y) (sym (new_is c))
+    (λ y. first_is_all (map upgraded_record (held c)) y (are c) (let many = each c in omega (arith, many, few)))
 
 pub returns-clause-both : goal.returns-clause-both
-returns-clause-both c = subst (λ (rs : List Record). (x : Image) → IsStored 2 rs (put_at 133 (caps_sector_bytes 2 rs 1) (put_at 132 (caps_sector_bytes 2 rs 0) x))) (sym (new_is c))
-    (λ x. both_are_all (map upgraded_record (held c)) x (are c) (let many = each c in omega (arith, many, c.self.invariant.lawful.primaries.1)))
+returns-clause-both c = subst (λ (rs : List Record). (y : Image) → y 132 ≡ caps_sector_bytes 2 rs 0 → y 133 ≡ caps_sector_bytes 2 rs 1 → IsStored 2 rs y) (sym (new_is c))
+    (λ y. both_are_all (map upgraded_record (held c)) y (are c) (let many = each c in omega (arith, many, c.self.invariant.lawful.primaries.1)))
+
+pub returns-clause-empty : goal.returns-clause-empty
+returns-clause-empty c few = subst (λ (rs : List Record). caps_sector_bytes 2 rs 1 ≡ zeros) (sym (new_is c))
+    (second_is_zeros (map upgraded_record (held c)) (let many = each c in omega (arith, many, few)))
