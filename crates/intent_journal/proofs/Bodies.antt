@@ -12,7 +12,7 @@ use Rattle.image_layout.specs.Ring.{body_sector, descriptor_sector}
 use Rattle.image_layout.specs.declared.place.Patch.{Patch}
 use Rattle.intent_journal.specs.Descriptor.{count_in, home_in, homes_in, is_valid}
 use Rattle.intent_journal.specs.Records.{descriptor_of, record_at}
-use Rattle.intent_journal.proofs.Gates.{map_range}
+use Rattle.intent_journal.proofs.Opened.{map_range_alike}
 use Rattle.intent_journal.specs.Closing.{is_body_of, is_in_record}
 
 -- the patch at an index
@@ -69,7 +69,7 @@ record_read image index start homes is =
     let long : length homes ≡ count_in d = ap length is ∙ length-map-range_with_len (home_in d) 0 (count_in d) in
     let f : List ℕ → ℕ → Patch = λ hs k. record { sector = get_or hs k 0; bytes = image (body_sector (start + k)) } in
     ap (λ (n : ℕ). map (f homes) (range_with_len 0 n)) long
-    ∙ map_range (f homes) _ 0 (count_in d) (λ k low high. ap (λ (n : ℕ). record { sector = n; bytes = image (body_sector (start + k)) }) (ap (λ (hs : List ℕ). get_or hs k 0) is ∙ home_at_index d k (omega arith)))
+    ∙ map_range_alike (f homes) _ 0 (count_in d) (λ k low high. ap (λ (n : ℕ). record { sector = n; bytes = image (body_sector (start + k)) }) (ap (λ (hs : List ℕ). get_or hs k 0) is ∙ home_at_index d k (omega arith)))
   where
     home_at_index : (d : List ℕ) (k : ℕ) → k < count_in d → get_or (homes_in d) k 0 ≡ home_in d k
     home_at_index d k less = get_or-map (home_in d) (range_with_len 0 (count_in d)) k 0 0 (omega (arith, length-range_with_len 0 (count_in d))) ∙ ap (home_in d) (get_or-range_with_len 0 (count_in d) k 0 less ∙ omega arith)

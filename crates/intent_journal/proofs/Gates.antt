@@ -1,25 +1,16 @@
 -- Images whose gates are as open, and whose descriptors and bodies are the same.
-use Rattle.std.proofs.Common.{◌≡◌, inl, inr, ℕ, zero, suc, ◌+◌, ◌<◌, ◌≤◌, ◌&&◌, true, cond, List, ◌∷◌, map, refl, sym, ◌∙◌, ap, arith}
-use Rattle.std.specs.List.{range_with_len}
+use Rattle.std.proofs.Common.{◌≡◌, inl, inr, ℕ, zero, suc, ◌+◌, ◌<◌, ◌≤◌, ◌&&◌, true, cond, List, ◌∷◌, refl, sym, ◌∙◌, ap, arith}
 use Rattle.std.proofs.lemmas.Bool.{cases_Bool, cond-true, cond-false, and_parts, leb-true}
 use Rattle.image_device.specs.Image.{Image}
 use Rattle.image_layout.specs.Ring.{records, bodies, body_sector}
-use Rattle.image_layout.specs.declared.place.Patch.{Patch}
-use Rattle.intent_journal.specs.Descriptor.{count_in, home_in, is_valid}
+use Rattle.intent_journal.specs.Descriptor.{count_in, is_valid}
+use Rattle.intent_journal.proofs.Opened.{record_alike}
 use Rattle.intent_journal.specs.Records.{descriptor_of, is_open_gate, record_at, open_from, open_records, are_valid_from, has_valid_records}
 
 pub record IsAlike (x y : Image) : Type 0 where
   pub gates : (i : ℕ) → i < records → is_open_gate y i ≡ is_open_gate x i
   pub descriptors : (i : ℕ) → i < records → descriptor_of y i ≡ descriptor_of x i
   pub each_body : (k : ℕ) → k < bodies → y (body_sector k) ≡ x (body_sector k)
-
--- a map over numbers in a row
-pub map_range : (f g : ℕ → Patch) (from len : ℕ) → ((k : ℕ) → from ≤ k → k < from + len → f k ≡ g k) → map f (range_with_len from len) ≡ map g (range_with_len from len)
-map_range f g from zero h = refl
-map_range f g from (suc len) h =
-    let first : f from ≡ g from = h from (omega arith) (omega arith) in
-    let rest : map f (range_with_len (from + 1) len) ≡ map g (range_with_len (from + 1) len) = map_range f g (from + 1) len (λ k le lt. h k (omega arith) (omega arith)) in
-    λ i. first i ∷ rest i
 
 -- where a descriptor is valid, its bodies are within the ring's
 pub valid_room : (start : ℕ) (bytes : List ℕ) → is_valid start bytes ≡ true → start + count_in bytes ≤ bodies
@@ -30,11 +21,8 @@ valid_room start bytes h =
     leb-true (start + count_in bytes) bodies c.1
 
 module _ (x y : Image) (alike : IsAlike x y) where
-  record_alike : (index start : ℕ) → index < records → start + count_in (descriptor_of x index) ≤ bodies → record_at y index start ≡ record_at x index start
-  record_alike index start less room =
-      let said : List ℕ → List Patch = λ d. map (λ k. record { sector = home_in d k; bytes = y (body_sector (start + k)) }) (range_with_len 0 (count_in d)) in
-      ap said (alike.descriptors index less)
-      ∙ map_range _ _ 0 (count_in (descriptor_of x index)) (λ k le lt i. record { sector = home_in (descriptor_of x index) k; bytes = alike.each_body (start + k) (omega arith) i })
+  record_same : (index start : ℕ) → index < records → start + count_in (descriptor_of x index) ≤ bodies → record_at y index start ≡ record_at x index start
+  record_same index start less room = record_alike x y index start (alike.descriptors index less) (λ k low high. alike.each_body k (omega arith))
 
   open_alike : (index start left : ℕ) → index + left ≤ records → open_from y index start left ≡ open_from x index start left
   open_alike index start zero within = refl
@@ -46,7 +34,7 @@ module _ (x y : Image) (alike : IsAlike x y) where
       elim (cases_Bool (is_open_gate x index && is_valid start (descriptor_of x index))) [
         | inl t ↦
             let valid = (and_parts (is_open_gate x index) (is_valid start (descriptor_of x index)) t).1 in
-            let first = record_alike index start less (valid_room start (descriptor_of x index) valid) in
+            let first = record_same index start less (valid_room start (descriptor_of x index) valid) in
             cond-true _ _ _ (same ∙ t) ∙ (λ i. first i ∷ rest i) ∙ sym (cond-true _ _ _ t)
         | inr f ↦ cond-false _ _ _ (same ∙ f) ∙ sym (cond-false _ _ _ f)
       ]
