@@ -118,10 +118,10 @@ attained_where w v s b shown l some = (forth, back)
         ∙ (le_greatest l (map (λ a. slice_index_or (levels_from v s h.1.1) a level.Bare) (sources_to w.pairs b)) some
         ∙ source_any (level_le l) (λ a. slice_index_or (levels_from v s h.1.1) a level.Bare) b h.1.0 w.pairs h.1.2 h.1.4))
 
-pub attained_by_history : (kind : PlaceKind) (w : World) (wants : List Bool) (qs : List Request) (s b : ℕ) (shown : Shown) (l : Level) → IsValid w → 1 ≤ s → (l ≡ level.Bare → ⊥)
+pub attained_by_history : (kind : PlaceKind) (w : World) (wants : List Bool) (qs : List Request) (s b : ℕ) (shown : Shown) (l : Level) → IsValid w → (l ≡ level.Bare → ⊥)
     → IsTrue (level_le l (attained (after kind (at_rest w) wants qs).world (after kind (at_rest w) wants qs).sessions s b shown))
     ↔ (ShownAttains (after kind (at_rest w) wants qs).world b shown l ⊎ GrantAttains kind w wants qs s b l)
-attained_by_history kind w wants qs s b shown l valid s1 some =
+attained_by_history kind w wants qs s b shown l valid some =
     let now = after kind (at_rest w) wants qs in
     let same : now.world.geometry ≡ w.geometry = run_geometry kind (at_rest w) wants qs in
     let where_held = attained_where now.world now.sessions s b shown l (not_bare l some) in (
@@ -129,10 +129,10 @@ attained_by_history kind w wants qs s b shown l valid s1 some =
         | inl known ↦ inl known
         | inr held ↦
             let below : held.1.1 < w.geometry.primaries = subst (λ g. held.1.1 < g.primaries) same held.1.3 in
-            inr (subst (λ g. g.primaries ≤ b) same held.0, (held.1.0, held.1.1, held.1.2, below, sym (levels_are_grants kind w wants qs s held.1.1 held.1.0 l valid s1 below some) ∙ held.1.4))
+            inr (subst (λ g. g.primaries ≤ b) same held.0, (held.1.0, held.1.1, held.1.2, below, sym (levels_are_grants kind w wants qs s held.1.1 held.1.0 l valid below some) ∙ held.1.4))
       ],
       λ h. where_held.1 (elim h [
         | inl known ↦ inl known
-        | inr granted ↦ inr (subst (λ g. g.primaries ≤ b) (sym same) granted.0, (granted.1.0, granted.1.1, granted.1.2, subst (λ g. granted.1.1 < g.primaries) (sym same) granted.1.3, levels_are_grants kind w wants qs s granted.1.1 granted.1.0 l valid s1 granted.1.3 some ∙ granted.1.4))
+        | inr granted ↦ inr (subst (λ g. g.primaries ≤ b) (sym same) granted.0, (granted.1.0, granted.1.1, granted.1.2, subst (λ g. granted.1.1 < g.primaries) (sym same) granted.1.3, levels_are_grants kind w wants qs s granted.1.1 granted.1.0 l valid granted.1.3 some ∙ granted.1.4))
       ]),
     )

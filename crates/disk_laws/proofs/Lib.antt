@@ -3,6 +3,7 @@ pub mod AttainedLaws
 pub mod ChangeLaws
 pub mod DoomLaws
 pub mod FitLaws
+pub mod SessionLaws
 pub mod GraphLaws
 pub mod FreshLaws
 pub mod GrantLaws
