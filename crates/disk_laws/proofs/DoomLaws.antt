@@ -73,7 +73,7 @@ pub doomed_more : (w : World) (r b : ℕ) → has_number (doomed_rounds w r) b �
 doomed_more w r b h = ap (λ xs. has_number xs b) (rounds_are w (suc r)) ∙ round_more (all_blocks w) (hangs_on w) (hangs_more w) r b (ap (λ xs. has_number xs b) (sym (rounds_are w r)) ∙ h)
 
 -- one more round finds no more
-doomed_is_closed : (w : World) → length w.blocks ≡ w.geometry.blocks → doomed_round w (doomed w) ≡ doomed w
+pub doomed_is_closed : (w : World) → length w.blocks ≡ w.geometry.blocks → doomed_round w (doomed w) ≡ doomed w
 doomed_is_closed w long =
     let n = length (all_blocks w) in
     let count : w.geometry.blocks ≡ length (all_blocks w) = sym long ∙ sym (length-range 0 (length w.blocks)) in

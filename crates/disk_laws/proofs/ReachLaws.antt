@@ -46,7 +46,7 @@ prefix p i (suc n) h k = elim (nat_lt i p) as (λ t. nat_lt i p ≡ t → range_
     all_above j (suc m) g = let no : nat_lt j p ≡ false = grind (arith, nat_tests) in
         ap (λ t. cond t (j ∷ filter (λ b. nat_lt b p) (range_with_len (j + 1) m)) (filter (λ b. nat_lt b p) (range_with_len (j + 1) m))) no ∙ all_above (j + 1) m (omega arith)
 
-found_any : (xs : List ℕ) (b : ℕ) (es : List (ℕ × ℕ)) → list_any (λ e. (e.1 == b) && has_number xs e.0) es ≡ true → (a : ℕ) × (holds es a b ≡ true) × (has_number xs a ≡ true)
+pub found_any : (xs : List ℕ) (b : ℕ) (es : List (ℕ × ℕ)) → list_any (λ e. (e.1 == b) && has_number xs e.0) es ≡ true → (a : ℕ) × (holds es a b ≡ true) × (has_number xs a ≡ true)
 found_any xs b [] h = absurd (cc)
 found_any xs b (e ∷ es) h = elim (or_cases ((e.1 == b) && has_number xs e.0) (list_any (λ f. (f.1 == b) && has_number xs f.0) es) h) [
   | inl here ↦ let parts = and_parts (e.1 == b) (has_number xs e.0) here in (e.0, or_left (is_pair e.0 b e) _ (and_from (e.0 == e.0) (e.1 == b) (eq-eqb e.0 e.0 refl) parts.0), parts.1)

@@ -117,7 +117,7 @@ doomed_goes true false k h e = absurd (clash false (h refl) refl)
 doomed_goes false true k h e = sym (ap not e)
 doomed_goes false false k h e = refl
 
-doomed_is_live : (w : World) → length w.blocks ≡ w.geometry.blocks → (b : ℕ) → has_number (doomed w) b ≡ true → is_live w b ≡ true
+pub doomed_is_live : (w : World) → length w.blocks ≡ w.geometry.blocks → (b : ℕ) → has_number (doomed w) b ≡ true → is_live w b ≡ true
 doomed_is_live w long b h = (and_parts (is_live w b) (not (is_primary w b)) (and_parts (is_live w b && not (is_primary w b)) (is_led_only_from w (doomed w) b) (sym (is_doomed w long b) ∙ h)).0).0
 
 delete_order : (w : World) (s x y : ℕ) (shown : Shown) → IsValid w → ReclaimOrder w (settle (without_pointer w x y)) (ask.Delete s x shown y)
