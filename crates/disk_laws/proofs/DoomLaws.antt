@@ -56,7 +56,7 @@ rounds_are : (w : World) (r : ℕ) → doomed_rounds w r ≡ rounds (all_blocks 
 rounds_are w zero = refl
 rounds_are w (suc r) = ap (doomed_round w) (rounds_are w r)
 
-hangs_more : (w : World) (xs ys : List ℕ) → ((b : ℕ) → has_number xs b ≡ true → has_number ys b ≡ true) → (b : ℕ) → hangs_on w xs b ≡ true → hangs_on w ys b ≡ true
+pub hangs_more : (w : World) (xs ys : List ℕ) → ((b : ℕ) → has_number xs b ≡ true → has_number ys b ≡ true) → (b : ℕ) → hangs_on w xs b ≡ true → hangs_on w ys b ≡ true
 hangs_more w xs ys more b h = let parts = and_parts (is_live w b && not (is_primary w b)) (is_led_only_from w xs b) h in
     and_from _ _ parts.0 (all_more w.pairs parts.1)
   where
