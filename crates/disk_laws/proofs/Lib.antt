@@ -1,8 +1,10 @@
 pub mod AnswerLaws
 pub mod AttainedLaws
+pub mod ByteLaws
 pub mod ChangeLaws
 pub mod DoomLaws
 pub mod FitLaws
+pub mod SessionLaws
 pub mod GraphLaws
 pub mod FreshLaws
 pub mod GrantLaws

@@ -3,7 +3,7 @@
 ghost use Rattle.std.specs.Prelude.{◌≡◌, ◌-◌, ◌+◌, ◌<◌, ◌≤◌, length, map, replicate, slice_set, slice_index_or, filter, ◌==◌, cond, [], Some, None, option_map, IfOk, OnOk, OnErr, MatchOption};
 ghost use Rattle.std.specs.List.{enumerate_from};
 ghost use Rattle.tsd_model.specs.Pairs.{sources_to};
-ghost use Rattle.tsd_model.specs.Sessions.{held_by, is_open, level_from, levels_from, levels_in, level_of, greatest, no_sessions, begun, ended, raised, raised_held, raised_level, dropped_from, levels_at_live, fitted};
+ghost use Rattle.tsd_model.specs.Sessions.{held_by, is_open, level_from, levels_from, levels_in, level_of, greatest, no_sessions, with_held, begun, ended, raised, raised_held, raised_level, dropped_from, levels_at_live, fitted};
 ghost use Rattle.tsd_model.specs.Attained.{shown_level, led_level, attained_from, attained};
 ghost use Rattle.tsd_model.specs.declared.requests.Level.TheVariants as level;
 
@@ -236,13 +236,16 @@ impl Sessions {
     fn holding(&self, session: u32) -> Option<&Holding>
         ensures { MatchOption result (held_by self.now session ≡ None) (λ held. held_by self.now session ≡ Some held.now) }
     {
-        match self.held.as_slice().get(session.saturating_sub(1) as usize) {
+        if session == 0 {
+            return None;
+        }
+        match self.held.as_slice().get((session - 1) as usize) {
             Some(Some(holding)) => Some(holding),
             _ => None,
         }
     }
 
-    /// Whether a session is open. Of the numbers that aren't 1 to 64 it says nothing of use.
+    /// Whether a session is open.
     pub fn is_open(&self, session: u32) -> bool
         ensures { result ≡ is_open self.now session }
     {
@@ -271,9 +274,12 @@ impl Sessions {
     }
 
     fn set(&mut self, session: u32, holding: Option<Holding>)
-        ensures { self.new ≡ slice_set self.old (session - 1) holding }
+        ensures { self.new ≡ with_held self.old session holding }
     {
-        let place = session.saturating_sub(1) as usize;
+        if session == 0 {
+            return;
+        }
+        let place = (session - 1) as usize;
         let held = self.held.as_mut_slice();
         if place < held.len() {
             held[place] = holding;
