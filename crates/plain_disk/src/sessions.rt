@@ -230,10 +230,8 @@ impl Sessions {
     fn holding(&self, session: u32) -> Option<&Holding>
         ensures { MatchOption result (held_by self.now session ≡ None) (λ held. held_by self.now session ≡ Some held.now) }
     {
-        if session == 0 {
-            return None;
-        }
-        match self.held.as_slice().get((session - 1) as usize) {
+        let place = session.checked_sub(1)?;
+        match self.held.as_slice().get(place as usize) {
             Some(Some(holding)) => Some(holding),
             _ => None,
         }
@@ -267,17 +265,19 @@ impl Sessions {
         }
     }
 
-    fn set(&mut self, session: u32, holding: Option<Holding>)
-        ensures { self.new ≡ with_held self.old session holding }
+    /// With this at a session's place.
+    fn with(mut self, session: u32, holding: Option<Holding>) -> Sessions
+        ensures { result ≡ with_held self session holding }
     {
         if session == 0 {
-            return;
+            return self;
         }
         let place = (session - 1) as usize;
         let held = self.held.as_mut_slice();
         if place < held.len() {
             held[place] = holding;
         }
+        self
     }
 
     /// The same sessions.
@@ -295,44 +295,38 @@ impl Sessions {
     }
 
     /// With this session open, holding nothing.
-    pub(crate) fn begun(&self, alloc: Global, world: &World, session: u32) -> Result<Sessions, AllocError>
-        ensures { IfOk result (λ v. v ≡ begun world.now self.now session) }
+    pub(crate) fn begun(self, alloc: Global, world: &World, session: u32) -> Result<Sessions, AllocError>
+        ensures { IfOk result (λ v. v ≡ begun world.now self session) }
     {
-        let mut sessions = self.copy(alloc)?;
         let geometry = world.geometry();
         let holding = Holding::nothing(alloc, geometry.primaries, geometry.blocks)?;
-        sessions.set(session, Some(holding));
-        Ok(sessions)
+        Ok(self.with(session, Some(holding)))
     }
 
     /// With this session closed.
-    pub(crate) fn ended(&self, alloc: Global, session: u32) -> Result<Sessions, AllocError>
-        ensures { IfOk result (λ v. v ≡ ended self.now session) }
+    pub(crate) fn ended(self, session: u32) -> Sessions
+        ensures { result ≡ ended self session }
     {
-        let mut sessions = self.copy(alloc)?;
-        sessions.set(session, None);
-        Ok(sessions)
+        self.with(session, None)
     }
 
     /// At a block the levels of a session, from each origin, become the greater of the old ones and those that the
     /// session attains there in a world, as `before` tells what was held.
     pub(crate) fn raise(
-        &self,
+        self,
         alloc: Global,
         world: &World,
         before: &Sessions,
         session: u32,
         need: &Need,
     ) -> Result<Sessions, AllocError>
-        ensures { IfOk result (λ v. v ≡ raised self.now session need.now.block (attained_from world.now before.now session need.now.block need.now.shown)) }
+        ensures { IfOk result (λ v. v ≡ raised self session need.now.block (attained_from world.now before.now session need.now.block need.now.shown)) }
     {
-        let mut sessions = self.copy(alloc)?;
         let raised = match self.holding(session) {
             None => None,
             Some(holding) => Some(holding.raise(alloc, world, before, session, need)?),
         };
-        sessions.set(session, raised);
-        Ok(sessions)
+        Ok(self.with(session, raised))
     }
 
     /// Without what came from this origin, in every session.

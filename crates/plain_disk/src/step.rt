@@ -142,8 +142,7 @@ fn begin(
 fn end(alloc: Global, world: &World, sessions: Sessions, session: u32) -> Result<Changed, NoMemory>
     ensures { IfOk result (λ r. gives r.0 r.1 r.2 ≡ done world.now (ended sessions session)) }
 {
-    let ended = sessions.ended(alloc, session)?;
-    unchanged(alloc, world, ended, Reply::Done)
+    unchanged(alloc, world, sessions.ended(session), Reply::Done)
 }
 
 fn write(
@@ -322,17 +321,8 @@ fn run_at(alloc: Global, first: Option<u32>, count: u32) -> Result<Vec<u32>, All
 {
     match first {
         None => Ok(Vec::new(alloc)),
-        Some(first) => run_from(alloc, first, count),
+        Some(first) => (first..first + count).collect(alloc),
     }
-}
-
-fn run_from(alloc: Global, first: u32, count: u32) -> Result<Vec<u32>, AllocError>
-    requires first { first < 2 ^ 31 }
-    requires counted { count < 2 ^ 31 }
-    ensures value { IfOk result (λ v. v.items ≡ range_with_len first count) }
-    ensures counted { IfOk result (λ v. length v.items ≡ count) }
-{
-    (first..first + count).collect(alloc)
 }
 
 #[tactic(auto, using(crate::proofs::StepLaws::targets_from_more))]
