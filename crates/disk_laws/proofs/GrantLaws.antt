@@ -23,7 +23,7 @@ use Rattle.disk_laws.specs.Grants.{onto_past, newest_first}
 use Rattle.disk_laws.proofs.PairLaws.{or_false}
 use Rattle.disk_laws.proofs.RuleLaws.{Passes, granted_passes}
 use Rattle.disk_laws.proofs.AnswerLaws.{refused_answer, granted_answer}
-use Rattle.disk_laws.proofs.SessionLaws.{no_held, held_keeps, held-with_other, held-with_same}
+use Rattle.tsd_model.proofs.SessionLaws.{no_held, held_keeps, held-with_other, held-with_same}
 use Rattle.disk_laws.proofs.FitLaws.{HasOrigins, origins-raised_by}
 use Rattle.disk_laws.proofs.RunLaws.{answer_valid, answer_fits, fits_have_origins, answer_geometry}
 use Rattle.disk_laws.proofs.FreshLaws.{no_sessions_fit}

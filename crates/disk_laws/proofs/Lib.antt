@@ -4,7 +4,6 @@ pub mod ByteLaws
 pub mod ChangeLaws
 pub mod DoomLaws
 pub mod FitLaws
-pub mod SessionLaws
 pub mod GraphLaws
 pub mod FreshLaws
 pub mod GrantLaws

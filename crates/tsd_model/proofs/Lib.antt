@@ -5,3 +5,4 @@ pub mod RangeLaws
 pub mod SizeLaws
 pub mod StepLaws
 pub mod VerdictLaws
+pub mod SessionLaws
