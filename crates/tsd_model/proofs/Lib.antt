@@ -1,8 +1,10 @@
+pub mod CountLaws
 pub mod Examples
 pub mod LevelLaws
+pub mod PairLaws
 pub mod PlaceLaws
 pub mod RangeLaws
 pub mod SizeLaws
-pub mod StepLaws
+pub mod TakeLaws
 pub mod VerdictLaws
 pub mod SessionLaws
