@@ -10,7 +10,6 @@ pub mod GrantLaws
 pub mod HeldLaws
 pub mod IsolationLaws
 pub mod OrderLaws
-pub mod PairLaws
 pub mod ReachLaws
 pub mod ReclaimLaws
 pub mod RuleLaws
