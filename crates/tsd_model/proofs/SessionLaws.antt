@@ -27,10 +27,10 @@ held_keeps P v t s x new old =
     ] old
 
 -- a session with another number than 0 has a place
-held-placed : (v : Sessions) (s : ℕ) → (s ≡ 0 → ⊥) → held_by v s ≡ slice_index_or v (s - 1) None
+pub held-placed : (v : Sessions) (s : ℕ) → (s ≡ 0 → ⊥) → held_by v s ≡ slice_index_or v (s - 1) None
 held-placed v s some = ap (λ z. cond z None (slice_index_or v (s - 1) None)) (ne_eqb s 0 some)
 
-with_held-placed : (v : Sessions) (t : ℕ) (x : Option Held) → (t ≡ 0 → ⊥) → with_held v t x ≡ slice_set v (t - 1) x
+pub with_held-placed : (v : Sessions) (t : ℕ) (x : Option Held) → (t ≡ 0 → ⊥) → with_held v t x ≡ slice_set v (t - 1) x
 with_held-placed v t x some = ap (λ z. cond z v (slice_set v (t - 1) x)) (ne_eqb t 0 some)
 
 -- another session
