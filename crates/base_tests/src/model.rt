@@ -71,6 +71,8 @@ fn levels_are_in_order(rt: HostRuntime) -> Result<(), Fail> {
     assert!(rt; !level_le(Level::Write, Level::Read));
     assert_eq!(rt; greater(Level::Read, Level::Write), Level::Write);
     assert_eq!(rt; greater(Level::Read, Level::Bare), Level::Read);
+    assert_eq!(rt; Level::default(), Level::Bare);
+    assert_eq!(rt; Shown::default(), Shown::Nothing);
     Ok(())
 }
 
