@@ -1,9 +1,9 @@
 use Rattle.std.proofs.Common.{◌∙◌, ap, refl, subst}
 use Rattle.image_device.specs.FuseStation.{fuse_sound, fuse_view}
 use Rattle.image_device.specs.MemStation.{station_view}
-use Rattle.image_device.specs.TwoCopies.{shown, ShowsEither}
+use Rattle.base_tests.specs.TwoCopies.{shown, ShowsEither}
 use Rattle.image_device.proofs.Moments.{leaves_now}
-use Rattle.image_device.proofs.tests.replace.stopped.Goals as goal
+use Rattle.base_tests.proofs.device.replace.stopped.Goals as goal
 
 pub returns : goal.returns
 returns c =

@@ -1,5 +1,5 @@
 // The images that a stop leaves.
-use crate::{Device, Failed, FuseStation, MemStation, Pick, Port};
+use image_device::{Device, Failed, FuseStation, MemStation, Pick, Port};
 use std::alloc::Global;
 use std::test::Fail;
 

@@ -5,9 +5,9 @@ ghost use Rattle.image_device.specs.Counts.{Rose};
 ghost use Rattle.image_device.specs.Runs.{IsFirm, LeavesOnly};
 ghost use Rattle.image_device.specs.Image.{zeros};
 ghost use Rattle.image_device.specs.MemStation.{station_view};
-ghost use Rattle.image_device.specs.TwoCopies.{current, shown, spare, ShowsEither};
+ghost use Rattle.base_tests.specs.TwoCopies.{current, shown, spare, ShowsEither};
 
-use crate::{Device, Failed, FuseStation, MemStation, Pick, write_through};
+use image_device::{Device, Failed, FuseStation, MemStation, Pick, write_through};
 use std::alloc::Global;
 use std::test::Fail;
 

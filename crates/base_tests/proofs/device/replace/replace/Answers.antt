@@ -1,7 +1,7 @@
 use Rattle.std.proofs.Common.{◌∙◌, ap}
-use Rattle.image_device.specs.TwoCopies.{current, spare}
-use Rattle.image_device.proofs.TwoCopies.{looked, places, replaced, staged}
-use Rattle.image_device.proofs.tests.replace.replace.Goals as goal
+use Rattle.base_tests.specs.TwoCopies.{current, spare}
+use Rattle.base_tests.proofs.TwoCopies.{looked, places, replaced, staged}
+use Rattle.base_tests.proofs.device.replace.replace.Goals as goal
 
 pub returns-in_err-read-clause-any_moment : goal.returns-in_err-read-clause-any_moment
 returns-in_err-read-clause-any_moment g c told =

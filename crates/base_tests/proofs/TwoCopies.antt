@@ -6,7 +6,7 @@ use Rattle.image_device.specs.Image.{Image}
 use Rattle.image_device.specs.View.{View, IsLeftWithin, IsSound}
 use Rattle.image_device.specs.Calls.{Rests}
 use Rattle.image_device.specs.Runs.{LeavesOnly, IsConfined, IsFirm}
-use Rattle.image_device.specs.TwoCopies.{current, shown, spare, ShowsEither}
+use Rattle.base_tests.specs.TwoCopies.{current, shown, spare, ShowsEither}
 use Rattle.image_device.proofs.Moments.{firm_image, joined, rested}
 use Rattle.image_device.proofs.Sets.{or_false}
 

@@ -1,5 +1,7 @@
 // Calls of a station and what they leave.
-use crate::{Device, Failed, MemStation, Port, put_all, write_run, write_through};
+use image_device::{
+    Device, Failed, FuseStation, MemStation, Pick, Port, put_all, write_run, write_through,
+};
 use std::test::Fail;
 
 /// One call, by its sector and the byte that its sector is full of.
@@ -80,6 +82,24 @@ fn calls_fail_by_their_number(rt: HostRuntime) -> Result<(), Fail> {
         (station.calls(), station.write_calls(), station.short()),
         (8, 2, 0)
     );
+    Ok(())
+}
+
+#[test]
+fn a_failed_read_leaves_the_bytes(rt: HostRuntime) -> Result<(), Fail> {
+    let alloc = rt.alloc();
+    let mut station = MemStation::new(alloc, [1].to_vec(alloc)?);
+    station.write(3, &[1; 512])?;
+    let mut bytes = [7; 512];
+    assert_eq!(rt; station.read(3, &mut bytes), Err(Failed));
+    assert_eq!(rt; bytes, [7; 512]);
+    station.read(3, &mut bytes)?;
+    assert_eq!(rt; bytes, [1; 512]);
+
+    // A station that stops leaves them too.
+    let mut fuse = FuseStation::new(station, 0, Pick::New);
+    assert_eq!(rt; fuse.read(4, &mut bytes), Err(Failed));
+    assert_eq!(rt; bytes, [1; 512]);
     Ok(())
 }
 
