@@ -32,5 +32,3 @@ pub use batch::{Batch, BatchFull};
 pub use homes::is_lawful_home;
 pub use ring::{ReplayFault, Replayed, Ring};
 
-#[cfg(test)]
-mod tests;
