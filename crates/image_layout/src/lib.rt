@@ -22,6 +22,3 @@ pub use gate::{gate_bytes, is_open};
 pub use header::{Header, read_header, write_header};
 pub use layout::Layout;
 pub use place::{Patch, Place, bit_mask};
-
-#[cfg(test)]
-mod tests;
