@@ -7,3 +7,7 @@
 
 #[cfg(test)]
 mod device;
+#[cfg(test)]
+mod layout;
+#[cfg(test)]
+mod policy;
