@@ -46,6 +46,8 @@ impl Ring {
         ensures faultless { OnOk result ((D.view dev.new).faults ≡ (D.view dev.old).faults) }
         ensures cause { OnErr result (Rose (D.view dev.old).faults (D.view dev.new).faults) }
     {
+        // So many records and bodies as a ring has are put in place by at most 121 writes.
+        let _records = self.records();
         if batch.len() == 0 {
             // What was written before is to be on the disk.
             return dev.sync();

@@ -22,6 +22,8 @@ use tsd_model::NoMemory;
 /// How many records there are.
 pub(crate) const RECORD_PLACES: usize = RECORDS as usize;
 
+const _: () = prove!(RECORD_PLACES == 8);
+
 /// What a replay found.
 #[derive(Clone, Copy, Debug, PartialEq, Eq)]
 pub enum Replayed {
