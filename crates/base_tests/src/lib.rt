@@ -6,7 +6,11 @@
 #![tactic(auto)]
 
 #[cfg(test)]
+mod device;
+#[cfg(test)]
 mod grants;
+#[cfg(test)]
+mod layout;
 #[cfg(test)]
 mod model;
 #[cfg(test)]
@@ -19,3 +23,5 @@ mod plain_levels;
 mod plain_runs;
 #[cfg(test)]
 mod plain_versions;
+#[cfg(test)]
+mod policy;
