@@ -58,13 +58,17 @@ fresh_free g =
 
 -- ---- its sectors
 -- zeros have no bit
+zero_byte : (i : ℕ) → slice_index (replicate 512 0) i ≡ 0
+zero_byte i = elim (cases_lt i 512) [
+  | inl h ↦ get_or-replicate 512 i 0 0 h
+  | inr h ↦ get_or_past (replicate 512 0) i 0 h
+]
+
+pub zeros_fit : (i : ℕ) → slice_index (replicate 512 0) i < 256
+zeros_fit i = let byte = zero_byte i in omega (arith, byte)
+
 pub no_bits : (b : ℕ) → bit_in (replicate 512 0) b ≡ nat_lt b 0
-no_bits b =
-    let byte : slice_index (replicate 512 0) (b / 8) ≡ 0 = elim (cases_lt (b / 8) 512) [
-      | inl h ↦ get_or-replicate 512 (b / 8) 0 0 h
-      | inr h ↦ get_or_past (replicate 512 0) (b / 8) 0 h
-    ] in
-    ap (λ n. bit_at n (b % 8) == 1) byte ∙ (ap (λ n. n == 1) (bit_at-zero (b % 8)) ∙ sym (le-ltb b 0 (omega arith)))
+no_bits b = ap (λ n. bit_at n (b % 8) == 1) (zero_byte (b / 8)) ∙ (ap (λ n. n == 1) (bit_at-zero (b % 8)) ∙ sym (le-ltb b 0 (omega arith)))
 
 -- one bit more
 pub one_bit_more : (old new : List ℕ) (bit : ℕ) → ((b : ℕ) → bit_in old b ≡ nat_lt b bit) → bit_in new bit ≡ true → ((b : ℕ) → b ≢ bit → bit_in new b ≡ bit_in old b) → (b : ℕ) → bit_in new b ≡ nat_lt b (bit + 1)

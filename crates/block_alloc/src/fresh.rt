@@ -18,6 +18,7 @@ fn set_bit(sector: &mut [u8; SECTOR_BYTES], bit: u32)
     requires { bit < 4096 }
     ensures same { bit_in sector.new bit ≡ true }
     ensures others { (b : ℕ) → b ≢ bit → bit_in sector.new b ≡ bit_in sector.old b }
+    ensures fits { (i : ℕ) → slice_index sector.new i < 256 }
 {
     let place = (bit / BYTE_BITS) as usize;
     sector[place] = with_bit(sector[place], bit, true);
