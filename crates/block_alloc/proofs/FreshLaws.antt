@@ -1,6 +1,6 @@
 -- The bitmap of a fresh disk, and sectors that are written as those of a map.
-use Rattle.std.proofs.Common.{◌≡◌, ◌≢◌, ℕ, ◌+◌, ◌-◌, ◌*◌, ◌/◌, ◌%◌, ◌<◌, ◌≤◌, nat_lt, inl, inr, Bool, true, false, not, ◌==◌, List, ◌++◌, length, length-append, replicate, sym, ◌∙◌, ap, arith}
-use Rattle.std.specs.Prelude.{count_by, cond, slice_index}
+use Rattle.std.proofs.Common.{◌≡◌, ◌≢◌, ℕ, ◌+◌, ◌-◌, ◌*◌, ◌/◌, ◌%◌, ◌<◌, nat_lt, inl, inr, Bool, true, false, not, ◌==◌, List, length, length-append, replicate, sym, ◌∙◌, ap, arith}
+use Rattle.std.specs.Prelude.{cond, slice_index}
 use Rattle.std.specs.Int.{bit_at, div_ceil}
 use Rattle.std.proofs.lemmas.Bool.{cases_lt, cases_eq, eq-eqb, ne_eqb, lt-ltb, le-ltb}
 use Rattle.std.proofs.lemmas.Grind.{div_ceil_times}
@@ -14,7 +14,7 @@ use Rattle.tsd_model.specs.Geometry.{IsLawful}
 use Rattle.tsd_model.specs.declared.geometry.Geometry.{Geometry}
 use Rattle.block_alloc.specs.Bytes.{bit_in, bitmap_sector_bytes}
 use Rattle.block_alloc.specs.Fresh.{fresh_live}
-use Rattle.block_alloc.specs.LiveMap.{LiveMap, IsTable, is_live, free_count}
+use Rattle.block_alloc.specs.LiveMap.{IsTable, is_live, free_count}
 use Rattle.block_alloc.specs.Stored.{AreWritten, IsStored, sector_of}
 use Rattle.block_alloc.proofs.ByteLaws.{sector_by_bits}
 use Rattle.block_alloc.proofs.StoredLaws.{marked_by, bit_here}

@@ -1,4 +1,4 @@
-use Rattle.std.proofs.Common.{refl, ◌∙◌, rules}
+use Rattle.std.proofs.Common.{refl, rules}
 use Rattle.block_alloc.proofs.FreshLaws.{zeros_fit, no_bits, one_bit_more}
 use Rattle.block_alloc.proofs.fresh.first_bits.Goals as goal
 
