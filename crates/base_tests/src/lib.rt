@@ -6,6 +6,8 @@
 #![tactic(auto)]
 
 #[cfg(test)]
+mod device;
+#[cfg(test)]
 mod layout;
 #[cfg(test)]
 mod policy;

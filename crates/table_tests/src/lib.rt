@@ -7,4 +7,6 @@
 #[cfg(test)]
 mod blocks;
 #[cfg(test)]
+mod journal;
+#[cfg(test)]
 mod pointers;
