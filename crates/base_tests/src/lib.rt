@@ -10,4 +10,6 @@ mod device;
 #[cfg(test)]
 mod layout;
 #[cfg(test)]
+mod plain_facts;
+#[cfg(test)]
 mod policy;
