@@ -1,4 +1,5 @@
 mod Rests
 mod Reading
 mod Sectors
+pub mod Written
 pub mod StoredLaws

@@ -4,7 +4,7 @@ ghost use Rattle.std.specs.Prelude.{◌≡◌, ◌<◌};
 ghost use Rattle.tsd_model.specs.Geometry.{IsLawful};
 ghost use Rattle.image_layout.specs.Header.{IsVersion};
 
-use crate::{CapStore, LoadFault, seed_caps};
+use cap_store::{CapStore, LoadFault, seed_caps};
 use image_device::{Device, Failed, MemStation};
 use image_layout::Header;
 use std::alloc::Global;

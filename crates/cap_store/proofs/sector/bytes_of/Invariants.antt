@@ -1,7 +1,7 @@
 use Rattle.std.proofs.Common.{◌≡◌, ◌-◌, ◌++◌, length, take, replicate}
 use Rattle.std.specs.List.{flat_map}
 use Rattle.cap_store.specs.Stored.{record_bytes}
-use Rattle.cap_store.proofs.sector.sector_of.Given as goal
+use Rattle.cap_store.proofs.sector.bytes_of.Given as goal
 
 -- the records so far stand one behind the other, and zeros behind them
 abbrev pub invariant-loop-held : goal.invariant-loop-held

@@ -1,6 +1,6 @@
 use Rattle.std.proofs.Common.{arith}
 use Rattle.cap_store.proofs.RecordLaws.{record_put, room}
-use Rattle.cap_store.proofs.sector.sector_of.Goals as goal
+use Rattle.cap_store.proofs.sector.bytes_of.Goals as goal
 
 pub put_kept-at-requires : goal.put_kept-at-requires
 put_kept-at-requires c = let fits = room c.args.records.now c.loop-held.held-index c.loop-held-test.true c.requires in omega (arith, fits, c.loop-held.invariant.at_end)

@@ -3,7 +3,7 @@
 ghost use Rattle.std.specs.Prelude.{◌≡◌, ◌<◌};
 ghost use Rattle.tsd_model.specs.Geometry.{IsLawful};
 
-use crate::{LoadFault, RefCounts};
+use ref_counts::{LoadFault, RefCounts};
 use image_device::{Device, Failed, MemStation};
 use std::process::Abort;
 use std::test::Fail;

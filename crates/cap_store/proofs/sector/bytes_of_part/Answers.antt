@@ -3,10 +3,10 @@ use Rattle.std.specs.List.{flat_map}
 use Rattle.tsd_model.specs.declared.records.Record.{Record}
 use Rattle.cap_store.specs.Stored.{record_bytes, records_in}
 use Rattle.cap_store.proofs.Sectors.{part_are, part_bytes, part_fits, part_is, part_short}
-use Rattle.cap_store.proofs.sector.sector_of_part.Goals as goal
+use Rattle.cap_store.proofs.sector.bytes_of_part.Goals as goal
 
-pub sector_of-requires : goal.sector_of-requires
-sector_of-requires c =
+pub bytes_of-requires : goal.bytes_of-requires
+bytes_of-requires c =
     let all = c.args.records.now in
     let is = part_is c.args.version all c.args.part c.per_sector-each.result c.min-end.result c.per_sector-each.ensures c.min-end.ensures in
     subst (λ (rs : List Record). length (flat_map record_bytes rs) ≤ 512) (sym is)
@@ -16,6 +16,6 @@ pub returns : goal.returns
 returns c =
     let all = c.args.records.now in
     let is = part_is c.args.version all c.args.part c.per_sector-each.result c.min-end.result c.per_sector-each.ensures c.min-end.ensures in
-    c.sector_of.ensures
+    c.bytes_of.ensures
     ∙ ap (λ (rs : List Record). flat_map record_bytes rs ++ replicate (512 - length (flat_map record_bytes rs)) 0) is
     ∙ part_bytes c.args.version all c.args.part c.requires.each

@@ -1,6 +1,6 @@
 use Rattle.std.proofs.Common.{refl}
 use Rattle.std.proofs.lemmas.List.{drop-replicate}
-use Rattle.ref_counts.proofs.sector.sector_of.Goals as goal
+use Rattle.ref_counts.proofs.sector.bytes_of.Goals as goal
 
 -- behind the counts stand the zeros that stood there
 pub returns : goal.returns
