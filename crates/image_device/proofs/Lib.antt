@@ -1,6 +1,7 @@
 pub mod Sets
 pub mod Outcomes
 pub mod Moments
+pub mod Resting
 pub mod Confined
 mod Sectors
 mod Pushes
