@@ -5,6 +5,10 @@
 #![tactic(auto)]
 
 #[cfg(test)]
+mod blocks;
+#[cfg(test)]
 mod caps;
 #[cfg(test)]
 mod counts;
+#[cfg(test)]
+mod pointers;
