@@ -1,4 +1,3 @@
-mod Rests
 mod RecordLaws
 mod Reading
 mod Sectors

@@ -1,6 +1,6 @@
 //! The store of records.
 
-ghost use Rattle.std.specs.Prelude.{◌≡◌, ℕ, ◌+◌, ◌<◌, ◌≤◌, ◌==◌, ◌||◌, Bool, length, slice_set, IfOk, IsErrOf, IsTrue};
+ghost use Rattle.std.specs.Prelude.{◌≡◌, ℕ, ◌+◌, ◌<◌, ◌≤◌, ◌==◌, ◌||◌, Bool, length, slice_set, IfOk, OnOk, IsErrOf, IsTrue};
 ghost use Rattle.std.specs.List.{list_all};
 ghost use Rattle.tsd_model.specs.Attained.{shown_level};
 ghost use Rattle.tsd_model.specs.Geometry.{IsLawful};
@@ -63,6 +63,8 @@ impl CapStore {
         ensures stored { D.told → IfOk result (λ s. IsStored s.version s.records (D.view dev.old).reads) }
         ensures rests { D.told → Rests (D.view dev.old) (D.view dev.new) }
         ensures uses { Uses 0 (D.view dev.old) (D.view dev.new) }
+        ensures faultless { OnOk result ((D.view dev.new).faults ≡ (D.view dev.old).faults) }
+        ensures short { IsErrOf result LoadFault.NoMemory → (D.view dev.new).faults ≡ (D.view dev.old).faults }
         ensures cause { IsErrOf result LoadFault.Device → Rose (D.view dev.old).faults (D.view dev.new).faults }
     {
         let mut records = vec![in alloc; BLANK; header.geometry.primaries as usize]?;

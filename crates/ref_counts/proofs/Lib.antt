@@ -1,4 +1,3 @@
-mod Rests
 mod Reading
 mod Sectors
 pub mod Written

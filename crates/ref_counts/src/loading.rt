@@ -21,11 +21,13 @@ fn set_counts(bytes: &[u8; SECTOR_BYTES], first: usize, counts: &mut [u32])
 }
 
 /// Reads each count. Each sector is read once (tested).
+#[tactic(auto, using(image_device::proofs::Resting::rests_calls))]
 pub(crate) fn read_counts<D: Device>(dev: &mut D, counts: &mut [u32]) -> Result<(), Failed>
     requires { length counts.old ≤ 1048576 }
     ensures read { D.told → OnOk result (AreRead (length counts.old) counts.new (D.view dev.old).reads) }
     ensures rests { D.told → Rests (D.view dev.old) (D.view dev.new) }
     ensures uses { Uses 0 (D.view dev.old) (D.view dev.new) }
+    ensures faultless { OnOk result ((D.view dev.new).faults ≡ (D.view dev.old).faults) }
     ensures cause { OnErr result (Rose (D.view dev.old).faults (D.view dev.new).faults) }
 {
     let mut bytes = [0; SECTOR_BYTES];

@@ -1,6 +1,6 @@
 //! The table of counts.
 
-ghost use Rattle.std.specs.Prelude.{◌≡◌, ℕ, ◌+◌, ◌-◌, ◌^◌, ◌<◌, ◌≤◌, ◌==◌, ◌||◌, Bool, slice_index, slice_set, IfOk, IsErrOf};
+ghost use Rattle.std.specs.Prelude.{◌≡◌, ℕ, ◌+◌, ◌-◌, ◌^◌, ◌<◌, ◌≤◌, ◌==◌, ◌||◌, Bool, slice_index, slice_set, IfOk, OnOk, IsErrOf};
 ghost use Rattle.tsd_model.specs.Geometry.{IsLawful};
 ghost use Rattle.image_layout.specs.Areas.{bitmap_start, counts_start};
 ghost use Rattle.image_layout.specs.Image.{Image};
@@ -57,6 +57,8 @@ impl RefCounts {
         ensures stored { D.told → IfOk result (λ t. IsStored t.counts t.geometry (D.view dev.old).reads) }
         ensures rests { D.told → Rests (D.view dev.old) (D.view dev.new) }
         ensures uses { Uses 0 (D.view dev.old) (D.view dev.new) }
+        ensures faultless { OnOk result ((D.view dev.new).faults ≡ (D.view dev.old).faults) }
+        ensures short { IsErrOf result LoadFault.NoMemory → (D.view dev.new).faults ≡ (D.view dev.old).faults }
         ensures cause { IsErrOf result LoadFault.Device → Rose (D.view dev.old).faults (D.view dev.new).faults }
     {
         let mut counts = vec![in alloc; 0u32; geometry.blocks as usize]?;
