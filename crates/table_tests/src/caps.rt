@@ -4,13 +4,13 @@ ghost use Rattle.std.specs.Prelude.{◌≡◌, ◌<◌};
 ghost use Rattle.tsd_model.specs.Geometry.{IsLawful};
 ghost use Rattle.image_layout.specs.Header.{IsVersion};
 
-use cap_store::{CapStore, LoadFault, seed_caps};
+use cap_store::{CapStore, LoadFault, fresh_sector, seed_caps};
 use image_device::{Device, Failed, MemStation};
 use image_layout::Header;
 use std::alloc::Global;
 use std::process::Abort;
 use std::test::Fail;
-use tsd_model::{Cap, CapPair, Geometry, Level, Shown, lawful};
+use tsd_model::{Cap, CapList, CapPair, Geometry, Level, Shown, lawful};
 
 /// The header of a disk of this version with so many primary blocks.
 fn header_of(rt: &impl Abort, version: u32, primaries: u32) -> Header
@@ -306,6 +306,36 @@ fn a_read_that_fails_is_told(rt: HostRuntime) -> Result<(), Fail> {
             };
             assert_eq!(rt; (fault, station.calls()), (expected, calls));
         }
+    }
+    Ok(())
+}
+
+/// A fresh disk keeps the capabilities that it is given: each attains its level, and the second sector is zeros.
+#[test]
+fn fresh_sectors_have_their_capabilities(rt: HostRuntime) -> Result<(), Fail> {
+    let alloc = rt.alloc();
+    let mut few = CapList::new();
+    for byte in [1, 3, 5] {
+        assert!(rt; few.push(pair(byte, byte + 1)).is_ok());
+    }
+    for (caps, primaries) in [(few, 3), (seed_caps(&[7; 32]), 16)] {
+        let header = header_of(&rt, 1, primaries);
+        let mut station = MemStation::new(alloc, Vec::new(alloc));
+        for (sector, part) in [(132, 0), (133, 1)] {
+            station.poke(sector, &[255; 512])?;
+            station.write(sector, &fresh_sector(&caps, part))?;
+        }
+        let store = CapStore::load(alloc, &mut station, &header)?;
+        for block in 0..primaries {
+            let held = caps.as_slice().get(block as usize).copied();
+            let levels = held.map(|pair: CapPair| {
+                [pair.read, pair.write].map(|cap: Cap| store.level_shown(block, &Shown::Key(cap)))
+            });
+            assert_eq!(rt; levels, Some([Level::Read, Level::Write]), "at {block}");
+        }
+        assert_eq!(rt; store.patch(0).bytes, fresh_sector(&caps, 0));
+        assert_eq!(rt; fresh_sector(&caps, 1), [0; 512]);
+        assert_eq!(rt; fresh_sector(&caps, u32::MAX), [0; 512]);
     }
     Ok(())
 }

@@ -3,8 +3,8 @@
 ghost use Rattle.std.specs.Prelude.{◌≡◌, ◌<◌};
 ghost use Rattle.tsd_model.specs.Geometry.{IsLawful};
 
-use ref_counts::{LoadFault, RefCounts};
 use image_device::{Device, Failed, MemStation};
+use ref_counts::{LoadFault, RefCounts, fresh_sector};
 use std::process::Abort;
 use std::test::Fail;
 use tsd_model::{Geometry, lawful};
@@ -124,6 +124,22 @@ fn a_count_has_four_bytes_the_lowest_first(rt: HostRuntime) -> Result<(), Fail> 
     assert_eq!(rt; &patch.bytes[..8], [0; 8].as_slice());
     assert_eq!(rt; &patch.bytes[8..12], [2, 1, 0, 0].as_slice());
     assert_eq!(rt; &patch.bytes[12..], [0; 500].as_slice());
+    Ok(())
+}
+
+/// The sectors of a fresh disk take the place of any others, and say 0 for each block.
+#[test]
+fn fresh_sectors_have_no_count(rt: HostRuntime) -> Result<(), Fail> {
+    let alloc = rt.alloc();
+    let geometry = sized(&rt, 300);
+    let mut station = MemStation::new(alloc, Vec::new(alloc));
+    for sector in 134..137 {
+        station.poke(sector, &[255; 512])?;
+        station.write(sector, &fresh_sector())?;
+    }
+    let table = RefCounts::load(alloc, &mut station, &geometry)?;
+    compare(&rt, &table, 300, &[0; 300]);
+    assert_eq!(rt; table.patch(299).bytes, [0; 512]);
     Ok(())
 }
 
