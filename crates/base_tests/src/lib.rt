@@ -8,6 +8,8 @@
 #[cfg(test)]
 mod device;
 #[cfg(test)]
+mod grants;
+#[cfg(test)]
 mod layout;
 #[cfg(test)]
 mod plain_facts;

@@ -11,16 +11,16 @@
 #![tactic(auto)]
 
 mod fault;
+mod fresh;
 mod laws;
 mod loading;
 mod records;
 mod sector;
 mod seeds;
 mod store;
-#[cfg(test)]
-mod tests;
 
 pub use fault::LoadFault;
-pub use laws::sectors_have_one_store;
+pub use fresh::fresh_sector;
+pub use laws::{sectors_have_one_store, written_sectors_have_the_store};
 pub use seeds::seed_caps;
 pub use store::CapStore;

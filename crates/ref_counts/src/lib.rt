@@ -9,13 +9,13 @@
 #![tactic(auto)]
 
 mod fault;
+mod fresh;
 mod laws;
 mod loading;
 mod sector;
 mod table;
-#[cfg(test)]
-mod tests;
 
 pub use fault::LoadFault;
-pub use laws::sectors_have_one_table;
+pub use fresh::fresh_sector;
+pub use laws::{sectors_have_one_table, written_sectors_have_the_table};
 pub use table::RefCounts;
