@@ -7,7 +7,7 @@
 //!
 //! What it promises: after `load` the store is what the sectors say; `level_shown` is the level of the abstract disk;
 //! `patch` is the sector of a block's record as it must read now, so that store and image agree again once it stands
-//! there. Only `load` takes memory.
+//! there; `fresh_sector` is a sector of a fresh disk, by the capabilities that it is to have. Only `load` takes memory.
 #![tactic(auto)]
 
 mod fault;

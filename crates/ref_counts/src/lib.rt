@@ -4,8 +4,8 @@
 //! `byteorder` for numbers in bytes.
 //!
 //! What it promises: after `load` the table is what the sectors say, whatever numbers they have; `patch` is the sector of
-//! a block's count as it must read now, so that table and image agree again once it stands there. The table takes four
-//! bytes a block, and only `load` takes memory.
+//! a block's count as it must read now, so that table and image agree again once it stands there; `fresh_sector` is a
+//! sector of a fresh disk, with no count above 0. The table takes four bytes a block, and only `load` takes memory.
 #![tactic(auto)]
 
 mod fault;

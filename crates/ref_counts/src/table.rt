@@ -38,7 +38,7 @@ impl Model for RefCounts {
     ghost invariant = { λ t. IsTable (record { geometry = t.geometry; counts = t.counts.items }) };
 }
 
-/// Each count fits four bytes.
+/// Each count fits four bytes. It does nothing: proofs of changes ask for the fact.
 fn four_bytes_each(counts: &[u32])
     ensures { (block : ℕ) → slice_index counts.now block < 2 ^ 32 }
 {}

@@ -327,11 +327,11 @@ fn fresh_sectors_have_their_capabilities(rt: HostRuntime) -> Result<(), Fail> {
         }
         let store = CapStore::load(alloc, &mut station, &header)?;
         for block in 0..primaries {
-            let held = caps.as_slice().get(block as usize).copied();
-            let levels = held.map(|pair: CapPair| {
-                [pair.read, pair.write].map(|cap: Cap| store.level_shown(block, &Shown::Key(cap)))
-            });
-            assert_eq!(rt; levels, Some([Level::Read, Level::Write]), "at {block}");
+            let held = caps.as_slice().get(block as usize).copied().unwrap_or_default();
+            for (cap, level) in [(held.read, Level::Read), (held.write, Level::Write)] {
+                let shown = Shown::Key(cap);
+                assert_eq!(rt; store.level_shown(block, &shown), level, "at {block}");
+            }
         }
         assert_eq!(rt; store.patch(0).bytes, fresh_sector(&caps, 0));
         assert_eq!(rt; fresh_sector(&caps, 1), [0; 512]);
