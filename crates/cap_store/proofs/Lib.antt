@@ -1,6 +1,7 @@
-mod Rests
 mod RecordLaws
 mod Reading
 mod Sectors
+pub mod Written
+mod FreshLaws
 mod SeedLaws
 pub mod StoredLaws

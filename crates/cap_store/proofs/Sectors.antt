@@ -4,15 +4,16 @@ use Rattle.std.specs.Prelude.{slice_get}
 use Rattle.std.specs.List.{flat_map}
 use Rattle.std.proofs.lemmas.Bool.{cases_Bool, cases_eq, cases_lt}
 use Rattle.std.proofs.lemmas.Bool.Decides.{nat_tests}
-use Rattle.std.proofs.lemmas.List.{length-set, length-take, length-drop, take_all, drop_all}
+use Rattle.std.proofs.lemmas.List.{length-set, length-take, length-drop, take_all}
 use Rattle.std.proofs.lemmas.Option.{none-some, same_Some, slice_get-get_or}
 use Rattle.tsd_model.specs.declared.records.Record.{Record}
-use Rattle.image_device.specs.Image.{put_at, zeros}
+use Rattle.image_device.specs.Image.{put_at}
 use Rattle.image_device.proofs.Sets.{or_false, or_false_left, or_false_right, not_same}
 use Rattle.image_layout.specs.Header.{IsVersion}
 use Rattle.image_layout.specs.Image.{Image, kept_len, kept_place}
-use Rattle.cap_store.specs.Store.{AreRecords, IsRecord}
-use Rattle.cap_store.specs.Stored.{caps_sector, caps_sector_bytes, kept_as, part_of, per_sector, record_at, record_bytes, records_in, stored_record, IsStored, IsStoredBut}
+use Rattle.cap_store.specs.Changes.{patch_of, KeepsStored}
+use Rattle.cap_store.specs.Store.{AreRecords, IsRecord, IsTable, Store}
+use Rattle.cap_store.specs.Stored.{sector_of, caps_sector_bytes, kept_as, part_of, per_sector, record_at, record_bytes, records_in, stored_record, IsStored, IsStoredBut}
 use Rattle.cap_store.proofs.RecordLaws.{blank, for_version, records_back, records_long}
 use Rattle.cap_store.proofs.Reading.{record_in}
 
@@ -40,7 +41,7 @@ slice_get-take (suc n) [] k less = refl
 slice_get-take (suc n) (x ∷ xs) zero less = refl
 slice_get-take (suc n) (x ∷ xs) (suc k) less = slice_get-take n xs k (omega arith)
 
-taken_are : (version n : ℕ) (rs : List Record) → AreRecords version rs → AreRecords version (take n rs)
+pub taken_are : (version n : ℕ) (rs : List Record) → AreRecords version rs → AreRecords version (take n rs)
 taken_are version zero rs are k r is = absurd (none-some r is)
 taken_are version (suc n) [] are k r is = absurd (none-some r is)
 taken_are version (suc n) (x ∷ xs) are zero r is = are zero r is
@@ -54,13 +55,13 @@ set_are version rs block r is are other s at = elim (cases_eq other block) [
 ]
 
 pub elsewhere : (some : ℕ → Bool) (version : ℕ) (rs : List Record) (x : Image) (block : ℕ) (r : Record) → IsStoredBut some version rs x
-    → IsStoredBut (λ n. n == caps_sector version block || some n) version (set rs block r) x
+    → IsStoredBut (λ n. n == sector_of version block || some n) version (set rs block r) x
 elsewhere some version rs x block r stored other inside out =
-    let apart : (caps_sector version other == caps_sector version block) ≡ false = or_false_left (caps_sector version other == caps_sector version block) (some (caps_sector version other)) out in
-    let differ : other ≢ block = (λ same. not_same (caps_sector version other) (caps_sector version block) apart (ap (caps_sector version) same)) in
+    let apart : (sector_of version other == sector_of version block) ≡ false = or_false_left (sector_of version other == sector_of version block) (some (sector_of version other)) out in
+    let differ : other ≢ block = (λ same. not_same (sector_of version other) (sector_of version block) apart (ap (sector_of version) same)) in
     let long : length (set rs block r) ≡ length rs = length-set rs block r in
     slice_get-set_other rs block other r differ
-    ∙ stored other (omega arith) (or_false_right (caps_sector version other == caps_sector version block) (some (caps_sector version other)) out)
+    ∙ stored other (omega arith) (or_false_right (sector_of version other == sector_of version block) (some (sector_of version other)) out)
 
 -- ---- the bytes of a sector
 -- the records of a sector, cut from all of them
@@ -100,14 +101,14 @@ part_bytes version rs part are = ap (λ n. flat_map record_bytes (records_in ver
 
 -- ---- a sector is replaced by its patch
 -- where a block's record stands
-pub place_is : (block version : ℕ) → IsVersion version → block < 16 → caps_sector version block ≡ 132 + part_of version block
-place_is block = for_version (λ v. block < 16 → caps_sector v block ≡ 132 + part_of v block) (λ inside. omega arith) (λ inside. omega arith)
+pub place_is : (block version : ℕ) → IsVersion version → block < 16 → sector_of version block ≡ 132 + part_of version block
+place_is block = for_version (λ v. block < 16 → sector_of v block ≡ 132 + part_of v block) (λ inside. omega arith) (λ inside. omega arith)
 
 rest_is : (block version : ℕ) → IsVersion version → (k : ℕ) × (k < per_sector version) × (block ≡ part_of version block * per_sector version + k)
 rest_is block = for_version (λ v. (k : ℕ) × (k < per_sector v) × (block ≡ part_of v block * per_sector v + k)) (block % 16, omega arith, omega arith) (block % 8, omega arith, omega arith)
 
 -- a record whose sector an image has
-read_there : (version : ℕ) (rs : List Record) (y : Image) → IsVersion version → length rs ≤ 16 → AreRecords version rs → (other : ℕ) → other < length rs
+pub read_there : (version : ℕ) (rs : List Record) (y : Image) → IsVersion version → length rs ≤ 16 → AreRecords version rs → (other : ℕ) → other < length rs
     → y (132 + part_of version other) ≡ caps_sector_bytes version rs (part_of version other) → slice_get rs other ≡ Some (stored_record version y other)
 read_there version rs y is few are other less put =
     let per : ℕ = per_sector version in
@@ -126,16 +127,16 @@ read_there version rs y is few are other less put =
     ∙ records_back version (records_in version rs part) zeros k r (part_are version rs part are) cut in
     held ∙ ap Some (sym stored)
 
-module _ (version : ℕ) (rs : List Record) (x : Image) (block sector : ℕ) (bytes : List ℕ) (is : IsVersion version) (few : length rs ≤ 16) (are : AreRecords version rs) (inside : block < 16) (place : sector ≡ caps_sector version block) (bytes_are : bytes ≡ caps_sector_bytes version rs (part_of version block)) where
+module _ (version : ℕ) (rs : List Record) (x : Image) (block sector : ℕ) (bytes : List ℕ) (is : IsVersion version) (few : length rs ≤ 16) (are : AreRecords version rs) (inside : block < 16) (place : sector ≡ sector_of version block) (bytes_are : bytes ≡ caps_sector_bytes version rs (part_of version block)) where
   abbrev after : Image
   after = put_at sector bytes x
 
   -- a record that the patch has
-  there : (other : ℕ) → other < length rs → caps_sector version other ≡ sector → slice_get rs other ≡ Some (stored_record version after other)
+  there : (other : ℕ) → other < length rs → sector_of version other ≡ sector → slice_get rs other ≡ Some (stored_record version after other)
   there other less same =
       let part : ℕ = part_of version other in
-      let stands : caps_sector version other ≡ 132 + part = place_is other version is (omega arith) in
-      let patched : caps_sector version block ≡ 132 + part_of version block = place_is block version is inside in
+      let stands : sector_of version other ≡ 132 + part = place_is other version is (omega arith) in
+      let patched : sector_of version block ≡ 132 + part_of version block = place_is block version is inside in
       let parts : part_of version block ≡ part = omega (arith, stands, patched, place, same) in
       let at : 132 + part ≡ sector = sym stands ∙ same in
       let put : after (132 + part) ≡ bytes = ap (λ t. cond t bytes (x (132 + part))) (tested (132 + part) sector at) in
@@ -145,11 +146,11 @@ module _ (version : ℕ) (rs : List Record) (x : Image) (block sector : ℕ) (by
       tested n m e = grind (arith, nat_tests)
 
   pub more : (some : ℕ → Bool) → IsStoredBut (λ n. n == sector || some n) version rs x → IsStoredBut some version rs after
-  more some stored other less out = elim (cases_Bool (caps_sector version other == sector)) [
-    | inl same ↦ there other less (is_same (caps_sector version other) sector same)
+  more some stored other less out = elim (cases_Bool (sector_of version other == sector)) [
+    | inl same ↦ there other less (is_same (sector_of version other) sector same)
     | inr apart ↦
-        let kept : after (caps_sector version other) ≡ x (caps_sector version other) = ap (λ t. cond t bytes (x (caps_sector version other))) apart in
-        stored other less (or_false (caps_sector version other == sector) (some (caps_sector version other)) apart out)
+        let kept : after (sector_of version other) ≡ x (sector_of version other) = ap (λ t. cond t bytes (x (sector_of version other))) apart in
+        stored other less (or_false (sector_of version other == sector) (some (sector_of version other)) apart out)
         ∙ ap (λ bs. Some (of_bytes other bs)) (sym kept)
   ]
     where
@@ -163,21 +164,14 @@ module _ (version : ℕ) (rs : List Record) (x : Image) (block sector : ℕ) (by
       }
 
   pub stored_all : IsStoredBut (λ n. n == sector) version rs x → IsStored version rs after
-  stored_all stored other less = more (λ n. false) (λ b h out. stored b h (or_false_left (caps_sector version b == sector) false out)) other less refl
+  stored_all stored other less = more (λ n. false) (λ b h out. stored b h (or_false_left (sector_of version b == sector) false out)) other less refl
 
--- ---- both sectors are replaced, after an upgrade
-module _ (rs : List Record) (y : Image) (are : AreRecords 2 rs) where
-  pub first_is_all : length rs ≤ 8 → y 132 ≡ caps_sector_bytes 2 rs 0 → IsStored 2 rs y
-  first_is_all few first other less =
-      let part : part_of 2 other ≡ 0 = omega arith in
-      read_there 2 rs y (inr refl) (omega arith) are other less (subst (λ n. y (132 + n) ≡ caps_sector_bytes 2 rs n) (sym part) first)
-
-  pub both_are_all : length rs ≤ 16 → y 132 ≡ caps_sector_bytes 2 rs 0 → y 133 ≡ caps_sector_bytes 2 rs 1 → IsStored 2 rs y
-  both_are_all few first second other less = read_there 2 rs y (inr refl) few are other less (elim (cases_lt other 8) [
-    | inl below ↦ let part : part_of 2 other ≡ 0 = omega arith in subst (λ n. y (132 + n) ≡ caps_sector_bytes 2 rs n) (sym part) first
-    | inr at ↦ let part : part_of 2 other ≡ 1 = omega arith in subst (λ n. y (132 + n) ≡ caps_sector_bytes 2 rs n) (sym part) second
-  ])
-
--- eight records have no second sector
-pub second_is_zeros : (rs : List Record) → length rs ≤ 8 → caps_sector_bytes 2 rs 1 ≡ zeros
-second_is_zeros rs few = ap (λ (l : List Record). flat_map record_bytes (take 8 l) ++ replicate (512 - 64 * length (take 8 l)) 0) (drop_all 8 rs few)
+-- ---- a change of one record, with the patch of its sector
+pub keeps : (s : Store) (block : ℕ) (r : Record) → IsTable s → block < s.geometry.primaries → IsRecord s.version r
+    → KeepsStored s (record s { records = set s.records block r }) (patch_of (record s { records = set s.records block r }) block)
+keeps s block r is inside of_version x stored =
+    let now : List Record = set s.records block r in
+    let long : length now ≡ s.geometry.primaries = length-set s.records block r ∙ is.each in
+    let most : s.geometry.primaries ≤ 16 = is.lawful.primaries.1 in
+    stored_all s.version now x block (sector_of s.version block) (caps_sector_bytes s.version now (part_of s.version block)) is.version (omega arith) (set_are s.version s.records block r of_version is.kept) (omega arith) refl refl
+    (λ other less out. slice_get-set_other s.records block other r (λ same. not_same (sector_of s.version other) (sector_of s.version block) out (ap (sector_of s.version) same)) ∙ stored other (omega (arith, is.each)))

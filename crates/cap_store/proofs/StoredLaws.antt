@@ -8,7 +8,7 @@ use Rattle.tsd_model.specs.declared.records.Record.{Record}
 use Rattle.image_layout.specs.Areas.{caps_start, counts_start}
 use Rattle.image_layout.specs.Header.{IsVersion}
 use Rattle.image_layout.specs.Image.{Image, kept_len, kept_place}
-use Rattle.cap_store.specs.Stored.{caps_sector, kept_as, part_of, stored_record, IsStored, IsStoredBut}
+use Rattle.cap_store.specs.Stored.{sector_of, kept_as, part_of, stored_record, IsStored, IsStoredBut}
 use Rattle.cap_store.proofs.RecordLaws.{blank, for_version}
 use Rattle.cap_store.proofs.Sectors.{place_is}
 
@@ -17,7 +17,7 @@ pub one_store : (version : ℕ) (rs : List Record) (x : Image) → IsStored vers
 one_store version rs x stored = fill_by_all (stored_record version x) rs (length rs) blank refl (λ block inside. get_or_from_slice_get rs block (stored_record version x block) blank (stored block inside))
 
 -- a record is that of its sector's bytes
-pub same_record : (version : ℕ) (x y : Image) (block : ℕ) → y (caps_sector version block) ≡ x (caps_sector version block) → stored_record version y block ≡ stored_record version x block
+pub same_record : (version : ℕ) (x y : Image) (block : ℕ) → y (sector_of version block) ≡ x (sector_of version block) → stored_record version y block ≡ stored_record version x block
 same_record version x y block same = ap of_bytes same
   where
     of_bytes : List ℕ → Record
@@ -35,7 +35,7 @@ pub same_sectors_but : (some : ℕ → Bool) (version : ℕ) (rs : List Record) 
 same_sectors_but some version rs x y is few same stored block inside out =
     let place = place_is block version is (omega arith) in
     let part = part_below block version is (omega arith) in
-    let there = same (caps_sector version block) (omega (arith, place)) (omega (arith, place, part)) out in
+    let there = same (sector_of version block) (omega (arith, place)) (omega (arith, place, part)) out in
     stored block inside out ∙ ap Some (sym (same_record version x y block there))
 
 pub same_sectors : (version : ℕ) (rs : List Record) (x y : Image) → IsVersion version → length rs ≤ 16

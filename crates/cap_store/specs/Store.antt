@@ -33,8 +33,8 @@ pub record IsRecord (version : ℕ) (r : Record) : Type 0 where
 abbrev pub AreRecords : ℕ → List Record → Type 0
 AreRecords version records = (block : ℕ) (r : Record) → slice_get records block ≡ Some r → IsRecord version r
 
--- the version and the size are right, and each primary block has a record of the version
-pub record IsWhole (s : Store) : Type 0 where
+-- what a store's value must be: the version and the size are right, and each primary block has a record of the version
+pub record IsTable (s : Store) : Type 0 where
   pub version : IsVersion s.version
   pub lawful : IsLawful s.geometry
   pub each : length s.records ≡ s.geometry.primaries

@@ -36,9 +36,9 @@ caps_sector_bytes version records part =
     ++ replicate (512 - 2 * kept_len version * length (records_in version records part)) 0
 
 -- ---- store and sectors
--- the sector that has the record of a block
-abbrev pub caps_sector : ℕ → ℕ → ℕ
-caps_sector version block = (kept_place version block).sector
+-- the sector of an entry: that of a primary block's record
+abbrev pub sector_of : ℕ → ℕ → ℕ
+sector_of version block = (kept_place version block).sector
 
 -- what a version keeps with these bytes
 abbrev pub kept_as : ℕ → List ℕ → KeptCap
@@ -66,5 +66,5 @@ IsStored version records x =
 -- the same, where the records in some sectors don't matter
 abbrev pub IsStoredBut : (ℕ → Bool) → ℕ → List Record → Image → Type 0
 IsStoredBut some version records x =
-    (block : ℕ) → block < length records → some (caps_sector version block) ≡ false
+    (block : ℕ) → block < length records → some (sector_of version block) ≡ false
     → slice_get records block ≡ Some (stored_record version x block)

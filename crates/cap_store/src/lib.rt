@@ -7,20 +7,20 @@
 //!
 //! What it promises: after `load` the store is what the sectors say; `level_shown` is the level of the abstract disk;
 //! `patch` is the sector of a block's record as it must read now, so that store and image agree again once it stands
-//! there. Only `load` takes memory.
+//! there; `fresh_sector` is a sector of a fresh disk, by the capabilities that it is to have. Only `load` takes memory.
 #![tactic(auto)]
 
 mod fault;
+mod fresh;
 mod laws;
 mod loading;
 mod records;
 mod sector;
 mod seeds;
 mod store;
-#[cfg(test)]
-mod tests;
 
 pub use fault::LoadFault;
-pub use laws::sectors_have_one_store;
+pub use fresh::fresh_sector;
+pub use laws::{sectors_have_one_store, written_sectors_have_the_store};
 pub use seeds::seed_caps;
 pub use store::CapStore;

@@ -38,6 +38,7 @@ pub(crate) fn read_records<D: Device>(
     ensures read { D.told → OnOk result (IsStored version records.new (D.view dev.old).reads) }
     ensures rests { D.told → Rests (D.view dev.old) (D.view dev.new) }
     ensures uses { Uses 0 (D.view dev.old) (D.view dev.new) }
+    ensures faultless { OnOk result ((D.view dev.new).faults ≡ (D.view dev.old).faults) }
     ensures cause { OnErr result (Rose (D.view dev.old).faults (D.view dev.new).faults) }
 {
     let mut bytes = [0; SECTOR_BYTES];

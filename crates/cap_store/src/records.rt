@@ -5,8 +5,19 @@ ghost use Rattle.image_layout.specs.Header.{IsVersion};
 ghost use Rattle.tsd_model.specs.Records.{kept, upgraded_record};
 ghost use Rattle.cap_store.specs.Store.{IsRecord};
 
+use tsd_model::caps::CAP_BYTES;
 use tsd_model::records::{kept, upgraded_record};
-use tsd_model::{Cap, CapPair, Record};
+use tsd_model::{Cap, CapPair, KeptCap, Record};
+
+/// What a place has before it is read or written.
+pub(crate) const BLANK: Record = Record {
+    read: KeptCap::Plain(Cap {
+        bytes: [0; CAP_BYTES],
+    }),
+    write: KeptCap::Plain(Cap {
+        bytes: [0; CAP_BYTES],
+    }),
+};
 
 /// A capability has sixteen bytes.
 fn sixteen_bytes(cap: &Cap)

@@ -13,20 +13,24 @@ use tsd_model::caps::CAP_BYTES;
 use tsd_model::records::DIGEST_BYTES;
 use tsd_model::{Cap, KeptCap, Record};
 
-/// How many pairs of capabilities a sector has, in version 1.
-const CAP_PAIRS_IN_SECTOR: usize = 16;
+/// How many pairs of capabilities a sector has.
+const CAP_PAIRS_PER_SECTOR: usize = 16;
 
-/// How many pairs of digests a sector has, in version 2.
-const DIGEST_PAIRS_IN_SECTOR: usize = 8;
+/// How many pairs of digests a sector has.
+const DIGEST_PAIRS_PER_SECTOR: usize = 8;
+
+const _: () = prove!(CAP_PAIRS_PER_SECTOR * 2 * CAP_BYTES == SECTOR_BYTES);
+
+const _: () = prove!(DIGEST_PAIRS_PER_SECTOR * 2 * DIGEST_BYTES == SECTOR_BYTES);
 
 /// How many records of a version stand in a sector.
 pub(crate) fn per_sector(version: u32) -> usize
     ensures { result ≡ per_sector version }
 {
     if version == DIGEST_VERSION {
-        DIGEST_PAIRS_IN_SECTOR
+        DIGEST_PAIRS_PER_SECTOR
     } else {
-        CAP_PAIRS_IN_SECTOR
+        CAP_PAIRS_PER_SECTOR
     }
 }
 
@@ -94,8 +98,8 @@ fn put_kept(bytes: &mut [u8; SECTOR_BYTES], at: usize, held: &KeptCap) -> usize
     end
 }
 
-/// The sector of these records, and zeros behind them.
-fn sector_of(records: &[Record]) -> [u8; SECTOR_BYTES]
+/// The bytes of these records, and zeros behind them.
+fn bytes_of(records: &[Record]) -> [u8; SECTOR_BYTES]
     requires { length (flat_map record_bytes records.now) ≤ 512 }
     ensures { result ≡ flat_map record_bytes records.now ++ replicate (512 - length (flat_map record_bytes records.now)) 0 }
 {
@@ -108,8 +112,8 @@ fn sector_of(records: &[Record]) -> [u8; SECTOR_BYTES]
     bytes
 }
 
-/// One of the two sectors of all records, by its number from 0.
-pub(crate) fn sector_of_part(version: u32, records: &[Record], part: usize) -> [u8; SECTOR_BYTES]
+/// The bytes of one of the two sectors of all records, by its number from 0.
+pub(crate) fn bytes_of_part(version: u32, records: &[Record], part: usize) -> [u8; SECTOR_BYTES]
     requires version { IsVersion version }
     requires each { AreRecords version records.now }
     requires inside { part * per_sector version < length records.now }
@@ -118,5 +122,5 @@ pub(crate) fn sector_of_part(version: u32, records: &[Record], part: usize) -> [
     let each = per_sector(version);
     let first = part * each;
     let end = records.len().min(first + each);
-    sector_of(&records[first..end])
+    bytes_of(&records[first..end])
 }

@@ -1,6 +1,6 @@
 //! The store of records.
 
-ghost use Rattle.std.specs.Prelude.{◌≡◌, ℕ, ◌+◌, ◌<◌, ◌≤◌, ◌==◌, ◌||◌, Bool, length, slice_set, IfOk, IsErrOf, IsTrue};
+ghost use Rattle.std.specs.Prelude.{◌≡◌, ℕ, ◌+◌, ◌<◌, ◌≤◌, ◌==◌, ◌||◌, Bool, length, slice_set, IfOk, OnOk, IsErrOf, IsTrue};
 ghost use Rattle.std.specs.List.{list_all};
 ghost use Rattle.tsd_model.specs.Attained.{shown_level};
 ghost use Rattle.tsd_model.specs.Geometry.{IsLawful};
@@ -12,32 +12,22 @@ ghost use Rattle.image_layout.specs.Image.{Image};
 ghost use Rattle.image_device.specs.Image.{put_at, zeros};
 ghost use Rattle.image_device.specs.Calls.{Rests, Uses};
 ghost use Rattle.image_device.specs.Counts.{Rose};
-ghost use Rattle.cap_store.specs.Store.{level_shown, upgraded, IsWhole};
-ghost use Rattle.cap_store.specs.Stored.{IsStored, IsStoredBut, caps_sector, caps_sector_bytes, part_of};
+ghost use Rattle.cap_store.specs.Store.{level_shown, upgraded, IsTable};
+ghost use Rattle.cap_store.specs.Changes.{patch_of, KeepsStored};
+ghost use Rattle.cap_store.specs.Stored.{IsStored, IsStoredBut, sector_of, caps_sector_bytes, part_of};
 
 use crate::fault::LoadFault;
 use crate::loading::read_records;
-use crate::records::{record_of, upgrade_each};
-use crate::sector::{per_sector, sector_of_part};
+use crate::records::{BLANK, record_of, upgrade_each};
+use crate::sector::{bytes_of_part, per_sector};
 use image_device::Device;
 use image_layout::header::DIGEST_VERSION;
 use image_layout::sectors::CAPS_START;
 use image_layout::{Header, Patch};
 use std::alloc::Global;
 use std::marker::Model;
-use tsd_model::caps::CAP_BYTES;
 use tsd_model::records::{kept_of, record_level};
-use tsd_model::{Cap, CapPair, Geometry, KeptCap, Level, Record, Shown};
-
-/// What a place has before it is read.
-const BLANK: Record = Record {
-    read: KeptCap::Plain(Cap {
-        bytes: [0; CAP_BYTES],
-    }),
-    write: KeptCap::Plain(Cap {
-        bytes: [0; CAP_BYTES],
-    }),
-};
+use tsd_model::{CapPair, Geometry, Level, Record, Shown};
 
 /// What is kept of the capabilities of each primary block.
 #[derive(Drop)]
@@ -48,13 +38,13 @@ pub struct CapStore {
 }
 
 impl Model for CapStore {
-    ghost use Rattle.cap_store.specs.Store.{Store, IsWhole};
+    ghost use Rattle.cap_store.specs.Store.{Store, IsTable};
 
     ghost Value = { Store };
 
     ghost view = { λ s. record { version = s.version; geometry = s.geometry; records = s.records.items } };
 
-    ghost invariant = { λ s. IsWhole (record { version = s.version; geometry = s.geometry; records = s.records.items }) };
+    ghost invariant = { λ s. IsTable (record { version = s.version; geometry = s.geometry; records = s.records.items }) };
 }
 
 impl CapStore {
@@ -69,10 +59,12 @@ impl CapStore {
         requires lawful { IsLawful header.now.geometry }
         ensures version { IfOk result (λ s. s.version ≡ header.now.version) }
         ensures geometry { IfOk result (λ s. s.geometry ≡ header.now.geometry) }
-        ensures whole { IfOk result (λ s. IsWhole s) }
+        ensures table { IfOk result (λ s. IsTable s) }
         ensures stored { D.told → IfOk result (λ s. IsStored s.version s.records (D.view dev.old).reads) }
         ensures rests { D.told → Rests (D.view dev.old) (D.view dev.new) }
         ensures uses { Uses 0 (D.view dev.old) (D.view dev.new) }
+        ensures faultless { OnOk result ((D.view dev.new).faults ≡ (D.view dev.old).faults) }
+        ensures short { IsErrOf result LoadFault.NoMemory → (D.view dev.new).faults ≡ (D.view dev.old).faults }
         ensures cause { IsErrOf result LoadFault.Device → Rose (D.view dev.old).faults (D.view dev.new).faults }
     {
         let mut records = vec![in alloc; BLANK; header.geometry.primaries as usize]?;
@@ -87,7 +79,7 @@ impl CapStore {
     /// 1 or 2.
     pub fn version(&self) -> u32
         ensures value { result ≡ self.now.version }
-        ensures whole { IsWhole self.now }
+        ensures table { IsTable self.now }
 
         // What a world asks of its records.
         ensures of_version { IsTrue (list_all (is_record_of self.now.version) self.now.records) }
@@ -118,7 +110,10 @@ impl CapStore {
         ensures set { self.new ≡ record self.old { records = slice_set self.old.records block (kept self.old.version caps.now) } }
 
         // What an image had of the store it has still, but for the sector of this record.
-        ensures elsewhere { (some : ℕ → Bool) (x : Image) → IsStoredBut some self.old.version self.old.records x → IsStoredBut (λ n. n == caps_sector self.old.version block || some n) self.new.version self.new.records x }
+        ensures elsewhere { (some : ℕ → Bool) (x : Image) → IsStoredBut some self.old.version self.old.records x → IsStoredBut (λ n. n == sector_of self.old.version block || some n) self.new.version self.new.records x }
+
+        // With the patch of this record, an image that had the store before has the new one.
+        ensures stored { KeepsStored self.old self.new (patch_of self.new block) }
     {
         self.records[block as usize] = record_of(self.version, caps);
     }
@@ -144,7 +139,8 @@ impl CapStore {
     /// alone, so the patches of one sector replace each other.
     pub fn patch(&self, block: u32) -> Patch
         requires { block < self.now.geometry.primaries }
-        ensures sector { result.sector ≡ caps_sector self.now.version block }
+        ensures value { result ≡ patch_of self.now block }
+        ensures sector { result.sector ≡ sector_of self.now.version block }
         ensures inside { (caps_start ≤ result.sector) × (result.sector < counts_start) }
         ensures bytes { result.bytes ≡ caps_sector_bytes self.now.version self.now.records (part_of self.now.version block) }
 
@@ -157,7 +153,7 @@ impl CapStore {
         let part = block as usize / per_sector(self.version);
         Patch {
             sector: CAPS_START + part as u32,
-            bytes: sector_of_part(self.version, &self.records, part),
+            bytes: bytes_of_part(self.version, &self.records, part),
         }
     }
 }

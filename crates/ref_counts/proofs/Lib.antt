@@ -1,4 +1,4 @@
-mod Rests
 mod Reading
 mod Sectors
+pub mod Written
 pub mod StoredLaws

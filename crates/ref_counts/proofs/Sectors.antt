@@ -4,14 +4,16 @@ use Rattle.std.specs.Int.{byte_at}
 use Rattle.std.specs.List.{flat_map}
 use Rattle.std.proofs.lemmas.Bool.{cases_Bool, cases_lt}
 use Rattle.std.proofs.lemmas.Bool.Decides.{nat_tests}
-use Rattle.std.proofs.lemmas.List.{get_or-take, get_or-drop, get_or-set_other, length-take, length-drop, take_all}
+use Rattle.std.proofs.lemmas.List.{get_or-take, get_or-drop, get_or-set_other, length-set, length-take, length-drop, take_all}
 use Rattle.byteorder.specs.Endian.{little_from, little_bytes}
 use Rattle.byteorder.specs.Numbers.{little_from-cons, little_number-reads_back}
 use Rattle.tsd_model.specs.declared.geometry.Geometry.{Geometry}
 use Rattle.image_device.specs.Image.{put_at}
 use Rattle.image_device.proofs.Sets.{or_false, or_false_left, or_false_right, not_same}
 use Rattle.image_layout.specs.Image.{Image, stored_count}
-use Rattle.ref_counts.specs.Stored.{count_sector, counts_in, counts_sector_bytes, part_of, IsStored, IsStoredBut}
+use Rattle.ref_counts.specs.Stored.{sector_of, counts_in, counts_sector_bytes, part_of, IsStored, IsStoredBut}
+use Rattle.ref_counts.specs.Changes.{patch_of, KeepsStored}
+use Rattle.ref_counts.specs.Table.{Table, IsTable}
 use Rattle.ref_counts.proofs.Reading.{stored_is}
 
 -- each number fits four bytes
@@ -19,12 +21,19 @@ abbrev pub AllFit : List ℕ → Type 0
 AllFit xs = (i : ℕ) → get_or xs i 0 < 2 ^ 32
 
 -- ---- a change of one count
+set_fits : (counts : List ℕ) (block v : ℕ) → v < 2 ^ 32 → AllFit counts → AllFit (set counts block v)
+set_fits [] block v few fits i = fits i
+set_fits (x ∷ xs) zero v few fits zero = few
+set_fits (x ∷ xs) zero v few fits (suc i) = fits (suc i)
+set_fits (x ∷ xs) (suc block) v few fits zero = fits zero
+set_fits (x ∷ xs) (suc block) v few fits (suc i) = set_fits xs block v few (λ j. fits (suc j)) i
+
 pub elsewhere : (some : ℕ → Bool) (counts : List ℕ) (g : Geometry) (x : Image) (block v : ℕ) → IsStoredBut some counts g x
-    → IsStoredBut (λ n. n == count_sector g block || some n) (set counts block v) g x
+    → IsStoredBut (λ n. n == sector_of g block || some n) (set counts block v) g x
 elsewhere some counts g x block v stored other inside out =
-    let apart : (count_sector g other == count_sector g block) ≡ false = or_false_left (count_sector g other == count_sector g block) (some (count_sector g other)) out in
-    let differ : other ≢ block = (λ same. not_same (count_sector g other) (count_sector g block) apart (ap (count_sector g) same)) in
-    stored other inside (or_false_right (count_sector g other == count_sector g block) (some (count_sector g other)) out)
+    let apart : (sector_of g other == sector_of g block) ≡ false = or_false_left (sector_of g other == sector_of g block) (some (sector_of g other)) out in
+    let differ : other ≢ block = (λ same. not_same (sector_of g other) (sector_of g block) apart (ap (sector_of g) same)) in
+    stored other inside (or_false_right (sector_of g other == sector_of g block) (some (sector_of g other)) out)
     ∙ sym (get_or-set_other counts block other v 0 differ)
 
 -- ---- the bytes read back
@@ -75,12 +84,12 @@ part_of_counts counts part end is = elim (cases_lt (length counts) (128 * part +
       ap (λ n. take n (drop (128 * part) counts)) len
 ]
 
-module _ (counts : List ℕ) (g : Geometry) (x : Image) (block sector : ℕ) (bytes : List ℕ) (each : length counts ≡ g.blocks) (fits : AllFit counts) (place : sector ≡ count_sector g block) (is : bytes ≡ counts_sector_bytes counts (part_of block)) where
+module _ (counts : List ℕ) (g : Geometry) (x : Image) (block sector : ℕ) (bytes : List ℕ) (each : length counts ≡ g.blocks) (fits : AllFit counts) (place : sector ≡ sector_of g block) (is : bytes ≡ counts_sector_bytes counts (part_of block)) where
   abbrev after : Image
   after = put_at sector bytes x
 
   -- a count that the patch has
-  there : (other : ℕ) → other < g.blocks → count_sector g other ≡ sector → stored_count after g other ≡ get_or counts other 0
+  there : (other : ℕ) → other < g.blocks → sector_of g other ≡ sector → stored_count after g other ≡ get_or counts other 0
   there other inside same =
       let part : part_of block ≡ part_of other = omega arith in
       let sector_is : 134 + other / 128 ≡ sector = omega arith in
@@ -93,15 +102,23 @@ module _ (counts : List ℕ) (g : Geometry) (x : Image) (block sector : ℕ) (by
       tested n m e = grind (arith, nat_tests)
 
   pub more : (some : ℕ → Bool) → IsStoredBut (λ n. n == sector || some n) counts g x → IsStoredBut some counts g after
-  more some stored other inside out = elim (cases_Bool (count_sector g other == sector)) [
-    | inl same ↦ there other inside (is_same (count_sector g other) sector same)
+  more some stored other inside out = elim (cases_Bool (sector_of g other == sector)) [
+    | inl same ↦ there other inside (is_same (sector_of g other) sector same)
     | inr apart ↦
-        let kept : after (count_sector g other) ≡ x (count_sector g other) = ap (λ t. cond t bytes (x (count_sector g other))) apart in
-        ap (little_from (4 * other % 512) 4) kept ∙ stored other inside (or_false (count_sector g other == sector) (some (count_sector g other)) apart out)
+        let kept : after (sector_of g other) ≡ x (sector_of g other) = ap (λ t. cond t bytes (x (sector_of g other))) apart in
+        ap (little_from (4 * other % 512) 4) kept ∙ stored other inside (or_false (sector_of g other == sector) (some (sector_of g other)) apart out)
   ]
     where
       is_same : (n m : ℕ) → (n == m) ≡ true → n ≡ m
       is_same n m e = grind (arith, nat_tests)
 
   pub stored_all : IsStoredBut (λ n. n == sector) counts g x → IsStored counts g after
-  stored_all stored other inside = more (λ n. false) (λ b h out. stored b h (or_false_left (count_sector g b == sector) false out)) other inside refl
+  stored_all stored other inside = more (λ n. false) (λ b h out. stored b h (or_false_left (sector_of g b == sector) false out)) other inside refl
+
+-- ---- a change of one count, with the patch of its sector
+pub keeps : (t : Table) (block v : ℕ) → IsTable t → v < 2 ^ 32 → AllFit t.counts
+    → KeepsStored t (record t { counts = set t.counts block v }) (patch_of (record t { counts = set t.counts block v }) block)
+keeps t block v is few fits x stored =
+    let now : List ℕ = set t.counts block v in
+    stored_all now t.geometry x block (sector_of t.geometry block) (counts_sector_bytes now (part_of block)) (length-set t.counts block v ∙ is.each) (set_fits t.counts block v few fits) refl refl
+    (λ other inside out. stored other inside ∙ sym (get_or-set_other t.counts block other v 0 (λ same. not_same (sector_of t.geometry other) (sector_of t.geometry block) out (ap (sector_of t.geometry) same))))

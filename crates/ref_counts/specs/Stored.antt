@@ -7,13 +7,17 @@ use Rattle.image_layout.specs.Places.{count_place}
 use Rattle.image_layout.specs.Image.{Image, stored_count}
 
 -- ---- the bytes
+-- how many counts a sector has
+abbrev pub per_sector : ℕ
+per_sector = 128
+
 -- which of the counts' sectors has the count of a block, from 0
 abbrev pub part_of : ℕ → ℕ
-part_of block = block / 128
+part_of block = block / per_sector
 
 -- the counts that this one of their sectors has
 abbrev pub counts_in : List ℕ → ℕ → List ℕ
-counts_in counts part = take 128 (drop (128 * part) counts)
+counts_in counts part = take per_sector (drop (per_sector * part) counts)
 
 -- its 512 bytes: each of its counts in four bytes, the lowest first, and zeros behind the last count
 abbrev pub counts_sector_bytes : List ℕ → ℕ → List ℕ
@@ -21,9 +25,9 @@ counts_sector_bytes counts part =
     flat_map (little_bytes 4) (counts_in counts part) ++ replicate (512 - 4 * length (counts_in counts part)) 0
 
 -- ---- table and sectors
--- the sector that has the count of a block
-abbrev pub count_sector : Geometry → ℕ → ℕ
-count_sector g block = (count_place g block).sector
+-- the sector of an entry: that of a block's count
+abbrev pub sector_of : Geometry → ℕ → ℕ
+sector_of g block = (count_place g block).sector
 
 -- the image has the count of each block
 abbrev pub IsStored : List ℕ → Geometry → Image → Type 0
@@ -32,4 +36,4 @@ IsStored counts g x = (block : ℕ) → block < g.blocks → stored_count x g bl
 -- the same, where the counts in some sectors don't matter
 abbrev pub IsStoredBut : (ℕ → Bool) → List ℕ → Geometry → Image → Type 0
 IsStoredBut some counts g x =
-    (block : ℕ) → block < g.blocks → some (count_sector g block) ≡ false → stored_count x g block ≡ slice_index counts block
+    (block : ℕ) → block < g.blocks → some (sector_of g block) ≡ false → stored_count x g block ≡ slice_index counts block

@@ -8,7 +8,7 @@ pub record Table : Type 0 where
   pub geometry : Geometry
   pub counts : List ℕ
 
--- the size is lawful, and each block has a count
-pub record IsWhole (t : Table) : Type 0 where
+-- what a table's value must be: the size is lawful, and each block has a count
+pub record IsTable (t : Table) : Type 0 where
   pub lawful : IsLawful t.geometry
   pub each : length t.counts ≡ t.geometry.blocks

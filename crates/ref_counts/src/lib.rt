@@ -4,18 +4,18 @@
 //! `byteorder` for numbers in bytes.
 //!
 //! What it promises: after `load` the table is what the sectors say, whatever numbers they have; `patch` is the sector of
-//! a block's count as it must read now, so that table and image agree again once it stands there. The table takes four
-//! bytes a block, and only `load` takes memory.
+//! a block's count as it must read now, so that table and image agree again once it stands there; `fresh_sector` is a
+//! sector of a fresh disk, with no count above 0. The table takes four bytes a block, and only `load` takes memory.
 #![tactic(auto)]
 
 mod fault;
+mod fresh;
 mod laws;
 mod loading;
 mod sector;
 mod table;
-#[cfg(test)]
-mod tests;
 
 pub use fault::LoadFault;
-pub use laws::sectors_have_one_table;
+pub use fresh::fresh_sector;
+pub use laws::{sectors_have_one_table, written_sectors_have_the_table};
 pub use table::RefCounts;

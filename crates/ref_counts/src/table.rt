@@ -1,18 +1,19 @@
 //! The table of counts.
 
-ghost use Rattle.std.specs.Prelude.{◌≡◌, ℕ, ◌+◌, ◌-◌, ◌<◌, ◌≤◌, ◌==◌, ◌||◌, Bool, slice_index, slice_set, IfOk, IsErrOf};
+ghost use Rattle.std.specs.Prelude.{◌≡◌, ℕ, ◌+◌, ◌-◌, ◌^◌, ◌<◌, ◌≤◌, ◌==◌, ◌||◌, Bool, slice_index, slice_set, IfOk, OnOk, IsErrOf};
 ghost use Rattle.tsd_model.specs.Geometry.{IsLawful};
 ghost use Rattle.image_layout.specs.Areas.{bitmap_start, counts_start};
 ghost use Rattle.image_layout.specs.Image.{Image};
 ghost use Rattle.image_device.specs.Image.{put_at};
 ghost use Rattle.image_device.specs.Calls.{Rests, Uses};
 ghost use Rattle.image_device.specs.Counts.{Rose};
-ghost use Rattle.ref_counts.specs.Table.{IsWhole};
-ghost use Rattle.ref_counts.specs.Stored.{IsStored, IsStoredBut, count_sector, counts_sector_bytes, part_of};
+ghost use Rattle.ref_counts.specs.Table.{IsTable};
+ghost use Rattle.ref_counts.specs.Changes.{patch_of, KeepsStored};
+ghost use Rattle.ref_counts.specs.Stored.{IsStored, IsStoredBut, sector_of, counts_sector_bytes, part_of};
 
 use crate::fault::LoadFault;
 use crate::loading::read_counts;
-use crate::sector::sector_of_part;
+use crate::sector::bytes_of_part;
 use image_device::Device;
 use image_layout::sectors::COUNTS_START;
 use image_layout::{Layout, Patch};
@@ -28,14 +29,19 @@ pub struct RefCounts {
 }
 
 impl Model for RefCounts {
-    ghost use Rattle.ref_counts.specs.Table.{Table, IsWhole};
+    ghost use Rattle.ref_counts.specs.Table.{Table, IsTable};
 
     ghost Value = { Table };
 
     ghost view = { λ t. record { geometry = t.geometry; counts = t.counts.items } };
 
-    ghost invariant = { λ t. IsWhole (record { geometry = t.geometry; counts = t.counts.items }) };
+    ghost invariant = { λ t. IsTable (record { geometry = t.geometry; counts = t.counts.items }) };
 }
+
+/// Each count fits four bytes. It does nothing: proofs of changes ask for the fact.
+fn four_bytes_each(counts: &[u32])
+    ensures { (block : ℕ) → slice_index counts.now block < 2 ^ 32 }
+{}
 
 impl RefCounts {
     /// The counts that a disk of this size has on its device. Any number may stand there. Each sector of counts is read
@@ -47,10 +53,12 @@ impl RefCounts {
     ) -> Result<RefCounts, LoadFault>
         requires { IsLawful geometry.now }
         ensures geometry { IfOk result (λ t. t.geometry ≡ geometry.now) }
-        ensures whole { IfOk result (λ t. IsWhole t) }
+        ensures table { IfOk result (λ t. IsTable t) }
         ensures stored { D.told → IfOk result (λ t. IsStored t.counts t.geometry (D.view dev.old).reads) }
         ensures rests { D.told → Rests (D.view dev.old) (D.view dev.new) }
         ensures uses { Uses 0 (D.view dev.old) (D.view dev.new) }
+        ensures faultless { OnOk result ((D.view dev.new).faults ≡ (D.view dev.old).faults) }
+        ensures short { IsErrOf result LoadFault.NoMemory → (D.view dev.new).faults ≡ (D.view dev.old).faults }
         ensures cause { IsErrOf result LoadFault.Device → Rose (D.view dev.old).faults (D.view dev.new).faults }
     {
         let mut counts = vec![in alloc; 0u32; geometry.blocks as usize]?;
@@ -64,7 +72,7 @@ impl RefCounts {
     /// How large the disk is.
     pub fn geometry(&self) -> Geometry
         ensures value { result ≡ self.now.geometry }
-        ensures whole { IsWhole self.now }
+        ensures table { IsTable self.now }
     {
         self.geometry
     }
@@ -73,7 +81,7 @@ impl RefCounts {
     pub fn count(&self, block: u32) -> u32
         requires { block < self.now.geometry.blocks }
         ensures value { result ≡ slice_index self.now.counts block }
-        ensures whole { IsWhole self.now }
+        ensures table { IsTable self.now }
     {
         let place = block as usize;
         self.counts[place]
@@ -86,8 +94,12 @@ impl RefCounts {
         ensures raised { self.new ≡ record self.old { counts = slice_set self.old.counts block (slice_index self.old.counts block + 1) } }
 
         // What an image had of the table it has still, but for the sector of this count.
-        ensures elsewhere { (some : ℕ → Bool) (x : Image) → IsStoredBut some self.old.counts self.old.geometry x → IsStoredBut (λ n. n == count_sector self.old.geometry block || some n) self.new.counts self.new.geometry x }
+        ensures elsewhere { (some : ℕ → Bool) (x : Image) → IsStoredBut some self.old.counts self.old.geometry x → IsStoredBut (λ n. n == sector_of self.old.geometry block || some n) self.new.counts self.new.geometry x }
+
+        // With the patch of this count, an image that had the table before has the new one.
+        ensures stored { KeepsStored self.old self.new (patch_of self.new block) }
     {
+        four_bytes_each(&self.counts);
         self.counts[block as usize] += 1;
     }
 
@@ -98,8 +110,12 @@ impl RefCounts {
         ensures lowered { self.new ≡ record self.old { counts = slice_set self.old.counts block (slice_index self.old.counts block - 1) } }
 
         // What an image had of the table it has still, but for the sector of this count.
-        ensures elsewhere { (some : ℕ → Bool) (x : Image) → IsStoredBut some self.old.counts self.old.geometry x → IsStoredBut (λ n. n == count_sector self.old.geometry block || some n) self.new.counts self.new.geometry x }
+        ensures elsewhere { (some : ℕ → Bool) (x : Image) → IsStoredBut some self.old.counts self.old.geometry x → IsStoredBut (λ n. n == sector_of self.old.geometry block || some n) self.new.counts self.new.geometry x }
+
+        // With the patch of this count, an image that had the table before has the new one.
+        ensures stored { KeepsStored self.old self.new (patch_of self.new block) }
     {
+        four_bytes_each(&self.counts);
         self.counts[block as usize] -= 1;
     }
 
@@ -107,7 +123,8 @@ impl RefCounts {
     /// the patches of one sector replace each other.
     pub fn patch(&self, block: u32) -> Patch
         requires { block < self.now.geometry.blocks }
-        ensures sector { result.sector ≡ count_sector self.now.geometry block }
+        ensures value { result ≡ patch_of self.now block }
+        ensures sector { result.sector ≡ sector_of self.now.geometry block }
         ensures inside { (counts_start ≤ result.sector) × (result.sector < bitmap_start self.now.geometry) }
         ensures bytes { result.bytes ≡ counts_sector_bytes self.now.counts (part_of block) }
 
@@ -121,7 +138,7 @@ impl RefCounts {
         let part = place.sector - COUNTS_START;
         Patch {
             sector: place.sector,
-            bytes: sector_of_part(&self.counts, part as usize),
+            bytes: bytes_of_part(&self.counts, part as usize),
         }
     }
 }

@@ -7,6 +7,10 @@
 #[cfg(test)]
 mod blocks;
 #[cfg(test)]
+mod caps;
+#[cfg(test)]
+mod counts;
+#[cfg(test)]
 mod journal;
 #[cfg(test)]
 mod pointers;

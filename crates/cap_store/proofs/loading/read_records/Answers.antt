@@ -2,9 +2,9 @@ use Rattle.std.proofs.Common.{◌+◌, ◌*◌, ◌≤◌, length, sym, ◌∙�
 use Rattle.std.specs.Int.{div_ceil}
 use Rattle.std.proofs.lemmas.Option.{slice_get_within}
 use Rattle.image_device.proofs.Moments.{uses_joined}
+use Rattle.image_device.proofs.Resting.{rests_joined}
 use Rattle.cap_store.proofs.Reading.{covers, kept_more, read_more}
 use Rattle.cap_store.specs.Stored.{per_sector}
-use Rattle.cap_store.proofs.Rests.{rests_joined}
 use Rattle.cap_store.proofs.loading.read_records.Goals as goal
 
 pub loop-part-preserved : goal.loop-part-preserved
@@ -17,6 +17,7 @@ loop-part-preserved g c =
           (view c.args.dev.now).reads (c.in_ok-read.ensures.bytes told ∙ (λ i. (c.loop-part.invariant.rests told).reads i (132 + c.loop-part.part))) (c.loop-part.invariant.read told) block less (omega arith);
       rests = λ told. rests_joined (view c.args.dev.now) (view c.loop-part.dev) (view c.read.new.self) (c.loop-part.invariant.rests told) (c.in_ok-read.ensures.rests told);
       uses = uses_joined 0 0 (view c.args.dev.now) (view c.loop-part.dev) (view c.read.new.self) c.loop-part.invariant.uses c.in_ok-read.ensures.uses;
+      faultless = c.in_ok-read.ensures.faultless ∙ c.loop-part.invariant.faultless;
     }
 
 pub returns-clause-kept : goal.returns-clause-kept

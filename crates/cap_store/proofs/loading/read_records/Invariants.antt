@@ -14,4 +14,5 @@ invariant-loop-part g l =
       read : g.D.Device.told → (block : ℕ) → block < l.part * l.each → block < length l.records → slice_get l.records block ≡ Some (stored_record l.version (view l.fn.dev).reads block);
       rests : g.D.Device.told → Rests (view l.fn.dev) (view l.dev);
       uses : Uses 0 (view l.fn.dev) (view l.dev);
+      faultless : (view l.dev).faults ≡ (view l.fn.dev).faults;
     }

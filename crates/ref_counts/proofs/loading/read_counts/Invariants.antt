@@ -10,4 +10,5 @@ invariant-loop-part g l =
       read : g.D.Device.told → (block : ℕ) → block < 128 * l.part → block < length l.counts → get_or l.counts block 0 ≡ number_of (view l.fn.dev).reads block;
       rests : g.D.Device.told → Rests (view l.fn.dev) (view l.dev);
       uses : Uses 0 (view l.fn.dev) (view l.dev);
+      faultless : (view l.dev).faults ≡ (view l.fn.dev).faults;
     }

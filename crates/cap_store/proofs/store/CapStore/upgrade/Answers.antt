@@ -6,10 +6,10 @@ use Rattle.tsd_model.specs.declared.records.Record.{Record}
 use Rattle.tsd_model.specs.Records.{upgraded_record}
 use Rattle.image_device.specs.Image.{zeros}
 use Rattle.image_layout.specs.Image.{Image}
-use Rattle.cap_store.specs.Store.{AreRecords, IsWhole, Store}
+use Rattle.cap_store.specs.Store.{AreRecords, IsTable, Store}
 use Rattle.cap_store.specs.Stored.{caps_sector_bytes, IsStored}
 use Rattle.cap_store.proofs.RecordLaws.{upgraded_are, upgraded_stays}
-use Rattle.cap_store.proofs.Sectors.{both_are_all, first_is_all, second_is_zeros}
+use Rattle.cap_store.proofs.Written.{both_are_all, first_is_all, second_is_zeros}
 use Rattle.cap_store.proofs.store.CapStore.upgrade.Goals as goal
 
 module _ (c : goal.After-self-2-1) where
@@ -29,7 +29,7 @@ module _ (c : goal.After-self-2-1) where
   each = length-map held upgraded_record ∙ c.self.invariant.each
 
 pub invariant_of-self : goal.invariant_of-self
-invariant_of-self c = subst (λ (rs : List Record). IsWhole (record { version = 2; geometry = c.self.inside.geometry; records = rs })) (sym (new_is c))
+invariant_of-self c = subst (λ (rs : List Record). IsTable (record { version = 2; geometry = c.self.inside.geometry; records = rs })) (sym (new_is c))
     (record { version = inr refl; lawful = c.self.invariant.lawful; each = each c; kept = are c })
 
 pub returns-clause-same : goal.returns-clause-same
