@@ -26,8 +26,6 @@ pub mod frame_buf;
 mod reader;
 mod reply_decoding;
 mod reply_encoding;
-#[cfg(test)]
-mod tests;
 mod writing;
 
 pub use cutter::{Fed, FrameCutter};

@@ -25,8 +25,6 @@ pub mod parse;
 pub mod printing;
 mod replies;
 mod requests;
-#[cfg(test)]
-mod tests;
 mod words;
 
 pub use cutter::{Fed, LineCutter};
