@@ -12,7 +12,7 @@ use arrayvec::ArrayVec;
 use std::alloc::Global;
 use std::marker::Model;
 use tsd_model::Level;
-use tsd_model::sessions::SESSIONS;
+use tsd_model::needs::SESSIONS;
 
 /// Why a session isn't opened. Nothing has changed then.
 #[derive(Clone, Copy, Debug, PartialEq, Eq)]

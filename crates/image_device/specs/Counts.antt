@@ -8,3 +8,7 @@ raised count = min (count + 1) (2 ^ 64 - 1)
 -- A count rose. One that stands at the greatest u64 counts as one that rose.
 abbrev pub Rose : ℕ → ℕ → Type 0
 Rose before now = raised before ≤ now
+
+-- two counts of one kind together
+abbrev pub both : ℕ → ℕ → ℕ
+both one other = min (one + other) (2 ^ 64 - 1)

@@ -1,9 +1,10 @@
 -- A station that stops, as a device: the station within, and its own failures.
-use Rattle.std.specs.Prelude.{ℕ, ◌+◌, ◌-◌, ◌<◌, ◌≡◌, Result, IsErr}
+use Rattle.std.specs.Prelude.{ℕ, ◌-◌, ◌<◌, ◌≡◌, Result, IsErr}
 use Rattle.image_device.specs.declared.cell.Pick.{Pick}
 use Rattle.image_device.specs.declared.fuse.FuseStation.{FuseStation}
 use Rattle.image_device.specs.declared.mem.MemStation.{MemStation}
 use Rattle.image_device.specs.View.{View, IsSound}
+use Rattle.image_device.specs.Counts.{both}
 use Rattle.image_device.specs.Cells.{begun}
 use Rattle.image_device.specs.MemStation.{history_view, found_in, station_sound, IsCalled}
 
@@ -26,8 +27,9 @@ passes_of d = d.passes
 abbrev pub pick_of : FuseStation → Pick
 pick_of d = d.pick
 
+-- the view of the station within, with the counts of both
 abbrev pub fuse_view : FuseStation → View
-fuse_view d = history_view (begun (found_in d.inner)) d.inner.log.items (d.inner.faults + own_faults_of d) (d.inner.put_faults + own_put_faults_of d) d.inner.writes
+fuse_view d = history_view (begun (found_in d.inner)) d.inner.log.items (both d.inner.faults (own_faults_of d)) (both d.inner.put_faults (own_put_faults_of d)) d.inner.writes
 
 pub fuse_sound : (d : FuseStation) → IsSound (fuse_view d)
 fuse_sound d = let s = station_sound d.inner in record { counts_now = s.counts_now; only_now = s.only_now; own = s.own }

@@ -39,3 +39,5 @@ pub record IsTaken {T E : Type 0} (old new : MemSource) (result : Result T E) : 
   pub numbered : is_failing_take old ≡ true → IsErr result
   pub only : OnErr result (is_failing_take old ≡ true)
   pub fine : OnOk result (faults_of new ≡ faults_of old)
+  -- a take that failed is counted once
+  pub once : OnErr result (faults_of new ≡ raised (faults_of old))

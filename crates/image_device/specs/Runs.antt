@@ -1,7 +1,9 @@
 -- What a run of calls leaves.
-use Rattle.std.specs.Prelude.{ℕ, ◌≤◌, ◌≡◌, ◌⊎◌, Bool, false, List}
+use Rattle.std.specs.Prelude.{ℕ, ◌<◌, ◌≤◌, ◌≡◌, ◌⊎◌, Bool, false, List, ◌++◌, length, take, Result, OnOk, OnErr}
 use Rattle.image_device.specs.Image.{Image}
-use Rattle.image_device.specs.View.{View, IsLeftWithin}
+use Rattle.image_device.specs.View.{View, IsLeftWithin, IsLeftInPut}
+use Rattle.image_device.specs.Calls.{Puts}
+use Rattle.image_device.specs.Counts.{Rose}
 
 -- A crash at any moment since old leaves what has P.
 pub record LeavesOnly (old new : View) (P : Image → List ℕ → Type 0) : Type 0 where
@@ -21,3 +23,15 @@ pub record IsConfined (some : ℕ → Bool) (old new : View) : Type 0 where
 -- nothing is loose
 abbrev pub IsFirm : View → Type 0
 IsFirm v = (n : ℕ) → v.loose n ≡ false
+
+-- A text is put whole, or after a failure a shorter front of it, and the disk stays as it was.
+pub record PutsAll {T E : Type 0} (told : Type 0) (text : List ℕ) (old new : View) (result : Result T E) : Type 0 where
+  pub reads : told → new.reads ≡ old.reads
+  pub loose : told → new.loose ≡ old.loose
+  pub sent : told → OnOk result (new.sent ≡ old.sent ++ text)
+  pub part : told → OnErr result ((count : ℕ) × (count < length text) × (new.sent ≡ old.sent ++ take count text))
+  -- a crash at any moment leaves what a read gives, with a front of the text sent
+  pub any_moment : told → LeavesOnly old new (IsLeftInPut text old)
+  pub puts : Puts old new
+  pub faultless : OnOk result (new.put_faults ≡ old.put_faults)
+  pub cause : OnErr result (Rose old.put_faults new.put_faults)

@@ -9,7 +9,8 @@ ghost use Rattle.image_device.specs.Runs.{IsFirm};
 #[derive(Clone, Copy, Debug, PartialEq, Eq)]
 pub struct Failed;
 
-/// A disk of sectors of 512 bytes. A sector never written reads as zeros.
+/// A disk of sectors of 512 bytes. A sector never written reads as zeros. A call that answers Ok
+/// leaves the count of faults as it was, so that no failed call is tried again and forgotten.
 pub trait Device {
     /// Whether it tells its contents: a type tells or doesn't, and so it does after a call as before.
     ghost told: { Type 0 };
@@ -17,11 +18,13 @@ pub trait Device {
     /// What it is. All but the counts and the clock is said only where it is told.
     ghost view: { Self → View };
 
-    /// Reads a sector. `Failed` comes only where `faults` rose.
+    /// Reads a sector. `Failed` comes only where `faults` rose, and leaves `into` as it was.
     fn read(&mut self, sector: u32, into: &mut [u8; 512]) -> Result<(), Failed>
         ensures bytes { told → OnOk result (into.new ≡ (view self.old).reads sector) }
+        ensures kept { OnErr result (into.new ≡ into.old) }
         ensures rests { told → Rests (view self.old) (view self.new) }
         ensures uses { Uses 0 (view self.old) (view self.new) }
+        ensures faultless { OnOk result ((view self.new).faults ≡ (view self.old).faults) }
         ensures cause { OnErr result (Rose (view self.old).faults (view self.new).faults) };
 
     /// Writes a sector. Until the next sync a crash may leave any bytes in it, after a write that
@@ -31,6 +34,7 @@ pub trait Device {
         ensures loose { told → OnOk result ((view self.new).loose sector ≡ true) }
         ensures touches { told → Touches sector (view self.old) (view self.new) }
         ensures uses { Uses 1 (view self.old) (view self.new) }
+        ensures faultless { OnOk result ((view self.new).faults ≡ (view self.old).faults) }
         ensures cause { OnErr result (Rose (view self.old).faults (view self.new).faults) };
 
     /// Waits until all that was written is on the disk. `Failed` comes only where `faults` rose.
@@ -39,6 +43,7 @@ pub trait Device {
         ensures loose { told → OnErr result ((view self.new).loose ≡ (view self.old).loose) }
         ensures settles { told → Settles (view self.old) (view self.new) }
         ensures uses { Uses 0 (view self.old) (view self.new) }
+        ensures faultless { OnOk result ((view self.new).faults ≡ (view self.old).faults) }
         ensures cause { OnErr result (Rose (view self.old).faults (view self.new).faults) };
 
     /// What holds of it at each moment.
@@ -57,5 +62,6 @@ pub trait Port: Device {
         ensures appends { Self.told → Appends piece.now (Self.view self.old) (Self.view self.new) }
         ensures includes { Self.told → OnOk result (Includes (Self.view self.old) (Self.view self.new) (IsLeftInPut piece.now (Self.view self.old))) }
         ensures puts { Puts (Self.view self.old) (Self.view self.new) }
+        ensures faultless { OnOk result ((Self.view self.new).put_faults ≡ (Self.view self.old).put_faults) }
         ensures cause { OnErr result (Rose (Self.view self.old).put_faults (Self.view self.new).put_faults) };
 }

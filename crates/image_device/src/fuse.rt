@@ -85,7 +85,7 @@ impl Device for FuseStation {
     ghost use Rattle.image_device.specs.MemStation.{synced_reads};
     ghost use Rattle.image_device.specs.Calls.{Rests, Settles, Touches, Uses};
     ghost use Rattle.image_device.specs.Runs.{IsFirm};
-    ghost use Rattle.image_device.specs.Counts.{Rose};
+    ghost use Rattle.image_device.specs.Counts.{raised, Rose};
     ghost use Rattle.std.specs.Prelude.{◌≡◌, true, OnOk, OnErr};
 
     ghost told = { Unit {0} };
@@ -96,9 +96,12 @@ impl Device for FuseStation {
 
     fn read(&mut self, sector: u32, into: &mut [u8; 512]) -> Result<(), Failed>
         ensures bytes { OnOk result (into.new ≡ (fuse_view self.old).reads sector) }
+        ensures kept { OnErr result (into.new ≡ into.old) }
         ensures rests { Rests (fuse_view self.old) (fuse_view self.new) }
         ensures uses { Uses 0 (fuse_view self.old) (fuse_view self.new) }
+        ensures faultless { OnOk result ((fuse_view self.new).faults ≡ (fuse_view self.old).faults) }
         ensures cause { OnErr result (Rose (fuse_view self.old).faults (fuse_view self.new).faults) }
+        ensures once { OnErr result ((fuse_view self.new).faults ≡ raised (fuse_view self.old).faults) }
         ensures passed { IsPassed self.old self.new result }
         ensures synced { synced_reads (within self.new) ≡ synced_reads (within self.old) }
     {
@@ -114,7 +117,9 @@ impl Device for FuseStation {
         ensures loose { OnOk result ((fuse_view self.new).loose sector ≡ true) }
         ensures touches { Touches sector (fuse_view self.old) (fuse_view self.new) }
         ensures uses { Uses 1 (fuse_view self.old) (fuse_view self.new) }
+        ensures faultless { OnOk result ((fuse_view self.new).faults ≡ (fuse_view self.old).faults) }
         ensures cause { OnErr result (Rose (fuse_view self.old).faults (fuse_view self.new).faults) }
+        ensures once { OnErr result ((fuse_view self.new).faults ≡ raised (fuse_view self.old).faults) }
         ensures passed { IsPassed self.old self.new result }
         ensures synced { synced_reads (within self.new) ≡ synced_reads (within self.old) }
     {
@@ -130,7 +135,9 @@ impl Device for FuseStation {
         ensures loose { OnErr result ((fuse_view self.new).loose ≡ (fuse_view self.old).loose) }
         ensures settles { Settles (fuse_view self.old) (fuse_view self.new) }
         ensures uses { Uses 0 (fuse_view self.old) (fuse_view self.new) }
+        ensures faultless { OnOk result ((fuse_view self.new).faults ≡ (fuse_view self.old).faults) }
         ensures cause { OnErr result (Rose (fuse_view self.old).faults (fuse_view self.new).faults) }
+        ensures once { OnErr result ((fuse_view self.new).faults ≡ raised (fuse_view self.old).faults) }
         ensures passed { IsPassed self.old self.new result }
         ensures synced { OnOk result (synced_reads (within self.new) ≡ (fuse_view self.old).reads) }
         ensures same_synced { OnErr result (synced_reads (within self.new) ≡ synced_reads (within self.old)) }
@@ -148,7 +155,7 @@ impl Port for FuseStation {
     ghost use Rattle.image_device.specs.MemStation.{synced_reads};
     ghost use Rattle.image_device.specs.View.{IsLeftInPut};
     ghost use Rattle.image_device.specs.Calls.{Appends, Includes, Puts};
-    ghost use Rattle.image_device.specs.Counts.{Rose};
+    ghost use Rattle.image_device.specs.Counts.{raised, Rose};
     ghost use Rattle.std.specs.Prelude.{◌≡◌, ◌≤◌, ◌<◌, ◌++◌, ℕ, length, take, OnOk, OnErr, IfOk};
 
     fn put(&mut self, piece: &[u8]) -> Result<usize, Failed>
@@ -159,7 +166,9 @@ impl Port for FuseStation {
         ensures appends { Appends piece.now (fuse_view self.old) (fuse_view self.new) }
         ensures includes { OnOk result (Includes (fuse_view self.old) (fuse_view self.new) (IsLeftInPut piece.now (fuse_view self.old))) }
         ensures puts { Puts (fuse_view self.old) (fuse_view self.new) }
+        ensures faultless { OnOk result ((fuse_view self.new).put_faults ≡ (fuse_view self.old).put_faults) }
         ensures cause { OnErr result (Rose (fuse_view self.old).put_faults (fuse_view self.new).put_faults) }
+        ensures once { OnErr result ((fuse_view self.new).put_faults ≡ raised (fuse_view self.old).put_faults) }
         ensures passed { IsPassed self.old self.new result }
         ensures synced { synced_reads (within self.new) ≡ synced_reads (within self.old) }
         ensures all { IfOk result (λ count. count ≡ length piece.now) }

@@ -198,9 +198,12 @@ impl Device for MemStation {
 
     fn read(&mut self, sector: u32, into: &mut [u8; 512]) -> Result<(), Failed>
         ensures bytes { OnOk result (into.new ≡ (station_view self.old).reads sector) }
+        ensures kept { OnErr result (into.new ≡ into.old) }
         ensures rests { Rests (station_view self.old) (station_view self.new) }
         ensures uses { Uses 0 (station_view self.old) (station_view self.new) }
+        ensures faultless { OnOk result ((station_view self.new).faults ≡ (station_view self.old).faults) }
         ensures cause { OnErr result (Rose (station_view self.old).faults (station_view self.new).faults) }
+        ensures once { OnErr result ((station_view self.new).faults ≡ raised (station_view self.old).faults) }
         ensures called { IsCalled self.old self.new result }
         ensures synced { synced_reads self.new ≡ synced_reads self.old }
         ensures answers { is_failing self.old ≡ false → IsOk result }
@@ -220,7 +223,9 @@ impl Device for MemStation {
         ensures loose { OnOk result ((station_view self.new).loose sector ≡ true) }
         ensures touches { Touches sector (station_view self.old) (station_view self.new) }
         ensures uses { Uses 1 (station_view self.old) (station_view self.new) }
+        ensures faultless { OnOk result ((station_view self.new).faults ≡ (station_view self.old).faults) }
         ensures cause { OnErr result (Rose (station_view self.old).faults (station_view self.new).faults) }
+        ensures once { OnErr result ((station_view self.new).faults ≡ raised (station_view self.old).faults) }
         ensures called { IsCalled self.old self.new result }
         ensures synced { synced_reads self.new ≡ synced_reads self.old }
         ensures writes { (station_view self.new).writes ≡ raised (station_view self.old).writes }
@@ -252,7 +257,9 @@ impl Device for MemStation {
         ensures loose { OnErr result ((station_view self.new).loose ≡ (station_view self.old).loose) }
         ensures settles { Settles (station_view self.old) (station_view self.new) }
         ensures uses { Uses 0 (station_view self.old) (station_view self.new) }
+        ensures faultless { OnOk result ((station_view self.new).faults ≡ (station_view self.old).faults) }
         ensures cause { OnErr result (Rose (station_view self.old).faults (station_view self.new).faults) }
+        ensures once { OnErr result ((station_view self.new).faults ≡ raised (station_view self.old).faults) }
         ensures called { IsCalled self.old self.new result }
         ensures synced { OnOk result (synced_reads self.new ≡ (station_view self.old).reads) }
         ensures same_synced { OnErr result (synced_reads self.new ≡ synced_reads self.old) }
@@ -275,7 +282,7 @@ impl Port for MemStation {
     ghost use Rattle.image_device.specs.MemStation.{station_view, is_failing, synced_reads, IsCalled};
     ghost use Rattle.image_device.specs.View.{IsLeftInPut};
     ghost use Rattle.image_device.specs.Calls.{Appends, Includes, Puts};
-    ghost use Rattle.image_device.specs.Counts.{Rose};
+    ghost use Rattle.image_device.specs.Counts.{raised, Rose};
     ghost use Rattle.std.specs.Prelude.{◌≡◌, ◌≤◌, ◌<◌, ◌++◌, ℕ, length, take, OnOk, OnErr, IfOk};
 
     fn put(&mut self, piece: &[u8]) -> Result<usize, Failed>
@@ -286,7 +293,9 @@ impl Port for MemStation {
         ensures appends { Appends piece.now (station_view self.old) (station_view self.new) }
         ensures includes { OnOk result (Includes (station_view self.old) (station_view self.new) (IsLeftInPut piece.now (station_view self.old))) }
         ensures puts { Puts (station_view self.old) (station_view self.new) }
+        ensures faultless { OnOk result ((station_view self.new).put_faults ≡ (station_view self.old).put_faults) }
         ensures cause { OnErr result (Rose (station_view self.old).put_faults (station_view self.new).put_faults) }
+        ensures once { OnErr result ((station_view self.new).put_faults ≡ raised (station_view self.old).put_faults) }
         ensures called { IsCalled self.old self.new result }
         ensures synced { synced_reads self.new ≡ synced_reads self.old }
         ensures all { IfOk result (λ count. count ≡ length piece.now) }

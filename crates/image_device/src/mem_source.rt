@@ -44,7 +44,7 @@ impl MemSource {
 impl Source for MemSource {
     ghost use Rattle.image_device.specs.MemSource.{cut_of, faults_of, front_of, rest_of, IsTaken};
     ghost use Rattle.image_device.specs.Counts.{Rose};
-    ghost use Rattle.std.specs.Prelude.{◌≡◌, ◌≤◌, ◌++◌, ◌↔◌, [], length, take, IfOk, OnErr};
+    ghost use Rattle.std.specs.Prelude.{◌≡◌, ◌≤◌, ◌++◌, ◌↔◌, [], length, take, drop, min, IfOk, OnOk, OnErr};
 
     ghost told = { Unit {0} };
 
@@ -65,9 +65,13 @@ impl Source for MemSource {
         ensures found_end { IfOk result (λ count. ((count ≡ 0) → rest_of self.new ≡ []) × (rest_of self.old ≡ [] → count ≡ 0)) }
         ensures stays { rest_of self.old ≡ [] → rest_of self.new ≡ [] }
         ensures err { OnErr result ((rest_of self.new ≡ rest_of self.old) × (front_of self.new ≡ front_of self.old)) }
+        ensures behind { IfOk result (λ count. drop count into.new ≡ drop count into.old) }
+        ensures kept { OnErr result (into.new ≡ into.old) }
         ensures later { self.old.faults ≤ self.new.faults }
+        ensures faultless { OnOk result (self.new.faults ≡ self.old.faults) }
         ensures cause { OnErr result (Rose self.old.faults self.new.faults) }
         ensures cut { IfOk result (λ count. count ≤ cut_of self.old) }
+        ensures exact { IfOk result (λ count. count ≡ min (min (length (rest_of self.old)) (cut_of self.old)) (length into.old)) }
         ensures called { IsTaken self.old self.new result }
     {
         let number = self.calls;
@@ -84,11 +88,12 @@ impl Source for MemSource {
     }
 }
 
-/// Copies some bytes to the front.
+/// Copies some bytes to the front, and leaves the rest as it was.
 fn copy_some(bytes: &[u8], at: usize, into: &mut [u8], count: usize)
     requires inside { at + count ≤ length bytes.now }
     requires room { count ≤ length into.old }
-    ensures { take count into.new ≡ take count (drop at bytes.now) }
+    ensures copied { take count into.new ≡ take count (drop at bytes.now) }
+    ensures behind { drop count into.new ≡ drop count into.old }
 {
     into[..count].copy_from_slice(&bytes[at..at + count]);
 }

@@ -1,5 +1,5 @@
 // Where the program's input comes from.
-ghost use Rattle.std.specs.Prelude.{◌≡◌, ◌≤◌, ◌<◌, ◌++◌, ◌↔◌, [], ℕ, List, length, take, OnErr, IfOk};
+ghost use Rattle.std.specs.Prelude.{◌≡◌, ◌≤◌, ◌<◌, ◌++◌, ◌↔◌, [], ℕ, List, length, take, drop, OnOk, OnErr, IfOk};
 ghost use Rattle.image_device.specs.Counts.{Rose};
 
 use crate::Failed;
@@ -22,7 +22,8 @@ pub trait Source {
     ghost faults: { Self → ℕ };
 
     /// Takes the next bytes into the front of `into`, and gives how many. It is 0 exactly at the
-    /// end, which stays. `Failed` comes only where `faults` rose, and takes nothing.
+    /// end, which stays. The room behind them stays as it was. `Failed` comes only where `faults`
+    /// rose, takes nothing and leaves all of `into` as it was. Ok leaves `faults` as it was.
     fn take(&mut self, into: &mut [u8]) -> Result<usize, Failed>
         requires { 0 < length into.old }
         ensures room { IfOk result (λ count. count ≤ length into.old) }
@@ -32,6 +33,9 @@ pub trait Source {
         ensures found_end { IfOk result (λ count. ((count ≡ 0) → ended self.new) × (ended self.old → count ≡ 0)) }
         ensures stays { ended self.old → ended self.new }
         ensures err { told → OnErr result ((left_bytes self.new ≡ left_bytes self.old) × (taken self.new ≡ taken self.old)) }
+        ensures behind { IfOk result (λ count. drop count into.new ≡ drop count into.old) }
+        ensures kept { OnErr result (into.new ≡ into.old) }
         ensures later { faults self.old ≤ faults self.new }
+        ensures faultless { OnOk result (faults self.new ≡ faults self.old) }
         ensures cause { OnErr result (Rose (faults self.old) (faults self.new)) };
 }

@@ -13,6 +13,7 @@ pub fn write_through<D: Device>(dev: &mut D, sector: u32, from: &[u8; 512]) -> R
     ensures firm { D.told → OnOk result (IsFirm (D.view dev.new)) }
     ensures confined { D.told → IsConfined (λ n. n == sector) (D.view dev.old) (D.view dev.new) }
     ensures uses { Uses 1 (D.view dev.old) (D.view dev.new) }
+    ensures faultless { OnOk result ((D.view dev.new).faults ≡ (D.view dev.old).faults) }
     ensures cause { OnErr result (Rose (D.view dev.old).faults (D.view dev.new).faults) }
 {
     dev.write(sector, from)?;
@@ -28,6 +29,7 @@ pub fn write_run<D: Device>(dev: &mut D, first: u32, bodies: &[[u8; 512]]) -> Re
     ensures firm { D.told → OnOk result (IsFirm (D.view dev.new)) }
     ensures confined { D.told → IsConfined (λ n. nat_le first n && nat_lt n (first + length bodies.now)) (D.view dev.old) (D.view dev.new) }
     ensures uses { Uses (length bodies.now) (D.view dev.old) (D.view dev.new) }
+    ensures faultless { OnOk result ((D.view dev.new).faults ≡ (D.view dev.old).faults) }
     ensures cause { OnErr result (Rose (D.view dev.old).faults (D.view dev.new).faults) }
 {
     let mut sector = first;

@@ -5,6 +5,9 @@ ghost use Rattle.std.specs.Prelude.{ℕ, List, []};
 use image_device::{Failed, Source};
 use std::io::{Read, Stdin};
 
+/// The most bytes that one take asks for.
+const PIECE_MAX: usize = 4_096;
+
 /// Standard input. It tells nothing of its bytes: what a system gives, no clause can say.
 #[derive(Drop)]
 pub struct InputSource {
@@ -42,8 +45,13 @@ impl Source for InputSource {
         if self.ended {
             return Ok(0);
         }
-        match self.input.read(into) {
+
+        // A read may leave anything in all of its room, so it gets a room of its own.
+        let mut piece = [0u8; PIECE_MAX];
+        let most = into.len().min(PIECE_MAX);
+        match self.input.read(&mut piece[..most]) {
             Ok(count) => {
+                into[..count].copy_from_slice(&piece[..count]);
                 self.ended = count == 0;
                 Ok(count)
             }

@@ -1,13 +1,10 @@
-use Rattle.std.proofs.Common.{◌++◌, ◌∙◌, take, drop, arith, ap, sym, length-drop}
-use Rattle.std.proofs.lemmas.List.{take_all}
+use Rattle.std.proofs.Common.{[], ◌++◌, ◌≡◌, ◌∙◌, ℕ, take, drop, arith, rules, ap, sym, subst, length-drop}
+use Rattle.std.proofs.lemmas.List.{append-nil, nil_from_length, take_all}
+use Rattle.std.proofs.lemmas.Bool.Decides.{nat_tests}
 use Rattle.image_device.proofs.PutAll.{puts_on, sent_more, split_more, part_more, put_more}
 use Rattle.image_device.proofs.Outcomes.{on_err}
+use Rattle.image_device.specs.Counts.{Rose}
 use Rattle.image_device.proofs.put.put_all.Goals as goal
-
-pub returns-in_err-count-clause-any_moment : goal.returns-in_err-count-clause-any_moment
-returns-in_err-count-clause-any_moment g c told =
-    let i = c.loop-rest.invariant in
-    puts_on _ (g.P.Device.view c.loop-rest.port) _ i.done c.loop-rest.rest.now c.args.piece.now i.split (i.sent told) (i.reads told) (i.loose told) (i.leaves told) (c.put.ensures.appends told)
 
 pub loop-rest-preserved : goal.loop-rest-preserved
 loop-rest-preserved g c =
@@ -24,10 +21,39 @@ loop-rest-preserved g c =
       loose = λ told. (c.put.ensures.appends told).loose ∙ i.loose told;
       leaves = λ told. puts_on v0 v v' i.done c.loop-rest.rest.now c.args.piece.now i.split (i.sent told) (i.reads told) (i.loose told) (i.leaves told) (c.put.ensures.appends told);
       puts = put_more _ _ _ i.puts c.put.ensures.puts;
+      faultless = c.in_ok-count.ensures.faultless ∙ i.faultless;
     }
 
-pub returns-in_err-count-clause-part : goal.returns-in_err-count-clause-part
-returns-in_err-count-clause-part g c told =
+pub returns-in_err-count : goal.returns-in_err-count
+returns-in_err-count g c =
     let i = c.loop-rest.invariant in
-    let failed = c.in_err-count.ensures.part told in
-    on_err _ (part_more (g.P.Device.view c.args.port.now) (g.P.Device.view c.loop-rest.port) (g.P.Device.view c.put.new.self) i.done c.loop-rest.rest.now c.args.piece.now i.split (i.sent told) (i.reads told) (i.loose told) failed.0 failed.1 failed.2)
+    let v0 = g.P.Device.view c.args.port.now in
+    let v = g.P.Device.view c.loop-rest.port in
+    let v' = g.P.Device.view c.put.new.self in
+    let failed = c.in_err-count.ensures in
+    record {
+      reads = λ told. (c.put.ensures.appends told).reads ∙ i.reads told;
+      loose = λ told. (c.put.ensures.appends told).loose ∙ i.loose told;
+      sent = search rules;
+      part = λ told. on_err _ (part_more v0 v v' i.done c.loop-rest.rest.now c.args.piece.now i.split (i.sent told) (i.reads told) (i.loose told) (failed.part told).0 (failed.part told).1 (failed.part told).2);
+      any_moment = λ told. puts_on v0 v v' i.done c.loop-rest.rest.now c.args.piece.now i.split (i.sent told) (i.reads told) (i.loose told) (i.leaves told) (c.put.ensures.appends told);
+      puts = put_more _ _ _ i.puts c.put.ensures.puts;
+      faultless = search rules;
+      cause = on_err _ (subst (λ (k : ℕ). Rose k v'.put_faults) i.faultless failed.cause);
+    }
+
+pub returns : goal.returns
+returns g c =
+    let i = c.loop-rest.invariant in
+    let none : c.loop-rest.rest.now ≡ [] = nil_from_length c.loop-rest.rest.now (grind (arith, nat_tests, c.is_empty.ensures, c.loop-rest-test.false)) in
+    let all : c.args.piece.now ≡ i.done = i.split ∙ ap (λ l. i.done ++ l) none ∙ append-nil i.done in
+    record {
+      reads = i.reads;
+      loose = i.loose;
+      sent = λ told. i.sent told ∙ ap (λ l. (g.P.Device.view c.args.port.now).sent ++ l) (sym all);
+      part = λ told. tt;
+      any_moment = i.leaves;
+      puts = i.puts;
+      faultless = i.faultless;
+      cause = tt;
+    }

@@ -16,6 +16,7 @@ invariant-loop-rest g l =
       loose : told → (view l.port).loose ≡ (view l.fn.port).loose;
       leaves : told → LeavesOnly (view l.fn.port) (view l.port) (IsLeftInPut l.fn.piece (view l.fn.port));
       puts : Puts (view l.fn.port) (view l.port);
+      faultless : (view l.port).put_faults ≡ (view l.fn.port).put_faults;
     }
 
 abbrev pub decreases-loop-rest : goal.decreases-loop-rest

@@ -11,4 +11,5 @@ invariant-loop-body g l =
       written : g.D.Device.told → (k : ℕ) → k < l.body-index → (view l.dev).reads (l.first + k) ≡ get_or l.bodies k [];
       confined : g.D.Device.told → IsConfined (λ n. nat_le l.first n && nat_lt n (l.first + length l.bodies)) (view l.fn.dev) (view l.dev);
       uses : Uses l.body-index (view l.fn.dev) (view l.dev);
+      faultless : (view l.dev).faults ≡ (view l.fn.dev).faults;
     }
