@@ -14,8 +14,6 @@ mod image_text;
 mod plain_core;
 mod serve;
 mod status;
-#[cfg(test)]
-mod tests;
 mod top;
 mod words;
 
