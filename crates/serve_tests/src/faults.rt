@@ -49,11 +49,7 @@ pub fn one_byte_puts(rt: &impl Abort, alloc: Global, book: &PlaceBook) -> Result
 }
 
 /// Each take gives one line. A source that looks finds, at each take, that all lines before it are answered.
-pub fn replies_before_takes(
-    rt: &impl Abort,
-    alloc: Global,
-    book: &PlaceBook,
-) -> Result<(), Fail> {
+pub fn replies_before_takes(rt: &impl Abort, alloc: Global, book: &PlaceBook) -> Result<(), Fail> {
     let sent = Cell::new(0);
     let input = spelled(alloc, "open 1/open 2/free  /open 1/")?;
     let mut source = Looking::new(MemSource::new(input, 7, Vec::new(alloc)), &sent);

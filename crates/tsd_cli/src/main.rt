@@ -15,9 +15,8 @@ mod tests;
 
 use input::InputSource;
 use run::{run, tell};
-use std::env;
-use std::io;
 use std::process::ExitCode;
+use std::{env, io};
 use tsd_serve::Status;
 
 fn main(rt: HostRuntime) -> ExitCode {

@@ -10,14 +10,15 @@ use std::test::Fail;
 use tsd_serve::Status;
 
 /// What a run gives.
-struct Told {
+#[derive(Drop)]
+struct Ended {
     status: Status,
     output: Vec<u8>,
     errors: Vec<u8>,
 }
 
 /// A run with these words, parted by spaces, and this input. The take of this number fails.
-fn told(alloc: Global, text: &str, input: &str, failing: u64) -> Result<Told, Fail> {
+fn ran(alloc: Global, text: &str, input: &str, failing: u64) -> Result<Ended, Fail> {
     let mut words = Vec::new(alloc);
     for word in text.split(' ') {
         words.push(String::from_str(alloc, word)?)?;
@@ -27,7 +28,7 @@ fn told(alloc: Global, text: &str, input: &str, failing: u64) -> Result<Told, Fa
     let mut output = Vec::new(alloc);
     let mut errors = Vec::new(alloc);
     let status = run(alloc, words, &mut source, &mut output, &mut errors);
-    Ok(Told {
+    Ok(Ended {
         status,
         output,
         errors,
@@ -45,20 +46,48 @@ const FRESH: &str =
 const RUNS: [(&str, &str, u64, Status, &str, &str); 7] = [
     ("--help", "free\n", NEVER, Status::Done, HELP, ""),
     ("--version", "free\n", NEVER, Status::Done, VERSION, ""),
-    (FRESH, "free\nfree", NEVER, Status::Done, "free 7\nfree 7\n", ""),
-    (FRESH, "free\nfree", 1, Status::SourceFault, "free 7\n", "tsd: input fault\n"),
+    (
+        FRESH,
+        "free\nfree",
+        NEVER,
+        Status::Done,
+        "free 7\nfree 7\n",
+        "",
+    ),
+    (
+        FRESH,
+        "free\nfree",
+        1,
+        Status::SourceFault,
+        "free 7\n",
+        "tsd: input fault\n",
+    ),
     ("", "free\n", NEVER, Status::Usage, "", "tsd: usage\n"),
-    ("- fresh 8", "free\n", NEVER, Status::Usage, "", "tsd: usage\n"),
-    ("disk.img run", "free\n", NEVER, Status::Usage, "", "tsd: usage\n"),
+    (
+        "- fresh 8",
+        "free\n",
+        NEVER,
+        Status::Usage,
+        "",
+        "tsd: usage\n",
+    ),
+    (
+        "disk.img run",
+        "free\n",
+        NEVER,
+        Status::Usage,
+        "",
+        "tsd: usage\n",
+    ),
 ];
 
 #[test]
 fn runs(rt: HostRuntime) -> Result<(), Fail> {
     for (words, input, failing, status, output, errors) in RUNS {
-        let told = told(rt.alloc(), words, input, failing)?;
-        assert_eq!(rt; told.status, status, "{words}");
-        assert_eq!(rt; told.output.as_slice(), output.as_bytes(), "{words}");
-        assert_eq!(rt; told.errors.as_slice(), errors.as_bytes(), "{words}");
+        let end = ran(rt.alloc(), words, input, failing)?;
+        assert_eq!(rt; end.status, status, "{words}");
+        assert_eq!(rt; end.output.as_slice(), output.as_bytes(), "{words}");
+        assert_eq!(rt; end.errors.as_slice(), errors.as_bytes(), "{words}");
     }
     Ok(())
 }
