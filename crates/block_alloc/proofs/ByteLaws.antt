@@ -48,18 +48,34 @@ bit-bitmap_byte live i k h =
 byte-lt : (live : List Bool) (i : ℕ) → bitmap_byte live i < 2 ^ 8
 byte-lt live i = number_of-lt (take 8 (drop (8 * i) live)) 8 (let e = length-take 8 (drop (8 * i) live) in omega (arith, e))
 
+-- a byte with these bits is that of the bitmap
+byte_by_bits : (live : List Bool) (byte i : ℕ) → byte < 256 → ((k : ℕ) → k < 8 → (bit_at byte k == 1) ≡ slice_index_or live (8 * i + k) false) → byte ≡ bitmap_byte live i
+byte_by_bits live byte i fits bits =
+    same_from_bits_below 8 byte (bitmap_byte live i) fits (byte-lt live i)
+    (λ k h. same_bit (bit_at byte k) (bit_at (bitmap_byte live i) k) (bit_at-lt byte k) (bit_at-lt (bitmap_byte live i) k) (bits k h ∙ sym (bit-bitmap_byte live i k h)))
+
+-- a bit by its byte and its place in it
+bit_in_byte : (bytes : List ℕ) (i k : ℕ) → k < 8 → (bit_at (slice_index bytes i) k == 1) ≡ bit_in bytes (8 * i + k)
+bit_in_byte bytes i k h =
+    let at : i ≡ (8 * i + k) / 8 = omega arith in
+    let bit : k ≡ (8 * i + k) % 8 = omega arith in
+    ap (λ j. bit_at (slice_index bytes j) k == 1) at ∙ ap (λ j. bit_at (slice_index bytes ((8 * i + k) / 8)) j == 1) bit
+
+-- a sector with these bits is that of the bitmap
+pub sector_by_bits : (live : List Bool) (sector : List ℕ) (part : ℕ) → length sector ≡ 512 → ((i : ℕ) → slice_index sector i < 256)
+    → ((b : ℕ) → b < 4096 → bit_in sector b ≡ slice_index_or live (4096 * part + b) false) → sector ≡ bitmap_sector_bytes live part
+sector_by_bits live sector part size fits bits =
+    ext_get_or 0 sector (bitmap_sector_bytes live part) (size ∙ sym (length-map-range_with_len (bitmap_byte live) (512 * part) 512))
+    (λ i h. let g : i < 512 = omega arith in
+    byte_by_bits live (slice_index sector i) (512 * part + i) (fits i)
+    (λ k f. let at : 4096 * part + (8 * i + k) ≡ 8 * (512 * part + i) + k = omega arith in
+    bit_in_byte sector i k f ∙ (bits (8 * i + k) (omega arith) ∙ ap (λ b. slice_index_or live b false) at))
+    ∙ sym (get_or-map-range_with_len (bitmap_byte live) (512 * part) 512 i (512 * part + i) 0 g refl))
+
 -- so a byte that is kept is that of the bits that are kept
 pub byte_is : (bytes : List ℕ) (len i : ℕ) → slice_index bytes i < 256 → ((b : ℕ) → len ≤ b → bit_in bytes b ≡ false) → slice_index bytes i ≡ bitmap_byte (bits_of bytes len) i
 byte_is bytes len i fits ends =
-    same_from_bits_below 8 (slice_index bytes i) (bitmap_byte (bits_of bytes len) i) fits (byte-lt (bits_of bytes len) i)
-    (λ k h. same_bit (bit_at (slice_index bytes i) k) (bit_at (bitmap_byte (bits_of bytes len) i) k) (bit_at-lt (slice_index bytes i) k) (bit_at-lt (bitmap_byte (bits_of bytes len) i) k)
-    (own k h ∙ sym (bit-bitmap_byte (bits_of bytes len) i k h ∙ each-bits_of bytes len (8 * i + k) ends)))
-  where
-    own : (k : ℕ) → k < 8 → (bit_at (slice_index bytes i) k == 1) ≡ bit_in bytes (8 * i + k)
-    own k h =
-        let at : i ≡ (8 * i + k) / 8 = omega arith in
-        let bit : k ≡ (8 * i + k) % 8 = omega arith in
-        ap (λ j. bit_at (slice_index bytes j) k == 1) at ∙ ap (λ j. bit_at (slice_index bytes ((8 * i + k) / 8)) j == 1) bit
+    byte_by_bits (bits_of bytes len) (slice_index bytes i) i fits (λ k h. bit_in_byte bytes i k h ∙ sym (each-bits_of bytes len (8 * i + k) ends))
 
 -- and a sector of bytes that are kept is the bitmap's
 pub sector_is : (bytes sector : List ℕ) (len first : ℕ) → length sector ≡ 512 → ((i : ℕ) → i < 512 → slice_index sector i ≡ slice_index bytes (512 * first + i))

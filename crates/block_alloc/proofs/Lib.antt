@@ -6,3 +6,4 @@ pub mod RunLaws
 pub mod FreeLaws
 pub mod WorldLaws
 pub mod ChosenLaws
+pub mod FreshLaws

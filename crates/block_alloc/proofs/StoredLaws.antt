@@ -17,7 +17,7 @@ use Rattle.block_alloc.proofs.BitLaws.{get-bits_of}
 use Rattle.block_alloc.proofs.ByteLaws.{bit-bitmap_byte}
 
 -- the block's bit in an image whose sector of that bit has these bytes
-marked_by : (x : Image) (g : Geometry) (b : ℕ) (bytes : List ℕ) → x (sector_of g b) ≡ bytes → is_marked x g b ≡ (bit_at (slice_index bytes (b / 8 % 512)) (b % 8) == 1)
+pub marked_by : (x : Image) (g : Geometry) (b : ℕ) (bytes : List ℕ) → x (sector_of g b) ≡ bytes → is_marked x g b ≡ (bit_at (slice_index bytes (b / 8 % 512)) (b % 8) == 1)
 marked_by x g b bytes e = ap (λ s. bit_at (slice_index s (b / 8 % 512)) (b % 8) == 1) e
 
 put_here : (sector n : ℕ) (bytes : List ℕ) (x : Image) → n ≡ sector → put_at sector bytes x n ≡ bytes
@@ -27,7 +27,7 @@ put_elsewhere : (sector n : ℕ) (bytes : List ℕ) (x : Image) → n ≢ sector
 put_elsewhere sector n bytes x ne = ap (λ t. cond t bytes (x n)) (ne_eqb n sector ne)
 
 -- a bit in its sector of the bitmap
-bit_here : (live : List Bool) (first b : ℕ) → b / 8 / 512 ≡ first → (bit_at (slice_index (bitmap_sector_bytes live first) (b / 8 % 512)) (b % 8) == 1) ≡ is_live live b
+pub bit_here : (live : List Bool) (first b : ℕ) → b / 8 / 512 ≡ first → (bit_at (slice_index (bitmap_sector_bytes live first) (b / 8 % 512)) (b % 8) == 1) ≡ is_live live b
 bit_here live first b e =
     let within : b / 8 % 512 < 512 = omega arith in
     let low : b % 8 < 8 = omega arith in

@@ -4,3 +4,4 @@ pub mod Bytes
 pub mod Stored
 pub mod Least
 pub mod Worlds
+pub mod Fresh

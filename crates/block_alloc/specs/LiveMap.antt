@@ -9,7 +9,7 @@ pub record LiveMap : Type 0 where
   pub live : List Bool
 
 -- a lawful geometry, and a place for each of its blocks
-pub record IsSized (m : LiveMap) : Type 0 where
+pub record IsTable (m : LiveMap) : Type 0 where
   pub lawful : IsLawful m.geometry
   pub each_block : length m.live ≡ m.geometry.blocks
 

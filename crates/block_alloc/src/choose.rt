@@ -3,7 +3,7 @@
 ghost use Rattle.std.specs.Prelude.{◌≡◌, ◌+◌, ◌≤◌, ◌<◌, Some, not, length, IfOk, IfErr, OnOk};
 ghost use Rattle.tsd_model.specs.Rank.{rank_of};
 ghost use Rattle.tsd_model.specs.Verdict.{is_empty};
-ghost use Rattle.block_alloc.specs.LiveMap.{IsSized, free_count};
+ghost use Rattle.block_alloc.specs.LiveMap.{IsTable, free_count};
 ghost use Rattle.block_alloc.specs.Least.{least_of};
 ghost use Rattle.block_alloc.specs.Choosing.{free_blocks, chosen, runs, chosen_run, IsRow, IsShort, IsRunRefusal};
 
@@ -144,7 +144,7 @@ impl LiveMap {
 
     /// How many free blocks stand in a row from a block on, of which so many stand behind it.
     fn row_from(&self, block: u32, behind: u32) -> u32
-        requires sized { IsSized self.now }
+        requires table { IsTable self.now }
         requires block { block < self.now.geometry.blocks }
         requires behind { behind + block < self.now.geometry.blocks }
         ensures row { IsRow self.now.live (block + 1) behind → IsRow self.now.live block result }

@@ -14,17 +14,17 @@ mod bits;
 mod choose;
 mod fault;
 mod free;
+mod fresh;
 mod least;
 mod map;
 mod patches;
 mod sectors;
-#[cfg(test)]
-mod tests;
 mod worlds;
 
 pub use choose::{RunRefusal, Short};
 pub use fault::LoadFault;
 pub use free::choices_are_free;
+pub use fresh::{fresh_sector, written_sectors_have_the_bits};
 pub use map::LiveMap;
 pub use patches::patches_keep_the_bitmap;
 pub use worlds::choices_are_the_worlds;

@@ -6,9 +6,9 @@ ghost use Rattle.image_device.specs.Counts.{Rose};
 ghost use Rattle.image_device.specs.Image.{Image, put_at};
 ghost use Rattle.image_layout.specs.Areas.{bitmap_start, slots_start};
 ghost use Rattle.tsd_model.specs.Geometry.{IsLawful};
-ghost use Rattle.block_alloc.specs.LiveMap.{IsSized, is_live, free_count};
+ghost use Rattle.block_alloc.specs.LiveMap.{IsTable, is_live, free_count};
 ghost use Rattle.block_alloc.specs.Bytes.{bitmap_sector_bytes};
-ghost use Rattle.block_alloc.specs.Stored.{IsStoredAt, IsStored, sector_of};
+ghost use Rattle.block_alloc.specs.Stored.{IsStoredAt, IsStored, per_sector, sector_of};
 
 use crate::bits::{bit_in, count_zeros, cut_to, put_bit, sector_from};
 use crate::fault::LoadFault;
@@ -20,8 +20,10 @@ use std::alloc::Global;
 use std::marker::Model;
 use tsd_model::Geometry;
 
-/// The blocks of a sector of the bitmap.
-const SECTOR_BLOCKS: u32 = 4096;
+/// How many bits a sector of the bitmap has: one a block.
+pub(crate) const PER_SECTOR: u32 = 4096;
+
+const _: () = prove!(PER_SECTOR == 4096);
 
 /// Which blocks are live and which are free.
 #[derive(Drop)]
@@ -54,14 +56,14 @@ impl LiveMap {
     ) -> Result<LiveMap, LoadFault>
         requires { IsLawful geometry.now }
         ensures geometry { IfOk result (λ m. m.geometry ≡ geometry.now) }
-        ensures sized { IfOk result (λ m. IsSized m) }
+        ensures table { IfOk result IsTable }
         ensures stored { D.told → IfOk result (λ m. IsStored m.live geometry.now (D.view dev.old).reads) }
         ensures rests { D.told → Rests (D.view dev.old) (D.view dev.new) }
         ensures uses { Uses 0 (D.view dev.old) (D.view dev.new) }
         ensures cause { IsErrOf result LoadFault.Device → Rose (D.view dev.old).faults (D.view dev.new).faults }
     {
         let layout = Layout::of(geometry);
-        let sectors = geometry.blocks.div_ceil(SECTOR_BLOCKS);
+        let sectors = geometry.blocks.div_ceil(PER_SECTOR);
         let mut bytes = read_sectors(alloc, dev, layout.bitmap_start(), sectors)?;
         cut_to(&mut bytes, geometry.blocks);
         let free = count_zeros(&bytes, geometry.blocks);
@@ -75,7 +77,7 @@ impl LiveMap {
     /// How large the disk is.
     pub fn geometry(&self) -> Geometry
         ensures value { result ≡ self.now.geometry }
-        ensures sized { IsSized self.now }
+        ensures table { IsTable self.now }
     {
         self.geometry
     }
@@ -122,7 +124,7 @@ impl LiveMap {
         requires { block < self.now.geometry.blocks }
         ensures sector { result.sector ≡ sector_of self.now.geometry block }
         ensures inside { (bitmap_start self.now.geometry ≤ result.sector) × (result.sector < slots_start self.now.geometry) }
-        ensures bytes { result.bytes ≡ bitmap_sector_bytes self.now.live (block / 4096) }
+        ensures bytes { result.bytes ≡ bitmap_sector_bytes self.now.live (block / per_sector) }
 
         // The bits of all blocks that have theirs in this sector are right, whatever the others are.
         ensures here { (x : Image) (b : ℕ) → b < self.now.geometry.blocks → sector_of self.now.geometry b ≡ result.sector → IsStoredAt self.now.live self.now.geometry (put_at result.sector result.bytes x) b }
@@ -130,7 +132,7 @@ impl LiveMap {
         // So where those of all other blocks were right, all are.
         ensures stored { (x : Image) → ((b : ℕ) → b < self.now.geometry.blocks → sector_of self.now.geometry b ≢ result.sector → IsStoredAt self.now.live self.now.geometry x b) → IsStored self.now.live self.now.geometry (put_at result.sector result.bytes x) }
     {
-        let first = SECTOR_BYTES * (block / SECTOR_BLOCKS) as usize;
+        let first = SECTOR_BYTES * (block / PER_SECTOR) as usize;
         Patch {
             sector: Layout::of(&self.geometry).bit_place(block).sector,
             bytes: sector_from(&self.bytes, first),

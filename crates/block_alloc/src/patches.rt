@@ -8,15 +8,15 @@ ghost use Rattle.image_layout.specs.Image.{is_marked};
 ghost use Rattle.tsd_model.specs.declared.geometry.Geometry.{Geometry};
 ghost use Rattle.block_alloc.specs.Bytes.{bitmap_sector_bytes};
 ghost use Rattle.block_alloc.specs.LiveMap.{is_live};
-ghost use Rattle.block_alloc.specs.Stored.{IsStored, sector_of};
+ghost use Rattle.block_alloc.specs.Stored.{IsStored, per_sector, sector_of};
 
 /// Where an image's bitmap says what a map says, it does so again after a change with its patch: after one block's, and
 /// after many blocks' in many sectors, of which each has the bytes that the map gives it in the end.
 pub fn patches_keep_the_bitmap()
-    ensures one { (live : List Bool) (g : Geometry) (x : Image) (b : ℕ) (bit : Bool) → IsStored live g x → IsStored (slice_set live b bit) g (put_at (sector_of g b) (bitmap_sector_bytes (slice_set live b bit) (b / 4096)) x) }
+    ensures one { (live : List Bool) (g : Geometry) (x : Image) (b : ℕ) (bit : Bool) → IsStored live g x → IsStored (slice_set live b bit) g (put_at (sector_of g b) (bitmap_sector_bytes (slice_set live b bit) (b / per_sector)) x) }
 
     // Each block's sector is patched, or it is as before and the block didn't change.
-    ensures many { (live now : List Bool) (g : Geometry) (x y : Image) → IsStored live g x → ((b : ℕ) → b < g.blocks → (y (sector_of g b) ≡ bitmap_sector_bytes now (b / 4096)) ⊎ ((y (sector_of g b) ≡ x (sector_of g b)) × (is_live now b ≡ is_live live b))) → IsStored now g y }
+    ensures many { (live now : List Bool) (g : Geometry) (x y : Image) → IsStored live g x → ((b : ℕ) → b < g.blocks → (y (sector_of g b) ≡ bitmap_sector_bytes now (b / per_sector)) ⊎ ((y (sector_of g b) ≡ x (sector_of g b)) × (is_live now b ≡ is_live live b))) → IsStored now g y }
 
     // An image has the bits of one map alone, and the bitmap's sectors decide which.
     ensures one_map { (live : List Bool) (g : Geometry) (x : Image) → length live ≡ g.blocks → IsStored live g x → live ≡ map (is_marked x g) (range_with_len 0 g.blocks) }

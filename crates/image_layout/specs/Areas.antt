@@ -38,3 +38,10 @@ data_start g = slots_start g + div_ceil (8 * g.slots) 512
 -- the sectors of the whole image, which ends with the blocks' data
 abbrev pub total : Geometry → ℕ
 total g = data_start g + g.sectors * g.blocks
+
+-- ---- the largest disk, whose image is the longest
+abbrev pub largest : Geometry
+largest = record { sectors = 8; blocks = 1048576; primaries = 16; slots = 4194304 }
+
+abbrev pub most_sectors : ℕ
+most_sectors = total largest

@@ -1,6 +1,13 @@
 -- Where the journal stands: a ring of eight records in sectors 2 to 130. A record has a gate, a descriptor and its share of the bodies.
 use Rattle.std.specs.Prelude.{ℕ, ◌+◌, ◌*◌, ◌==◌, if◌then◌else◌}
 
+-- the first sector and the last one
+abbrev pub ring_start : ℕ
+ring_start = 2
+
+abbrev pub ring_end : ℕ
+ring_end = 130
+
 -- how many records there are
 abbrev pub records : ℕ
 records = 8

@@ -33,6 +33,8 @@ pub const PLAIN_VERSION: u32 = 1;
 /// The version that keeps their digests.
 pub const DIGEST_VERSION: u32 = 2;
 
+const _: () = prove!(PLAIN_VERSION == 1 && DIGEST_VERSION == 2);
+
 const VERSION_AT: usize = 8;
 
 const SECTORS_AT: usize = 12;
@@ -121,7 +123,7 @@ pub fn readings_are_one()
     ensures { (bytes : List ℕ) (one other : Result Header HeaderFault) → IsReading bytes one → IsReading bytes other → one ≡ other }
 {}
 
-/// The sector of a header. Every value is taken, right or not.
+/// The sector of a header. Every value is taken, right or not; one of version 1 or 2 with a lawful geometry reads back.
 pub fn write_header(header: &Header) -> [u8; SECTOR_BYTES]
     ensures bytes { result ≡ header_bytes header.now }
     ensures reads_back { IsVersion header.now.version → IsLawful header.now.geometry → IsReading result (Ok header.now) }

@@ -6,8 +6,8 @@
 //! | 4 to 116 | 113 bodies, shared by all records in order |
 //! | 115 + 2i, 116 + 2i | gate and descriptor of record i, for i from 1 to 7 |
 
-ghost use Rattle.std.specs.Prelude.{◌≡◌, ◌+◌, ◌<◌, ◌≤◌};
-ghost use Rattle.image_layout.specs.Ring.{gate_sector, descriptor_sector, body_sector};
+ghost use Rattle.std.specs.Prelude.{◌≡◌, ◌+◌, ◌-◌, ◌<◌, ◌≤◌};
+ghost use Rattle.image_layout.specs.Ring.{ring_start, ring_end, records, bodies, gate_sector, descriptor_sector, body_sector};
 
 /// How many records the ring has.
 pub const RECORDS: u32 = 8;
@@ -57,3 +57,13 @@ pub fn body_sector(body: u32) -> u32
 {
     BODIES_START + body
 }
+
+/// These numbers are those of the format, and the ring ends with the descriptor of its last record.
+pub fn numbers_are_the_formats()
+    ensures records { RECORDS ≡ records }
+    ensures bodies { BODIES ≡ bodies }
+    ensures start { RING_START ≡ ring_start }
+    ensures end { RING_END ≡ ring_end }
+    ensures first_gate { gate_sector 0 ≡ ring_start }
+    ensures last_descriptor { descriptor_sector (records - 1) ≡ ring_end }
+{}

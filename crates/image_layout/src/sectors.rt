@@ -1,7 +1,7 @@
 //! Sectors that stand at the same place on every image.
 
 ghost use Rattle.std.specs.Prelude.{◌≡◌};
-ghost use Rattle.image_layout.specs.Areas.{header_sector, format_gate, sweep_flag, caps_start, counts_start};
+ghost use Rattle.image_layout.specs.Areas.{header_sector, format_gate, sweep_flag, caps_start, counts_start, most_sectors};
 
 /// The bytes of a sector.
 pub const SECTOR_BYTES: usize = 512;
@@ -24,11 +24,13 @@ pub const COUNTS_START: u32 = 134;
 /// The most sectors that an image has.
 pub const MOST_SECTORS: u32 = 8_462_726;
 
-/// These sectors are those of the format.
+/// These sectors are those of the format, and so is the most that an image has: the whole of the largest disk.
 pub fn sectors_are_the_formats()
+    ensures bytes { SECTOR_BYTES ≡ 512 }
     ensures header { HEADER_SECTOR ≡ header_sector }
     ensures format_gate { FORMAT_GATE ≡ format_gate }
     ensures sweep_flag { SWEEP_FLAG ≡ sweep_flag }
     ensures caps { CAPS_START ≡ caps_start }
     ensures counts { COUNTS_START ≡ counts_start }
+    ensures most { MOST_SECTORS ≡ most_sectors }
 {}

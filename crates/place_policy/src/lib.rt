@@ -14,6 +14,3 @@ pub mod ties;
 pub use book::PlaceBook;
 pub use placement::{Placement, RankFn};
 pub use tsd_model::ranks::{ZONE_TURNS, low_rank, near_rank, spread_rank, zone_rank};
-
-#[cfg(test)]
-mod tests;

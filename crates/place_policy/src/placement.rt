@@ -25,7 +25,8 @@ impl Placement {
     pub fn new(kind: PlaceKind, rank: RankFn) -> Placement
         requires callable { RankFn.IsAlwaysCallable rank }
         requires answers { AnswersRanks kind (RankFn.post rank) }
-        ensures { result.kind ≡ kind }
+        ensures kind { result.kind ≡ kind }
+        ensures ranks { result.ranks ≡ rank }
     {
         Placement { kind, ranks: rank }
     }
@@ -37,9 +38,10 @@ impl Placement {
         self.kind
     }
 
-    /// The rank of a block for a hint, which the stored closure is called for.
+    /// The rank of a block for a hint, which the stored closure answers.
     pub fn rank(&self, hint: u32, block: u32) -> u64
-        ensures { result ≡ rank_of self.now.kind hint block }
+        ensures value { result ≡ rank_of self.now.kind hint block }
+        ensures answered { RankFn.post self.now.ranks hint block result }
     {
         (self.ranks)(hint, block)
     }

@@ -8,3 +8,4 @@ pub mod LoadLaws
 pub mod DeviceLaws
 pub mod TableLaws
 pub mod LoadingLaws
+pub mod FreshLaws

@@ -3,10 +3,9 @@ use Rattle.std.specs.Prelude.{◌≡◌, ℕ, ◌/◌, ◌<◌, ◌≤◌, slice
 use Rattle.image_device.specs.Image.{Image, IsSector, put_at}
 use Rattle.image_layout.specs.declared.place.Patch.{Patch}
 use Rattle.image_layout.specs.Areas.{slots_start, data_start}
-use Rattle.image_layout.specs.Places.{slot_place}
 use Rattle.pointer_table.specs.Slots.{slot_at}
 use Rattle.pointer_table.specs.Table.{Table}
-use Rattle.pointer_table.specs.Sectors.{IsStored, sector_slots, slot_sector_bytes}
+use Rattle.pointer_table.specs.Sectors.{IsStored, per_sector, sector_of, slot_sector_bytes}
 
 -- One slot that was `before` is `after` now, and the patch is its sector as the whole table now has it.
 pub record IsChange (old new : Table) (before after : Option (ℕ × ℕ)) (patch : Patch) : Type 0 where
@@ -14,8 +13,8 @@ pub record IsChange (old new : Table) (before after : Option (ℕ × ℕ)) (patc
   pub inside : place < old.geometry.slots
   pub was : slot_at old.slots place ≡ before
   pub now : new ≡ record old { slots = slice_set old.slots place after }
-  pub sector : patch.sector ≡ (slot_place old.geometry place).sector
-  pub bytes : patch.bytes ≡ slot_sector_bytes new.slots (place / sector_slots)
+  pub sector : patch.sector ≡ sector_of old.geometry place
+  pub bytes : patch.bytes ≡ slot_sector_bytes new.slots (place / per_sector)
 
 -- the patch is a whole sector of the slots' area
 pub record IsSlotSector (t : Table) (patch : Patch) : Type 0 where

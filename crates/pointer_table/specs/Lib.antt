@@ -9,3 +9,4 @@ pub mod Loading
 pub mod Reading
 pub mod Changes
 pub mod Next
+pub mod Fresh

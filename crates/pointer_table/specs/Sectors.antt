@@ -3,7 +3,17 @@ use Rattle.std.specs.Prelude.{◌≡◌, ℕ, zero, suc, ◌+◌, ◌-◌, ◌*�
 use Rattle.byteorder.specs.Endian.{little_bytes}
 use Rattle.tsd_model.specs.declared.geometry.Geometry.{Geometry}
 use Rattle.image_layout.specs.Image.{Image, source_field, target_field}
+use Rattle.image_layout.specs.Areas.{slots_start, data_start}
+use Rattle.image_layout.specs.Places.{slot_place}
 use Rattle.pointer_table.specs.Slots.{slot_at}
+
+-- how many slots a sector has
+abbrev pub per_sector : ℕ
+per_sector = 64
+
+-- the sector of a slot
+abbrev pub sector_of : Geometry → ℕ → ℕ
+sector_of g k = (slot_place g k).sector
 
 -- ---- read
 -- the slot with these two numbers: one more than the source, or 0 for an empty slot, and the target
@@ -30,10 +40,11 @@ unfoldable pub row_bytes : List (Option (ℕ × ℕ)) → ℕ → ℕ → List �
 row_bytes slots first zero = []
 row_bytes slots first (suc n) = row_bytes slots first n ++ slot_bytes (slot_at slots (first + n))
 
--- how many slots a sector has
-abbrev pub sector_slots : ℕ
-sector_slots = 64
-
 -- the 512 bytes of a sector of slots, counted from the first such sector
 abbrev pub slot_sector_bytes : List (Option (ℕ × ℕ)) → ℕ → List ℕ
-slot_sector_bytes slots part = row_bytes slots (sector_slots * part) sector_slots
+slot_sector_bytes slots part = row_bytes slots (per_sector * part) per_sector
+
+-- the sectors of an image's slots are written as those of these slots
+abbrev pub AreWritten : List (Option (ℕ × ℕ)) → Geometry → Image → Type 0
+AreWritten slots g image =
+    (part : ℕ) → slots_start g + part < data_start g → image (slots_start g + part) ≡ slot_sector_bytes slots part

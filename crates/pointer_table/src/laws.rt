@@ -3,9 +3,8 @@
 ghost use Rattle.std.specs.Prelude.{◌≡◌, ◌⊎◌, ℕ, ◌/◌, ◌<◌, ◌≤◌, List, map, Option, Result};
 ghost use Rattle.std.specs.List.{range_with_len};
 ghost use Rattle.image_layout.specs.Areas.{slots_start, data_start};
-ghost use Rattle.image_layout.specs.Places.{slot_place};
 ghost use Rattle.pointer_table.specs.Loading.{IsJudged, IsLoading};
-ghost use Rattle.pointer_table.specs.Sectors.{sector_slots, stored_slot, slot_sector_bytes, IsStored};
+ghost use Rattle.pointer_table.specs.Sectors.{per_sector, sector_of, stored_slot, slot_sector_bytes, IsStored};
 ghost use Rattle.pointer_table.specs.Slots.{slot_at};
 ghost use Rattle.pointer_table.specs.Table.{Table, IsTable};
 ghost use Rattle.pointer_table.specs.declared.fault.TableFault.{TableFault};
@@ -36,7 +35,7 @@ pub fn patches_keep_the_slots()
     // Each slot's sector is patched, or it is as before and the slot didn't change.
     ensures many { (slots now : List (Option (ℕ × ℕ))) (g : Geometry) (x y : ℕ → List ℕ)
         → IsTable (record { geometry = g; slots = now }) → IsStored slots g x
-        → ((k : ℕ) → k < g.slots → (y (slot_place g k).sector ≡ slot_sector_bytes now (k / sector_slots))
-        ⊎ ((y (slot_place g k).sector ≡ x (slot_place g k).sector) × (slot_at now k ≡ slot_at slots k)))
+        → ((k : ℕ) → k < g.slots → (y (sector_of g k) ≡ slot_sector_bytes now (k / per_sector))
+        ⊎ ((y (sector_of g k) ≡ x (sector_of g k)) × (slot_at now k ≡ slot_at slots k)))
         → IsStored now g y }
 {}

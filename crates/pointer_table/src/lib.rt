@@ -10,6 +10,7 @@
 #![tactic(auto)]
 
 mod fault;
+mod fresh;
 pub mod laws;
 mod load;
 mod next;
@@ -18,9 +19,8 @@ mod raw;
 mod repeats;
 mod sector;
 mod table;
-#[cfg(test)]
-mod tests;
 
 pub use fault::{NoPointer, TableFault, TableFull};
+pub use fresh::{fresh_sector, written_sectors_have_the_slots};
 pub use out_step::OutStep;
 pub use table::PointerTable;

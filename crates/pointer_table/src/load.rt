@@ -11,7 +11,7 @@ ghost use Rattle.tsd_model.specs.Geometry.{IsLawful};
 
 use crate::fault::TableFault;
 use crate::raw::RawSlot;
-use crate::sector::{SECTOR_SLOTS, read_slot};
+use crate::sector::{PER_SECTOR, read_slot};
 use image_device::Device;
 use image_layout::Layout;
 use image_layout::sectors::SECTOR_BYTES;
@@ -56,19 +56,19 @@ fn take_sector(
 ) -> Result<(), BadSlot>
     requires lawful { IsLawful geometry.now }
     requires all { length slots.old ≡ geometry.now.slots }
-    requires inside { SECTOR_SLOTS * part < geometry.now.slots }
-    ensures read { let end = min geometry.now.slots (SECTOR_SLOTS * part + SECTOR_SLOTS) in
+    requires inside { PER_SECTOR * part < geometry.now.slots }
+    ensures read { let end = min geometry.now.slots (PER_SECTOR * part + PER_SECTOR) in
         (image : ℕ → List ℕ) → image (slots_start geometry.now + part) ≡ sector.now
-        → IsReadTo image geometry.now (SECTOR_SLOTS * part) (slots_in slots.old)
+        → IsReadTo image geometry.now (PER_SECTOR * part) (slots_in slots.old)
         → MatchResult result
         (λ _. IsReadTo image geometry.now end (slots_in slots.new))
         (λ bad. IsLeastBad image geometry.now bad.slot bad.source bad.target) }
-    ensures within { let end = min geometry.now.slots (SECTOR_SLOTS * part + SECTOR_SLOTS) in
-        AreWithinTo geometry.now (SECTOR_SLOTS * part) (slots_in slots.old)
+    ensures within { let end = min geometry.now.slots (PER_SECTOR * part + PER_SECTOR) in
+        AreWithinTo geometry.now (PER_SECTOR * part) (slots_in slots.old)
         → OnOk result (AreWithinTo geometry.now end (slots_in slots.new)) }
 {
-    let first = SECTOR_SLOTS * part;
-    let end = slots.len().min(first + SECTOR_SLOTS);
+    let first = PER_SECTOR * part;
+    let end = slots.len().min(first + PER_SECTOR);
     for place in first..end {
         let slot = read_slot(sector, place - first);
         if is_bad(&slot, geometry) {

@@ -11,8 +11,10 @@ use crate::raw::RawSlot;
 use byteorder::{ByteOrder, LittleEndian};
 use image_layout::sectors::SECTOR_BYTES;
 
-/// The slots of a sector.
-pub(crate) const SECTOR_SLOTS: usize = 64;
+/// How many slots a sector has.
+pub(crate) const PER_SECTOR: usize = 64;
+
+const _: () = prove!(PER_SECTOR == 64);
 
 /// The bytes of a slot.
 const SLOT_BYTES: usize = 8;
@@ -38,7 +40,7 @@ fn put_number(sector: &mut [u8; SECTOR_BYTES], at: usize, number: u32)
 
 /// A slot of a sector, from 0.
 pub(crate) fn read_slot(sector: &[u8; SECTOR_BYTES], index: usize) -> RawSlot
-    requires { index < SECTOR_SLOTS }
+    requires { index < PER_SECTOR }
     ensures source { result.source ≡ little_from (8 * index) 4 sector.now }
     ensures target { result.target ≡ little_from (8 * index + 4) 4 sector.now }
 {
@@ -58,7 +60,7 @@ fn target_to_write(slot: &RawSlot) -> u32
 
 /// Sets a slot of a sector, from 0.
 fn write_slot(sector: &mut [u8; SECTOR_BYTES], index: usize, slot: &RawSlot)
-    requires { index < SECTOR_SLOTS }
+    requires { index < PER_SECTOR }
     ensures { sector.new ≡ take (8 * index) sector.old ++ slot_bytes (slot_in slot.now) ++ drop (8 * index + 8) sector.old }
 {
     let at = SLOT_BYTES * index;
@@ -82,8 +84,8 @@ pub(crate) fn sector_bytes(slots: &[RawSlot], part: usize) -> [u8; SECTOR_BYTES]
     ensures { result ≡ slot_sector_bytes (slots_in slots.now) part }
 {
     let mut sector = [0; SECTOR_BYTES];
-    for index in 0..SECTOR_SLOTS {
-        let slot = slot_or_empty(slots, SECTOR_SLOTS * part + index);
+    for index in 0..PER_SECTOR {
+        let slot = slot_or_empty(slots, PER_SECTOR * part + index);
         write_slot(&mut sector, index, &slot);
     }
     sector

@@ -12,10 +12,9 @@ ghost use Rattle.pointer_table.specs.Next.{IsNextSource, IsNextTarget};
 ghost use Rattle.pointer_table.specs.Raw.{slot_in, slots_in};
 ghost use Rattle.pointer_table.specs.Reading.{AreWithinTo};
 ghost use Rattle.pointer_table.specs.Repeating.{IsRepeating};
-ghost use Rattle.pointer_table.specs.Sectors.{slot_sector_bytes};
+ghost use Rattle.pointer_table.specs.Sectors.{sector_of, slot_sector_bytes};
 ghost use Rattle.pointer_table.specs.Slots.{slot_at};
 ghost use Rattle.pointer_table.specs.Table.{pairs, IsWithin, IsTable, ArePairs};
-ghost use Rattle.image_layout.specs.Places.{slot_place};
 
 use crate::fault::{NoPointer, TableFault, TableFull};
 use crate::load::{empty_slots, read_slots};
@@ -24,7 +23,7 @@ use crate::next::{
 };
 use crate::raw::RawSlot;
 use crate::repeats::least_repeated;
-use crate::sector::{SECTOR_SLOTS, sector_bytes};
+use crate::sector::{PER_SECTOR, sector_bytes};
 use image_device::Device;
 use image_layout::{Layout, Patch};
 use std::alloc::Global;
@@ -202,14 +201,14 @@ impl PointerTable {
     /// The sector of a slot.
     fn patch(&self, place: usize) -> Patch
         requires { place < self.now.geometry.slots }
-        ensures place { result.sector ≡ (slot_place self.now.geometry place).sector }
-        ensures bytes { result.bytes ≡ slot_sector_bytes self.now.slots (place / SECTOR_SLOTS) }
+        ensures place { result.sector ≡ sector_of self.now.geometry place }
+        ensures bytes { result.bytes ≡ slot_sector_bytes self.now.slots (place / PER_SECTOR) }
         ensures sector { IsSlotSector self.now result }
     {
         let at = Layout::of(&self.geometry).slot_place(place as u32);
         Patch {
             sector: at.sector,
-            bytes: sector_bytes(&self.slots, place / SECTOR_SLOTS),
+            bytes: sector_bytes(&self.slots, place / PER_SECTOR),
         }
     }
 }

@@ -1,7 +1,9 @@
 //! Batches: 113 homes and no more, new bytes in place of older ones, and which sectors are lawful homes.
 
-use crate::{Batch, BatchFull, is_lawful_home};
-use image_layout::Patch;
+use super::steps::{filled, open};
+use image_device::MemStation;
+use intent_journal::{Batch, BatchFull, Ring, is_lawful_home};
+use std::alloc::Global;
 use std::process::Abort;
 use std::test::Fail;
 
@@ -11,12 +13,13 @@ fn put(rt: &impl Abort, batch: &mut Batch, sector: u32, fill: u8) -> Result<(), 
     batch.put(sector, &[fill; 512])
 }
 
-/// A patch of equal bytes.
-fn patch(sector: u32, fill: u8) -> Patch {
-    Patch {
-        sector,
-        bytes: [fill; 512],
-    }
+/// A new disk on which a batch is committed: its bodies stand from sector 4 on.
+pub fn committed(alloc: Global, batch: &Batch) -> Result<MemStation, Fail> {
+    let mut station = MemStation::new(alloc, Vec::new(alloc));
+    let mut ring = Ring::new(alloc)?;
+    open(&mut station, &mut ring)?;
+    ring.commit(&mut station, batch)?;
+    Ok(station)
 }
 
 #[test]
@@ -37,20 +40,25 @@ fn lawful_homes(rt: HostRuntime) {
 
 #[test]
 fn no_more_than_113_homes(rt: HostRuntime) -> Result<(), Fail> {
-    let mut batch = Batch::new(rt.alloc())?;
+    let alloc = rt.alloc();
+    let mut batch = Batch::new(alloc)?;
     for sector in 131..244 {
         assert_eq!(rt; put(&rt, &mut batch, sector, 1), Ok(()), "at {sector}");
     }
-    let full = batch.patches().to_vec(rt.alloc())?;
-    assert_eq!(rt; full.len(), 113);
+    assert_eq!(rt; batch.len(), 113);
     assert_eq!(rt; put(&rt, &mut batch, 0, 2), Err(BatchFull));
     assert_eq!(rt; put(&rt, &mut batch, 244, 2), Err(BatchFull));
-    assert_eq!(rt; batch.patches(), full.as_slice());
     assert_eq!(rt; put(&rt, &mut batch, 243, 3), Ok(()));
     assert_eq!(rt; batch.len(), 113);
+    let mut station = committed(alloc, &batch)?;
+    for body in 4..116 {
+        assert_eq!(rt; filled(&mut station, body)?, Some(1), "at {body}");
+    }
+    assert_eq!(rt; filled(&mut station, 116)?, Some(3));
     batch.clear();
     assert_eq!(rt; put(&rt, &mut batch, 244, 2), Ok(()));
-    assert_eq!(rt; batch.patches(), [patch(244, 2)].as_slice());
+    assert_eq!(rt; batch.len(), 1);
+    assert_eq!(rt; filled(&mut committed(alloc, &batch)?, 4)?, Some(2));
     Ok(())
 }
 
@@ -61,7 +69,10 @@ fn new_bytes_in_place_of_older(rt: HostRuntime) -> Result<(), Fail> {
     for (sector, fill) in [(500, 1), (0, 2), (8_462_725, 3), (0, 4), (500, 5)] {
         assert_eq!(rt; put(&rt, &mut batch, sector, fill), Ok(()));
     }
-    let want = [patch(500, 5), patch(0, 4), patch(8_462_725, 3)];
-    assert_eq!(rt; batch.patches(), want.as_slice());
+    assert_eq!(rt; batch.len(), 3);
+    let mut station = committed(rt.alloc(), &batch)?;
+    for (body, fill) in [(4, 5), (5, 4), (6, 3)] {
+        assert_eq!(rt; filled(&mut station, body)?, Some(fill), "at {body}");
+    }
     Ok(())
 }

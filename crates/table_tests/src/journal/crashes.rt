@@ -1,8 +1,8 @@
 //! Runs that are stopped at each of their calls and opened again.
 
 use super::steps::{NINE_OF_ONE, Step, holds_all, open, run};
-use crate::Ring;
 use image_device::{FuseStation, MemStation, Pick};
+use intent_journal::Ring;
 use std::alloc::Global;
 use std::process::Abort;
 use std::test::Fail;
@@ -17,7 +17,7 @@ const PICKS: [Pick; 5] = [
 ];
 
 /// One home, and two.
-const FEW: [Step; 2] = [
+pub const FEW: [Step; 2] = [
     Step {
         first: 140,
         end: 141,
@@ -38,7 +38,7 @@ const MOST: [Step; 1] = [Step {
 }];
 
 /// The third batch has no bodies left, and the batches share homes.
-const SHARED: [Step; 4] = [
+pub const SHARED: [Step; 4] = [
     Step {
         first: 131,
         end: 136,
@@ -76,7 +76,7 @@ fn stopped(
 }
 
 /// Whether an opened image holds all steps that were answered, and of the next one nothing or all.
-fn holds_answered(image: &mut MemStation, steps: &[Step], done: usize) -> Result<bool, Fail> {
+pub fn holds_answered(image: &mut MemStation, steps: &[Step], done: usize) -> Result<bool, Fail> {
     let answered = done.min(steps.len());
     let next = if answered < steps.len() {
         answered + 1

@@ -1,13 +1,13 @@
 //! Journals that somebody else left: right ones, damaged ones, and rubbish behind a closed gate.
 
 use super::steps::{filled, open};
-use crate::{ReplayFault, Replayed, Ring};
 use image_device::{Device, Failed, MemStation};
+use intent_journal::{ReplayFault, Replayed, Ring};
 use std::alloc::Global;
 use std::test::Fail;
 
 /// The gates of records 0, 1, 2 and so on.
-const GATES: [u32; 8] = [2, 117, 119, 121, 123, 125, 127, 129];
+pub const GATES: [u32; 8] = [2, 117, 119, 121, 123, 125, 127, 129];
 
 /// A descriptor with this count and these homes.
 fn descriptor(count: u32, homes: &[u32]) -> [u8; 512] {
@@ -20,7 +20,7 @@ fn descriptor(count: u32, homes: &[u32]) -> [u8; 512] {
 }
 
 /// Sets a record as it would stand on a disk.
-fn set_record(
+pub fn set_record(
     station: &mut MemStation,
     gate: u32,
     count: u32,

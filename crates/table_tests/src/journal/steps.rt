@@ -3,8 +3,8 @@
 ghost use Rattle.std.specs.Prelude.{OnOk, []};
 ghost use Rattle.intent_journal.specs.Ring.{IsAt};
 
-use crate::{Batch, BatchFull, ReplayFault, Replayed, Ring, is_lawful_home};
 use image_device::{Device, Failed, MemStation};
+use intent_journal::{Batch, BatchFull, ReplayFault, Replayed, Ring, is_lawful_home};
 use std::alloc::Global;
 use std::test::Fail;
 
@@ -80,7 +80,7 @@ pub fn run<D: Device>(
 }
 
 /// The byte that fills a sector as the ring reads it.
-#[tactic(auto, using(crate::proofs::Uses::at_rested))]
+#[tactic(auto, using(intent_journal::proofs::Uses::at_rested))]
 pub fn filled_over<D: Device>(dev: &mut D, ring: &Ring, sector: u32) -> Result<Option<u8>, Failed>
     requires { D.told → IsAt ring.now (D.view dev.old) }
     ensures { D.told → IsAt ring.now (D.view dev.new) }

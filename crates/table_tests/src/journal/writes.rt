@@ -1,8 +1,8 @@
 //! How often is written, and what a ring tells of its records.
 
 use super::steps::{NINE_OF_ONE, Step, commit_all, filled, filled_over, open};
-use crate::{Batch, Ring};
 use image_device::MemStation;
+use intent_journal::{Batch, Ring};
 use std::test::Fail;
 
 #[test]

@@ -4,7 +4,9 @@ ghost use Rattle.std.specs.Prelude.{◌≡◌, ◌+◌, ◌*◌, ◌^◌, slice_
 ghost use Rattle.tsd_model.specs.Rank.{rank_of, zones_after};
 ghost use Rattle.tsd_model.specs.declared.requests.PlaceKind.TheVariants.{Low, Near, Spread};
 
-use crate::{PlaceBook, Placement, ZONE_TURNS, low_rank, near_rank, spread_rank, zone_rank};
+use place_policy::{
+    PlaceBook, Placement, ZONE_TURNS, low_rank, near_rank, spread_rank, zone_rank,
+};
 use std::cell::Cell;
 use std::rc::Rc;
 use std::test::Fail;
@@ -87,25 +89,64 @@ fn ranks_of_each_kind(rt: HostRuntime) -> Result<(), Fail> {
     Ok(())
 }
 
+/// How many calls a placement makes for the ranks of five blocks, where its closure counts its calls.
+fn calls_of(place: &Placement, calls: &Cell<u32>) -> u32 {
+    calls.set(0);
+    for block in 0..5 {
+        let _rank = place.rank(9, block);
+    }
+    calls.get()
+}
+
 #[test]
 fn rank_calls_its_closure(rt: HostRuntime) -> Result<(), Fail> {
     let alloc = rt.alloc();
+    let turns = ZONE_TURNS;
     let calls = Rc::new(alloc, Cell::new(0u32))?;
-    let count = calls.clone()?;
-    let counting = Box::new(
+    let (lows, nears) = (calls.clone()?, calls.clone()?);
+    let (spreads, zones) = (calls.clone()?, calls.clone()?);
+    let low = Box::new(
         alloc,
-        move |_hint: u32, block: u32| -> u64
-            ensures { result ≡ block }
+        move |hint: u32, block: u32| -> u64
+            ensures { result ≡ rank_of Low hint block }
         {
-            count.set(count.get().wrapping_add(1));
-            u64::from(block)
+            lows.set(lows.get().wrapping_add(1));
+            low_rank(hint, block)
         },
     )?;
-    let low = Placement::new(PlaceKind::Low, counting);
-    assert_eq!(rt; low.kind(), PlaceKind::Low);
-    for block in 0..5 {
-        assert_eq!(rt; low.rank(9, block), u64::from(block));
+    let near = Box::new(
+        alloc,
+        move |hint: u32, block: u32| -> u64
+            ensures { result ≡ rank_of Near hint block }
+        {
+            nears.set(nears.get().wrapping_add(1));
+            near_rank(hint, block)
+        },
+    )?;
+    let spread = Box::new(
+        alloc,
+        move |hint: u32, block: u32| -> u64
+            ensures { result ≡ rank_of Spread hint block }
+        {
+            spreads.set(spreads.get().wrapping_add(1));
+            spread_rank(hint, block)
+        },
+    )?;
+    let zone = Box::new(
+        alloc,
+        move |hint: u32, block: u32| -> u64
+            ensures { result ≡ 2 ^ 32 * slice_index turns (zones_after hint block) + block }
+        {
+            zones.set(zones.get().wrapping_add(1));
+            zone_rank(&turns, hint, block)
+        },
+    )?;
+    let low = Placement::new(PlaceKind::Low, low);
+    let near = Placement::new(PlaceKind::Near, near);
+    let spread = Placement::new(PlaceKind::Spread, spread);
+    let zone = Placement::new(PlaceKind::Zone, zone);
+    for place in [&low, &near, &spread, &zone] {
+        assert_eq!(rt; calls_of(place, &calls), 5, "{:?}", place.kind());
     }
-    assert_eq!(rt; calls.get(), 5);
     Ok(())
 }

@@ -1,11 +1,9 @@
-//! Tables loaded, changed and loaded again, and loads of damaged sectors.
+//! Pointer tables loaded, changed and loaded again, compared with a plain list of pairs, and loads of damaged sectors.
 
-mod random;
-
-use crate::{PointerTable, TableFault, TableFull};
 use image_device::{Device, Failed, MemStation};
 use image_layout::Patch;
-use std::alloc::Global;
+use pointer_table::{PointerTable, TableFault, TableFull, fresh_sector};
+use std::alloc::{AllocError, Global};
 use std::test::Fail;
 use tsd_model::{Geometry, lawful};
 
@@ -206,6 +204,31 @@ fn a_read_that_fails_is_the_devices_fault(rt: HostRuntime) -> Result<(), Fail> {
 }
 
 #[test]
+fn a_bad_slot_is_told_before_the_next_sector_is_read(rt: HostRuntime) -> Result<(), Fail> {
+    let alloc = rt.alloc();
+    let mut station = MemStation::new(alloc, [2].to_vec(alloc)?);
+    damage(&mut station, 5, 1, 100)?;
+    assert_eq!(rt;
+        len_of(alloc, &mut station, &SMALL),
+        Err(TableFault::Slot {
+            slot: 5,
+            source: 1,
+            target: 100
+        })
+    );
+    assert_eq!(rt; station.calls(), 2);
+    Ok(())
+}
+
+#[test]
+fn the_sectors_of_a_fresh_disk(rt: HostRuntime) -> Result<(), Fail> {
+    for part in [0, 1, 2] {
+        assert_eq!(rt; fresh_sector(&SMALL, part), [0; 512]);
+    }
+    Ok(())
+}
+
+#[test]
 fn the_largest_table_of_a_disk_never_written(rt: HostRuntime) -> Result<(), Fail> {
     let alloc = rt.alloc();
     assert!(rt; lawful(&LARGE));
@@ -236,5 +259,114 @@ fn a_full_table_takes_no_more(rt: HostRuntime) -> Result<(), Fail> {
     assert_eq!(rt; (table.len(), table.next_out(7)), (2, Some(1)));
     assert!(rt; add(&mut table, &mut station, 0, 4)?);
     assert_eq!(rt; len_of(alloc, &mut station, &TINY), Ok(3));
+    Ok(())
+}
+
+// ---- random changes
+
+/// The next number of a row that looks random.
+fn next(number: u32) -> u32 {
+    number.wrapping_mul(1_664_525).wrapping_add(1_013_904_223)
+}
+
+fn plain_has(pairs: &[(u32, u32)], source: u32, target: u32) -> bool {
+    pairs
+        .iter()
+        .any(|pair| pair.0 == source && pair.1 == target)
+}
+
+fn plain_next_source(pairs: &[(u32, u32)], target: u32, start: u32) -> Option<u32> {
+    pairs
+        .iter()
+        .filter(|pair| pair.1 == target && pair.0 >= start)
+        .map(|pair| pair.0)
+        .min()
+}
+
+fn plain_targets(
+    alloc: Global,
+    pairs: &[(u32, u32)],
+    source: u32,
+    start: u32,
+) -> Result<Vec<u32>, AllocError> {
+    let mut targets = Vec::new(alloc);
+    for pair in pairs {
+        if pair.0 == source && pair.1 >= start {
+            targets.push(pair.1)?;
+        }
+    }
+    targets.sort()?;
+    targets.truncate(64);
+    Ok(targets)
+}
+
+/// Whether a table answers as the list does.
+fn agrees(
+    alloc: Global,
+    table: &PointerTable,
+    pairs: &[(u32, u32)],
+    source: u32,
+    target: u32,
+) -> Result<bool, AllocError> {
+    let all = plain_targets(alloc, pairs, source, 0)?;
+    let from = plain_targets(alloc, pairs, source, target)?;
+    Ok(
+        table.len() as usize == pairs.len()
+            && table.has(source, target) == plain_has(pairs, source, target)
+            && table.targets_from(source, 0).as_slice() == all.as_slice()
+            && table.targets_from(source, target).as_slice() == from.as_slice()
+            && table.next_out(source) == all.first().copied()
+            && table.next_source(target, source) == plain_next_source(pairs, target, source),
+    )
+}
+
+/// Adds a pair to both or takes it from both. False where the two don't go together.
+fn change(
+    table: &mut PointerTable,
+    station: &mut MemStation,
+    pairs: &mut Vec<(u32, u32)>,
+    adds: bool,
+    source: u32,
+    target: u32,
+) -> Result<bool, Fail> {
+    let held = plain_has(pairs, source, target);
+    if adds && pairs.len() < 130 {
+        if !held {
+            pairs.push((source, target))?;
+        }
+        return Ok(add(table, station, source, target)? != held);
+    }
+    pairs.retain(|pair| pair.0 != source || pair.1 != target);
+    Ok(remove(table, station, source, target)? == held)
+}
+
+#[test]
+fn random_changes_are_those_of_a_list(rt: HostRuntime) -> Result<(), Fail> {
+    let alloc = rt.alloc();
+    assert!(rt; lawful(&SMALL));
+    let mut station = MemStation::new(alloc, Vec::new(alloc));
+    let mut table = PointerTable::load(alloc, &mut station, &SMALL)?;
+    let mut pairs = Vec::new(alloc);
+    let mut number = 1;
+    let mut most = 0;
+    for turn in 0..2_000u32 {
+        number = next(number);
+        let source = if number / 64 % 2 == 0 { 0 } else { 99 };
+        let target = 2 + number / 65_536 % 98;
+        let adds = number / 256 % 4 != 0;
+        assert!(rt;
+            change(&mut table, &mut station, &mut pairs, adds, source, target)?,
+            "at {turn}"
+        );
+        assert!(rt; agrees(alloc, &table, &pairs, source, target)?, "at {turn}");
+        most = table.len().max(most);
+    }
+    assert_eq!(rt; most, 130);
+    let again = PointerTable::load(alloc, &mut station, &SMALL)?;
+    for source in [0, 1, 99] {
+        for target in [0, 2, 50, 99] {
+            assert!(rt; agrees(alloc, &again, &pairs, source, target)?);
+        }
+    }
     Ok(())
 }

@@ -4,8 +4,10 @@ ghost use Rattle.std.specs.Prelude.{◌≡◌, true, false, [], ◌∷◌, repli
 ghost use Rattle.image_layout.specs.Image.{is_open, stored_count, is_marked, source_field, target_field, kept_for_reading, kept_for_writing, data_bytes};
 ghost use Rattle.image_layout.specs.Worked.{worked, worked_size};
 
-use crate::ring::{body_sector, descriptor_sector, gate_sector};
-use crate::{Header, HeaderFault, Layout, Place, bit_mask, gate_bytes, read_header, write_header};
+use image_layout::ring::{body_sector, descriptor_sector, gate_sector};
+use image_layout::{
+    Header, HeaderFault, Layout, Place, bit_mask, gate_bytes, read_header, write_header,
+};
 use tsd_model::{Geometry, lawful};
 
 /// A least disk with 32 pointer slots.

@@ -1,0 +1,81 @@
+-- The bitmap of a fresh disk, and sectors that are written as those of a map.
+use Rattle.std.proofs.Common.{◌≡◌, ℕ, ◌+◌, ◌-◌, ◌*◌, ◌/◌, ◌%◌, ◌<◌, ◌≤◌, nat_lt, inl, inr, Bool, true, false, not, ◌==◌, List, ◌++◌, length, length-append, replicate, sym, ◌∙◌, ap, arith}
+use Rattle.std.specs.Prelude.{count_by, cond, slice_index}
+use Rattle.std.specs.Int.{bit_at, div_ceil}
+use Rattle.std.proofs.lemmas.Bool.{cases_lt, cases_eq, eq-eqb, ne_eqb, lt-ltb, le-ltb}
+use Rattle.std.proofs.lemmas.Grind.{div_ceil_times}
+use Rattle.std.proofs.lemmas.List.{length-replicate, get_or_append_left, get_or-append_right, get_or-replicate, get_or_past}
+use Rattle.std.proofs.lemmas.List.Folds.{sum_by-replicate}
+use Rattle.std.proofs.lemmas.List.Sums.{sum_by-append}
+use Rattle.image_device.specs.Image.{Image}
+use Rattle.image_layout.specs.Areas.{bitmap_start, slots_start}
+use Rattle.tsd_model.specs.Geometry.{IsLawful}
+use Rattle.tsd_model.specs.declared.geometry.Geometry.{Geometry}
+use Rattle.block_alloc.specs.Bytes.{bit_in, bitmap_sector_bytes}
+use Rattle.block_alloc.specs.Fresh.{fresh_live}
+use Rattle.block_alloc.specs.LiveMap.{LiveMap, IsTable, is_live, free_count}
+use Rattle.block_alloc.specs.Stored.{AreWritten, IsStored, sector_of}
+use Rattle.block_alloc.proofs.ByteLaws.{sector_by_bits}
+use Rattle.block_alloc.proofs.StoredLaws.{marked_by, bit_here}
+
+-- ---- the map of a fresh disk
+dead : (n b : ℕ) → is_live (replicate n false) b ≡ false
+dead n b = elim (cases_lt b n) [
+  | inl h ↦ get_or-replicate n b false false h
+  | inr h ↦ get_or_past (replicate n false) b false (let len = length-replicate n false in omega (arith, len))
+]
+
+pub fresh_at : (g : Geometry) (b : ℕ) → is_live (fresh_live g) b ≡ nat_lt b g.primaries
+fresh_at g b =
+    let ones = length-replicate g.primaries true in
+    elim (cases_lt b g.primaries) [
+      | inl low ↦
+          get_or_append_left (replicate g.primaries true) (replicate (g.blocks - g.primaries) false) false b (omega (arith, ones))
+          ∙ (get_or-replicate g.primaries b true false low ∙ sym (lt-ltb b g.primaries low))
+      | inr high ↦
+          get_or-append_right (replicate g.primaries true) (replicate (g.blocks - g.primaries) false) g.primaries b false ones high
+          ∙ (dead (g.blocks - g.primaries) (b - g.primaries) ∙ sym (le-ltb b g.primaries high))
+    ]
+
+pub fresh_table : (g : Geometry) → IsLawful g → IsTable (record { geometry = g; live = fresh_live g })
+fresh_table g lawful = record {
+  lawful = lawful;
+  each_block =
+      length-append (replicate g.primaries true) (replicate (g.blocks - g.primaries) false)
+      ∙ (let ones = length-replicate g.primaries true in let rest = length-replicate (g.blocks - g.primaries) false in let fewer = lawful.primaries.2 in omega (arith, ones, rest, fewer));
+}
+
+pub fresh_free : (g : Geometry) → free_count (fresh_live g) ≡ g.blocks - g.primaries
+fresh_free g =
+    let both = sum_by-append weight (replicate g.primaries true) (replicate (g.blocks - g.primaries) false) in
+    let none = sum_by-replicate weight g.primaries true in
+    let all = sum_by-replicate weight (g.blocks - g.primaries) false in
+    omega (arith, both, none, all)
+  where
+    weight : Bool → ℕ
+    weight x = cond (not x) 1 0
+
+-- ---- its sectors
+pub fresh_bytes : (g : Geometry) (part count : ℕ) (sector : List ℕ) → IsLawful g → count ≡ cond (part == 0) g.primaries 0 → length sector ≡ 512
+    → ((i : ℕ) → slice_index sector i < 256) → ((b : ℕ) → bit_in sector b ≡ nat_lt b count) → sector ≡ bitmap_sector_bytes (fresh_live g) part
+fresh_bytes g part count sector lawful first size fits bits =
+    sector_by_bits (fresh_live g) sector part size fits (λ b h. bits b ∙ (here b h ∙ sym (fresh_at g (4096 * part + b))))
+  where
+    here : (b : ℕ) → b < 4096 → nat_lt b count ≡ nat_lt (4096 * part + b) g.primaries
+    here b h = elim (cases_eq part 0) [
+      | inl zero_now ↦
+          let all : count ≡ g.primaries = first ∙ ap (λ t. cond t g.primaries 0) (eq-eqb part 0 zero_now) in
+          (λ i. nat_lt b (all i)) ∙ ap (λ n. nat_lt n g.primaries) (let e : b ≡ 4096 * part + b = omega arith in e)
+      | inr later ↦
+          let none : count ≡ 0 = first ∙ ap (λ t. cond t g.primaries 0) (ne_eqb part 0 later) in
+          let most = lawful.primaries.1 in
+          (λ i. nat_lt b (none i)) ∙ (le-ltb b 0 (omega arith) ∙ sym (le-ltb (4096 * part + b) g.primaries (omega (arith, most))))
+    ]
+
+-- ---- sectors that are written as those of a map
+pub written_stored : (live : List Bool) (g : Geometry) (x : Image) → AreWritten live g x → IsStored live g x
+written_stored live g x written = λ b h.
+    let bounds = div_ceil_times g.blocks 4096 (omega arith) in
+    let area : slots_start g ≡ bitmap_start g + div_ceil g.blocks 4096 = omega arith in
+    let place : sector_of g b ≡ bitmap_start g + b / 4096 = omega arith in
+    marked_by x g b (bitmap_sector_bytes live (b / 4096)) (ap x place ∙ written (b / 4096) (omega arith)) ∙ bit_here live (b / 4096) b (omega arith)

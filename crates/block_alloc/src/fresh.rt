@@ -1,0 +1,45 @@
+//! The bitmap of a fresh disk, in which the primary blocks are live and all others are free.
+
+ghost use Rattle.std.specs.Prelude.{◌≡◌, ℕ, ◌-◌, ◌<◌, ◌≤◌, Bool, List, length, nat_lt, slice_index};
+ghost use Rattle.image_device.specs.Image.{Image};
+ghost use Rattle.block_alloc.specs.Bytes.{bit_in, bitmap_sector_bytes};
+ghost use Rattle.block_alloc.specs.Fresh.{fresh_live};
+ghost use Rattle.block_alloc.specs.LiveMap.{IsTable, is_live, free_count};
+ghost use Rattle.block_alloc.specs.Stored.{AreWritten, IsStored};
+ghost use Rattle.tsd_model.specs.Geometry.{IsLawful};
+ghost use Rattle.tsd_model.specs.declared.geometry.Geometry.{Geometry};
+
+use crate::bits::put_bit;
+use image_layout::sectors::SECTOR_BYTES;
+use tsd_model::Geometry;
+
+/// A sector whose first so many bits are 1.
+fn first_bits(count: u32) -> [u8; SECTOR_BYTES]
+    requires { count ≤ 4096 }
+    ensures bits { (b : ℕ) → bit_in result b ≡ nat_lt b count }
+    ensures size { length result ≡ SECTOR_BYTES }
+    ensures fits { (i : ℕ) → slice_index result i < 256 }
+{
+    let mut sector = [0; SECTOR_BYTES];
+    for bit in 0..count {
+        put_bit(&mut sector, bit, true);
+    }
+    sector
+}
+
+/// A sector of the bitmap of a fresh disk, counted from the first such sector.
+pub fn fresh_sector(geometry: &Geometry, part: u32) -> [u8; SECTOR_BYTES]
+    requires { IsLawful geometry.now }
+    ensures { result ≡ bitmap_sector_bytes (fresh_live geometry.now) part }
+{
+    first_bits(if part == 0 { geometry.primaries } else { 0 })
+}
+
+/// An image whose bitmap is written as that of a map has the bits of that map. The blocks of a fresh disk are a map, in which
+/// the primary blocks are live and all others are free.
+pub fn written_sectors_have_the_bits()
+    ensures stored { (live : List Bool) (g : Geometry) (x : Image) → AreWritten live g x → IsStored live g x }
+    ensures fresh { (g : Geometry) → IsLawful g → IsTable (record { geometry = g; live = fresh_live g }) }
+    ensures live { (g : Geometry) (b : ℕ) → is_live (fresh_live g) b ≡ nat_lt b g.primaries }
+    ensures free { (g : Geometry) → free_count (fresh_live g) ≡ g.blocks - g.primaries }
+{}

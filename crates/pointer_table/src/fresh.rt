@@ -1,0 +1,28 @@
+//! The slots of a fresh disk, which are all empty.
+
+ghost use Rattle.std.specs.Prelude.{◌≡◌, ℕ, []};
+ghost use Rattle.image_device.specs.Image.{Image, zeros};
+ghost use Rattle.pointer_table.specs.Fresh.{fresh_slots};
+ghost use Rattle.pointer_table.specs.Sectors.{slot_sector_bytes, AreWritten, IsStored};
+ghost use Rattle.pointer_table.specs.Table.{Table, pairs, IsTable};
+ghost use Rattle.tsd_model.specs.Geometry.{IsLawful};
+ghost use Rattle.tsd_model.specs.declared.geometry.Geometry.{Geometry};
+
+use image_layout::sectors::SECTOR_BYTES;
+use tsd_model::Geometry;
+
+/// A sector of the slots of a fresh disk, counted from the first such sector.
+pub fn fresh_sector(_geometry: &Geometry, _part: u32) -> [u8; SECTOR_BYTES]
+    ensures { result ≡ slot_sector_bytes (fresh_slots _geometry.now) _part }
+{
+    [0; SECTOR_BYTES]
+}
+
+/// An image whose sectors of slots are written as those of a table has the slots of that table. The slots of a fresh disk are
+/// a table that holds no pair, and their sectors are zeros.
+pub fn written_sectors_have_the_slots()
+    ensures stored { (t : Table) (x : Image) → IsTable t → AreWritten t.slots t.geometry x → IsStored t.slots t.geometry x }
+    ensures fresh { (g : Geometry) → IsLawful g → IsTable (record { geometry = g; slots = fresh_slots g }) }
+    ensures no_pairs { (g : Geometry) → pairs (record { geometry = g; slots = fresh_slots g }) ≡ [] }
+    ensures zeros { (g : Geometry) (part : ℕ) → slot_sector_bytes (fresh_slots g) part ≡ zeros }
+{}
