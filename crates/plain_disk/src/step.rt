@@ -11,7 +11,10 @@ ghost use Rattle.tsd_model.specs.Reach.{swept};
 ghost use Rattle.tsd_model.specs.Doomed.{settle};
 ghost use Rattle.tsd_model.specs.Placing.{chosen, chosen_run};
 ghost use Rattle.tsd_model.specs.Step.{gives, done, filled, with_contents, with_pointer, with_caps, raised_by, run_at, without_pointer, targets_from, with_new_blocks, allocated, reclaimed, change, step};
+ghost use Rattle.tsd_model.specs.Valid.{IsValid};
 ghost use Rattle.tsd_model.specs.Verdict.{has_bad_count, has_bad_size, has_no_room};
+ghost use Rattle.disk_laws.specs.Reached.{KeepsWhatIsReached};
+ghost use Rattle.disk_laws.specs.Reclaiming.{is_sweep, ReclaimsTheLost};
 
 use crate::graph::{plain_doomed, plain_reach};
 use crate::placing::{choose, choose_run};
@@ -25,6 +28,9 @@ use tsd_model::{BlockList, CapPair, Data, Hint, NoMemory, PlaceKind, Reply, Requ
 
 /// Carries out one request: the world and the sessions after it, and the reply. The reply is never `Reply::NoMemory`;
 /// want of memory is `Err(NoMemory)` at every request.
+///
+/// At a valid world a request reclaims no block that is reached after it; and one that isn't a sweep reclaims exactly the
+/// blocks that have lost their last pointer.
 pub fn plain_step(
     alloc: Global,
     kind: PlaceKind,
@@ -32,6 +38,21 @@ pub fn plain_step(
     sessions: &Sessions,
     request: &Request,
 ) -> Result<(World, Sessions, Reply), NoMemory>
+    ensures value { IfOk result (λ r. gives r.0 r.1 r.2 ≡ step kind (record { world = world.now; sessions = sessions.now }) request.now) }
+    ensures reached { IsValid world.now → IfOk result (λ r. KeepsWhatIsReached world.now r.0) }
+    ensures last_pointer { IsValid world.now → is_sweep request.now ≡ false → IfOk result (λ r. ReclaimsTheLost world.now r.0) }
+{
+    carry_out(alloc, kind, world, sessions, request)
+}
+
+/// The world, the sessions and the reply, as the definitions say.
+fn carry_out(
+    alloc: Global,
+    kind: PlaceKind,
+    world: &World,
+    sessions: &Sessions,
+    request: &Request,
+) -> Result<Changed, NoMemory>
     ensures { IfOk result (λ r. gives r.0 r.1 r.2 ≡ step kind (record { world = world.now; sessions = sessions.now }) request.now) }
 {
     match verdict(world, sessions, request) {
