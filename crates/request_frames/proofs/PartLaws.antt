@@ -1,5 +1,5 @@
 -- Frames one behind the other part in one way, and a reply's body fits a frame.
-use Rattle.std.proofs.Common.{◌≡◌, ◌≢◌, ℕ, ◌*◌, ◌^◌, ◌<◌, ◌≤◌, List, [], ◌∷◌, ◌++◌, length, refl, sym, ◌∙◌, ap, arith, append-nil}
+use Rattle.std.proofs.Common.{◌≡◌, ◌≢◌, ℕ, ◌*◌, ◌^◌, ◌<◌, List, [], ◌∷◌, ◌++◌, length, refl, sym, ◌∙◌, ap, arith, append-nil}
 use Rattle.request_frames.specs.Fields.{bytes_of}
 use Rattle.request_frames.specs.Frames.{frame_of, IsBegun, Cut, cut, frames, unended}
 use Rattle.request_frames.specs.Replies.{numbers, reply_body}
