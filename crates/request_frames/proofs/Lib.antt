@@ -5,3 +5,4 @@ pub mod CutLaws
 pub mod BlocksLaws
 pub mod ReplyLaws
 pub mod FramesLaws
+pub mod PartLaws

@@ -6,12 +6,89 @@ use Rattle.tsd_model.specs.declared.replies.Reply.{Reply}
 use Rattle.tsd_model.specs.declared.replies.Reply.TheVariants as reply
 use Rattle.tsd_model.specs.declared.replies.Rule.{Rule}
 use Rattle.tsd_model.specs.declared.replies.Rule.TheVariants as rule
+use Rattle.tsd_model.specs.ReplyForm.{IsBlockSize, HasBody, AreNumbers, RuleHasNumbers, HasNumbers, HasForm}
 use Rattle.request_frames.specs.Fields.{Field, Code, Number, Rank, Bytes, AllFit, bytes_of}
-use Rattle.request_frames.specs.Replies.{rule_fields, numbers, reply_fields, IsBlockSize, HasBody, reply_body, IsReply}
+use Rattle.request_frames.specs.Replies.{rule_fields, numbers, reply_fields, reply_body, IsReply}
 use Rattle.request_frames.specs.Reading.{num_of, level_of, data_of, list_of_blocks, ends, chosen}
 use Rattle.request_frames.specs.ReplyReading.{is_block_size, bytes_reply, blocks_reply, free_reply, gone_reply, targets_reply, bare, denied_reply, full_reply, no_run_reply, pointers_full_reply, rule_forms, ruled, refused_reply, reply_forms, answered, reply_of}
 use Rattle.request_frames.proofs.FieldLaws.{AreBytes, Spelled, some_is, bind_is, took, no_more, next, last, bind_some, num_sound, level_sound, data_sound, num_back, level_back, data_back}
 use Rattle.request_frames.proofs.BlocksLaws.{blocks_sound, blocks_back}
+
+-- ---- the form of a reply and its fields
+
+numbers_of : (ns : List ℕ) → AllFit (numbers ns) → AreNumbers ns
+numbers_of [] h = tt
+numbers_of (n ∷ ns) h = (h.0, numbers_of ns h.1)
+
+fits_of : (ns : List ℕ) → AreNumbers ns → AllFit (numbers ns)
+fits_of [] h = tt
+fits_of (n ∷ ns) h = (h.0, fits_of ns h.1)
+
+rule_numbers : (r : Rule) → AllFit (rule_fields r) → RuleHasNumbers r
+rule_numbers rule.BadRequest h = tt
+rule_numbers rule.BadSession h = tt
+rule_numbers rule.NotOpen h = tt
+rule_numbers rule.AlreadyOpen h = tt
+rule_numbers rule.BadCount h = tt
+rule_numbers rule.BadSize h = tt
+rule_numbers rule.NoSuchBlock h = tt
+rule_numbers rule.FreeBlock h = tt
+rule_numbers rule.NotPrimary h = tt
+rule_numbers rule.IsPrimary h = tt
+rule_numbers (rule.Denied a n) h = tt
+rule_numbers rule.PointerExists h = tt
+rule_numbers rule.NoPointer h = tt
+rule_numbers (rule.Full a b) h = (h.1.0, h.1.1.0)
+rule_numbers (rule.NoRun a b) h = (h.1.0, h.1.1.0)
+rule_numbers (rule.PointersFull a b) h = (h.1.0, h.1.1.0)
+
+rule_fits : (r : Rule) → RuleHasNumbers r → AllFit (rule_fields r)
+rule_fits rule.BadRequest h = (tt, tt)
+rule_fits rule.BadSession h = (tt, tt)
+rule_fits rule.NotOpen h = (tt, tt)
+rule_fits rule.AlreadyOpen h = (tt, tt)
+rule_fits rule.BadCount h = (tt, tt)
+rule_fits rule.BadSize h = (tt, tt)
+rule_fits rule.NoSuchBlock h = (tt, tt)
+rule_fits rule.FreeBlock h = (tt, tt)
+rule_fits rule.NotPrimary h = (tt, tt)
+rule_fits rule.IsPrimary h = (tt, tt)
+rule_fits (rule.Denied a n) h = (tt, (tt, (tt, tt)))
+rule_fits rule.PointerExists h = (tt, tt)
+rule_fits rule.NoPointer h = (tt, tt)
+rule_fits (rule.Full a b) h = (tt, (h.0, (h.1, tt)))
+rule_fits (rule.NoRun a b) h = (tt, (h.0, (h.1, tt)))
+rule_fits (rule.PointersFull a b) h = (tt, (h.0, (h.1, tt)))
+
+-- fields that fit have the numbers of the form
+has_numbers : (r : Reply) → AllFit (reply_fields r) → HasNumbers r
+has_numbers reply.Done h = tt
+has_numbers (reply.Bytes bytes) h = tt
+has_numbers (reply.Blocks ns) h = numbers_of ns h.1
+has_numbers (reply.Free n) h = h.1.0
+has_numbers (reply.Gone n) h = h.1.0
+has_numbers (reply.Targets ns) h = numbers_of ns h.1
+has_numbers reply.NoMemory h = tt
+has_numbers (reply.Refused r) h = rule_numbers r h.1
+
+pub form_of : (r : Reply) → HasBody r → AllFit (reply_fields r) → HasForm r
+form_of r some fits = record { body = some; numbers = has_numbers r fits }
+
+pub block_fits : (n : ℕ) → IsBlockSize n → n ≤ 4096
+block_fits n h = elim h [ inl a ↦ omega (arith, a) | inr g ↦ elim g [ inl b ↦ omega (arith, b) | inr k ↦ elim k [ inl c ↦ omega (arith, c) | inr d ↦ omega (arith, d) ] ] ]
+
+-- the fields of a reply of that form fit
+all_fit : (r : Reply) → HasBody r → HasNumbers r → AllFit (reply_fields r)
+all_fit reply.Done some h = (tt, tt)
+all_fit (reply.Bytes bytes) some h = (tt, (block_fits (length bytes) some, tt))
+all_fit (reply.Blocks ns) some h = (tt, fits_of ns h)
+all_fit (reply.Free n) some h = (tt, (h, tt))
+all_fit (reply.Gone n) some h = (tt, (h, tt))
+all_fit (reply.Targets ns) some h = (tt, fits_of ns h)
+all_fit reply.NoMemory some h = (tt, tt)
+all_fit (reply.Refused r) some h = (tt, rule_fits r h)
+
+-- ---- what is read is spelled
 
 -- what is read after the code is spelled by it and the bytes
 abbrev Answers : ℕ → (List ℕ → Option Reply) → Type 0
@@ -20,8 +97,7 @@ Answers code form = (bs : List ℕ) (q : Reply) → AreBytes bs → form bs ≡ 
 -- so it is, where the bytes spell the fields after the code
 spells : (q r : Reply) (code : ℕ) (fs : List Field) (bs : List ℕ) → reply_fields r ≡ Code code ∷ fs → HasBody r → r ≡ q → Spelled fs bs → IsReply (code ∷ bs) q
 spells q r code fs bs f some e h = subst (IsReply (code ∷ bs)) e (record {
-  has_body = some;
-  fits = subst AllFit (sym f) (tt, h.0);
+  form = form_of r some (subst AllFit (sym f) (tt, h.0));
   spelled = ap (λ xs. code ∷ xs) h.1 ∙ ap bytes_of (sym f);
 })
 
@@ -224,4 +300,4 @@ spelled_back (reply.Refused r) some h = rule_back r h.1
 
 -- what is spelled is read
 pub reply_back : (body : List ℕ) (r : Reply) → IsReply body r → reply_of body ≡ Some r
-reply_back body r h = ap reply_of h.spelled ∙ spelled_back r h.has_body h.fits
+reply_back body r h = ap reply_of h.spelled ∙ spelled_back r h.form.body (all_fit r h.form.body h.form.numbers)

@@ -1,10 +1,11 @@
 -- The bodies that spell replies, said apart from any reading.
-use Rattle.std.specs.Prelude.{◌≡◌, ℕ, ◌≤◌, ◌⊎◌, List, [], ◌∷◌, length}
+use Rattle.std.specs.Prelude.{◌≡◌, ℕ, List, [], ◌∷◌}
+use Rattle.tsd_model.specs.ReplyForm.{HasForm}
 use Rattle.tsd_model.specs.declared.replies.Reply.{Reply}
 use Rattle.tsd_model.specs.declared.replies.Reply.TheVariants as reply
 use Rattle.tsd_model.specs.declared.replies.Rule.{Rule}
 use Rattle.tsd_model.specs.declared.replies.Rule.TheVariants as rule
-use Rattle.request_frames.specs.Fields.{Field, Code, Number, Rank, Bytes, AllFit, bytes_of}
+use Rattle.request_frames.specs.Fields.{Field, Code, Number, Rank, Bytes, bytes_of}
 
 -- the fields of each rule, a code first
 abbrev pub rule_fields : Rule → List Field
@@ -41,27 +42,11 @@ reply_fields (reply.Targets blocks) = Code 6 ∷ numbers blocks
 reply_fields reply.NoMemory = Code 7 ∷ []
 reply_fields (reply.Refused r) = Code 8 ∷ rule_fields r
 
--- so many bytes has a block
-abbrev pub IsBlockSize : ℕ → Type 0
-IsBlockSize n = (n ≡ 512) ⊎ (n ≡ 1024) ⊎ (n ≡ 2048) ⊎ (n ≡ 4096)
-
--- Bytes are those of a block, new blocks are 1 to 32, targets at most 64.
-abbrev pub HasBody : Reply → Type 0
-HasBody (reply.Bytes bytes) = IsBlockSize (length bytes)
-HasBody (reply.Blocks blocks) = (1 ≤ length blocks) × (length blocks ≤ 32)
-HasBody (reply.Targets blocks) = length blocks ≤ 64
-HasBody reply.Done = Unit {0}
-HasBody (reply.Free n) = Unit {0}
-HasBody (reply.Gone n) = Unit {0}
-HasBody reply.NoMemory = Unit {0}
-HasBody (reply.Refused r) = Unit {0}
-
 -- the one body of a reply
 abbrev pub reply_body : Reply → List ℕ
 reply_body r = bytes_of (reply_fields r)
 
 -- The body spells the reply, from its first byte to its last.
 pub record IsReply (body : List ℕ) (r : Reply) : Type 0 where
-  pub has_body : HasBody r
-  pub fits : AllFit (reply_fields r)
+  pub form : HasForm r
   pub spelled : body ≡ reply_body r

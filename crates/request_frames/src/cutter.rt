@@ -2,9 +2,9 @@
 //!
 //! However the text is cut into pieces, the frames are the same: those of the text itself.
 
-ghost use Rattle.std.specs.Prelude.{◌≡◌, ◌≢◌, ◌↔◌, ◌+◌, ◌-◌, ◌<◌, ◌≤◌, ◌++◌, ℕ, List, [], length, take, drop, slice_index, min, cond, nat_le, true, false, IsTrue, IfOk};
+ghost use Rattle.std.specs.Prelude.{◌≡◌, ◌≢◌, ◌↔◌, ◌+◌, ◌-◌, ◌^◌, ◌<◌, ◌≤◌, ◌++◌, ℕ, List, [], ◌∷◌, length, take, drop, slice_index, min, cond, nat_le, true, false, IsTrue, IfOk};
 ghost use Rattle.std.specs.Vec.{vec_capacity};
-ghost use Rattle.request_frames.specs.Frames.{IsCut, frames, unended, frame_size, has_frame};
+ghost use Rattle.request_frames.specs.Frames.{IsCut, frame_of, frames, unended, frame_size, has_frame};
 ghost use Rattle.request_frames.specs.Cutting.{Cutting, Cuts, FollowOn, WasFed, bodies_held, body, rest, text_fed};
 
 use crate::frame_buf::LENGTH_BYTES;
@@ -15,6 +15,9 @@ use tsd_model::NoMemory;
 
 /// The most bytes of a body that a frame may have.
 pub const BODY_MAX: usize = 65_535;
+
+/// As many as two bytes count.
+const _: () = prove!(BODY_MAX == u16::MAX as usize);
 
 /// Room for the longest frame.
 const ROOM: usize = LENGTH_BYTES + BODY_MAX;
@@ -159,4 +162,14 @@ pub fn any_cutting()
 pub fn frames_are()
     ensures cut { (text : List ℕ) → ((i : ℕ) → slice_index text i < 256) → IsCut text (frames text) (unended text) }
     ensures only { (text : List ℕ) (bodies : List (List ℕ)) (more : List ℕ) → IsCut text bodies more → (frames text ≡ bodies) × (unended text ≡ more) }
+{}
+
+/// Frames one behind the other part in one way. So the frames of what was sent count the replies that were sent whole.
+pub fn frames_part()
+    // The frames of a text come first in a longer one: more bytes change no frame that is whole.
+    ensures stay { (x y : List ℕ) → frames (x ++ y) ≡ frames x ++ frames (unended x ++ y) }
+    // A frame before bytes is the first of their frames.
+    ensures first { (body behind : List ℕ) → length body < 2 ^ 16 → frames (frame_of body ++ behind) ≡ body ∷ frames behind }
+    // A front of a frame that isn't all of it has none.
+    ensures none { (body front back : List ℕ) → length body < 2 ^ 16 → frame_of body ≡ front ++ back → 0 < length back → frames front ≡ [] }
 {}

@@ -8,7 +8,6 @@ ghost use Rattle.request_frames.specs.Reading.{begin_of, end_of, read_of, write_
 use crate::codes::{
     ALLOC, BEGIN, CONTIG, CREATE, DELETE, END, GET_FREE, LIST, READ, SET_CAP, SWEEP, WRITE,
 };
-use crate::frame_buf::REQUEST_MAX;
 use crate::reader::BodyReader;
 use tsd_model::{CapPair, Request};
 
@@ -19,7 +18,7 @@ pub fn decode_body(body: &[u8]) -> Request
     // What is spelled so is read: so no body has two requests. No body spells Bad.
     ensures only { (q : Request) → IsBody body.now q → result ≡ q }
     // A longer body is no request's.
-    ensures long { REQUEST_MAX < length body.now → result ≡ Request.Bad }
+    ensures long { 4122 < length body.now → result ≡ Request.Bad }
     // As a function that computes.
     ensures value { result ≡ request_of body.now }
 {

@@ -43,7 +43,7 @@ impl FrameBuf {
     /// The bytes.
     pub fn as_slice(&self) -> &[u8]
         ensures value { result.now ≡ self.now }
-        ensures fits { length self.now ≤ FRAME_MAX }
+        ensures fits { length self.now ≤ 4124 }
     {
         self.bytes.as_slice()
     }

@@ -14,6 +14,8 @@
 //!   [`decode_reply`] the same of replies. The spellings are stated apart from both directions (`specs/Fields.antt`,
 //!   `specs/Requests.antt`, `specs/Replies.antt`).
 //! - [`encode_request`] and [`encode_reply`] leave the frame of the one body.
+//! - Frames one behind the other part in one way, and more bytes change no frame that is whole ([`cutter::frames_part`]);
+//!   a reply's body fits a frame ([`bodies_fit`]).
 //!
 //! Room for the longest frame is taken when a cutter is made. No other call takes memory.
 #![tactic(auto)]
@@ -26,8 +28,6 @@ pub mod frame_buf;
 mod reader;
 mod reply_decoding;
 mod reply_encoding;
-#[cfg(test)]
-mod tests;
 mod writing;
 
 pub use cutter::{Fed, FrameCutter};
@@ -35,4 +35,4 @@ pub use decoding::decode_body;
 pub use encoding::encode_request;
 pub use frame_buf::FrameBuf;
 pub use reply_decoding::decode_reply;
-pub use reply_encoding::encode_reply;
+pub use reply_encoding::{bodies_fit, encode_reply};

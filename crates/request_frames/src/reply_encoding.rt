@@ -1,8 +1,10 @@
 //! Replies as they are sent.
 
-ghost use Rattle.std.specs.Prelude.{◌≡◌, ◌+◌, ◌≤◌, [], ◌∷◌, ◌++◌, length};
+ghost use Rattle.std.specs.Prelude.{◌≡◌, ◌+◌, ◌^◌, ◌<◌, ◌≤◌, [], ◌∷◌, ◌++◌, length};
+ghost use Rattle.tsd_model.specs.ReplyForm.{HasBody};
+ghost use Rattle.tsd_model.specs.declared.replies.Reply.{Reply};
 ghost use Rattle.request_frames.specs.Fields.{Code, Number, AllFit, bytes_of};
-ghost use Rattle.request_frames.specs.Replies.{HasBody, IsReply, reply_body, reply_fields, rule_fields};
+ghost use Rattle.request_frames.specs.Replies.{IsReply, reply_body, reply_fields, rule_fields};
 ghost use Rattle.request_frames.specs.Frames.{frame_of};
 
 use crate::codes;
@@ -100,3 +102,8 @@ fn put_two(into: &mut FrameBuf, code: u8, first: u32, second: u32)
     put_number(into, first);
     put_number(into, second);
 }
+
+/// The body of a reply fits a frame.
+pub fn bodies_fit()
+    ensures { (r : Reply) → HasBody r → length (reply_body r) < 2 ^ 16 }
+{}

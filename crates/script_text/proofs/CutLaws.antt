@@ -105,6 +105,16 @@ lines_more x p q e = ap front (pieces-glue 10 x p ∙ ap (λ qs. front (pieces 1
 pub unended_none : (x p q : List ℕ) → pieces 10 p ≡ q ∷ [] ∷ [] → unended (x ++ p) ≡ []
 unended_none x p q e = ap last_of (pieces-glue 10 x p ∙ ap (λ qs. front (pieces 10 x) ++ onto (unended x) qs) e ∙ two_snoc (front (pieces 10 x)) (unended x ++ q) []) ∙ last-snoc (front (pieces 10 x) ++ (unended x ++ q) ∷ []) []
 
+front_on : (ps qs : List (List ℕ)) (r : List ℕ) → front (ps ++ onto r qs) ≡ ps ++ front (onto r qs)
+front_on [] qs r = refl
+front_on (p ∷ []) [] r = refl
+front_on (p ∷ []) (q ∷ qs) r = refl
+front_on (p ∷ o ∷ ps) qs r = ap (λ xs. p ∷ xs) (front_on (o ∷ ps) qs r)
+
+-- the lines of a text come first in a longer one
+pub lines_on : (x y : List ℕ) → lines (x ++ y) ≡ lines x ++ front (onto (unended x) (pieces 10 y))
+lines_on x y = ap front (pieces-glue 10 x y) ∙ front_on (lines x) (pieces 10 y) (unended x)
+
 -- ---- one feed
 
 -- the cutter goes on with what it held of the text

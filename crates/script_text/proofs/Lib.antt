@@ -4,3 +4,4 @@ pub mod ReadingLaws
 pub mod SpellingLaws
 pub mod CutLaws
 pub mod TextsLaws
+pub mod FeedLaws

@@ -1,5 +1,5 @@
 -- A text cut at each place where one byte stands: lines at line feeds, words at spaces.
-use Rattle.std.specs.Prelude.{ℕ, cond, ◌==◌, List, [], ◌∷◌, ◌++◌, Option, Some, None}
+use Rattle.std.specs.Prelude.{ℕ, ◌+◌, cond, ◌==◌, List, [], ◌∷◌, ◌++◌, Option, Some, None}
 use Rattle.std.specs.Borrow.{Bor}
 
 -- the byte stands before the first piece
@@ -45,3 +45,8 @@ if_some (b ∷ bs) = (b ∷ bs) ∷ []
 -- the lines of a text that has come to its end: what stands after the last line feed is one more, where it is something
 abbrev pub all_lines : List ℕ → List (List ℕ)
 all_lines text = lines text ++ if_some (unended text)
+
+-- how many line feeds there are
+abbrev pub line_feeds : List ℕ → ℕ
+line_feeds [] = 0
+line_feeds (b ∷ bs) = cond (b == 10) 1 0 + line_feeds bs

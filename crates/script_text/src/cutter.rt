@@ -90,7 +90,7 @@ impl LineCutter {
     /// The line so far without its line feed, cut to 8,401 bytes; after a whole line that line, until the next feed.
     pub fn line(&self) -> &[u8]
         ensures value { result.now ≡ self.now.line }
-        ensures fits { length result.now ≤ HELD_MAX }
+        ensures fits { length result.now ≤ 8401 }
     {
         self.line.as_slice()
     }
@@ -99,7 +99,7 @@ impl LineCutter {
     /// is something.
     pub fn rest(&self) -> &[u8]
         ensures value { result.now ≡ rest self.now }
-        ensures fits { length result.now ≤ HELD_MAX }
+        ensures fits { length result.now ≤ 8401 }
     {
         if self.whole {
             return b"".as_slice();
@@ -110,7 +110,7 @@ impl LineCutter {
 
 /// Appends what there is room for.
 fn push_all(line: &mut ArrayVec<u8, HELD_MAX>, bytes: &[u8])
-    ensures { line.new.items ≡ take HELD_MAX (line.old.items ++ bytes.now) }
+    ensures { line.new.items ≡ take 8401 (line.old.items ++ bytes.now) }
 {
     let fitting = line.remaining_capacity().min(bytes.len());
     let _fit = line.try_extend_from_slice(&bytes[..fitting]);
@@ -119,5 +119,10 @@ fn push_all(line: &mut ArrayVec<u8, HELD_MAX>, bytes: &[u8])
 /// However a text is cut into pieces, the lines that a cutter holds whole, one after another, are those of the text,
 /// each cut to 8,401 bytes.
 pub fn any_cutting()
-    ensures { (feeds : List (List ℕ × Cutting)) → FollowOn [] feeds → lines_held feeds ≡ map (take HELD_MAX) (lines (text_fed feeds)) }
+    ensures { (feeds : List (List ℕ × Cutting)) → FollowOn [] feeds → lines_held feeds ≡ map (take 8401) (lines (text_fed feeds)) }
+{}
+
+/// The lines of a text come first among those of a longer text: more bytes change no line that is whole.
+pub fn lines_stay()
+    ensures { (x y : List ℕ) → (more : List (List ℕ)) × (lines (x ++ y) ≡ lines x ++ more) }
 {}

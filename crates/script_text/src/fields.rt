@@ -11,7 +11,7 @@ use tsd_model::lists::DATA_MAX;
 use tsd_model::{Cap, Data, Hint, Shown};
 
 /// The most digits of a number.
-const NUMBER_DIGITS: usize = 10;
+pub const NUMBER_DIGITS: usize = 10;
 
 /// The most hexadecimal digits of a block's bytes.
 pub const DATA_DIGITS: usize = 2 * DATA_MAX;

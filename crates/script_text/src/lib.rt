@@ -14,6 +14,8 @@
 //!   spellings are a grammar of their own (`specs/Grammar.antt`).
 //! - [`print_request`] leaves a line that reads as the request, and [`print_reply`] exactly the reply's text
 //!   (`specs/Texts.antt`).
+//! - Replies as they are sent part in one way: each has one line feed, its last byte ([`replies_part`]). More bytes change
+//!   no line that is whole ([`cutter::lines_stay`]).
 //!
 //! No call takes memory. That a line is read in time linear in its length is shown by the code, and is no clause.
 #![tactic(auto)]
@@ -25,12 +27,10 @@ pub mod parse;
 pub mod printing;
 mod replies;
 mod requests;
-#[cfg(test)]
-mod tests;
 mod words;
 
 pub use cutter::{Fed, LineCutter};
 pub use out_buf::OutBuf;
 pub use parse::parse_line;
-pub use replies::print_reply;
+pub use replies::{print_reply, replies_part};
 pub use requests::print_request;

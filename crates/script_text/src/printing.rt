@@ -5,7 +5,7 @@ ghost use Rattle.hex.specs.Hex.{decode_of, encode_lower};
 ghost use Rattle.script_text.specs.Grammar.{IsField, Number, Show, New, Near, Bytes};
 ghost use Rattle.script_text.specs.Texts.{field_text, data_text};
 
-use crate::fields::DATA_DIGITS;
+use crate::fields::{DATA_DIGITS, NUMBER_DIGITS};
 use crate::out_buf::OutBuf;
 use crate::parse::LINE_MAX;
 use tsd_model::caps::CAP_BYTES;
@@ -16,7 +16,7 @@ use tsd_model::{Cap, Hint, Shown};
 const CAP_DIGITS: usize = 2 * CAP_BYTES;
 
 /// The most bytes of a number with the space before it.
-pub const NUMBER_ROOM: usize = 11;
+pub const NUMBER_ROOM: usize = 1 + NUMBER_DIGITS;
 
 /// A word.
 pub fn put_word(into: &mut OutBuf, word: &[u8])

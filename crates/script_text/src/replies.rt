@@ -1,7 +1,10 @@
 //! Replies as they are printed.
 
-ghost use Rattle.std.specs.Prelude.{◌≡◌, ◌+◌, ◌*◌, ◌<◌, ◌≤◌, [], ◌∷◌, ◌++◌, length, decimal};
+ghost use Rattle.std.specs.Prelude.{◌≡◌, ◌+◌, ◌*◌, ◌<◌, ◌≤◌, ℕ, List, [], ◌∷◌, ◌++◌, length, decimal};
 ghost use Rattle.std.specs.List.{join_with_byte};
+ghost use Rattle.tsd_model.specs.ReplyForm.{HasNumbers};
+ghost use Rattle.tsd_model.specs.declared.replies.Reply.{Reply};
+ghost use Rattle.script_text.specs.Pieces.{line_feeds};
 ghost use Rattle.script_text.specs.Texts.{level_text, reply_text, rule_words, target_words, up_to_last};
 
 use crate::out_buf::OutBuf;
@@ -138,3 +141,14 @@ fn level(into: &mut OutBuf, level: Level)
         Level::Write => put_word(into, b"write".as_slice()),
     }
 }
+
+/// Replies as they are sent, one behind the other, part in one way: each has one line feed, its last byte. So the line
+/// feeds of what was sent count the replies that were sent whole.
+pub fn replies_part()
+    // No byte of a reply's text is a line feed.
+    ensures text { (r : Reply) → HasNumbers r → line_feeds (reply_text r) ≡ 0 }
+    // A whole reply counts as one, whatever follows.
+    ensures whole { (r : Reply) (behind : List ℕ) → HasNumbers r → line_feeds ((reply_text r ++ 10 ∷ []) ++ behind) ≡ 1 + line_feeds behind }
+    // A front of a reply that isn't all of it counts as none.
+    ensures part { (r : Reply) (front back : List ℕ) → HasNumbers r → reply_text r ++ 10 ∷ [] ≡ front ++ back → 0 < length back → line_feeds front ≡ 0 }
+{}

@@ -3,8 +3,7 @@ use Rattle.std.proofs.Common.{◌≡◌, ℕ, zero, suc, ◌+◌, ◌-◌, ◌�
 use Rattle.std.proofs.lemmas.List.{length-drop}
 use Rattle.std.specs.Prelude.{MatchBool}
 use Rattle.script_text.specs.Lines.{Cutting, Cuts, WasFed}
-use Rattle.script_text.specs.Pieces.{pieces, front, lines, unended, if_some, all_lines}
-use Rattle.script_text.proofs.CutLaws.{onto, pieces-glue}
+use Rattle.script_text.specs.Pieces.{lines, unended, if_some, all_lines}
 use Rattle.script_text.proofs.PiecesLaws.{take_rest}
 
 abbrev EndsLine : List ℕ → List ℕ → Cutting → Type 0
@@ -49,16 +48,6 @@ rest_within piece done used h fits = omega (arith, ap length (take_rest done pie
 
 pub rest_fed : (x piece : List ℕ) (done used : ℕ) (new : Cutting) → WasFed ((x ++ take done piece) ++ take used (take (length piece - done) (drop done piece))) new → WasFed (x ++ take (done + used) piece) new
 rest_fed x piece done used new fed = subst (λ t. WasFed t new) (text_on x piece done used) (subst (λ p. WasFed ((x ++ take done piece) ++ take used p) new) (take_rest done piece) fed)
-
-front_on : (ps qs : List (List ℕ)) (r : List ℕ) → front (ps ++ onto r qs) ≡ ps ++ front (onto r qs)
-front_on [] qs r = refl
-front_on (p ∷ []) [] r = refl
-front_on (p ∷ []) (q ∷ qs) r = refl
-front_on (p ∷ o ∷ ps) qs r = ap (λ xs. p ∷ xs) (front_on (o ∷ ps) qs r)
-
--- the lines of a text come first in a longer one
-pub lines_on : (x y : List ℕ) → lines (x ++ y) ≡ lines x ++ front (onto (unended x) (pieces 10 y))
-lines_on x y = ap front (pieces-glue 10 x y) ∙ front_on (lines x) (pieces 10 y) (unended x)
 
 -- ---- the limit
 

@@ -10,7 +10,7 @@ use Rattle.script_text.specs.Reading.{request_of}
 use Rattle.tsd_serve.specs.declared.status.Status.{Status}
 use Rattle.tsd_serve.specs.declared.status.Status.TheVariants as status
 use Rattle.tsd_serve.specs.Answers.{IsAnswer, requests, answers, line_of, texts}
-use Rattle.tsd_serve.specs.Served.{Served, IsCutOff, LeftBy, Stopped}
+use Rattle.tsd_serve.specs.Served.{Served, IsCutOff, Stopped}
 
 drop_one : (w : Bool) (ws : List Bool) → drop 1 (w ∷ ws) ≡ ws
 drop_one w [] = refl
@@ -41,18 +41,6 @@ after-next kind s (v ∷ ws) w (p ∷ qs) q e =
     after-cons kind s v (ws ++ w ∷ []) p (qs ++ q ∷ [])
     ∙ after-next kind (answer kind s p v).state ws w qs q (omega arith)
     ∙ ap (λ u. (answer kind u q w).state) (sym (after-cons kind s v ws p qs))
-
--- the replies to the first requests come first
-replies-front : (kind : PlaceKind) (s : State) (wants : List Bool) (qs more : List Request) → (rest : List Reply) × (replies kind s wants (qs ++ more) ≡ replies kind s wants qs ++ rest)
-replies-front kind s wants [] more = (replies kind s wants more, refl)
-replies-front kind s wants (q ∷ qs) more =
-    let next = replies-front kind (answer kind s q (wants_now wants)).state (drop 1 wants) qs more in
-    (next.0, ap (λ rs. (answer kind s q (wants_now wants)).reply ∷ rs) next.1)
-
-answers-front : (kind : PlaceKind) (s : State) (wants : List Bool) (ls more : List (List ℕ)) → (rest : List Reply) × (answers kind s wants (ls ++ more) ≡ answers kind s wants ls ++ rest)
-answers-front kind s wants ls more =
-    let front = replies-front kind s wants (requests ls) (requests more) in
-    (front.0, ap (replies kind s wants) (map-append request_of ls more) ∙ front.1)
 
 pub texts-append : (rs more : List Reply) → texts (rs ++ more) ≡ texts rs ++ texts more
 texts-append [] more = refl
@@ -107,56 +95,41 @@ pub cut_reply : (now piece new : List ℕ) (r : Reply) → piece ≡ line_of r �
 cut_reply now piece new r e part = subst (λ text. IsCutOff now text new) e (cut_off now piece new part.0 part.1 part.2)
 
 pub stopped_put : (kind : PlaceKind) (s st st2 : State) (tells : Type 0) (before now new : List ℕ) (ls : List (List ℕ)) (l : List ℕ) (r : Reply)
-    → Served kind s tells before ls st now → IsAnswer kind st (request_of l) r st2 → (tells → IsCutOff now (line_of r) new) → Stopped status.PutFault kind s tells before (ls ++ l ∷ []) new
+    → Served kind s tells before ls st now → IsAnswer kind st (request_of l) r st2 → (tells → IsCutOff now (line_of r) new) → Stopped status.PutFault kind s tells before (ls ++ l ∷ []) st2 new
 stopped_put kind s st st2 tells before now new ls l r was a part = record {
-  wants = was.wants ++ a.want ∷ [];
-  left = λ t. record {
-    front = texts (answers kind s was.wants ls) ++ (part t).front;
-    back = (part t).back;
-    whole = sym (text_next (answers kind s was.wants ls) _ r (answers_next kind s st st2 was.wants ls l r was.each was.reached a))
-        ∙ ap (λ xs. texts (answers kind s was.wants ls) ++ xs) (part t).whole ∙ sym (append_assoc (texts (answers kind s was.wants ls)) (part t).front (part t).back);
-    some = (part t).some;
-    sent = (part t).sent ∙ ap (λ xs. xs ++ (part t).front) (was.sent t) ∙ append_assoc before (texts (answers kind s was.wants ls)) (part t).front;
-  };
+  answered = ls;
+  line = l;
+  behind = [];
+  parts = refl;
+  reached = st;
+  sent = now;
+  served = was;
+  left = (r, a, part);
 }
 
-pub stopped_memory : (kind : PlaceKind) (s st : State) (tells : Type 0) (before now : List ℕ) (ls : List (List ℕ)) (l : List ℕ)
-    → Served kind s tells before ls st now → Stopped status.NoMemory kind s tells before (ls ++ l ∷ []) now
-stopped_memory kind s st tells before now ls l was = record {
-  wants = was.wants;
-  left = λ t. record {
-    front = answers kind s was.wants ls;
-    back = (answers-front kind s was.wants ls (l ∷ [])).0;
-    whole = (answers-front kind s was.wants ls (l ∷ [])).1;
-    sent = was.sent t;
-  };
+pub stopped_memory : (kind : PlaceKind) (s st st2 : State) (tells : Type 0) (before now new : List ℕ) (ls : List (List ℕ)) (l : List ℕ)
+    → Served kind s tells before ls st now → st2 ≡ st → new ≡ now → Stopped status.NoMemory kind s tells before (ls ++ l ∷ []) st2 new
+stopped_memory kind s st st2 tells before now new ls l was same sent = record {
+  answered = ls;
+  line = l;
+  behind = [];
+  parts = refl;
+  reached = st;
+  sent = now;
+  served = was;
+  left = (same, λ t. sent);
 }
 
--- ---- more lines behind
-
-left_more : (why : Status) (tells : Type 0) (before now : List ℕ) (rs more : List Reply) → LeftBy why tells before rs now → LeftBy why tells before (rs ++ more) now
-left_more status.PutFault tells before now rs more h = λ t. record {
-  front = (h t).front;
-  back = (h t).back ++ texts more;
-  whole = texts-append rs more ∙ ap (λ xs. xs ++ texts more) (h t).whole ∙ append_assoc (h t).front (h t).back (texts more);
-  some = omega (arith, length-append (h t).back (texts more), (h t).some);
-  sent = (h t).sent;
+-- more lines behind
+pub stopped_more : (why : Status) (kind : PlaceKind) (s : State) (tells : Type 0) (before now : List ℕ) (state : State) (ls more : List (List ℕ))
+    → Stopped why kind s tells before ls state now → Stopped why kind s tells before (ls ++ more) state now
+stopped_more why kind s tells before now state ls more h = record {
+  answered = h.answered;
+  line = h.line;
+  behind = h.behind ++ more;
+  parts = ap (λ xs. xs ++ more) h.parts ∙ append_assoc h.answered (h.line ∷ h.behind) more;
+  reached = h.reached;
+  sent = h.sent;
+  served = h.served;
+  left = h.left;
 }
-left_more status.NoMemory tells before now rs more h = λ t. record {
-  front = (h t).front;
-  back = (h t).back ++ more;
-  whole = ap (λ xs. xs ++ more) (h t).whole ∙ append_assoc (h t).front (h t).back more;
-  sent = (h t).sent;
-}
-left_more r tells before now rs more h = absurd h
-
-left_same : (why : Status) (tells : Type 0) (before now : List ℕ) (rs ss : List Reply) → rs ≡ ss → LeftBy why tells before rs now → LeftBy why tells before ss now
-left_same why tells before now rs ss e h = subst (λ qs. LeftBy why tells before qs now) e h
-
-pub stopped_more : (why : Status) (kind : PlaceKind) (s : State) (tells : Type 0) (before now : List ℕ) (ls more : List (List ℕ)) → Stopped why kind s tells before ls now → Stopped why kind s tells before (ls ++ more) now
-stopped_more why kind s tells before now ls more h =
-    let front = answers-front kind s h.wants ls more in
-    record {
-      wants = h.wants;
-      left = left_same why tells before now (answers kind s h.wants ls ++ front.0) (answers kind s h.wants (ls ++ more)) (sym front.1) (left_more why tells before now (answers kind s h.wants ls) front.0 h.left);
-    }

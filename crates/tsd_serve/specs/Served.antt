@@ -1,19 +1,15 @@
 -- Which replies a port was sent between two moments. `before` and `now` are the bytes sent by then, where it `tells` them.
-use Rattle.std.specs.Prelude.{◌≡◌, ℕ, ◌<◌, Bool, List, ◌++◌, length}
+use Rattle.std.specs.Prelude.{◌≡◌, ℕ, ◌<◌, Bool, List, ◌∷◌, ◌++◌, length}
 use Rattle.tsd_model.specs.Step.{State}
 use Rattle.tsd_model.specs.Run.{after}
 use Rattle.tsd_model.specs.declared.requests.PlaceKind.{PlaceKind}
 use Rattle.tsd_model.specs.declared.replies.Reply.{Reply}
+use Rattle.script_text.specs.Reading.{request_of}
 use Rattle.tsd_serve.specs.declared.status.Status.{Status}
 use Rattle.tsd_serve.specs.declared.status.Status.TheVariants as status
-use Rattle.tsd_serve.specs.Answers.{requests, answers, texts}
+use Rattle.tsd_serve.specs.Answers.{IsAnswer, requests, answers, line_of, texts}
 
--- the replies to these lines were sent, all of them and nothing else
-pub record Replied (kind : PlaceKind) (s : State) (tells : Type 0) (before : List ℕ) (ls : List (List ℕ)) (now : List ℕ) : Type 0 where
-  pub wants : List Bool
-  pub sent : tells → now ≡ before ++ texts (answers kind s wants ls)
-
--- the same, with the state after the lines
+-- the replies to these lines were sent, all of them and nothing else, and this is the state after the lines
 pub record Served (kind : PlaceKind) (s : State) (tells : Type 0) (before : List ℕ) (ls : List (List ℕ)) (state : State) (now : List ℕ) : Type 0 where
   pub wants : List Bool
   pub each : length wants ≡ length ls
@@ -28,25 +24,28 @@ pub record IsCutOff (before text now : List ℕ) : Type 0 where
   pub some : 0 < length back
   pub sent : now ≡ before ++ front
 
--- the first of these replies were sent, each of them whole
-pub record IsBrokenOff (before : List ℕ) (rs : List Reply) (now : List ℕ) : Type 0 where
-  pub front : List Reply
-  pub back : List Reply
-  pub whole : rs ≡ front ++ back
-  pub sent : now ≡ before ++ texts front
+-- How a run left the line at which it stopped, from this state on. Where a put failed the line is carried out, and its
+-- reply wasn't sent whole; without memory it isn't carried out, and nothing of a reply was sent.
+abbrev pub LeftBy : Status → PlaceKind → State → List ℕ → State → Type 0 → List ℕ → List ℕ → Type 0
+LeftBy status.PutFault kind s line state tells before now = (r : Reply) × IsAnswer kind s (request_of line) r state × (tells → IsCutOff before (line_of r) now)
+LeftBy status.NoMemory kind s line state tells before now = (state ≡ s) × (tells → now ≡ before)
+LeftBy r kind s line state tells before now = ⊥
 
--- how a run that stopped left the replies
-abbrev pub LeftBy : Status → Type 0 → List ℕ → List Reply → List ℕ → Type 0
-LeftBy status.PutFault tells before rs now = tells → IsCutOff before (texts rs) now
-LeftBy status.NoMemory tells before rs now = tells → IsBrokenOff before rs now
-LeftBy r tells before rs now = ⊥
+-- The run stopped at one of these lines: all before it are answered, and it alone is left so. None behind it is carried
+-- out.
+pub record Stopped (why : Status) (kind : PlaceKind) (s : State) (tells : Type 0) (before : List ℕ) (ls : List (List ℕ)) (state : State) (now : List ℕ) : Type 0 where
+  pub answered : List (List ℕ)
+  pub line : List ℕ
+  pub behind : List (List ℕ)
+  pub parts : ls ≡ answered ++ line ∷ behind
+  pub reached : State
+  pub sent : List ℕ
+  pub served : Served kind s tells before answered reached sent
+  pub left : LeftBy why kind reached line state tells sent now
 
--- the run stopped before the replies to these lines were all sent
-pub record Stopped (why : Status) (kind : PlaceKind) (s : State) (tells : Type 0) (before : List ℕ) (ls : List (List ℕ)) (now : List ℕ) : Type 0 where
-  pub wants : List Bool
-  pub left : LeftBy why tells before (answers kind s wants ls) now
-
--- how the last line of a text ends the run
-abbrev pub Ends : Status → PlaceKind → State → Type 0 → List ℕ → List (List ℕ) → List ℕ → Type 0
-Ends status.Done kind s tells before ls now = Replied kind s tells before ls now
-Ends r kind s tells before ls now = Stopped r kind s tells before ls now
+-- how a run that ended so left the replies to these lines, and the state then
+abbrev pub ByStatus : Status → PlaceKind → State → Type 0 → List ℕ → List (List ℕ) → State → List ℕ → Type 0
+ByStatus status.Done kind s tells before ls state now = Served kind s tells before ls state now
+ByStatus status.SourceFault kind s tells before ls state now = Served kind s tells before ls state now
+ByStatus status.TooLong kind s tells before ls state now = Served kind s tells before ls state now
+ByStatus r kind s tells before ls state now = Stopped r kind s tells before ls state now

@@ -1,11 +1,11 @@
 //! The program as one call: command words, input lines, and replies.
 //!
-//! What it stands on: the abstract disk computed (`tsd_model`), the outside (`image_device`), lines (`script_text`),
-//! placements (`place_policy`), and the faults of an image (`image_layout`).
+//! What it stands on: the abstract disk (`tsd_model`) and the plain program that computes it (`plain_disk`), the outside
+//! (`image_device`), lines (`script_text`), placements (`place_policy`), and the faults of an image (`image_layout`).
 //!
 //! What it promises: [`tsd`] answers each whole line of its input with the reply that the abstract disk gives, whole and
-//! in order, before it applies the next; and its status says how the run ended, and what of the replies was sent
-//! (`specs/Ran.antt`).
+//! in order, before it applies the next; and its status says how the run ended, what of the replies was sent, and which
+//! count of failures rose (`specs/Ran.antt`). The disk beside the port is left alone.
 //!
 //! The disk is held in memory, and nothing of it is written to the device yet. So every request may want memory.
 #![tactic(auto)]
@@ -14,8 +14,6 @@ mod image_text;
 mod plain_core;
 mod serve;
 mod status;
-#[cfg(test)]
-mod tests;
 mod top;
 mod words;
 

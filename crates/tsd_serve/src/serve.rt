@@ -1,13 +1,13 @@
 //! The loop over lines.
 
-ghost use Rattle.std.specs.Prelude.{◌≡◌, ◌≤◌, ◌++◌, ◌∷◌, ◌⊎◌, [], ℕ, List, take, min, OnOk, IfErr};
+ghost use Rattle.std.specs.Prelude.{◌≡◌, ◌≢◌, ◌^◌, ◌≤◌, ◌++◌, ◌∷◌, ◌⊎◌, [], ℕ, List, take, min, OnOk, IfErr};
 ghost use Rattle.image_device.specs.Counts.{Rose};
 ghost use Rattle.script_text.specs.Lines.{WasFed};
 ghost use Rattle.script_text.specs.Pieces.{lines, all_lines};
 ghost use Rattle.tsd_model.specs.Step.{State};
 ghost use Rattle.tsd_serve.specs.Answers.{state_of};
-ghost use Rattle.tsd_serve.specs.Served.{Ends, Served, Stopped};
-ghost use Rattle.tsd_serve.specs.Ran.{Came, Ran};
+ghost use Rattle.tsd_serve.specs.Served.{ByStatus, Served, Stopped};
+ghost use Rattle.tsd_serve.specs.Ran.{Came, IsAtEnd, KeepsDisk, Ran};
 
 use crate::plain_core::PlainCore;
 use crate::status::Status;
@@ -34,13 +34,18 @@ pub fn serve_lines<S: Source, P: Port>(
     port: &mut P,
     limit: u64,
 ) -> Status
-    requires few { limit ≤ INPUT_MAX }
+    requires few { limit ≤ 2 ^ 40 }
     requires fresh { WasFed [] cutter.old }
-    ensures ran { Ran result place.now.kind (state_of core.old) limit (Came S.told (S.taken source.old) (S.taken source.new) (S.left_bytes source.old) (S.left_bytes source.new)) P.told (P.view port.old).sent (P.view port.new).sent }
+    // What came in and what was sent, by status, and what the core is afterwards.
+    ensures ran { Ran result place.now.kind (state_of core.old) (state_of core.new) limit (Came S.told (S.taken source.old) (S.taken source.new) (S.left_bytes source.old) (S.left_bytes source.new)) (IsAtEnd S.told (S.ended source.new) (S.left_bytes source.new)) P.told (P.view port.old).sent (P.view port.new).sent }
     ensures end { result ≡ Status.Done → S.told → S.left_bytes source.new ≡ [] }
     ensures ended { result ≡ Status.Done → S.ended source.new }
+    // A count of failures rose only where the status is that failure's.
     ensures source_fault { result ≡ Status.SourceFault → Rose (S.faults source.old) (S.faults source.new) }
     ensures put_fault { result ≡ Status.PutFault → Rose (P.view port.old).put_faults (P.view port.new).put_faults }
+    ensures no_source_fault { result ≢ Status.SourceFault → S.faults source.new ≡ S.faults source.old }
+    ensures no_put_fault { result ≢ Status.PutFault → (P.view port.new).put_faults ≡ (P.view port.old).put_faults }
+    ensures disk { KeepsDisk P.told (P.view port.old) (P.view port.new) }
 {
     let mut room = [0u8; TAKE_MAX];
     let mut taken: u64 = 0;
@@ -84,10 +89,12 @@ fn serve_piece<P: Port>(
         Served place.now.kind s P.told before (lines (x ++ piece.now)) (state_of core.new) (P.view port.new).sent) }
     ensures fed { OnOk result ((x : List ℕ) → WasFed x cutter.old → WasFed (x ++ piece.now) cutter.new) }
     ensures err { IfErr result (λ why. (s : State) (before x : List ℕ) → WasFed x cutter.old → Served place.now.kind s P.told before (lines x) (state_of core.old) (P.view port.old).sent →
-        Stopped why place.now.kind s P.told before (lines (x ++ piece.now)) (P.view port.new).sent) }
+        Stopped why place.now.kind s P.told before (lines (x ++ piece.now)) (state_of core.new) (P.view port.new).sent) }
     ensures stops { IfErr result (λ why. (why ≡ Status.PutFault) ⊎ (why ≡ Status.NoMemory)) }
     ensures fault { IfErr result (λ why. why ≡ Status.PutFault → Rose (P.view port.old).put_faults (P.view port.new).put_faults) }
-    ensures count { (P.view port.old).put_faults ≤ (P.view port.new).put_faults }
+    ensures other { IfErr result (λ why. why ≢ Status.PutFault → (P.view port.new).put_faults ≡ (P.view port.old).put_faults) }
+    ensures faultless { OnOk result ((P.view port.new).put_faults ≡ (P.view port.old).put_faults) }
+    ensures disk { KeepsDisk P.told (P.view port.old) (P.view port.new) }
 {
     let mut done = 0;
     while done < piece.len() {
@@ -111,10 +118,11 @@ fn serve_rest<P: Port>(
     port: &mut P,
 ) -> Status
     ensures ends { (s : State) (before x : List ℕ) → WasFed x cutter.now → Served place.now.kind s P.told before (lines x) (state_of core.old) (P.view port.old).sent →
-        Ends result place.now.kind s P.told before (all_lines x) (P.view port.new).sent }
+        ByStatus result place.now.kind s P.told before (all_lines x) (state_of core.new) (P.view port.new).sent }
     ensures known { (result ≡ Status.Done) ⊎ (result ≡ Status.PutFault) ⊎ (result ≡ Status.NoMemory) }
     ensures fault { result ≡ Status.PutFault → Rose (P.view port.old).put_faults (P.view port.new).put_faults }
-    ensures count { (P.view port.old).put_faults ≤ (P.view port.new).put_faults }
+    ensures other { result ≢ Status.PutFault → (P.view port.new).put_faults ≡ (P.view port.old).put_faults }
+    ensures disk { KeepsDisk P.told (P.view port.old) (P.view port.new) }
 {
     let rest = cutter.rest();
     if rest.is_empty() {
@@ -136,10 +144,12 @@ fn serve_line<P: Port>(
     ensures ok { OnOk result ((s : State) (before whole : List ℕ) (ls : List (List ℕ)) → line.now ≡ take 8401 whole → Served place.now.kind s P.told before ls (state_of core.old) (P.view port.old).sent →
         Served place.now.kind s P.told before (ls ++ whole ∷ []) (state_of core.new) (P.view port.new).sent) }
     ensures err { IfErr result (λ why. (s : State) (before whole : List ℕ) (ls : List (List ℕ)) → line.now ≡ take 8401 whole → Served place.now.kind s P.told before ls (state_of core.old) (P.view port.old).sent →
-        Stopped why place.now.kind s P.told before (ls ++ whole ∷ []) (P.view port.new).sent) }
+        Stopped why place.now.kind s P.told before (ls ++ whole ∷ []) (state_of core.new) (P.view port.new).sent) }
     ensures stops { IfErr result (λ why. (why ≡ Status.PutFault) ⊎ (why ≡ Status.NoMemory)) }
     ensures fault { IfErr result (λ why. why ≡ Status.PutFault → Rose (P.view port.old).put_faults (P.view port.new).put_faults) }
-    ensures count { (P.view port.old).put_faults ≤ (P.view port.new).put_faults }
+    ensures other { IfErr result (λ why. why ≢ Status.PutFault → (P.view port.new).put_faults ≡ (P.view port.old).put_faults) }
+    ensures faultless { OnOk result ((P.view port.new).put_faults ≡ (P.view port.old).put_faults) }
+    ensures disk { KeepsDisk P.told (P.view port.old) (P.view port.new) }
 {
     let request = parse_line(line);
     let reply = match core.apply(place, &request) {

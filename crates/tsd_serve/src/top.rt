@@ -1,10 +1,11 @@
 //! The top call.
 
-ghost use Rattle.std.specs.Prelude.{◌≡◌, ◌↔◌, ◌∷◌, [], map, string_bytes, IfSome, None};
+ghost use Rattle.std.specs.Prelude.{◌≡◌, ◌≢◌, ◌↔◌, ◌⊎◌, ◌^◌, ◌∷◌, [], map, string_bytes, IfSome, None};
 ghost use Rattle.image_device.specs.Counts.{Rose};
 ghost use Rattle.tsd_model.specs.Geometry.{IsLawful};
 ghost use Rattle.tsd_model.specs.Run.{at_rest, fresh_world};
-ghost use Rattle.tsd_serve.specs.Ran.{Came, Ran};
+ghost use Rattle.tsd_model.specs.Step.{State};
+ghost use Rattle.tsd_serve.specs.Ran.{Came, IsAtEnd, IsUnmade, KeepsDisk, Ran};
 ghost use Rattle.tsd_serve.specs.Words.{command_of};
 
 use crate::plain_core::PlainCore;
@@ -31,14 +32,19 @@ pub fn tsd<S: Source, P: Port>(
     ensures usage { (result ≡ Status.Usage) ↔ (command_of (map string_bytes words.now.items) ≡ None) }
     ensures untouched_source { result ≡ Status.Usage → source.new ≡ source.old }
     ensures untouched_port { result ≡ Status.Usage → port.new ≡ port.old }
-    // What came in and what was sent, by status. The replies are those of the abstract disk, from the fresh one on.
-    ensures ran { IfSome (command_of (map string_bytes words.now.items)) (λ c. Ran result c.kind (at_rest (fresh_world c.geometry (c.caps ∷ []))) INPUT_MAX (Came S.told (S.taken source.old) (S.taken source.new) (S.left_bytes source.old) (S.left_bytes source.new)) P.told (P.view port.old).sent (P.view port.new).sent) }
+    // What came in and what was sent, by status. The replies are those of the abstract disk, from the fresh one on. Where
+    // there is no memory for that disk, nothing is called.
+    ensures ran { IfSome (command_of (map string_bytes words.now.items)) (λ c. IsUnmade result source.old source.new port.old port.new ⊎ ((final : State) × Ran result c.kind (at_rest (fresh_world c.geometry (c.caps ∷ []))) final (2 ^ 40) (Came S.told (S.taken source.old) (S.taken source.new) (S.left_bytes source.old) (S.left_bytes source.new)) (IsAtEnd S.told (S.ended source.new) (S.left_bytes source.new)) P.told (P.view port.old).sent (P.view port.new).sent)) }
     // Done comes only at the end of the input.
     ensures end { result ≡ Status.Done → S.told → S.left_bytes source.new ≡ [] }
     ensures ended { result ≡ Status.Done → S.ended source.new }
-    // A fault of the outside comes only where it failed.
+    // A fault of the outside comes only where it failed, and where another status comes nothing of it failed.
     ensures source_fault { result ≡ Status.SourceFault → Rose (S.faults source.old) (S.faults source.new) }
     ensures put_fault { result ≡ Status.PutFault → Rose (P.view port.old).put_faults (P.view port.new).put_faults }
+    ensures no_source_fault { result ≢ Status.SourceFault → S.faults source.new ≡ S.faults source.old }
+    ensures no_put_fault { result ≢ Status.PutFault → (P.view port.new).put_faults ≡ (P.view port.old).put_faults }
+    // The disk beside the port is left alone.
+    ensures disk { KeepsDisk P.told (P.view port.old) (P.view port.new) }
 {
     match command(words) {
         None => Status::Usage,
@@ -56,11 +62,14 @@ fn run_fresh<S: Source, P: Port>(
 ) -> Status
     requires lawful { IsLawful fresh.now.geometry }
     requires single { fresh.now.geometry.primaries ≡ 1 }
-    ensures ran { Ran result fresh.now.kind (at_rest (fresh_world fresh.now.geometry (fresh.now.caps ∷ []))) INPUT_MAX (Came S.told (S.taken source.old) (S.taken source.new) (S.left_bytes source.old) (S.left_bytes source.new)) P.told (P.view port.old).sent (P.view port.new).sent }
+    ensures ran { IsUnmade result source.old source.new port.old port.new ⊎ ((final : State) × Ran result fresh.now.kind (at_rest (fresh_world fresh.now.geometry (fresh.now.caps ∷ []))) final (2 ^ 40) (Came S.told (S.taken source.old) (S.taken source.new) (S.left_bytes source.old) (S.left_bytes source.new)) (IsAtEnd S.told (S.ended source.new) (S.left_bytes source.new)) P.told (P.view port.old).sent (P.view port.new).sent) }
     ensures end { result ≡ Status.Done → S.told → S.left_bytes source.new ≡ [] }
     ensures ended { result ≡ Status.Done → S.ended source.new }
     ensures source_fault { result ≡ Status.SourceFault → Rose (S.faults source.old) (S.faults source.new) }
     ensures put_fault { result ≡ Status.PutFault → Rose (P.view port.old).put_faults (P.view port.new).put_faults }
+    ensures no_source_fault { result ≢ Status.SourceFault → S.faults source.new ≡ S.faults source.old }
+    ensures no_put_fault { result ≢ Status.PutFault → (P.view port.new).put_faults ≡ (P.view port.old).put_faults }
+    ensures disk { KeepsDisk P.told (P.view port.old) (P.view port.new) }
 {
     match PlainCore::fresh(alloc, &fresh.geometry, &fresh.caps) {
         Err(_) => Status::NoMemory,

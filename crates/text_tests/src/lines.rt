@@ -1,8 +1,8 @@
-//! What no clause says: that the grammar and the texts are the ones that we mean, by examples.
+//! Lines: that the grammar and the texts are the ones that we mean, by examples.
 
 ghost use Rattle.std.specs.Prelude.{◌<◌};
 
-use crate::{LineCutter, OutBuf, parse_line, print_reply, print_request};
+use script_text::{LineCutter, OutBuf, parse_line, print_reply, print_request};
 use std::process::Abort;
 use tsd_model::{BlockList, Cap, CapPair, Data, Hint, Level, Reply, Request, Rule, Shown};
 

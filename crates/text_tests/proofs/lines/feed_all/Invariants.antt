@@ -1,5 +1,5 @@
 use Rattle.std.proofs.Common.{length}
-use Rattle.script_text.proofs.tests.feed_all.Given as goal
+use Rattle.text_tests.proofs.lines.feed_all.Given as goal
 
 abbrev pub decreases-loop-left : goal.decreases-loop-left
 decreases-loop-left l = length l.left

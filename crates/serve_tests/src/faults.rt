@@ -1,0 +1,67 @@
+//! Faults of the outside, and when replies go out.
+
+use crate::outside::{Counting, Drip, Looking};
+use crate::spelled::{NEVER, run, spelled, words};
+use image_device::{MemSource, MemStation};
+use place_policy::PlaceBook;
+use std::alloc::Global;
+use std::cell::Cell;
+use std::process::Abort;
+use std::test::Fail;
+use tsd_serve::{Status, tsd};
+
+/// The number of the take and of the put that fail, the status, and what was answered by then.
+const FAULTS: [(u64, u64, Status, &str); 6] = [
+    (0, NEVER, Status::SourceFault, ""),
+    (1, NEVER, Status::SourceFault, "ok/"),
+    (2, NEVER, Status::SourceFault, "ok/free 7/"),
+    (NEVER, 0, Status::PutFault, ""),
+    (NEVER, 1, Status::PutFault, "ok/"),
+    (NEVER, 2, Status::PutFault, "ok/free 7/"),
+];
+
+/// A take or a put that fails. What was whole before it was answered.
+pub fn faults(rt: &impl Abort, alloc: Global, book: &PlaceBook) -> Result<(), Fail> {
+    let texts = ("fresh 8 1 R W near", "open 1/free/free");
+    for (take, put, want, output) in FAULTS {
+        let (status, sent) = run(alloc, book, texts, 7, (take, put))?;
+        let wanted = spelled(alloc, output)?;
+        assert_eq!(rt; status, want, "{output}");
+        assert_eq!(rt; sent.as_slice(), wanted.as_slice(), "{output}");
+    }
+    Ok(())
+}
+
+/// A run whose puts take one byte each.
+pub fn one_byte_puts(rt: &impl Abort, alloc: Global, book: &PlaceBook) -> Result<(), Fail> {
+    let input = spelled(alloc, "open 1/write 1 0 W 6869/read 1 0 R/free")?;
+    let mut source = MemSource::new(input, 7, Vec::new(alloc));
+    let mut port = Drip {
+        inner: MemStation::new(alloc, Vec::new(alloc)),
+    };
+    let words = words(alloc, spelled(alloc, "fresh 8 1 R W near")?.as_slice())?;
+    let status = tsd(alloc, &words, &mut source, &mut port, book);
+    let output = spelled(alloc, "ok/ok/data 6869/free 7/")?;
+    assert_eq!(rt; status, Status::Done);
+    assert_eq!(rt; port.inner.sent(), output.as_slice());
+    assert_eq!(rt; port.inner.calls(), output.len() as u64);
+    Ok(())
+}
+
+/// Each take gives one line. A source that looks finds, at each take, that all lines before it are answered.
+pub fn replies_before_takes(rt: &impl Abort, alloc: Global, book: &PlaceBook) -> Result<(), Fail> {
+    let sent = Cell::new(0);
+    let input = spelled(alloc, "open 1/open 2/free  /open 1/")?;
+    let mut source = Looking::new(MemSource::new(input, 7, Vec::new(alloc)), &sent);
+    let mut port = Counting {
+        inner: MemStation::new(alloc, Vec::new(alloc)),
+        sent: &sent,
+    };
+    let words = words(alloc, spelled(alloc, "fresh 8 1 R W near")?.as_slice())?;
+    let status = tsd(alloc, &words, &mut source, &mut port, book);
+    let output = spelled(alloc, "ok/ok/no bad-request/no already-open/")?;
+    assert_eq!(rt; status, Status::Done);
+    assert_eq!(rt; port.inner.sent(), output.as_slice());
+    assert_eq!(rt; source.seen(), [0, 3, 6, 21, 37].as_slice());
+    Ok(())
+}
