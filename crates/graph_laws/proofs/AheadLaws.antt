@@ -2,18 +2,19 @@
 use Rattle.std.proofs.Common.{◌≡◌, ℕ, ◌+◌, ◌≤◌, Bool, true, false, not, cond, ◌&&◌, ◌||◌, ◌==◌, nat_lt, List, [], ◌∷◌, length, Option, Some, None, is_some, is_none, refl, sym, ◌∙◌, ap, subst, arith, inl, inr}
 use Rattle.std.proofs.lemmas.Bool.{eq-eqb, eqb-true, ne_eqb, and_parts, and_right, or_from, or_left, or_right, not-true, both_ways, cases_eq, false_from_ne_true}
 use Rattle.std.proofs.lemmas.List.Elements.{filter_agree}
-use Rattle.tsd_model.specs.Pairs.{is_pair, holds, with_pair}
+use Rattle.tsd_model.specs.Pairs.{is_pair, holds, with_pair, count_to}
 use Rattle.tsd_model.specs.World.{World, contents, is_live, is_free, has_number}
 use Rattle.tsd_model.specs.Doomed.{doomed, settle}
 use Rattle.tsd_model.specs.Step.{with_contents, with_pointer, without_pointer, zeros, with_new_blocks}
 use Rattle.disk_laws.specs.Reclaiming.{all_apart}
-use Rattle.disk_laws.proofs.PairLaws.{holds-with_pair}
+use Rattle.tsd_model.proofs.PairLaws.{holds-with_pair}
 use Rattle.disk_laws.proofs.ChangeLaws.{contents-other, new_pair, old_pair}
 use Rattle.graph_laws.proofs.SettleLaws.{none_doomed, led_has_none, none_is_led}
-use Rattle.graph_laws.specs.Counts.{stays, count_where, count_to, kept_count, doomed_pairs}
+use Rattle.graph_laws.specs.Counts.{stays, count_where, kept_count, doomed_pairs}
 use Rattle.graph_laws.specs.RawGraph.{IsLaidOut, IsRawGraph}
 use Rattle.graph_laws.specs.Settling.{EachIsLedTo}
-use Rattle.graph_laws.proofs.CountLaws.{count-with_pair, filter_twice}
+use Rattle.tsd_model.proofs.CountLaws.{count-with_pair}
+use Rattle.graph_laws.proofs.CountLaws.{filter_twice}
 use Rattle.graph_laws.proofs.CommuteLaws.{doomed-with_pointer}
 use Rattle.graph_laws.proofs.MarkingLaws.{count_deleted}
 use Rattle.graph_laws.proofs.WeightLaws.{doomed_same}

@@ -11,13 +11,12 @@ use Rattle.tsd_model.specs.Doomed.{doomed, settle}
 use Rattle.tsd_model.specs.Step.{with_contents, with_pointer, without_pointer, with_caps}
 use Rattle.tsd_model.specs.declared.records.Record.{Record}
 use Rattle.tsd_model.proofs.SizeLaws.{contents-restricted}
-use Rattle.disk_laws.proofs.PairLaws.{holds-filter, holds-with_pair, is_rising-filter, is_rising-with_pair}
+use Rattle.tsd_model.proofs.PairLaws.{holds-filter, holds-with_pair, is_rising-filter, is_rising-with_pair, same_tests}
 use Rattle.disk_laws.proofs.DoomLaws.{live_below, live-restricted}
 use Rattle.disk_laws.proofs.ChangeLaws.{contents-other, contents-same, old_pair, either_pair}
 use Rattle.graph_laws.specs.Counts.{stays}
 use Rattle.graph_laws.specs.RawGraph.{IsLaidOut}
 use Rattle.graph_laws.specs.Steps.{with_pairs_that}
-use Rattle.graph_laws.proofs.PairLaws.{same_tests}
 use Rattle.graph_laws.proofs.SameLaws.{same_world, length-restricted}
 use Rattle.graph_laws.proofs.SameGraphLaws.{doomed_by_graph, reach_by_graph, graph-with_contents, graph-of_records}
 use Rattle.graph_laws.proofs.DoomedLaws.{doomed_least_of, doomed_is_live, doomed_is_no_primary, doomed_from, doomed_in}

@@ -1,97 +1,19 @@
 -- Counts of the pairs, and of the numbers, that pass a test.
 use Rattle.std.proofs.Common.{◌≡◌, ℕ, zero, suc, ◌+◌, ◌<◌, ◌≤◌, Bool, true, false, not, cond, ◌&&◌, ◌||◌, ◌==◌, nat_lt, nat_le, List, [], ◌∷◌, length, refl, sym, ◌∙◌, ap, subst, arith, ◌⊎◌, inl, inr}
-use Rattle.std.proofs.lemmas.Bool.{eq-eqb, eqb-true, ne_eqb, and_parts, and_from, and_right, not-true, not-false, both_ways, cases_Bool, cases_eq, false_from_ne_true, or_cases, or_parts, or_left, or_right}
+use Rattle.std.proofs.lemmas.Bool.{eq-eqb, eqb-true, ne_eqb, and_parts, and_right, not-true, not-false, both_ways, cases_Bool, cases_eq, false_from_ne_true, or_left, or_right}
 use Rattle.std.proofs.lemmas.Bool.Decides.{nat_tests}
+use Rattle.std.proofs.lemmas.List.Elements.{filter_agree}
 use Rattle.std.specs.Prelude.{filter}
 use Rattle.std.specs.List.{list_all, range_with_len}
-use Rattle.tsd_model.specs.Pairs.{is_pair, holds, pair_lt, is_below_first, is_rising, with_pair, without_pair}
+use Rattle.tsd_model.specs.Pairs.{is_pair, holds, is_rising}
 use Rattle.tsd_model.specs.World.{has_number}
-use Rattle.tsd_model.proofs.PlaceLaws.{same_pair}
-use Rattle.disk_laws.proofs.PairLaws.{all_of_held, one_fails, is_pair_ext}
-use Rattle.disk_laws.proofs.GraphLaws.{has_number-filter, has_number-range}
-use Rattle.graph_laws.proofs.PairLaws.{is_pair_same, first_once}
+use Rattle.tsd_model.proofs.CountLaws.{count-without_pair}
+use Rattle.tsd_model.proofs.PairLaws.{all_of_held, one_fails}
+use Rattle.tsd_model.proofs.SizeLaws.{length-filter_le}
+use Rattle.disk_laws.specs.Reclaiming.{all_apart}
+use Rattle.disk_laws.proofs.GraphLaws.{has_number-filter, has_number-range, length-range}
 
 -- ---- pairs that pass
-
--- tests that agree on the pairs that are held keep the same
-pub filter_held : (p q : (ℕ × ℕ) → Bool) (es : List (ℕ × ℕ)) → ((a b : ℕ) → holds es a b ≡ true → p (a, b) ≡ q (a, b)) → filter p es ≡ filter q es
-filter_held p q [] h = refl
-filter_held p q (e ∷ es) h =
-    let here : p e ≡ q e = h e.0 e.1 (or_left (is_pair e.0 e.1 e) (holds es e.0 e.1) (is_pair_same e)) in
-    let rest : filter p es ≡ filter q es = filter_held p q es (λ a b held. h a b (or_right (is_pair a b e) (holds es a b) held)) in
-    ap (λ t. cond t (e ∷ filter p es) (filter p es)) here ∙ ap (λ fs. cond (q e) (e ∷ fs) fs) rest
-
--- none passes
-pub none_pass : (p : (ℕ × ℕ) → Bool) (es : List (ℕ × ℕ)) → ((a b : ℕ) → holds es a b ≡ true → p (a, b) ≡ false) → length (filter p es) ≡ 0
-none_pass p es h = ap length (filter_held p (λ e. false) es h ∙ nothing es)
-  where
-    nothing : (fs : List (ℕ × ℕ)) → filter (λ e. false) fs ≡ []
-    nothing [] = refl
-    nothing (f ∷ fs) = nothing fs
-
-pub none_passes : (p : (ℕ × ℕ) → Bool) (es : List (ℕ × ℕ)) → length (filter p es) ≡ 0 → (a b : ℕ) → holds es a b ≡ true → p (a, b) ≡ false
-none_passes p [] n a b h = absurd (cc)
-none_passes p (e ∷ es) n a b h =
-    elim (p e) as (λ t. p e ≡ t → length (cond t (e ∷ filter p es) (filter p es)) ≡ 0 → p (a, b) ≡ false) [
-      | true ↦ λ _ m. absurd (cc)
-      | false ↦ λ k m. elim (or_cases (is_pair a b e) (holds es a b) h) [
-        | inl here ↦ ap p (sym (is_pair_ext a b e here)) ∙ k
-        | inr later ↦ none_passes p es m a b later
-      ]
-    ] refl n
-
--- ---- one pair less, one pair more
-
-without_none : (a b : ℕ) (es : List (ℕ × ℕ)) → holds es a b ≡ false → without_pair a b es ≡ es
-without_none a b [] h = refl
-without_none a b (e ∷ es) h = let parts = or_parts (is_pair a b e) (holds es a b) h in
-    ap (λ t. cond (not t) (e ∷ without_pair a b es) (without_pair a b es)) parts.0 ∙ ap (λ fs. e ∷ fs) (without_none a b es parts.1)
-
-pub count-without_pair : (p : (ℕ × ℕ) → Bool) (es : List (ℕ × ℕ)) (a b : ℕ) → is_rising es ≡ true → holds es a b ≡ true
-    → length (filter p es) ≡ cond (p (a, b)) 1 0 + length (filter p (without_pair a b es))
-count-without_pair p [] a b r h = absurd (cc)
-count-without_pair p (e ∷ es) a b r h = let parts = and_parts (is_below_first e es) (is_rising es) r in
-    elim (is_pair a b e) as (λ t. is_pair a b e ≡ t → (t || holds es a b) ≡ true → length (cond (p e) (e ∷ filter p es) (filter p es)) ≡ cond (p (a, b)) 1 0 + length (filter p (cond (not t) (e ∷ without_pair a b es) (without_pair a b es)))) [
-      | true ↦ λ k _.
-          let last : without_pair a b es ≡ es = without_none a b es (first_once e es a b parts.0 parts.1 k) in
-          subst (λ f. length (cond (p e) (e ∷ filter p es) (filter p es)) ≡ cond (p f) 1 0 + length (filter p (without_pair a b es))) (is_pair_ext a b e k)
-          (subst (λ fs. length (cond (p e) (e ∷ filter p es) (filter p es)) ≡ cond (p e) 1 0 + length (filter p fs)) (sym last) (one (p e)))
-      | false ↦ λ _ later. let rest = count-without_pair p es a b parts.1 later in each (p e) rest
-    ] refl h
-  where
-    one : (t : Bool) → length (cond t (e ∷ filter p es) (filter p es)) ≡ cond t 1 0 + length (filter p es)
-    one true = omega arith
-    one false = omega arith
-
-    each : (t : Bool) → length (filter p es) ≡ cond (p (a, b)) 1 0 + length (filter p (without_pair a b es))
-        → length (cond t (e ∷ filter p es) (filter p es)) ≡ cond (p (a, b)) 1 0 + length (cond t (e ∷ filter p (without_pair a b es)) (filter p (without_pair a b es)))
-    each true rest = omega arith
-    each false rest = rest
-
-pub count-with_pair : (p : (ℕ × ℕ) → Bool) (e : ℕ × ℕ) (es : List (ℕ × ℕ)) → holds es e.0 e.1 ≡ false → length (filter p (with_pair e es)) ≡ cond (p e) 1 0 + length (filter p es)
-count-with_pair p e [] h = one (p e)
-  where
-    one : (t : Bool) → length (cond t (e ∷ []) []) ≡ cond t 1 0 + 0
-    one true = refl
-    one false = refl
-count-with_pair p e (f ∷ fs) h = let parts = or_parts (is_pair e.0 e.1 f) (holds fs e.0 e.1) h in
-    elim (pair_lt e f) as (λ t. pair_lt e f ≡ t → length (filter p (cond t (e ∷ f ∷ fs) (cond (pair_lt f e) (f ∷ with_pair e fs) (f ∷ fs)))) ≡ cond (p e) 1 0 + length (cond (p f) (f ∷ filter p fs) (filter p fs))) [
-      | true ↦ λ _. one (p e) (cond (p f) (f ∷ filter p fs) (filter p fs))
-      | false ↦ λ k. elim (pair_lt f e) as (λ u. pair_lt f e ≡ u → length (filter p (cond u (f ∷ with_pair e fs) (f ∷ fs))) ≡ cond (p e) 1 0 + length (cond (p f) (f ∷ filter p fs) (filter p fs))) [
-        | true ↦ λ _. each (p f) (count-with_pair p e fs parts.1)
-        | false ↦ λ l. let both = same_pair e.0 e.1 f.0 f.1 k l in
-            absurd (both_ways (is_pair e.0 e.1 f) parts.0 (and_from (f.0 == e.0) (f.1 == e.1) (eq-eqb f.0 e.0 (sym both.0)) (eq-eqb f.1 e.1 (sym both.1))))
-      ] refl
-    ] refl
-  where
-    one : (t : Bool) (gs : List (ℕ × ℕ)) → length (cond t (e ∷ gs) gs) ≡ cond t 1 0 + length gs
-    one true gs = omega arith
-    one false gs = omega arith
-
-    each : (t : Bool) → length (filter p (with_pair e fs)) ≡ cond (p e) 1 0 + length (filter p fs)
-        → length (cond t (f ∷ filter p (with_pair e fs)) (filter p (with_pair e fs))) ≡ cond (p e) 1 0 + length (cond t (f ∷ filter p fs) (filter p fs))
-    each true rest = omega arith
-    each false rest = rest
 
 pub filter_twice : (p q : (ℕ × ℕ) → Bool) (es : List (ℕ × ℕ)) → filter p (filter q es) ≡ filter (λ e. p e && q e) es
 filter_twice p q [] = refl

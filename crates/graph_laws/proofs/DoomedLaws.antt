@@ -6,7 +6,7 @@ use Rattle.tsd_model.specs.Pairs.{holds}
 use Rattle.tsd_model.specs.World.{World, is_live, is_primary, all_blocks, has_number}
 use Rattle.tsd_model.specs.Doomed.{is_led_only_from, hangs_on, doomed_rounds, doomed}
 use Rattle.disk_laws.proofs.GraphLaws.{has_number-filter}
-use Rattle.disk_laws.proofs.PairLaws.{all_of_held, one_fails}
+use Rattle.tsd_model.proofs.PairLaws.{all_of_held, one_fails}
 use Rattle.disk_laws.proofs.DoomLaws.{is_doomed, not_primary, target_stays, source_stays}
 use Rattle.graph_laws.specs.Counts.{stays}
 use Rattle.graph_laws.specs.Dooming.{TakesIn}

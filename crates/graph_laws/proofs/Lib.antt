@@ -1,4 +1,3 @@
-pub mod PairLaws
 pub mod SameLaws
 pub mod SameGraphLaws
 pub mod DoomedLaws

@@ -3,15 +3,15 @@ use Rattle.std.proofs.Common.{◌≡◌, ℕ, ◌≤◌, Bool, true, false, not,
 use Rattle.std.proofs.lemmas.Bool.{eq-eqb, eqb-true, and_parts, and_cases, both_ways, cases_eq, ne_eqb, not-false, false_from_ne_true}
 use Rattle.std.proofs.lemmas.List.{get_or-set_same, get_or-set_other}
 use Rattle.std.specs.Prelude.{is_some, slice_index_or}
-use Rattle.tsd_model.specs.Pairs.{holds}
+use Rattle.tsd_model.specs.Pairs.{holds, count_to}
 use Rattle.tsd_model.specs.World.{World, is_live, has_number}
 use Rattle.tsd_model.specs.Step.{without_pointer}
 use Rattle.tsd_model.specs.declared.geometry.Geometry.{Geometry}
 use Rattle.disk_laws.proofs.DoomLaws.{live_below}
 use Rattle.graph_laws.specs.RawGraph.{IsRawGraph}
 use Rattle.graph_laws.specs.Steps.{with_free, without_pointers, stepped, IsStep, IsLost}
-use Rattle.graph_laws.specs.Counts.{count_to}
-use Rattle.graph_laws.proofs.CountLaws.{led_or_alone, none_pass, none_passes}
+use Rattle.tsd_model.proofs.CountLaws.{none_pass, none_passes}
+use Rattle.graph_laws.proofs.CountLaws.{led_or_alone}
 use Rattle.graph_laws.proofs.StepLaws.{blocks-without_pointers, geometry-without_pointers, holds-without_pointers, lost-without_pointers}
 
 -- no pair leads to a block exactly where its count is 0

@@ -9,14 +9,14 @@ use Rattle.tsd_model.specs.World.{World, is_live, is_primary, has_number}
 use Rattle.tsd_model.specs.Doomed.{doomed}
 use Rattle.tsd_model.specs.Step.{without_pointer}
 use Rattle.disk_laws.proofs.DoomLaws.{not_primary}
-use Rattle.disk_laws.proofs.PairLaws.{holds-filter, is_pair_ext}
+use Rattle.tsd_model.proofs.PairLaws.{holds-filter, is_pair_ext, is_pair_same, same_tests}
 use Rattle.graph_laws.specs.Counts.{count_where, kept_count, doomed_pairs}
 use Rattle.graph_laws.specs.Marking.{IsMarking, IsMarkingBut, IsCountedOff}
 use Rattle.graph_laws.specs.RawGraph.{IsLaidOut, IsRawGraph}
-use Rattle.graph_laws.proofs.PairLaws.{is_pair_same, same_tests}
 use Rattle.graph_laws.proofs.DoomedLaws.{doomed_least, doomed_from, doomed_is_live, doomed_is_no_primary, source_is_doomed}
 use Rattle.graph_laws.proofs.SettleLaws.{stays_doomed}
-use Rattle.graph_laws.proofs.CountLaws.{count_but_number, filter_held, none_pass, none_passes, count-without_pair, count_but_pair}
+use Rattle.tsd_model.proofs.CountLaws.{filter_held, none_pass, none_passes, count-without_pair}
+use Rattle.graph_laws.proofs.CountLaws.{count_but_number, count_but_pair}
 
 -- ---- the steps
 

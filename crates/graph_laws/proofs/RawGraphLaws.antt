@@ -14,7 +14,7 @@ use Rattle.tsd_model.specs.Valid.{IsRaw}
 use Rattle.tsd_model.specs.declared.geometry.Geometry.{Geometry}
 use Rattle.tsd_model.specs.declared.records.Record.{Record}
 use Rattle.tsd_model.proofs.SizeLaws.{length-filter_le}
-use Rattle.disk_laws.proofs.PairLaws.{holds-filter, is_rising-filter}
+use Rattle.tsd_model.proofs.PairLaws.{holds-filter, is_rising-filter}
 use Rattle.disk_laws.proofs.DoomLaws.{live-restricted, holds-restricted}
 use Rattle.graph_laws.specs.Graph.{world_with, zeros_in, no_record, graph, HasGraphOf}
 use Rattle.graph_laws.specs.RawGraph.{IsLaidOut, IsRawGraph}

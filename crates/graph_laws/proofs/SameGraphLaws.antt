@@ -12,6 +12,7 @@ use Rattle.tsd_model.specs.Doomed.{doomed_rounds, doomed, settle}
 use Rattle.tsd_model.specs.Step.{with_contents, without_pointer}
 use Rattle.tsd_model.specs.declared.geometry.Geometry.{Geometry}
 use Rattle.tsd_model.specs.declared.records.Record.{Record}
+use Rattle.disk_laws.specs.Bytes.{AreLike}
 use Rattle.disk_laws.proofs.DoomLaws.{live_below, live-restricted}
 use Rattle.graph_laws.specs.Counts.{stays, kept_count, doomed_pairs}
 use Rattle.graph_laws.specs.Graph.{HasGraphOf, AreAsOne, StayAsOne}
@@ -143,3 +144,7 @@ graph-with_contents w b bytes live = record {
 
 pub graph-of_records : (w : World) (version : ℕ) (records : List Record) → HasGraphOf (record w { version = version; records = records }) w
 graph-of_records w version records = record { geometry = refl; each_block = refl; live = λ b. refl; pairs = refl }
+
+-- worlds that differ in bytes alone
+pub alike_have_graph : (v w : World) → AreLike v w → HasGraphOf v w
+alike_have_graph v w like = record { geometry = like.geometry; each_block = like.count; live = like.live; pairs = like.pairs }

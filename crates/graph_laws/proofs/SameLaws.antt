@@ -7,8 +7,7 @@ use Rattle.tsd_model.specs.World.{World, contents, is_live}
 use Rattle.tsd_model.specs.Reach.{restricted}
 use Rattle.tsd_model.proofs.SizeLaws.{contents-restricted}
 use Rattle.disk_laws.proofs.DoomLaws.{holds-restricted}
-use Rattle.disk_laws.proofs.PairLaws.{is_rising-filter}
-use Rattle.graph_laws.proofs.PairLaws.{rising_same}
+use Rattle.tsd_model.proofs.PairLaws.{is_rising-filter, rising_same}
 
 -- ---- worlds
 

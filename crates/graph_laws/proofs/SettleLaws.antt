@@ -8,13 +8,12 @@ use Rattle.tsd_model.specs.World.{World, contents, is_live, has_number}
 use Rattle.tsd_model.specs.Doomed.{doomed, settle}
 use Rattle.tsd_model.specs.Valid.{IsRaw, IsValid}
 use Rattle.tsd_model.proofs.SizeLaws.{contents-restricted}
-use Rattle.disk_laws.proofs.PairLaws.{holds-filter, is_rising-filter}
+use Rattle.tsd_model.proofs.PairLaws.{holds-filter, is_rising-filter, same_tests}
 use Rattle.disk_laws.proofs.DoomLaws.{live-restricted, holds-restricted, settle_is_valid, not_primary, target_stays, source_stays}
 use Rattle.graph_laws.specs.Counts.{stays}
 use Rattle.graph_laws.specs.RawGraph.{IsLaidOut, IsRawGraph}
 use Rattle.graph_laws.specs.Settling.{EachIsLedTo}
 use Rattle.graph_laws.specs.Steps.{with_pairs_that, with_free, IsLost}
-use Rattle.graph_laws.proofs.PairLaws.{same_tests}
 use Rattle.graph_laws.proofs.SameLaws.{length-restricted, restricted_same, restricted_whole}
 use Rattle.graph_laws.proofs.DoomedLaws.{doomed_least, doomed_least_of, doomed_is_live, doomed_is_no_primary, doomed_from, doomed_in, stays_by_pairs}
 use Rattle.graph_laws.proofs.RawGraphLaws.{graph-restricted, laid_out-with_pairs_that, laid_out-with_free, contents-with_free, contents-freed}

@@ -10,7 +10,7 @@ use Rattle.tsd_model.specs.Step.{without_pointer}
 use Rattle.tsd_model.specs.Valid.{IsRaw}
 use Rattle.tsd_model.specs.declared.geometry.Geometry.{Geometry}
 use Rattle.disk_laws.proofs.GraphLaws.{has_number-filter}
-use Rattle.disk_laws.proofs.PairLaws.{holds-filter}
+use Rattle.tsd_model.proofs.PairLaws.{holds-filter}
 use Rattle.disk_laws.proofs.ChangeLaws.{raw-without_pointer}
 use Rattle.graph_laws.specs.RawGraph.{IsLaidOut, IsRawGraph}
 use Rattle.graph_laws.specs.Steps.{without_pointers, stepped, IsStep, IsLost, IsAlone}

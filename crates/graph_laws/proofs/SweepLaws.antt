@@ -11,7 +11,7 @@ use Rattle.tsd_model.specs.Step.{without_pointer}
 use Rattle.tsd_model.specs.Valid.{IsRaw, IsValid}
 use Rattle.tsd_model.specs.declared.geometry.Geometry.{Geometry}
 use Rattle.disk_laws.proofs.GraphLaws.{has_number-filter, has_number-range}
-use Rattle.disk_laws.proofs.PairLaws.{holds-filter, is_rising-filter}
+use Rattle.tsd_model.proofs.PairLaws.{holds-filter, is_rising-filter, same_tests}
 use Rattle.disk_laws.proofs.DoomLaws.{live-restricted, holds-restricted}
 use Rattle.disk_laws.proofs.ReachLaws.{found_any, target_reached as raw_target_reached, primary_reached as raw_primary_reached, reached_is_led_to as raw_reached_is_led_to, swept_is_valid}
 use Rattle.graph_laws.specs.Counts.{stays}
@@ -19,7 +19,6 @@ use Rattle.graph_laws.specs.Graph.{graph}
 use Rattle.graph_laws.specs.RawGraph.{IsRawGraph}
 use Rattle.graph_laws.specs.Steps.{with_pairs_that, with_free, without_pointers, stepped, IsAlone}
 use Rattle.graph_laws.specs.Sweeping.{FollowsPairs, SweepsAs}
-use Rattle.graph_laws.proofs.PairLaws.{same_tests}
 use Rattle.graph_laws.proofs.SameLaws.{restricted_same, restricted_whole}
 use Rattle.graph_laws.proofs.SameGraphLaws.{reach_by_graph}
 use Rattle.graph_laws.proofs.CountLaws.{led_or_alone}

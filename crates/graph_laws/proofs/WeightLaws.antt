@@ -13,12 +13,13 @@ use Rattle.tsd_model.specs.World.{World, contents, is_live, all_blocks, has_numb
 use Rattle.tsd_model.specs.Doomed.{hangs_on, doomed_rounds, doomed, settle}
 use Rattle.tsd_model.specs.Step.{without_pointer}
 use Rattle.disk_laws.specs.Reclaiming.{all_apart}
-use Rattle.disk_laws.proofs.PairLaws.{holds-filter}
+use Rattle.tsd_model.proofs.PairLaws.{holds-filter}
 use Rattle.disk_laws.proofs.DoomLaws.{live_below}
 use Rattle.graph_laws.specs.Counts.{kept_count, doomed_pairs}
 use Rattle.graph_laws.specs.RawGraph.{IsLaidOut}
 use Rattle.graph_laws.specs.Steps.{with_free, without_pointers, stepped, AreTargets, IsStep, IsLost}
-use Rattle.graph_laws.proofs.CountLaws.{filter_held, filter_self, count-without_pair, count_but_number}
+use Rattle.tsd_model.proofs.CountLaws.{filter_held, count-without_pair}
+use Rattle.graph_laws.proofs.CountLaws.{filter_self, count_but_number}
 use Rattle.graph_laws.proofs.DoomedLaws.{doomed_is_live}
 use Rattle.graph_laws.proofs.SettleLaws.{contents-settle, length-settle, doomed_freed, freed_is_not_doomed, lost_is_doomed}
 use Rattle.graph_laws.proofs.StepLaws.{doomed-without_pointer, doomed-without_pointers, laid_out-without_pointer, laid_out-without_pointers, blocks-without_pointers, nothing_out}

@@ -1,11 +1,11 @@
 -- What the counts of pairs from blocks that stay tell, and how they change.
 use Rattle.std.specs.Prelude.{◌≡◌, ℕ, ◌+◌, ◌==◌, ◌&&◌, ◌||◌, Bool, false, not, cond, List, [], length, filter, IsTrue}
-use Rattle.tsd_model.specs.Pairs.{is_pair, holds}
+use Rattle.tsd_model.specs.Pairs.{is_pair, holds, count_to}
 use Rattle.tsd_model.specs.World.{World, is_live, is_free, is_primary, has_number}
 use Rattle.tsd_model.specs.Doomed.{doomed, settle}
 use Rattle.tsd_model.specs.Step.{with_pointer, without_pointer, with_new_blocks}
 use Rattle.disk_laws.specs.Reclaiming.{all_apart}
-use Rattle.graph_laws.specs.Counts.{stays, count_where, count_to, kept_count, doomed_pairs}
+use Rattle.graph_laws.specs.Counts.{stays, count_where, kept_count, doomed_pairs}
 use Rattle.graph_laws.specs.Marking.{IsMarking, IsMarkingBut, IsCountedOff}
 use Rattle.graph_laws.specs.RawGraph.{IsLaidOut, IsRawGraph}
 use Rattle.graph_laws.specs.Steps.{stepped, IsStep, IsLost}
