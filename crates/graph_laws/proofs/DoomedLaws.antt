@@ -87,12 +87,12 @@ doomed_in v w vlong wlong may led = doomed_least_of v vlong (λ b. has_number (d
 -- ---- as laws
 
 -- the doomed blocks take in each block that hangs on them
-pub doomed_takes_in : (w : World) → length w.blocks ≡ w.geometry.blocks → TakesIn w (λ b. has_number (doomed w) b ≡ true)
+pub doomed_takes_in : (w : World) → length w.blocks ≡ w.geometry.blocks → TakesIn w (has_number (doomed w))
 doomed_takes_in w long b live apart all = doomed_from w long b live (not_primary w b apart) all
 
 -- and each set that does has all of them
-pub doomed_in_each : (w : World) (P : ℕ → Type 0) → TakesIn w P → (b : ℕ) → has_number (doomed w) b ≡ true → P b
-doomed_in_each w P takes = doomed_least w P (λ b live other all. takes b live (ltb-false b w.geometry.primaries other) all)
+pub doomed_in_each : (w : World) (set : ℕ → Bool) → TakesIn w set → (b : ℕ) → has_number (doomed w) b ≡ true → set b ≡ true
+doomed_in_each w set takes = doomed_least w (λ b. set b ≡ true) (λ b live other all. takes b live (ltb-false b w.geometry.primaries other) all)
 
 -- a live block stays exactly where it is primary or a pair leads to it from one that stays
 pub stays_by_pairs : (w : World) (b : ℕ) → length w.blocks ≡ w.geometry.blocks → is_live w b ≡ true

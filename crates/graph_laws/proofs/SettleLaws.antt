@@ -1,6 +1,6 @@
 -- What settling leaves, and which steps it doesn't see.
 use Rattle.std.proofs.Common.{◌≡◌, ℕ, ◌<◌, Bool, true, false, not, cond, ◌&&◌, ◌==◌, List, [], ◌∷◌, length, refl, sym, ◌∙◌, ap, subst, arith, inl, inr, Option, None}
-use Rattle.std.proofs.lemmas.Bool.{eq-eqb, and_from, and_left, both_ways, cases_Bool, cases_eq, false_from_ne_true, ltb-false, or_left}
+use Rattle.std.proofs.lemmas.Bool.{eq-eqb, and_parts, and_from, and_left, both_ways, cases_Bool, cases_eq, false_from_ne_true, ltb-false, or_left}
 use Rattle.std.proofs.lemmas.List.{length-set}
 use Rattle.std.specs.Prelude.{is_some}
 use Rattle.tsd_model.specs.Pairs.{holds, is_rising}

@@ -30,31 +30,34 @@ use Rattle.graph_laws.proofs.SettleLaws.{graph-settle, passed, contents-settle, 
 -- ---- the least set
 
 -- What holds of the primary blocks, and of each block that one of which it holds leads to, holds of all that are reached.
-pub reach_least : (w : World) (P : ℕ → Type 0) → FollowsPairs w P → (b : ℕ) → has_number (reach w) b ≡ true → P b
-reach_least w P follows = each w.geometry.blocks
+pub reach_least : (w : World) (P : ℕ → Type 0) → ((b : ℕ) → b < w.geometry.primaries → P b) → ((a b : ℕ) → holds w.pairs a b ≡ true → P a → P b) → (b : ℕ) → has_number (reach w) b ≡ true → P b
+reach_least w P first on = each w.geometry.blocks
   where
     below : (b : ℕ) → (nat_le 0 b && nat_lt b (0 + w.geometry.primaries)) ≡ true → b < w.geometry.primaries
     below b h = let g = ltb-true b (0 + w.geometry.primaries) (and_parts (nat_le 0 b) (nat_lt b (0 + w.geometry.primaries)) h).1 in omega arith
 
     each : (r b : ℕ) → has_number (reach_rounds w (primary_blocks w) r) b ≡ true → P b
-    each zero b h = follows.first b (below b (sym (has_number-range 0 w.geometry.primaries b) ∙ h))
+    each zero b h = first b (below b (sym (has_number-range 0 w.geometry.primaries b) ∙ h))
     each (suc r) b h =
         let xs = reach_rounds w (primary_blocks w) r in
         let passes = (and_parts (has_number (all_blocks w) b) (has_number xs b || is_led_from w xs b) (sym (has_number-filter (λ c. has_number xs c || is_led_from w xs c) (all_blocks w) b) ∙ h)).1 in
         elim (or_cases (has_number xs b) (is_led_from w xs b) passes) [
           | inl old ↦ each r b old
-          | inr new ↦ let found = found_any xs b w.pairs new in follows.on found.0 b found.1 (each r found.0 found.2)
+          | inr new ↦ let found = found_any xs b w.pairs new in on found.0 b found.1 (each r found.0 found.2)
         ]
 
+pub in_each : (w : World) (set : ℕ → Bool) → FollowsPairs w set → (b : ℕ) → has_number (reach w) b ≡ true → set b ≡ true
+in_each w set follows = reach_least w (λ b. set b ≡ true) follows.first follows.on
+
 -- marks that only reached blocks have, and that follow the pairs, are those of the reached blocks
-pub marks_are_reach : (w : World) (marked : ℕ → Bool) → ((b : ℕ) → marked b ≡ true → has_number (reach w) b ≡ true) → FollowsPairs w (λ b. marked b ≡ true)
+pub marks_are_reach : (w : World) (marked : ℕ → Bool) → ((b : ℕ) → marked b ≡ true → has_number (reach w) b ≡ true) → FollowsPairs w marked
     → (b : ℕ) → marked b ≡ has_number (reach w) b
-marks_are_reach w marked sound follows b = same_tests (marked b) (has_number (reach w) b) (sound b) (reach_least w (λ c. marked c ≡ true) follows b)
+marks_are_reach w marked sound follows b = same_tests (marked b) (has_number (reach w) b) (sound b) (in_each w marked follows b)
 
 -- ---- what is reached, in a raw graph
 
 module _ (w : World) (raw : IsRawGraph w) where
-  live_list : List Bool
+  abbrev live_list : List Bool
   live_list = map is_some w.blocks
 
   tells : (b : ℕ) → slice_index_or live_list b false ≡ is_live w b
@@ -88,7 +91,7 @@ module _ (w : World) (raw : IsRawGraph w) where
       let led = raw_reached_is_led_to blank blank_raw b apart (ap (λ xs. has_number xs b) blank_reach ∙ is) in
       (led.0, led.1, ap (λ xs. has_number xs led.0) (sym blank_reach) ∙ led.2)
 
-  pub reach_follows : FollowsPairs w (λ b. has_number (reach w) b ≡ true)
+  pub reach_follows : FollowsPairs w (has_number (reach w))
   reach_follows = record { first = primary_reached; on = target_reached }
 
   -- an unreached block isn't primary, and only unreached blocks lead to it
@@ -111,9 +114,9 @@ module _ (w : World) (raw : IsRawGraph w) where
 pub reach_by_pairs : (v w : World) → IsRawGraph v → IsRawGraph w → v.geometry ≡ w.geometry → ((a b : ℕ) → holds v.pairs a b ≡ holds w.pairs a b) → (b : ℕ) → has_number (reach v) b ≡ has_number (reach w) b
 reach_by_pairs v w rv rw sizes held b = same_tests (has_number (reach v) b) (has_number (reach w) b)
     (reach_least v (λ c. has_number (reach w) c ≡ true)
-    (record { first = λ c below. primary_reached w rw c (subst (λ (g : Geometry). c < g.primaries) sizes below); on = λ x c h. target_reached w rw x c (sym (held x c) ∙ h) }) b)
+    (λ c below. primary_reached w rw c (subst (λ (g : Geometry). c < g.primaries) sizes below)) (λ x c h. target_reached w rw x c (sym (held x c) ∙ h)) b)
     (reach_least w (λ c. has_number (reach v) c ≡ true)
-    (record { first = λ c below. primary_reached v rv c (subst (λ (g : Geometry). c < g.primaries) (sym sizes) below); on = λ x c h. target_reached v rv x c (held x c ∙ h) }) b)
+    (λ c below. primary_reached v rv c (subst (λ (g : Geometry). c < g.primaries) (sym sizes) below)) (λ x c h. target_reached v rv x c (held x c ∙ h)) b)
 
 -- ---- fewer pairs
 
@@ -125,15 +128,13 @@ module _ (r : World) (raw : IsRawGraph r) (keep : (ℕ × ℕ) → Bool) (gone :
   pub reach-with_pairs_that : (b : ℕ) → has_number (reach (with_pairs_that r keep)) b ≡ has_number (reach r) b
   reach-with_pairs_that b = same_tests (has_number (reach (with_pairs_that r keep)) b) (has_number (reach r) b)
       (reach_least (with_pairs_that r keep) (λ c. has_number (reach r) c ≡ true)
-      (record { first = primary_reached r raw; on = λ x c held is. target_reached r raw x c (and_parts (holds r.pairs x c) (keep (x, c)) (sym (holds-filter keep r.pairs x c) ∙ held)).0 is }) b)
+      (primary_reached r raw) (λ x c held is. target_reached r raw x c (and_parts (holds r.pairs x c) (keep (x, c)) (sym (holds-filter keep r.pairs x c) ∙ held)).0 is) b)
       (λ h. (reach_least r (λ c. (has_number (reach r) c ≡ true) × (has_number (reach (with_pairs_that r keep)) c ≡ true))
-      (record {
-        first = λ c below. (primary_reached r raw c below, primary_reached (with_pairs_that r keep) less_raw c below);
-        on = λ x c held both. (
-          target_reached r raw x c held both.0,
-          target_reached (with_pairs_that r keep) less_raw x c (holds-filter keep r.pairs x c ∙ and_from (holds r.pairs x c) (keep (x, c)) held (kept x c held both.0)) both.1,
-        );
-      }) b h).1)
+      (λ c below. (primary_reached r raw c below, primary_reached (with_pairs_that r keep) less_raw c below))
+      (λ x c held both. (
+        target_reached r raw x c held both.0,
+        target_reached (with_pairs_that r keep) less_raw x c (holds-filter keep r.pairs x c ∙ and_from (holds r.pairs x c) (keep (x, c)) held (kept x c held both.0)) both.1,
+      )) b h).1)
     where
       kept : (x c : ℕ) → holds r.pairs x c ≡ true → has_number (reach r) x ≡ true → keep (x, c) ≡ true
       kept x c held is = elim (cases_Bool (keep (x, c))) [ inl k ↦ k | inr taken ↦ absurd (both_ways (has_number (reach r) x) (gone x c held taken) is) ]

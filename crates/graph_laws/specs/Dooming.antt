@@ -6,15 +6,15 @@ use Rattle.tsd_model.specs.Doomed.{doomed}
 use Rattle.graph_laws.specs.Counts.{stays}
 
 -- A set of blocks takes in each live block, not primary, to which only blocks of the set lead.
-abbrev pub TakesIn : World → (ℕ → Type 0) → Type 0
-TakesIn w P = (b : ℕ) → IsTrue (is_live w b) → w.geometry.primaries ≤ b → ((a : ℕ) → IsTrue (holds w.pairs a b) → P a) → P b
+abbrev pub TakesIn : World → (ℕ → Bool) → Type 0
+TakesIn w set = (b : ℕ) → IsTrue (is_live w b) → w.geometry.primaries ≤ b → ((a : ℕ) → IsTrue (holds w.pairs a b) → IsTrue (set a)) → IsTrue (set b)
 
 -- The doomed blocks are the least set that does.
 abbrev pub DoomedIsLeast : Type 0
 DoomedIsLeast =
     (w : World) → length w.blocks ≡ w.geometry.blocks
-    → TakesIn w (λ b. IsTrue (has_number (doomed w) b))
-    × ((P : ℕ → Type 0) → TakesIn w P → (b : ℕ) → IsTrue (has_number (doomed w) b) → P b)
+    → TakesIn w (has_number (doomed w))
+    × ((set : ℕ → Bool) → TakesIn w set → (b : ℕ) → IsTrue (has_number (doomed w) b) → IsTrue (set b))
 
 -- A live block stays exactly where it is primary or a pair leads to it from a block that stays.
 abbrev pub StaysByPairs : Type 0

@@ -1,5 +1,5 @@
 -- What a step of reclamation keeps and lowers.
-use Rattle.std.specs.Prelude.{◌≡◌, ℕ, ◌+◌, ◌&&◌, ◌==◌, Bool, true, not, cond, List, length, ◌↔◌, ◌⊎◌, IsTrue}
+use Rattle.std.specs.Prelude.{◌≡◌, ℕ, ◌+◌, ◌&&◌, ◌==◌, Bool, true, false, not, cond, List, length, ◌↔◌, ◌⊎◌, IsTrue}
 use Rattle.tsd_model.specs.Pairs.{holds}
 use Rattle.tsd_model.specs.World.{World, is_live, has_number, free_count}
 use Rattle.tsd_model.specs.Doomed.{doomed, settle}

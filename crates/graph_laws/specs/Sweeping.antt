@@ -10,16 +10,16 @@ use Rattle.graph_laws.specs.RawGraph.{IsRawGraph}
 use Rattle.graph_laws.specs.Steps.{without_pointers, stepped, IsAlone}
 
 -- A set of blocks has each primary block, and with a block each that a pair leads to from it.
-pub record FollowsPairs (w : World) (P : ℕ → Type 0) : Type 0 where
-  pub first : (b : ℕ) → b < w.geometry.primaries → P b
-  pub on : (a b : ℕ) → IsTrue (holds w.pairs a b) → P a → P b
+pub record FollowsPairs (w : World) (set : ℕ → Bool) : Type 0 where
+  pub first : (b : ℕ) → b < w.geometry.primaries → IsTrue (set b)
+  pub on : (a b : ℕ) → IsTrue (holds w.pairs a b) → IsTrue (set a) → IsTrue (set b)
 
 -- The reached blocks are the least set that does: so marks that only reached blocks have, and that follow the pairs, are reach.
 abbrev pub ReachIsLeast : Type 0
 ReachIsLeast =
     (w : World) → IsRawGraph w
-    → FollowsPairs w (λ b. IsTrue (has_number (reach w) b))
-    × ((P : ℕ → Type 0) → FollowsPairs w P → (b : ℕ) → IsTrue (has_number (reach w) b) → P b)
+    → FollowsPairs w (has_number (reach w))
+    × ((set : ℕ → Bool) → FollowsPairs w set → (b : ℕ) → IsTrue (has_number (reach w) b) → IsTrue (set b))
 
 -- both have the same blocks reached, and sweep to one
 pub record SweepsAs (v w : World) : Type 0 where

@@ -1,9 +1,9 @@
 use Rattle.graph_laws.proofs.RawGraphLaws.{raw_has_graph}
-use Rattle.graph_laws.proofs.SweepLaws.{reach_follows, reach_least, unreached_apart, sweeps-stepped, raw-swept_step, graph-swept_step, sweep_goes_on, swept_whole, sweeps_to_valid, swept_has_none, reached_stays, settled_sweeps}
+use Rattle.graph_laws.proofs.SweepLaws.{reach_follows, in_each, unreached_apart, sweeps-stepped, raw-swept_step, graph-swept_step, sweep_goes_on, swept_whole, sweeps_to_valid, swept_has_none, reached_stays, settled_sweeps}
 use Rattle.graph_laws.proofs.sweeping.steps_sweep.Goals as goal
 
 pub returns-clause-least : goal.returns-clause-least
-returns-clause-least c = λ w raw. (reach_follows w raw, reach_least w)
+returns-clause-least c = λ w raw. (reach_follows w raw, in_each w)
 
 pub returns-clause-step : goal.returns-clause-step
 returns-clause-step c = sweeps-stepped
