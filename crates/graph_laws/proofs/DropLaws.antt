@@ -1,6 +1,7 @@
 -- What a deletion dooms besides what was doomed.
 use Rattle.std.proofs.Common.{◌≡◌, ℕ, ◌+◌, Bool, true, false, not, cond, ◌&&◌, ◌||◌, ◌==◌, List, [], ◌∷◌, length, refl, sym, ◌∙◌, ap, subst, arith}
 use Rattle.std.proofs.lemmas.Bool.{and_parts, false_from_ne_true, both_ways, not-true, eqb-true}
+use Rattle.std.proofs.lemmas.List.Elements.{filter_agree}
 use Rattle.std.specs.Prelude.{filter}
 use Rattle.std.specs.List.{range_with_len}
 use Rattle.tsd_model.specs.Pairs.{is_pair, holds}
@@ -10,6 +11,7 @@ use Rattle.tsd_model.specs.Step.{without_pointer}
 use Rattle.graph_laws.specs.Changes.{IsDoomedBesides}
 use Rattle.graph_laws.specs.Counts.{stays, doomed_pairs}
 use Rattle.graph_laws.specs.RawGraph.{IsLaidOut}
+use Rattle.graph_laws.proofs.CountLaws.{filter_twice}
 use Rattle.graph_laws.proofs.DoomedLaws.{doomed_is_live}
 use Rattle.graph_laws.proofs.SettleLaws.{live-settle, length-settle, holds-settle}
 use Rattle.graph_laws.proofs.CommuteLaws.{doomed-less}
@@ -27,17 +29,6 @@ count_parts {X = X} d p q either apart (x ∷ xs) = let rest = count_parts d p q
     one s true false e f ls bs cs h = rw e (omega (arith, h))
     one s false true e f ls bs cs h = rw e (omega (arith, h))
     one s false false e f ls bs cs h = rw e h
-
--- a test that passes only what the other passes
-same_where : {X : Type 0} (p k : X → Bool) → ((x : X) → p x ≡ true → k x ≡ true) → (xs : List X) → filter p (filter k xs) ≡ filter p xs
-same_where p k sure [] = refl
-same_where {X = X} p k sure (x ∷ xs) = let rest = same_where p k sure xs in one (k x) (p x) refl refl (sure x) rest
-  where
-    one : (s t : Bool) → k x ≡ s → p x ≡ t → (t ≡ true → s ≡ true) → filter p (filter k xs) ≡ filter p xs → filter p (cond s (x ∷ filter k xs) (filter k xs)) ≡ cond t (x ∷ filter p xs) (filter p xs)
-    one true true ks ps f h = rw ps (ap (λ (ys : List X). x ∷ ys) h)
-    one true false ks ps f h = rw ps h
-    one false true ks ps f h = absurd (both_ways false refl (f refl))
-    one false false ks ps f h = h
 
 -- ---- a deletion
 
@@ -74,24 +65,32 @@ module _ (r : World) (a b : ℕ) (out : IsLaidOut r) (held : holds (settle r).pa
   pairs_drop : length (doomed_pairs less) ≡ length (doomed_pairs r) + length (doomed_pairs then_less)
   pairs_drop =
       let parts = count_parts (λ (e : ℕ × ℕ). has_number (doomed less) e.0) (λ (e : ℕ × ℕ). has_number (doomed r) e.0) (λ (e : ℕ × ℕ). has_number (doomed then_less) e.0) (λ e. doomed-less r out keep e.0) (λ e. anew e.0) (filter keep r.pairs) in
-      let old = same_where (λ (e : ℕ × ℕ). has_number (doomed r) e.0) keep (λ e is. kept e is) r.pairs in
-      let new = swap r.pairs in
       parts ∙ (λ i. length (old i) + length (new i))
     where
-      kept : (e : ℕ × ℕ) → has_number (doomed r) e.0 ≡ true → keep e ≡ true
-      kept e is = ap not (false_from_ne_true (is_pair a b e) (λ p. both_ways (has_number (doomed r) a) from (subst (λ k. has_number (doomed r) k ≡ true) (eqb-true e.0 a (and_parts (e.0 == a) (e.1 == b) p).0) is)))
-
-      swap : (es : List (ℕ × ℕ)) → filter (λ e. has_number (doomed then_less) e.0) (filter keep es) ≡ filter (λ e. has_number (doomed then_less) e.0) (filter keep (filter (λ e. stays r e.0) es))
-      swap [] = refl
-      swap (e ∷ es) = one (keep e) (stays r e.0) (has_number (doomed then_less) e.0) refl refl refl (λ is. ap not (anew e.0 is)) (swap es)
+      -- the pairs from what was doomed are all there still
+      old : filter (λ e. has_number (doomed r) e.0) (filter keep r.pairs) ≡ doomed_pairs r
+      old = filter_twice (λ e. has_number (doomed r) e.0) keep r.pairs
+          ∙ filter_agree (λ e. has_number (doomed r) e.0 && keep e) (λ e. has_number (doomed r) e.0) (λ e. first (has_number (doomed r) e.0) (keep e) (kept e)) r.pairs
         where
-          one : (s t u : Bool) → keep e ≡ s → stays r e.0 ≡ t → has_number (doomed then_less) e.0 ≡ u → (u ≡ true → t ≡ true) → filter (λ f. has_number (doomed then_less) f.0) (filter keep es) ≡ filter (λ f. has_number (doomed then_less) f.0) (filter keep (filter (λ f. stays r f.0) es))
-              → filter (λ f. has_number (doomed then_less) f.0) (cond s (e ∷ filter keep es) (filter keep es)) ≡ filter (λ f. has_number (doomed then_less) f.0) (filter keep (cond t (e ∷ filter (λ f. stays r f.0) es) (filter (λ f. stays r f.0) es)))
-          one true true u k t is f h = rw (k, is) (ap (λ (xs : List (ℕ × ℕ)). cond u (e ∷ xs) xs) h)
-          one false true u k t is f h = rw k h
-          one s false true k t is f h = absurd (both_ways false refl (f refl))
-          one true false false k t is f h = rw is h
-          one false false false k t is f h = h
+          first : (s t : Bool) → (s ≡ true → t ≡ true) → (s && t) ≡ s
+          first true t f = f refl
+          first false t f = refl
+
+          kept : (e : ℕ × ℕ) → has_number (doomed r) e.0 ≡ true → keep e ≡ true
+          kept e is = ap not (false_from_ne_true (is_pair a b e) (λ p. both_ways (has_number (doomed r) a) from (subst (λ k. has_number (doomed r) k ≡ true) (eqb-true e.0 a (and_parts (e.0 == a) (e.1 == b) p).0) is)))
+
+      -- the pairs from what is doomed anew are those of the settled world
+      new : filter (λ e. has_number (doomed then_less) e.0) (filter keep r.pairs) ≡ doomed_pairs then_less
+      new = filter_twice (λ e. has_number (doomed then_less) e.0) keep r.pairs
+          ∙ (filter_agree (λ e. has_number (doomed then_less) e.0 && keep e) (λ e. (has_number (doomed then_less) e.0 && keep e) && stays r e.0)
+          (λ e. more (has_number (doomed then_less) e.0) (keep e) (stays r e.0) (λ is. ap not (anew e.0 is))) r.pairs
+          ∙ (sym (filter_twice (λ e. has_number (doomed then_less) e.0 && keep e) (λ e. stays r e.0) r.pairs)
+          ∙ sym (filter_twice (λ e. has_number (doomed then_less) e.0) keep (settle r).pairs)))
+        where
+          more : (s t u : Bool) → (s ≡ true → u ≡ true) → (s && t) ≡ ((s && t) && u)
+          more true true u f = sym (f refl)
+          more true false u f = refl
+          more false t u f = refl
 
   pub delete_dooms : IsDoomedBesides r a b
   delete_dooms = record { either = doomed-less r out keep; blocks = blocks_drop; pairs = pairs_drop }

@@ -56,10 +56,15 @@ lost_by_graph v w same b lost = record {
   alone = λ a. ap (λ es. holds es a b) (sym same.pairs) ∙ lost.alone a;
 }
 
+less_by_graph : (a : ℕ) (bs : List ℕ) (v w : World) → HasGraphOf v w → HasGraphOf (without_pointers v a bs) (without_pointers w a bs)
+less_by_graph a [] v w same = same
+less_by_graph a (b ∷ bs) v w same = less_by_graph a bs (without_pointer v a b) (without_pointer w a b)
+    (record { geometry = same.geometry; each_block = same.each_block; live = same.live; pairs = λ i. without_pair a b (same.pairs i) })
+
 pub step_by_graph : (v w : World) → HasGraphOf v w → (a : ℕ) (bs : List ℕ) (freed : Bool) → IsStep v a bs freed → IsStep w a bs freed
-step_by_graph v w same a bs freed step = record {
+step_by_graph v w same a bs freed step = let less = less_by_graph a bs v w same in record {
   taken = record { held = λ b is. subst (λ es. holds es a b ≡ true) same.pairs (step.taken.held b is); once = step.taken.once };
-  last = (λ f b held. step.last.0 f b (subst (λ es. holds es a b ≡ true) (sym same.pairs) held), λ all. step.last.1 (λ b held. all b (subst (λ es. holds es a b ≡ true) same.pairs held)));
+  last = λ f. let alone = step.last f in record { out = λ c. ap (λ es. holds es a c) (sym less.pairs) ∙ alone.out c; into = λ c. ap (λ es. holds es c a) (sym less.pairs) ∙ alone.into c };
 }
 
 pub as_one : (v w : World) → HasGraphOf v w → AreAsOne v w
@@ -91,11 +96,6 @@ settle_by_graph v w same =
 pub swept_by_graph : (v w : World) → HasGraphOf v w → HasGraphOf (swept v) (swept w)
 swept_by_graph v w same =
     subst (λ kept. HasGraphOf (restricted v (has_number kept)) (swept w)) (sym (reach_by_graph v w same)) (restricted_by_graph v w (has_number (reach w)) same)
-
-less_by_graph : (a : ℕ) (bs : List ℕ) (v w : World) → HasGraphOf v w → HasGraphOf (without_pointers v a bs) (without_pointers w a bs)
-less_by_graph a [] v w same = same
-less_by_graph a (b ∷ bs) v w same = less_by_graph a bs (without_pointer v a b) (without_pointer w a b)
-    (record { geometry = same.geometry; each_block = same.each_block; live = same.live; pairs = λ i. without_pair a b (same.pairs i) })
 
 live-with_free : (w : World) (a b : ℕ) → is_live (with_free w a) b ≡ (is_live w b && not (b == a))
 live-with_free w a b = elim (cases_eq b a) [
@@ -148,3 +148,13 @@ graph-of_records w version records = record { geometry = refl; each_block = refl
 -- worlds that differ in bytes alone
 pub alike_have_graph : (v w : World) → AreLike v w → HasGraphOf v w
 alike_have_graph v w like = record { geometry = like.geometry; each_block = like.count; live = like.live; pairs = like.pairs }
+
+like_of_graph : (v w : World) → v.version ≡ w.version → v.records ≡ w.records → HasGraphOf v w → AreLike v w
+like_of_graph v w version records same = record { geometry = same.geometry; version = version; count = same.each_block; live = same.live; pairs = same.pairs; records = records }
+
+pub bytes_stay_apart : (v w : World) → AreLike v w → HasGraphOf v w × AreLike (settle v) (settle w) × AreLike (swept v) (swept w)
+bytes_stay_apart v w like = let same = alike_have_graph v w like in (
+  same,
+  like_of_graph (settle v) (settle w) like.version like.records (settle_by_graph v w same),
+  like_of_graph (swept v) (swept w) like.version like.records (swept_by_graph v w same),
+)

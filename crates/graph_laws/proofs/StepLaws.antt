@@ -115,18 +115,22 @@ alone_then r a bs lost all = record { out = nothing_out r a bs all; into = (lost
 pub settle-stepped : (r : World) (a : ℕ) (bs : List ℕ) (freed : Bool) → IsLaidOut r → IsLost r a → IsStep r a bs freed → settle (stepped r a bs freed) ≡ settle r
 settle-stepped r a bs true out lost step =
     let is = lost_is_doomed r out.each_block a lost in
-    settle-with_free (without_pointers r a bs) (laid_out-without_pointers a bs r out) a (doomed-without_pointers a bs r out is a ∙ is) (nothing_out r a bs (step.last.0 refl))
+    settle-with_free (without_pointers r a bs) (laid_out-without_pointers a bs r out) a (doomed-without_pointers a bs r out is a ∙ is) (step.last refl).out
     ∙ settle-without_pointers a bs r out is
 settle-stepped r a bs false out lost step = settle-without_pointers a bs r out (lost_is_doomed r out.each_block a lost)
 
--- It leaves a raw world, and a raw graph.
-pub raw-stepped : (r : World) (a : ℕ) (bs : List ℕ) (freed : Bool) → IsLost r a → IsStep r a bs freed → IsRaw r → IsRaw (stepped r a bs freed)
-raw-stepped r a bs true lost step raw = raw-with_free (without_pointers r a bs) a (lost-without_pointers a bs r a lost).apart (alone_then r a bs lost (step.last.0 refl)) (raw-without_pointers a bs r raw)
-raw-stepped r a bs false lost step raw = raw-without_pointers a bs r raw
+-- ---- a step leaves a raw world
 
-pub graph-stepped : (r : World) (a : ℕ) (bs : List ℕ) (freed : Bool) → IsLost r a → IsStep r a bs freed → IsRawGraph r → IsRawGraph (stepped r a bs freed)
-graph-stepped r a bs true lost step raw = graph-with_free (without_pointers r a bs) a (lost-without_pointers a bs r a lost).apart (alone_then r a bs lost (step.last.0 refl)) (graph-without_pointers a bs r raw)
-graph-stepped r a bs false lost step raw = graph-without_pointers a bs r raw
+apart_then : (r : World) (a : ℕ) (bs : List ℕ) → r.geometry.primaries ≤ a → (without_pointers r a bs).geometry.primaries ≤ a
+apart_then r a bs apart = subst (λ (g : Geometry). g.primaries ≤ a) (sym (geometry-without_pointers a bs r)) apart
+
+pub raw-stepped : (r : World) (a : ℕ) (bs : List ℕ) (freed : Bool) → r.geometry.primaries ≤ a → IsStep r a bs freed → IsRaw r → IsRaw (stepped r a bs freed)
+raw-stepped r a bs true apart step raw = raw-with_free (without_pointers r a bs) a (apart_then r a bs apart) (step.last refl) (raw-without_pointers a bs r raw)
+raw-stepped r a bs false apart step raw = raw-without_pointers a bs r raw
+
+pub graph-stepped : (r : World) (a : ℕ) (bs : List ℕ) (freed : Bool) → r.geometry.primaries ≤ a → IsStep r a bs freed → IsRawGraph r → IsRawGraph (stepped r a bs freed)
+graph-stepped r a bs true apart step raw = graph-with_free (without_pointers r a bs) a (apart_then r a bs apart) (step.last refl) (graph-without_pointers a bs r raw)
+graph-stepped r a bs false apart step raw = graph-without_pointers a bs r raw
 
 -- ---- no step
 

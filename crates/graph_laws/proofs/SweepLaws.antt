@@ -17,14 +17,14 @@ use Rattle.disk_laws.proofs.ReachLaws.{found_any, target_reached as raw_target_r
 use Rattle.graph_laws.specs.Counts.{stays}
 use Rattle.graph_laws.specs.Graph.{graph}
 use Rattle.graph_laws.specs.RawGraph.{IsRawGraph}
-use Rattle.graph_laws.specs.Steps.{with_pairs_that, with_free, without_pointers, stepped, IsAlone}
+use Rattle.graph_laws.specs.Steps.{with_pairs_that, with_free, without_pointers, stepped, IsStep, IsAlone}
 use Rattle.graph_laws.specs.Sweeping.{FollowsPairs, SweepsAs}
 use Rattle.graph_laws.proofs.SameLaws.{restricted_same, restricted_whole}
 use Rattle.graph_laws.proofs.SameGraphLaws.{reach_by_graph}
 use Rattle.graph_laws.proofs.CountLaws.{led_or_alone}
 use Rattle.graph_laws.proofs.DoomedLaws.{doomed_least}
-use Rattle.graph_laws.proofs.RawGraphLaws.{has_graph, raw-graph, graph-with_pairs_that, contents-with_free, graph-with_free, raw-with_free}
-use Rattle.graph_laws.proofs.StepLaws.{graph-without_pointers, raw-without_pointers, geometry-without_pointers}
+use Rattle.graph_laws.proofs.RawGraphLaws.{has_graph, raw-graph, graph-with_pairs_that, contents-with_free, graph-with_free}
+use Rattle.graph_laws.proofs.StepLaws.{graph-without_pointers}
 use Rattle.graph_laws.proofs.SettleLaws.{graph-settle, passed, contents-settle, holds-settle, length-settle, led_has_none}
 
 -- ---- the least set
@@ -185,27 +185,14 @@ sweeps-without_pointers a (b ∷ bs) r raw apart =
     sweeps_on (without_pointers r a (b ∷ bs)) (without_pointer r a b) r
     (sweeps-without_pointers a bs (without_pointer r a b) (graph-with_pairs_that r keep raw) (here.reached a ∙ apart)) here
 
-pub sweeps-stepped : (r : World) (a : ℕ) (bs : List ℕ) (freed : Bool) → IsRawGraph r → has_number (reach r) a ≡ false → (freed ≡ true → IsAlone (without_pointers r a bs) a) → SweepsAs (stepped r a bs freed) r
-sweeps-stepped r a bs true raw apart alone =
+pub sweeps-stepped : (r : World) (a : ℕ) (bs : List ℕ) (freed : Bool) → IsRawGraph r → has_number (reach r) a ≡ false → IsStep r a bs freed → SweepsAs (stepped r a bs freed) r
+sweeps-stepped r a bs true raw apart step =
     let less = graph-without_pointers a bs r raw in
     let kept = sweeps-without_pointers a bs r raw apart in
     let still = kept.reached a ∙ apart in
     sweeps_on (stepped r a bs true) (without_pointers r a bs) r
-    (record { reached = reach-with_free (without_pointers r a bs) less a still (alone refl); swept = swept-with_free (without_pointers r a bs) less a still (alone refl) }) kept
-sweeps-stepped r a bs false raw apart alone = sweeps-without_pointers a bs r raw apart
-
-module _ (r : World) (a : ℕ) (bs : List ℕ) (apart : r.geometry.primaries ≤ a) where
-  apart_then : (without_pointers r a bs).geometry.primaries ≤ a
-  apart_then = subst (λ (g : Geometry). g.primaries ≤ a) (sym (geometry-without_pointers a bs r)) apart
-
-  -- a step at a block that isn't primary, which is freed only once it is alone, leaves a raw world
-  pub raw-swept_step : (freed : Bool) → (freed ≡ true → IsAlone (without_pointers r a bs) a) → IsRaw r → IsRaw (stepped r a bs freed)
-  raw-swept_step true alone raw = raw-with_free (without_pointers r a bs) a apart_then (alone refl) (raw-without_pointers a bs r raw)
-  raw-swept_step false alone raw = raw-without_pointers a bs r raw
-
-  pub graph-swept_step : (freed : Bool) → (freed ≡ true → IsAlone (without_pointers r a bs) a) → IsRawGraph r → IsRawGraph (stepped r a bs freed)
-  graph-swept_step true alone raw = graph-with_free (without_pointers r a bs) a apart_then (alone refl) (graph-without_pointers a bs r raw)
-  graph-swept_step false alone raw = graph-without_pointers a bs r raw
+    (record { reached = reach-with_free (without_pointers r a bs) less a still (step.last refl); swept = swept-with_free (without_pointers r a bs) less a still (step.last refl) }) kept
+sweeps-stepped r a bs false raw apart step = sweeps-without_pointers a bs r raw apart
 
 -- ---- no step
 

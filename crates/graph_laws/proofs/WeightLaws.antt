@@ -160,7 +160,7 @@ module _ (r : World) (a : ℕ) (bs : List ℕ) (out : IsLaidOut r) (lost : IsLos
       → (length (doomed r) ≡ cond freed 1 0 + length (doomed (stepped r a bs freed)))
       × (length (doomed_pairs r) ≡ length bs + length (doomed_pairs (stepped r a bs freed)))
   step_lowers true step =
-      let none_out = nothing_out r a bs (step.last.0 refl) in (
+      let none_out = (step.last refl).out in (
         ap length (sym (doomed_list-without_pointers a bs r out is)) ∙ (doomed_less (without_pointers r a bs) laid_less a still none_out ∙ one (length (doomed (stepped r a bs true)))),
         doomed_pairs-without_pointers a bs r out is step.taken
             ∙ ap (λ es. length bs + length es) (sym (doomed_pairs-with_free (without_pointers r a bs) laid_less a still none_out)),
@@ -178,7 +178,7 @@ module _ (r : World) (a : ℕ) (bs : List ℕ) (out : IsLaidOut r) (lost : IsLos
 
   -- exactly the blocks that were doomed are, but for a freed one
   pub doomed_after_step : (freed : Bool) → IsStep r a bs freed → (c : ℕ) → has_number (doomed (stepped r a bs freed)) c ≡ (has_number (doomed r) c && not (freed && (c == a)))
-  doomed_after_step true step c = fewer (without_pointers r a bs) laid_less a still (nothing_out r a bs (step.last.0 refl)) c ∙ ap (λ t. t && not (c == a)) (doomed-without_pointers a bs r out is c)
+  doomed_after_step true step c = fewer (without_pointers r a bs) laid_less a still (step.last refl).out c ∙ ap (λ t. t && not (c == a)) (doomed-without_pointers a bs r out is c)
   doomed_after_step false step c = doomed-without_pointers a bs r out is c ∙ sym (and_true (has_number (doomed r) c))
     where
       and_true : (t : Bool) → (t && true) ≡ t
@@ -188,7 +188,7 @@ module _ (r : World) (a : ℕ) (bs : List ℕ) (out : IsLaidOut r) (lost : IsLos
   -- and keeps each count of pairs from blocks that aren't doomed
   pub step_keeps_counts : (freed : Bool) → IsStep r a bs freed → (c : ℕ) → kept_count (stepped r a bs freed) c ≡ kept_count r c
   step_keeps_counts true step c =
-      kept-with_free (without_pointers r a bs) laid_less a still (nothing_out r a bs (step.last.0 refl)) c
+      kept-with_free (without_pointers r a bs) laid_less a still (step.last refl).out c
       ∙ kept-without_pointers a bs r out is step.taken c
   step_keeps_counts false step c = kept-without_pointers a bs r out is step.taken c
 

@@ -9,6 +9,7 @@ use Rattle.tsd_model.specs.Valid.{IsRaw}
 use Rattle.tsd_model.specs.declared.geometry.Geometry.{Geometry}
 use Rattle.tsd_model.specs.declared.records.KeptCap.TheVariants.{Digested}
 use Rattle.tsd_model.specs.declared.records.Record.{Record}
+use Rattle.disk_laws.specs.Bytes.{AreLike}
 use Rattle.graph_laws.specs.RawGraph.{IsRawGraph}
 use Rattle.graph_laws.specs.Steps.{stepped, IsStep, IsLost}
 
@@ -73,3 +74,7 @@ pub record StayAsOne (v w : World) : Type 0 where
 
 abbrev pub GraphStays : Type 0
 GraphStays = (v w : World) → HasGraphOf v w → StayAsOne v w
+
+-- Worlds that differ in bytes alone have one graph, and settle and sweep to worlds that differ in bytes alone.
+abbrev pub BytesStayApart : Type 0
+BytesStayApart = (v w : World) → AreLike v w → HasGraphOf v w × AreLike (settle v) (settle w) × AreLike (swept v) (swept w)

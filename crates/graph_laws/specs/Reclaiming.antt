@@ -1,13 +1,12 @@
 -- What a step of reclamation keeps and lowers.
 use Rattle.std.specs.Prelude.{◌≡◌, ℕ, ◌+◌, ◌&&◌, ◌==◌, Bool, true, false, not, cond, List, length, ◌↔◌, ◌⊎◌, IsTrue}
 use Rattle.tsd_model.specs.Pairs.{holds}
-use Rattle.tsd_model.specs.World.{World, is_live, has_number, free_count}
+use Rattle.tsd_model.specs.World.{World, has_number}
 use Rattle.tsd_model.specs.Doomed.{doomed, settle}
 use Rattle.tsd_model.specs.Step.{without_pointer}
-use Rattle.tsd_model.specs.Valid.{IsRaw}
 use Rattle.graph_laws.specs.Counts.{doomed_pairs}
 use Rattle.graph_laws.specs.RawGraph.{IsLaidOut, IsRawGraph}
-use Rattle.graph_laws.specs.Steps.{stepped, AreTargets, IsStep, IsLost}
+use Rattle.graph_laws.specs.Steps.{stepped, IsStep, IsLost}
 
 -- A step at a lost block keeps what the world settles to, whenever it is taken.
 abbrev pub StepSettles : Type 0
@@ -15,20 +14,7 @@ StepSettles =
     (r : World) (a : ℕ) (targets : List ℕ) (freed : Bool) → IsLaidOut r → IsLost r a → IsStep r a targets freed
     → settle (stepped r a targets freed) ≡ settle r
 
--- It leaves a raw world, and so it does of what tables know.
-abbrev pub StepStaysRaw : Type 0
-StepStaysRaw =
-    (r : World) (a : ℕ) (targets : List ℕ) (freed : Bool) → IsLost r a → IsStep r a targets freed
-    → (IsRaw r → IsRaw (stepped r a targets freed)) × (IsRawGraph r → IsRawGraph (stepped r a targets freed))
-
--- A step at a live block takes away its pairs, and the block if it is freed.
-abbrev pub StepTakes : Type 0
-StepTakes =
-    (r : World) (a : ℕ) (targets : List ℕ) (freed : Bool) → IsLaidOut r → IsTrue (is_live r a) → AreTargets r a targets
-    → (length r.pairs ≡ length targets + length (stepped r a targets freed).pairs)
-    × (free_count (stepped r a targets freed) ≡ cond freed 1 0 + free_count r)
-
--- At a lost block these are doomed ones: so much less is doomed afterwards, and nothing else is or isn't.
+-- What it takes is doomed: so much less is doomed afterwards, and of all else the same is.
 pub record IsLowered (r after : World) (a : ℕ) (targets : List ℕ) (freed : Bool) : Type 0 where
   pub each : (c : ℕ) → has_number (doomed after) c ≡ (has_number (doomed r) c && not (freed && (c == a)))
   pub blocks : length (doomed r) ≡ cond freed 1 0 + length (doomed after)

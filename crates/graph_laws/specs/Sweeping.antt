@@ -7,7 +7,7 @@ use Rattle.tsd_model.specs.Doomed.{doomed, settle}
 use Rattle.tsd_model.specs.Valid.{IsRaw, IsValid}
 use Rattle.graph_laws.specs.Counts.{stays}
 use Rattle.graph_laws.specs.RawGraph.{IsRawGraph}
-use Rattle.graph_laws.specs.Steps.{without_pointers, stepped, IsAlone}
+use Rattle.graph_laws.specs.Steps.{stepped, IsStep, IsAlone}
 
 -- A set of blocks has each primary block, and with a block each that a pair leads to from it.
 pub record FollowsPairs (w : World) (set : ℕ → Bool) : Type 0 where
@@ -26,19 +26,11 @@ pub record SweepsAs (v w : World) : Type 0 where
   pub reached : (b : ℕ) → has_number (reach v) b ≡ has_number (reach w) b
   pub swept : swept v ≡ swept w
 
--- A step at an unreached block, which it frees only once no pair leads from it or to it, keeps what is reached and the world on it, whenever it is taken.
+-- A step at an unreached block keeps what is reached and the world on it, whenever it is taken.
 abbrev pub StepSweeps : Type 0
 StepSweeps =
-    (r : World) (a : ℕ) (targets : List ℕ) (freed : Bool) → IsRawGraph r → has_number (reach r) a ≡ false
-    → (IsTrue freed → IsAlone (without_pointers r a targets) a)
+    (r : World) (a : ℕ) (targets : List ℕ) (freed : Bool) → IsRawGraph r → has_number (reach r) a ≡ false → IsStep r a targets freed
     → SweepsAs (stepped r a targets freed) r
-
--- It leaves a raw world, and so it does of what tables know.
-abbrev pub SweepStaysRaw : Type 0
-SweepStaysRaw =
-    (r : World) (a : ℕ) (targets : List ℕ) (freed : Bool) → has_number (reach r) a ≡ false
-    → (IsTrue freed → IsAlone (without_pointers r a targets) a)
-    → (IsRaw r → IsRaw (stepped r a targets freed)) × (IsRawGraph r → IsRawGraph (stepped r a targets freed))
 
 -- Where a live block isn't reached, there is one from which a pair leads, or which is alone: so there is a step to take.
 abbrev pub SweepGoesOn : Type 0

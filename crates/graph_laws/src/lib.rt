@@ -13,6 +13,7 @@ pub mod dooming;
 pub mod graphs;
 pub mod reclaiming;
 pub mod settling;
+pub mod steps;
 pub mod sweeping;
 
 pub use ahead::counts_tell_doom;
@@ -21,4 +22,5 @@ pub use dooming::doom_is_by_pairs;
 pub use graphs::graphs_tell;
 pub use reclaiming::steps_settle;
 pub use settling::raw_worlds_settle;
+pub use steps::steps_stay_raw;
 pub use sweeping::steps_sweep;

@@ -1,5 +1,5 @@
 use Rattle.graph_laws.proofs.RawGraphLaws.{told_has_graph, raw-graph, has_graph}
-use Rattle.graph_laws.proofs.SameGraphLaws.{as_one, stay_as_one}
+use Rattle.graph_laws.proofs.SameGraphLaws.{as_one, stay_as_one, bytes_stay_apart}
 use Rattle.graph_laws.proofs.graphs.graphs_tell.Goals as goal
 
 pub returns-clause-bytes : goal.returns-clause-bytes
@@ -13,3 +13,6 @@ returns-clause-tells c = as_one
 
 pub returns-clause-stays : goal.returns-clause-stays
 returns-clause-stays c = stay_as_one
+
+pub returns-clause-apart : goal.returns-clause-apart
+returns-clause-apart c = bytes_stay_apart

@@ -1,16 +1,10 @@
 use Rattle.graph_laws.proofs.LostLaws.{lost_after_step, lost_after_delete}
-use Rattle.graph_laws.proofs.StepLaws.{settle-stepped, raw-stepped, graph-stepped}
-use Rattle.graph_laws.proofs.WeightLaws.{step_takes, step_lowers, doomed_after_step}
+use Rattle.graph_laws.proofs.StepLaws.{settle-stepped}
+use Rattle.graph_laws.proofs.WeightLaws.{step_lowers, doomed_after_step}
 use Rattle.graph_laws.proofs.reclaiming.steps_settle.Goals as goal
 
 pub returns-clause-settles : goal.returns-clause-settles
 returns-clause-settles c = settle-stepped
-
-pub returns-clause-raw : goal.returns-clause-raw
-returns-clause-raw c = λ r a targets freed lost step. (raw-stepped r a targets freed lost step, graph-stepped r a targets freed lost step)
-
-pub returns-clause-takes : goal.returns-clause-takes
-returns-clause-takes c = step_takes
 
 pub returns-clause-lowers : goal.returns-clause-lowers
 returns-clause-lowers c = λ r a targets freed out lost step.

@@ -1,5 +1,4 @@
-use Rattle.graph_laws.proofs.RawGraphLaws.{raw_has_graph}
-use Rattle.graph_laws.proofs.SweepLaws.{reach_follows, in_each, unreached_apart, sweeps-stepped, raw-swept_step, graph-swept_step, sweep_goes_on, swept_whole, sweeps_to_valid, swept_has_none, reached_stays, settled_sweeps}
+use Rattle.graph_laws.proofs.SweepLaws.{reach_follows, in_each, sweeps-stepped, sweep_goes_on, swept_whole, sweeps_to_valid, swept_has_none, reached_stays, settled_sweeps}
 use Rattle.graph_laws.proofs.sweeping.steps_sweep.Goals as goal
 
 pub returns-clause-least : goal.returns-clause-least
@@ -7,12 +6,6 @@ returns-clause-least c = λ w raw. (reach_follows w raw, in_each w)
 
 pub returns-clause-step : goal.returns-clause-step
 returns-clause-step c = sweeps-stepped
-
-pub returns-clause-raw : goal.returns-clause-raw
-returns-clause-raw c = λ r a targets freed unreached alone. (
-  λ raw. raw-swept_step r a targets (unreached_apart r (raw_has_graph r raw) a unreached) freed alone raw,
-  λ raw. graph-swept_step r a targets (unreached_apart r raw a unreached) freed alone raw,
-)
 
 pub returns-clause-goes_on : goal.returns-clause-goes_on
 returns-clause-goes_on c = sweep_goes_on
