@@ -1,5 +1,5 @@
 -- What keeps the counts of the pairs from blocks that aren't doomed.
-use Rattle.std.proofs.Common.{◌≡◌, ℕ, ◌+◌, ◌≤◌, Bool, true, false, not, cond, ◌&&◌, ◌||◌, ◌==◌, nat_lt, List, [], ◌∷◌, length, Option, Some, None, is_some, is_none, refl, sym, ◌∙◌, ap, subst, arith, inl, inr}
+use Rattle.std.proofs.Common.{◌≡◌, ℕ, ◌+◌, Bool, true, false, not, cond, ◌&&◌, ◌||◌, ◌==◌, nat_lt, List, [], ◌∷◌, length, Option, Some, None, is_some, is_none, refl, sym, ◌∙◌, ap, subst, arith, inl, inr}
 use Rattle.std.proofs.lemmas.Bool.{eq-eqb, eqb-true, ne_eqb, and_parts, and_right, or_from, or_left, or_right, not-true, both_ways, cases_eq, false_from_ne_true}
 use Rattle.std.proofs.lemmas.List.Elements.{filter_agree}
 use Rattle.tsd_model.specs.Pairs.{is_pair, holds, with_pair, count_to}
@@ -10,7 +10,7 @@ use Rattle.disk_laws.specs.Reclaiming.{all_apart}
 use Rattle.tsd_model.proofs.PairLaws.{holds-with_pair}
 use Rattle.disk_laws.proofs.ChangeLaws.{contents-other, new_pair, old_pair}
 use Rattle.graph_laws.proofs.SettleLaws.{none_doomed, led_has_none, none_is_led}
-use Rattle.graph_laws.specs.Counts.{stays, count_where, kept_count, doomed_pairs}
+use Rattle.graph_laws.specs.Counts.{count_where, kept_count, doomed_pairs}
 use Rattle.graph_laws.specs.RawGraph.{IsLaidOut, IsRawGraph}
 use Rattle.graph_laws.specs.Settling.{EachIsLedTo}
 use Rattle.tsd_model.proofs.CountLaws.{count-with_pair}
@@ -107,10 +107,13 @@ free_is_dead w b free = dead (contents w b) (and_parts (nat_lt b (length w.block
 -- blocks are allocated where nothing is doomed: nothing is doomed then, and the count of each new block is one more
 pub kept-new_blocks : (w : World) (a : ℕ) (bs : List ℕ) → IsRawGraph w → doomed w ≡ [] → all_apart bs ≡ true → ((b : ℕ) → has_number bs b ≡ true → is_free w b ≡ true)
     → (doomed (with_new_blocks w a bs) ≡ []) × ((c : ℕ) → kept_count (with_new_blocks w a bs) c ≡ cond (has_number bs c) 1 0 + kept_count w c)
-kept-new_blocks w a bs raw none once free = (led_has_none now led, λ c.
-    kept_of_none now (none_doomed now led) c
-    ∙ (count-new_blocks a bs w once (λ b in_. false_from_ne_true (holds w.pairs a b) (λ held. both_ways (is_live w b) (free_is_dead w b (free b in_)) (raw.targets a b held))) c
-    ∙ ap (λ n. cond (has_number bs c) 1 0 + n) (sym (kept_of_none w (λ b. ap (λ xs. has_number xs b) none) c))))
+kept-new_blocks w a bs raw none once free = (
+  led_has_none now led,
+  λ c.
+      kept_of_none now (none_doomed now led) c
+      ∙ (count-new_blocks a bs w once (λ b in_. false_from_ne_true (holds w.pairs a b) (λ held. both_ways (is_live w b) (free_is_dead w b (free b in_)) (raw.targets a b held))) c
+      ∙ ap (λ n. cond (has_number bs c) 1 0 + n) (sym (kept_of_none w (λ b. ap (λ xs. has_number xs b) none) c))),
+)
   where
     now : World
     now = with_new_blocks w a bs

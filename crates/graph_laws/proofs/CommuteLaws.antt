@@ -19,7 +19,8 @@ use Rattle.graph_laws.specs.RawGraph.{IsLaidOut}
 use Rattle.graph_laws.specs.Steps.{with_pairs_that}
 use Rattle.graph_laws.proofs.SameLaws.{same_world, length-restricted}
 use Rattle.graph_laws.proofs.SameGraphLaws.{doomed_by_graph, reach_by_graph, graph-with_contents, graph-of_records}
-use Rattle.graph_laws.proofs.DoomedLaws.{doomed_least_of, doomed_is_live, doomed_is_no_primary, doomed_from, doomed_in}
+use Rattle.disk_laws.proofs.ReclaimLaws.{doomed_is_live}
+use Rattle.graph_laws.proofs.DoomedLaws.{doomed_least_of, doomed_is_no_primary, doomed_from, doomed_in}
 use Rattle.graph_laws.proofs.SettleLaws.{passed, contents-settle, live-settle, holds-settle, length-settle, settle_same, stays_doomed}
 
 -- ---- fewer pairs

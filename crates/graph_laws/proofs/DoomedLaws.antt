@@ -56,9 +56,6 @@ module _ (w : World) (long : length w.blocks ≡ w.geometry.blocks) where
   parts_of : (b : ℕ) → has_number (doomed w) b ≡ true → ((is_live w b && not (is_primary w b)) ≡ true) × (is_led_only_from w (doomed w) b ≡ true)
   parts_of b h = and_parts (is_live w b && not (is_primary w b)) (is_led_only_from w (doomed w) b) (sym (is_doomed w long b) ∙ h)
 
-  pub doomed_is_live : (b : ℕ) → has_number (doomed w) b ≡ true → is_live w b ≡ true
-  doomed_is_live b h = (and_parts (is_live w b) (not (is_primary w b)) (parts_of b h).0).0
-
   pub doomed_is_no_primary : (b : ℕ) → has_number (doomed w) b ≡ true → is_primary w b ≡ false
   doomed_is_no_primary b h = not-true (is_primary w b) (and_parts (is_live w b) (not (is_primary w b)) (parts_of b h).0).1
 

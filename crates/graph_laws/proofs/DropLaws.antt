@@ -12,7 +12,7 @@ use Rattle.graph_laws.specs.Changes.{IsDoomedBesides}
 use Rattle.graph_laws.specs.Counts.{stays, doomed_pairs}
 use Rattle.graph_laws.specs.RawGraph.{IsLaidOut}
 use Rattle.graph_laws.proofs.CountLaws.{filter_twice}
-use Rattle.graph_laws.proofs.DoomedLaws.{doomed_is_live}
+use Rattle.disk_laws.proofs.ReclaimLaws.{doomed_is_live}
 use Rattle.graph_laws.proofs.SettleLaws.{live-settle, length-settle, holds-settle}
 use Rattle.graph_laws.proofs.CommuteLaws.{doomed-less}
 use Rattle.graph_laws.proofs.WeightLaws.{doomed_listed}

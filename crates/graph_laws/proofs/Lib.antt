@@ -12,3 +12,4 @@ pub mod LostLaws
 pub mod MarkingLaws
 pub mod AheadLaws
 pub mod SweepLaws
+pub mod Examples

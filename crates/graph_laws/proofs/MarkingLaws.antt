@@ -13,7 +13,8 @@ use Rattle.tsd_model.proofs.PairLaws.{holds-filter, is_pair_ext, is_pair_same, s
 use Rattle.graph_laws.specs.Counts.{count_where, kept_count, doomed_pairs}
 use Rattle.graph_laws.specs.Marking.{IsMarking, IsMarkingBut, IsCountedOff}
 use Rattle.graph_laws.specs.RawGraph.{IsLaidOut, IsRawGraph}
-use Rattle.graph_laws.proofs.DoomedLaws.{doomed_least, doomed_from, doomed_is_live, doomed_is_no_primary, source_is_doomed}
+use Rattle.disk_laws.proofs.ReclaimLaws.{doomed_is_live}
+use Rattle.graph_laws.proofs.DoomedLaws.{doomed_least, doomed_from, doomed_is_no_primary, source_is_doomed}
 use Rattle.graph_laws.proofs.SettleLaws.{stays_doomed}
 use Rattle.tsd_model.proofs.CountLaws.{filter_held, none_pass, none_passes, count-without_pair}
 use Rattle.graph_laws.proofs.CountLaws.{count_but_number, count_but_pair}
@@ -221,4 +222,3 @@ doomed_by_count r long b = same_tests (has_number (doomed r) b) ((is_live r b &&
     (λ h. let parts = and_parts (is_live r b && not (is_primary r b)) (kept_count r b == 0) h in let here = and_parts (is_live r b) (not (is_primary r b)) parts.0 in
     doomed_from r long b here.0 (not-true (is_primary r b) here.1)
     (λ a held. not-false (has_number (doomed r) a) (count_zero (λ e. not (has_number (doomed r) e.0)) r.pairs b (eqb-true (kept_count r b) 0 parts.1) a held)))
-

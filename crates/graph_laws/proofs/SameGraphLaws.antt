@@ -1,8 +1,7 @@
 -- What depends on the graph of a world alone.
-use Rattle.std.proofs.Common.{◌≡◌, ℕ, zero, suc, ◌≤◌, Bool, true, false, not, ◌&&◌, ◌||◌, ◌==◌, nat_lt, List, [], ◌∷◌, length, refl, sym, ◌∙◌, ap, subst, inl, inr, Option, Some, None}
+use Rattle.std.proofs.Common.{◌≡◌, ℕ, zero, suc, ◌≤◌, Bool, true, false, not, ◌&&◌, ◌||◌, ◌==◌, nat_lt, List, [], ◌∷◌, length, refl, sym, ◌∙◌, ap, subst, inl, inr, Option, None}
 use Rattle.std.proofs.lemmas.Bool.{cases_eq, eq-eqb, ne_eqb, and_right}
-use Rattle.std.proofs.lemmas.List.{get_or-set_same, get_or-set_other, length-set}
-use Rattle.std.proofs.lemmas.List.Elements.{filter_agree}
+use Rattle.std.proofs.lemmas.List.{get_or-set_other, length-set}
 use Rattle.std.specs.Prelude.{filter, is_some, slice_index_or, slice_set}
 use Rattle.std.specs.List.{range_with_len, list_all, list_any}
 use Rattle.tsd_model.specs.Pairs.{holds, is_rising, without_pair}
@@ -13,10 +12,11 @@ use Rattle.tsd_model.specs.Step.{with_contents, without_pointer}
 use Rattle.tsd_model.specs.declared.geometry.Geometry.{Geometry}
 use Rattle.tsd_model.specs.declared.records.Record.{Record}
 use Rattle.disk_laws.specs.Bytes.{AreLike}
-use Rattle.disk_laws.proofs.DoomLaws.{live_below, live-restricted}
+use Rattle.disk_laws.proofs.ByteLaws.{contents_like}
+use Rattle.disk_laws.proofs.DoomLaws.{live-restricted}
 use Rattle.graph_laws.specs.Counts.{stays, kept_count, doomed_pairs}
 use Rattle.graph_laws.specs.Graph.{HasGraphOf, AreAsOne, StayAsOne}
-use Rattle.graph_laws.specs.RawGraph.{IsLaidOut, IsRawGraph}
+use Rattle.graph_laws.specs.RawGraph.{IsLaidOut}
 use Rattle.graph_laws.specs.Steps.{with_free, without_pointers, stepped, IsStep, IsLost}
 use Rattle.graph_laws.proofs.SameLaws.{length-restricted}
 
@@ -130,24 +130,16 @@ stay_as_one v w same = record { settled = settle_by_graph v w same; swept = swep
 
 -- ---- what leaves the graph
 
--- a live block gets bytes
-pub graph-with_contents : (w : World) (b : ℕ) (bytes : List ℕ) → is_live w b ≡ true → HasGraphOf (with_contents w b bytes) w
-graph-with_contents w b bytes live = record {
-  geometry = refl;
-  each_block = length-set w.blocks b (Some bytes);
-  live = λ c. elim (cases_eq c b) [
-    | inl same ↦ subst (λ k. is_live (with_contents w b bytes) k ≡ is_live w k) (sym same) (ap is_some (get_or-set_same w.blocks b (Some bytes) None (live_below w.blocks b live)) ∙ sym live)
-    | inr other ↦ ap is_some (get_or-set_other w.blocks b c (Some bytes) None other)
-  ];
-  pairs = refl;
-}
-
 pub graph-of_records : (w : World) (version : ℕ) (records : List Record) → HasGraphOf (record w { version = version; records = records }) w
 graph-of_records w version records = record { geometry = refl; each_block = refl; live = λ b. refl; pairs = refl }
 
 -- worlds that differ in bytes alone
 pub alike_have_graph : (v w : World) → AreLike v w → HasGraphOf v w
 alike_have_graph v w like = record { geometry = like.geometry; each_block = like.count; live = like.live; pairs = like.pairs }
+
+-- a live block gets bytes
+pub graph-with_contents : (w : World) (b : ℕ) (bytes : List ℕ) → is_live w b ≡ true → HasGraphOf (with_contents w b bytes) w
+graph-with_contents w b bytes live = alike_have_graph (with_contents w b bytes) w (contents_like w b bytes live)
 
 like_of_graph : (v w : World) → v.version ≡ w.version → v.records ≡ w.records → HasGraphOf v w → AreLike v w
 like_of_graph v w version records same = record { geometry = same.geometry; version = version; count = same.each_block; live = same.live; pairs = same.pairs; records = records }

@@ -1,5 +1,5 @@
 -- What settling leaves, and which steps it doesn't see.
-use Rattle.std.proofs.Common.{◌≡◌, ℕ, ◌<◌, Bool, true, false, not, cond, ◌&&◌, ◌==◌, List, [], ◌∷◌, length, refl, sym, ◌∙◌, ap, subst, arith, inl, inr, Option, None}
+use Rattle.std.proofs.Common.{◌≡◌, ℕ, Bool, true, false, not, cond, ◌&&◌, ◌==◌, List, [], ◌∷◌, length, refl, sym, ◌∙◌, ap, subst, inl, inr, Option, None}
 use Rattle.std.proofs.lemmas.Bool.{eq-eqb, and_parts, and_from, and_left, both_ways, cases_Bool, cases_eq, false_from_ne_true, ltb-false, or_left}
 use Rattle.std.proofs.lemmas.List.{length-set}
 use Rattle.std.specs.Prelude.{is_some}
@@ -15,8 +15,9 @@ use Rattle.graph_laws.specs.RawGraph.{IsLaidOut, IsRawGraph}
 use Rattle.graph_laws.specs.Settling.{EachIsLedTo}
 use Rattle.graph_laws.specs.Steps.{with_pairs_that, with_free, IsLost}
 use Rattle.graph_laws.proofs.SameLaws.{length-restricted, restricted_same, restricted_whole}
-use Rattle.graph_laws.proofs.DoomedLaws.{doomed_least, doomed_least_of, doomed_is_live, doomed_is_no_primary, doomed_from, doomed_in, stays_by_pairs}
-use Rattle.graph_laws.proofs.RawGraphLaws.{graph-restricted, laid_out-with_pairs_that, laid_out-with_free, contents-with_free, contents-freed}
+use Rattle.disk_laws.proofs.ReclaimLaws.{doomed_is_live}
+use Rattle.graph_laws.proofs.DoomedLaws.{doomed_least, doomed_least_of, doomed_is_no_primary, doomed_from, doomed_in, stays_by_pairs}
+use Rattle.graph_laws.proofs.RawGraphLaws.{graph-restricted, laid_out-with_free, contents-with_free, contents-freed}
 
 -- these bytes, if they pass
 abbrev pub passed : Bool → Option (List ℕ) → Option (List ℕ)

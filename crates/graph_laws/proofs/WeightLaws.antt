@@ -20,9 +20,9 @@ use Rattle.graph_laws.specs.RawGraph.{IsLaidOut}
 use Rattle.graph_laws.specs.Steps.{with_free, without_pointers, stepped, AreTargets, IsStep, IsLost}
 use Rattle.tsd_model.proofs.CountLaws.{filter_held, count-without_pair}
 use Rattle.graph_laws.proofs.CountLaws.{filter_self, count_but_number}
-use Rattle.graph_laws.proofs.DoomedLaws.{doomed_is_live}
+use Rattle.disk_laws.proofs.ReclaimLaws.{doomed_is_live}
 use Rattle.graph_laws.proofs.SettleLaws.{contents-settle, length-settle, doomed_freed, freed_is_not_doomed, lost_is_doomed}
-use Rattle.graph_laws.proofs.StepLaws.{doomed-without_pointer, doomed-without_pointers, laid_out-without_pointer, laid_out-without_pointers, blocks-without_pointers, nothing_out}
+use Rattle.graph_laws.proofs.StepLaws.{doomed-without_pointer, doomed-without_pointers, laid_out-without_pointer, laid_out-without_pointers, blocks-without_pointers}
 
 -- the doomed blocks are those of the disk that are doomed, ascending
 pub doomed_listed : (w : World) → doomed w ≡ filter (has_number (doomed w)) (all_blocks w)

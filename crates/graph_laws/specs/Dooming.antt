@@ -1,5 +1,5 @@
 -- Which blocks are doomed, said without rounds.
-use Rattle.std.specs.Prelude.{◌≡◌, ℕ, ◌≤◌, Bool, false, length, ◌↔◌, ◌⊎◌, ◌<◌, IsTrue}
+use Rattle.std.specs.Prelude.{◌≡◌, ℕ, ◌≤◌, Bool, length, ◌↔◌, ◌⊎◌, ◌<◌, IsTrue}
 use Rattle.tsd_model.specs.Pairs.{holds}
 use Rattle.tsd_model.specs.World.{World, is_live, has_number}
 use Rattle.tsd_model.specs.Doomed.{doomed}

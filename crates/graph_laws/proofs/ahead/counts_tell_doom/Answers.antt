@@ -1,4 +1,3 @@
-use Rattle.std.proofs.Common.{◌≡◌, Bool, true, false, not, refl, ℕ}
 use Rattle.std.proofs.lemmas.Bool.{not-true}
 use Rattle.tsd_model.specs.World.{has_number}
 use Rattle.tsd_model.specs.Doomed.{doomed}
