@@ -1,22 +1,23 @@
 -- What depends on the graph of a world alone.
-use Rattle.std.proofs.Common.{◌≡◌, ℕ, zero, suc, ◌≤◌, Bool, true, false, not, ◌&&◌, ◌||◌, ◌==◌, nat_lt, List, [], ◌∷◌, length, refl, sym, ◌∙◌, ap, subst, inl, inr, Option, None}
+use Rattle.std.proofs.Common.{◌≡◌, ℕ, zero, suc, ◌<◌, ◌≤◌, Bool, true, false, not, ◌&&◌, ◌||◌, ◌==◌, nat_lt, List, [], ◌∷◌, length, refl, sym, ◌∙◌, ap, subst, inl, inr, Option, None}
 use Rattle.std.proofs.lemmas.Bool.{cases_eq, eq-eqb, ne_eqb, and_right}
 use Rattle.std.proofs.lemmas.List.{get_or-set_other, length-set}
 use Rattle.std.specs.Prelude.{filter, is_some, slice_index_or, slice_set}
 use Rattle.std.specs.List.{range_with_len, list_all, list_any}
 use Rattle.tsd_model.specs.Pairs.{holds, is_rising, without_pair}
-use Rattle.tsd_model.specs.World.{World, is_live, primary_blocks, has_number}
+use Rattle.tsd_model.specs.Geometry.{IsLawful}
+use Rattle.tsd_model.specs.World.{World, free_count, is_live, primary_blocks, has_number}
 use Rattle.tsd_model.specs.Reach.{reach_rounds, reach, restricted, swept}
 use Rattle.tsd_model.specs.Doomed.{doomed_rounds, doomed, settle}
 use Rattle.tsd_model.specs.Step.{with_contents, without_pointer}
 use Rattle.tsd_model.specs.declared.geometry.Geometry.{Geometry}
 use Rattle.tsd_model.specs.declared.records.Record.{Record}
 use Rattle.disk_laws.specs.Bytes.{AreLike}
-use Rattle.disk_laws.proofs.ByteLaws.{contents_like}
+use Rattle.disk_laws.proofs.ByteLaws.{contents_like, free_count_like}
 use Rattle.disk_laws.proofs.DoomLaws.{live-restricted}
 use Rattle.graph_laws.specs.Counts.{stays, kept_count, doomed_pairs}
 use Rattle.graph_laws.specs.Graph.{HasGraphOf, AreAsOne, StayAsOne}
-use Rattle.graph_laws.specs.RawGraph.{IsLaidOut}
+use Rattle.graph_laws.specs.RawGraph.{IsLaidOut, IsRawGraph}
 use Rattle.graph_laws.specs.Steps.{with_free, without_pointers, stepped, IsStep, IsLost}
 use Rattle.graph_laws.proofs.SameLaws.{length-restricted}
 
@@ -66,9 +67,6 @@ step_by_graph v w same a bs freed step = let less = less_by_graph a bs v w same 
   taken = record { held = λ b is. subst (λ es. holds es a b ≡ true) same.pairs (step.taken.held b is); once = step.taken.once };
   last = λ f. let alone = step.last f in record { out = λ c. ap (λ es. holds es a c) (sym less.pairs) ∙ alone.out c; into = λ c. ap (λ es. holds es c a) (sym less.pairs) ∙ alone.into c };
 }
-
-pub as_one : (v w : World) → HasGraphOf v w → AreAsOne v w
-as_one v w same = record { doomed = doomed_by_graph v w same; reach = reach_by_graph v w same; lost = lost_by_graph v w same; step = step_by_graph v w same }
 
 pub laid_out_by_graph : (v w : World) → HasGraphOf v w → IsLaidOut v → IsLaidOut w
 laid_out_by_graph v w same out = record {
@@ -150,3 +148,34 @@ bytes_stay_apart v w like = let same = alike_have_graph v w like in (
   like_of_graph (settle v) (settle w) like.version like.records (settle_by_graph v w same),
   like_of_graph (swept v) (swept w) like.version like.records (swept_by_graph v w same),
 )
+
+-- as many blocks are free: the version and the records have nothing to do with it
+pub free_count_by_graph : (v w : World) → HasGraphOf v w → free_count v ≡ free_count w
+free_count_by_graph v w same = let as_w : World = record v { version = w.version; records = w.records } in
+    free_count_like as_w w (record { geometry = same.geometry; version = refl; count = same.each_block; live = same.live; pairs = same.pairs; records = refl })
+
+pub raw_by_graph : (v w : World) → HasGraphOf v w → IsRawGraph v → IsRawGraph w
+raw_by_graph v w same raw = record {
+  laid_out = laid_out_by_graph v w same raw.laid_out;
+  lawful = subst IsLawful same.geometry raw.lawful;
+  room = subst (λ (g : Geometry). length w.pairs ≤ g.slots) same.geometry (subst (λ (es : List (ℕ × ℕ)). length es ≤ v.geometry.slots) same.pairs raw.room);
+  primaries = λ b h. sym (same.live b) ∙ raw.primaries b (subst (λ (g : Geometry). b < g.primaries) (sym same.geometry) h);
+  sources = λ a b h. sym (same.live a) ∙ raw.sources a b (held a b h);
+  targets = λ a b h. sym (same.live b) ∙ raw.targets a b (held a b h);
+  apart = λ a b h. subst (λ (g : Geometry). g.primaries ≤ b) same.geometry (raw.apart a b (held a b h));
+}
+  where
+    held : (a b : ℕ) → holds w.pairs a b ≡ true → holds v.pairs a b ≡ true
+    held a b h = subst (λ es. holds es a b ≡ true) (sym same.pairs) h
+
+pub as_one : (v w : World) → HasGraphOf v w → AreAsOne v w
+as_one v w same = record {
+  raw = raw_by_graph v w same;
+  free = free_count_by_graph v w same;
+  doomed = doomed_by_graph v w same;
+  pairs = doomed_pairs_by_graph v w same;
+  counts = kept_by_graph v w same;
+  reach = reach_by_graph v w same;
+  lost = lost_by_graph v w same;
+  step = step_by_graph v w same;
+}

@@ -2,7 +2,7 @@
 use Rattle.std.specs.Prelude.{◌≡◌, ℕ, ◌<◌, Bool, false, cond, List, [], map, replicate, length, slice_index_or, Some, None}
 use Rattle.std.specs.List.{range_with_len}
 use Rattle.tsd_model.specs.Geometry.{block_len}
-use Rattle.tsd_model.specs.World.{World, is_live}
+use Rattle.tsd_model.specs.World.{World, is_live, free_count}
 use Rattle.tsd_model.specs.Reach.{reach, swept}
 use Rattle.tsd_model.specs.Doomed.{doomed, settle}
 use Rattle.tsd_model.specs.Valid.{IsRaw}
@@ -10,6 +10,7 @@ use Rattle.tsd_model.specs.declared.geometry.Geometry.{Geometry}
 use Rattle.tsd_model.specs.declared.records.KeptCap.TheVariants.{Digested}
 use Rattle.tsd_model.specs.declared.records.Record.{Record}
 use Rattle.disk_laws.specs.Bytes.{AreLike}
+use Rattle.graph_laws.specs.Counts.{kept_count, doomed_pairs}
 use Rattle.graph_laws.specs.RawGraph.{IsRawGraph}
 use Rattle.graph_laws.specs.Steps.{stepped, IsStep, IsLost}
 
@@ -56,9 +57,13 @@ GraphIsRaw =
     → ((b : ℕ) → b < w.geometry.blocks → slice_index_or live b false ≡ is_live w b)
     → IsRaw (graph w.geometry live w.pairs) × HasGraphOf (graph w.geometry live w.pairs) w
 
--- Worlds of one graph have the same blocks doomed, reached and lost, and the same steps.
+-- Worlds of one graph have as many free blocks, the same blocks doomed, reached and lost, the same counts and the same steps.
 pub record AreAsOne (v w : World) : Type 0 where
+  pub raw : IsRawGraph v → IsRawGraph w
+  pub free : free_count v ≡ free_count w
   pub doomed : doomed v ≡ doomed w
+  pub pairs : doomed_pairs v ≡ doomed_pairs w
+  pub counts : (b : ℕ) → kept_count v b ≡ kept_count w b
   pub reach : reach v ≡ reach w
   pub lost : (b : ℕ) → IsLost v b → IsLost w b
   pub step : (a : ℕ) (targets : List ℕ) (freed : Bool) → IsStep v a targets freed → IsStep w a targets freed

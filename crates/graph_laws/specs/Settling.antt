@@ -8,7 +8,7 @@ use Rattle.graph_laws.specs.Counts.{doomed_pairs}
 use Rattle.graph_laws.specs.RawGraph.{IsLaidOut, IsRawGraph}
 use Rattle.graph_laws.specs.Steps.{IsLost}
 
--- A raw world settles to a valid one, and what tables know of it to the same of that.
+-- A raw world settles to a valid one, and a raw graph to a raw graph.
 abbrev pub SettlesToValid : Type 0
 SettlesToValid = (r : World) → (IsRaw r → IsValid (settle r)) × (IsRawGraph r → IsRawGraph (settle r))
 

@@ -48,7 +48,7 @@ pub record IsLost (w : World) (b : ℕ) : Type 0 where
 
 -- ---- laws
 
--- A step leaves a raw world raw, and so it does with what tables know.
+-- A step leaves a raw world raw, and a raw graph too.
 abbrev pub StepStaysRaw : Type 0
 StepStaysRaw =
     (r : World) (a : ℕ) (targets : List ℕ) (freed : Bool) → r.geometry.primaries ≤ a → IsStep r a targets freed

@@ -14,7 +14,7 @@ pub record FollowsPairs (w : World) (set : ℕ → Bool) : Type 0 where
   pub first : (b : ℕ) → b < w.geometry.primaries → IsTrue (set b)
   pub on : (a b : ℕ) → IsTrue (holds w.pairs a b) → IsTrue (set a) → IsTrue (set b)
 
--- The reached blocks are the least set that does: so marks that only reached blocks have, and that follow the pairs, are reach.
+-- The reached blocks are the least set that does. So marks that follow the pairs, and that only reached blocks have, are theirs.
 abbrev pub ReachIsLeast : Type 0
 ReachIsLeast =
     (w : World) → IsRawGraph w
@@ -42,7 +42,7 @@ SweepGoesOn =
 abbrev pub SweptWhole : Type 0
 SweptWhole = (r : World) → IsRawGraph r → ((b : ℕ) → IsTrue (is_live r b) → IsTrue (has_number (reach r) b)) → swept r ≡ r
 
--- A raw world sweeps to a valid one, in which so nothing is doomed.
+-- A raw world sweeps to a valid one, and where a raw graph is swept, nothing is doomed.
 abbrev pub SweepsToValid : Type 0
 SweepsToValid = (r : World) → (IsRaw r → IsValid (swept r)) × (IsRawGraph r → doomed (swept r) ≡ [])
 
