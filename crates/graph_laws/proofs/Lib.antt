@@ -2,6 +2,7 @@ pub mod SameLaws
 pub mod SameGraphLaws
 pub mod DoomedLaws
 pub mod RawGraphLaws
+pub mod ToldLaws
 pub mod SettleLaws
 pub mod CommuteLaws
 pub mod DropLaws

@@ -1,9 +1,8 @@
 -- Raw graphs, and what keeps a world raw.
-use Rattle.std.proofs.Common.{◌≡◌, ℕ, zero, suc, ◌<◌, ◌≤◌, ◌⊎◌, Bool, true, false, cond, ◌&&◌, nat_lt, List, [], ◌∷◌, length, refl, sym, ◌∙◌, ap, subst, arith, inl, inr, Option, Some, None}
-use Rattle.std.proofs.lemmas.Bool.{and_parts, and_from, both_ways, cases_eq, cases_lt, lt-ltb, le-ltb}
-use Rattle.std.proofs.lemmas.List.{get_or-set_other, get_or_past, length-set, length-replicate}
-use Rattle.std.proofs.lemmas.List.FromFn.{length-map-range_with_len, get_or-map-range_with_len}
-use Rattle.std.specs.Prelude.{replicate, is_some, slice_index_or, slice_set, IfSome}
+use Rattle.std.proofs.Common.{◌≡◌, ℕ, zero, suc, ◌<◌, ◌≤◌, ◌⊎◌, Bool, true, List, [], ◌∷◌, length, refl, sym, ◌∙◌, ap, subst, arith, inl, inr, Option, None}
+use Rattle.std.proofs.lemmas.Bool.{and_parts, and_from, both_ways, cases_eq}
+use Rattle.std.proofs.lemmas.List.{get_or-set_other, length-set}
+use Rattle.std.specs.Prelude.{is_some, slice_index_or, slice_set, IfSome}
 use Rattle.std.specs.List.{list_all}
 use Rattle.tsd_model.specs.Geometry.{block_len}
 use Rattle.tsd_model.specs.Pairs.{holds}
@@ -11,12 +10,9 @@ use Rattle.tsd_model.specs.Records.{is_record_of}
 use Rattle.tsd_model.specs.World.{World, contents, is_live}
 use Rattle.tsd_model.specs.Reach.{restricted}
 use Rattle.tsd_model.specs.Valid.{IsRaw}
-use Rattle.tsd_model.specs.declared.geometry.Geometry.{Geometry}
-use Rattle.tsd_model.specs.declared.records.Record.{Record}
 use Rattle.tsd_model.proofs.SizeLaws.{length-filter_le}
 use Rattle.tsd_model.proofs.PairLaws.{holds-filter, is_rising-filter}
 use Rattle.disk_laws.proofs.DoomLaws.{live-restricted, holds-restricted}
-use Rattle.graph_laws.specs.Graph.{world_with, zeros_in, no_record, graph, HasGraphOf}
 use Rattle.graph_laws.specs.RawGraph.{IsLaidOut, IsRawGraph}
 use Rattle.graph_laws.specs.Steps.{with_pairs_that, with_free, IsAlone}
 use Rattle.graph_laws.proofs.SameLaws.{length-restricted}
@@ -129,101 +125,3 @@ module _ (r : World) (b : ℕ) (apart : r.geometry.primaries ≤ b) (alone : IsA
             (subst (λ o. IfSome o (λ bytes. length bytes ≡ block_len r.geometry)) (sym (contents-freed r b)) tt)
         | inr other ↦ subst (λ o. IfSome o (λ bytes. length bytes ≡ block_len r.geometry)) (sym (contents-with_free r b c other)) (raw.sized.full c)
       ]
-
--- ---- the world that tables tell
-
-pub blocks-world_with : (g : Geometry) (live : List Bool) (pairs : List (ℕ × ℕ)) (bytes : ℕ → List ℕ) (version : ℕ) (records : List Record)
-    → length (world_with g live pairs bytes version records).blocks ≡ g.blocks
-blocks-world_with g live pairs bytes version records = length-map-range_with_len (λ b. cond (slice_index_or live b false) (Some (bytes b)) None) 0 g.blocks
-
-module _ (g : Geometry) (live : List Bool) (pairs : List (ℕ × ℕ)) (bytes : ℕ → List ℕ) (version : ℕ) (records : List Record) where
-  abbrev told : World
-  told = world_with g live pairs bytes version records
-
-  pub contents-world_with : (b : ℕ) → b < g.blocks → contents told b ≡ cond (slice_index_or live b false) (Some (bytes b)) None
-  contents-world_with b h = get_or-map-range_with_len (λ c. cond (slice_index_or live c false) (Some (bytes c)) None) 0 g.blocks b b None h (omega arith)
-
-  pub contents_past-world_with : (b : ℕ) → g.blocks ≤ b → contents told b ≡ None
-  contents_past-world_with b h = get_or_past told.blocks b None (omega (arith, h, blocks-world_with g live pairs bytes version records))
-
-  pub live-world_with : (b : ℕ) → is_live told b ≡ (nat_lt b g.blocks && slice_index_or live b false)
-  live-world_with b = elim (cases_lt b g.blocks) [
-    | inl h ↦ ap is_some (contents-world_with b h) ∙ (some_if (slice_index_or live b false) ∙ sym (ap (λ t. t && slice_index_or live b false) (lt-ltb b g.blocks h)))
-    | inr h ↦ ap is_some (contents_past-world_with b h) ∙ sym (ap (λ t. t && slice_index_or live b false) (le-ltb b g.blocks h))
-  ]
-    where
-      some_if : (t : Bool) → is_some (cond t (Some (bytes b)) None) ≡ t
-      some_if true = refl
-      some_if false = refl
-
-  -- where there is a place for each block, and no more, these are the live ones
-  pub live_as-world_with : length live ≤ g.blocks → (b : ℕ) → is_live told b ≡ slice_index_or live b false
-  live_as-world_with long b = live-world_with b ∙ elim (cases_lt b g.blocks) [
-    | inl h ↦ ap (λ t. t && slice_index_or live b false) (lt-ltb b g.blocks h)
-    | inr h ↦ ap (λ t. t && slice_index_or live b false) (le-ltb b g.blocks h) ∙ sym (get_or_past live b false (omega (arith, h, long)))
-  ]
-
-  pub told_has_graph : HasGraphOf told (graph g live pairs)
-  told_has_graph = record {
-    geometry = refl;
-    each_block = blocks-world_with g live pairs bytes version records ∙ sym (blocks-world_with g live pairs (zeros_in g) 2 (replicate g.primaries no_record));
-    live = λ b. elim (cases_lt b g.blocks) [
-      | inl h ↦ ap is_some (contents-world_with b h) ∙ (some_either (slice_index_or live b false) (bytes b) (zeros_in g b) ∙ sym (ap is_some (zeros_at b h)))
-      | inr h ↦ ap is_some (contents_past-world_with b h) ∙ sym (ap is_some (zeros_past b h))
-    ];
-    pairs = refl;
-  }
-    where
-      some_either : (t : Bool) (xs ys : List ℕ) → is_some (cond t (Some xs) None) ≡ is_some (cond t (Some ys) None)
-      some_either true xs ys = refl
-      some_either false xs ys = refl
-
-      zeros_at : (b : ℕ) → b < g.blocks → contents (graph g live pairs) b ≡ cond (slice_index_or live b false) (Some (zeros_in g b)) None
-      zeros_at b h = get_or-map-range_with_len (λ c. cond (slice_index_or live c false) (Some (zeros_in g c)) None) 0 g.blocks b b None h (omega arith)
-
-      zeros_past : (b : ℕ) → g.blocks ≤ b → contents (graph g live pairs) b ≡ None
-      zeros_past b h = get_or_past (graph g live pairs).blocks b None (omega (arith, h, blocks-world_with g live pairs (zeros_in g) 2 (replicate g.primaries no_record)))
-
--- ---- the graph of a world
-
-module _ (w : World) (live : List Bool) (long : length w.blocks ≡ w.geometry.blocks) (tells : (b : ℕ) → b < w.geometry.blocks → slice_index_or live b false ≡ is_live w b) where
-  abbrev told_of : World
-  told_of = graph w.geometry live w.pairs
-
-  pub has_graph : HasGraphOf told_of w
-  has_graph = record {
-    geometry = refl;
-    each_block = blocks-world_with w.geometry live w.pairs (zeros_in w.geometry) 2 (replicate w.geometry.primaries no_record) ∙ sym long;
-    live = λ b. live-world_with w.geometry live w.pairs (zeros_in w.geometry) 2 (replicate w.geometry.primaries no_record) b ∙ elim (cases_lt b w.geometry.blocks) [
-      | inl h ↦ ap (λ t. t && slice_index_or live b false) (lt-ltb b w.geometry.blocks h) ∙ tells b h
-      | inr h ↦ ap (λ t. t && slice_index_or live b false) (le-ltb b w.geometry.blocks h) ∙ sym (ap is_some (get_or_past w.blocks b None (omega (arith, h, long))))
-    ];
-    pairs = refl;
-  }
-
-  pub raw-graph : IsRawGraph w → IsRaw told_of
-  raw-graph raw = record {
-    sized = record { lawful = raw.lawful; each_block = blocks-world_with w.geometry live w.pairs (zeros_in w.geometry) 2 (replicate w.geometry.primaries no_record); full = full; room = raw.room };
-    version = inr refl;
-    each_record = length-replicate w.geometry.primaries no_record;
-    of_version = all_records w.geometry.primaries;
-    rising = raw.laid_out.rising;
-    primaries = λ b h. has_graph.live b ∙ raw.primaries b h;
-    sources = λ a b h. has_graph.live a ∙ raw.sources a b h;
-    targets = λ a b h. has_graph.live b ∙ raw.targets a b h;
-    apart = raw.apart;
-  }
-    where
-      full_if : (t : Bool) (b : ℕ) → IfSome (cond t (Some (zeros_in w.geometry b)) None) (λ bytes. length bytes ≡ block_len w.geometry)
-      full_if true b = length-replicate (block_len w.geometry) 0
-      full_if false b = tt
-
-      full : (b : ℕ) → IfSome (contents told_of b) (λ bytes. length bytes ≡ block_len w.geometry)
-      full b = elim (cases_lt b w.geometry.blocks) [
-        | inl h ↦ subst (λ o. IfSome o (λ bytes. length bytes ≡ block_len w.geometry)) (sym (contents-world_with w.geometry live w.pairs (zeros_in w.geometry) 2 (replicate w.geometry.primaries no_record) b h)) (full_if (slice_index_or live b false) b)
-        | inr h ↦ subst (λ o. IfSome o (λ bytes. length bytes ≡ block_len w.geometry)) (sym (contents_past-world_with w.geometry live w.pairs (zeros_in w.geometry) 2 (replicate w.geometry.primaries no_record) b h)) tt
-      ]
-
-      all_records : (n : ℕ) → list_all (is_record_of 2) (replicate n no_record) ≡ true
-      all_records zero = refl
-      all_records (suc n) = all_records n

@@ -40,9 +40,12 @@ pub laid_out-without_pointers : (a : ℕ) (bs : List ℕ) (r : World) → IsLaid
 laid_out-without_pointers a [] r out = out
 laid_out-without_pointers a (b ∷ bs) r out = laid_out-without_pointers a bs (without_pointer r a b) (laid_out-without_pointer r a b out)
 
+pub graph-without_pointer : (r : World) (a b : ℕ) → IsRawGraph r → IsRawGraph (without_pointer r a b)
+graph-without_pointer r a b raw = graph-with_pairs_that r (λ e. not (is_pair a b e)) raw
+
 pub graph-without_pointers : (a : ℕ) (bs : List ℕ) (r : World) → IsRawGraph r → IsRawGraph (without_pointers r a bs)
 graph-without_pointers a [] r raw = raw
-graph-without_pointers a (b ∷ bs) r raw = graph-without_pointers a bs (without_pointer r a b) (graph-with_pairs_that r (λ e. not (is_pair a b e)) raw)
+graph-without_pointers a (b ∷ bs) r raw = graph-without_pointers a bs (without_pointer r a b) (graph-without_pointer r a b raw)
 
 pub raw-without_pointers : (a : ℕ) (bs : List ℕ) (r : World) → IsRaw r → IsRaw (without_pointers r a bs)
 raw-without_pointers a [] r raw = raw

@@ -23,7 +23,8 @@ use Rattle.graph_laws.proofs.SameLaws.{restricted_same, restricted_whole}
 use Rattle.graph_laws.proofs.SameGraphLaws.{reach_by_graph}
 use Rattle.graph_laws.proofs.CountLaws.{led_or_alone}
 use Rattle.graph_laws.proofs.DoomedLaws.{doomed_least}
-use Rattle.graph_laws.proofs.RawGraphLaws.{has_graph, raw-graph, graph-with_pairs_that, contents-with_free, graph-with_free}
+use Rattle.graph_laws.proofs.RawGraphLaws.{graph-with_pairs_that, contents-with_free, graph-with_free}
+use Rattle.graph_laws.proofs.ToldLaws.{has_graph, raw-graph}
 use Rattle.graph_laws.proofs.StepLaws.{graph-without_pointers}
 use Rattle.graph_laws.proofs.SettleLaws.{graph-settle, passed, contents-settle, holds-settle, length-settle, led_has_none}
 

@@ -1,4 +1,4 @@
-use Rattle.graph_laws.proofs.RawGraphLaws.{told_has_graph, raw-graph, has_graph}
+use Rattle.graph_laws.proofs.ToldLaws.{told_has_graph, raw-graph, has_graph}
 use Rattle.graph_laws.proofs.SameGraphLaws.{as_one, stay_as_one, bytes_stay_apart}
 use Rattle.graph_laws.proofs.graphs.graphs_tell.Goals as goal
 
