@@ -1,0 +1,16 @@
+pub mod SameLaws
+pub mod SameGraphLaws
+pub mod DoomedLaws
+pub mod RawGraphLaws
+pub mod ToldLaws
+pub mod SettleLaws
+pub mod CommuteLaws
+pub mod DropLaws
+pub mod StepLaws
+pub mod CountLaws
+pub mod WeightLaws
+pub mod LostLaws
+pub mod MarkingLaws
+pub mod AheadLaws
+pub mod SweepLaws
+pub mod Examples

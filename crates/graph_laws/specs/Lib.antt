@@ -1,0 +1,11 @@
+pub mod RawGraph
+pub mod Steps
+pub mod Counts
+pub mod Dooming
+pub mod Settling
+pub mod Changes
+pub mod Reclaiming
+pub mod Sweeping
+pub mod Marking
+pub mod Ahead
+pub mod Graph
