@@ -30,7 +30,7 @@ or_swap false true = refl
 or_swap false false = refl
 
 -- a level that isn't none is at most the greatest just where it is at most one of them
-le_greatest : (l : Level) (ls : List Level) → level_le l level.Bare ≡ false → level_le l (greatest ls) ≡ list_any (level_le l) ls
+pub le_greatest : (l : Level) (ls : List Level) → level_le l level.Bare ≡ false → level_le l (greatest ls) ≡ list_any (level_le l) ls
 le_greatest l [] some = some
 le_greatest l (x ∷ ls) some = le_greater l x (greatest ls) ∙ (ap (λ t. t || level_le l x) (le_greatest l ls some) ∙ or_swap (list_any (level_le l) ls) (level_le l x))
 
@@ -50,7 +50,7 @@ in_range_any p f i (suc n) o from to h = elim (cases_eq o i) [
 ]
 
 -- one of the sources
-any_source : (p : Level → Bool) (f : ℕ → Level) (b : ℕ) (es : List (ℕ × ℕ)) → list_any p (map f (sources_to es b)) ≡ true → (a : ℕ) × (holds es a b ≡ true) × (p (f a) ≡ true)
+pub any_source : (p : Level → Bool) (f : ℕ → Level) (b : ℕ) (es : List (ℕ × ℕ)) → list_any p (map f (sources_to es b)) ≡ true → (a : ℕ) × (holds es a b ≡ true) × (p (f a) ≡ true)
 any_source p f b [] h = absurd (cc)
 any_source p f b (e ∷ es) h =
     elim (e.1 == b) as (λ t. (e.1 == b) ≡ t → list_any p (map f (map (λ g. g.0) (cond t (e ∷ filter (λ g. g.1 == b) es) (filter (λ g. g.1 == b) es)))) ≡ true → (a : ℕ) × (holds (e ∷ es) a b ≡ true) × (p (f a) ≡ true)) [
@@ -61,7 +61,7 @@ any_source p f b (e ∷ es) h =
       | false ↦ λ to g. let found = any_source p f b es g in (found.0, or_right (is_pair found.0 b e) _ found.1, found.2)
     ] refl h
 
-source_any : (p : Level → Bool) (f : ℕ → Level) (b a : ℕ) (es : List (ℕ × ℕ)) → holds es a b ≡ true → p (f a) ≡ true → list_any p (map f (sources_to es b)) ≡ true
+pub source_any : (p : Level → Bool) (f : ℕ → Level) (b a : ℕ) (es : List (ℕ × ℕ)) → holds es a b ≡ true → p (f a) ≡ true → list_any p (map f (sources_to es b)) ≡ true
 source_any p f b a [] h k = absurd (cc)
 source_any p f b a (e ∷ es) h k =
     elim (e.1 == b) as (λ t. (e.1 == b) ≡ t → list_any p (map f (map (λ g. g.0) (cond t (e ∷ filter (λ g. g.1 == b) es) (filter (λ g. g.1 == b) es)))) ≡ true) [
@@ -81,10 +81,10 @@ source_any p f b a (e ∷ es) h k =
 abbrev HeldAttains : World → Sessions → ℕ → ℕ → Level → Type 0
 HeldAttains w v s b l = (w.geometry.primaries ≤ b) × ((a o : ℕ) × (holds w.pairs a b ≡ true) × (o < w.geometry.primaries) × (level_le l (level_from v s o a) ≡ true))
 
-at_primary : (w : World) (v : Sessions) (s b : ℕ) (shown : Shown) (o : ℕ) → b < w.geometry.primaries → attained_from w v s b shown o ≡ cond (o == b) (shown_level w b shown) level.Bare
+pub at_primary : (w : World) (v : Sessions) (s b : ℕ) (shown : Shown) (o : ℕ) → b < w.geometry.primaries → attained_from w v s b shown o ≡ cond (o == b) (shown_level w b shown) level.Bare
 at_primary w v s b shown o h = ap (λ t. cond t (cond (o == b) (shown_level w b shown) level.Bare) (led_level (levels_from v s o) b w.pairs)) (lt-ltb b w.geometry.primaries h)
 
-at_other : (w : World) (v : Sessions) (s b : ℕ) (shown : Shown) (o : ℕ) → w.geometry.primaries ≤ b → attained_from w v s b shown o ≡ led_level (levels_from v s o) b w.pairs
+pub at_other : (w : World) (v : Sessions) (s b : ℕ) (shown : Shown) (o : ℕ) → w.geometry.primaries ≤ b → attained_from w v s b shown o ≡ led_level (levels_from v s o) b w.pairs
 at_other w v s b shown o h = ap (λ t. cond t (cond (o == b) (shown_level w b shown) level.Bare) (led_level (levels_from v s o) b w.pairs)) (not_primary w b h)
 
 le_shown : (t : Bool) (l x : Level) → level_le l level.Bare ≡ false → level_le l (cond t x level.Bare) ≡ true → level_le l x ≡ true

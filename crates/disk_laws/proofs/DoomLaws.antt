@@ -56,7 +56,7 @@ rounds_are : (w : World) (r : ℕ) → doomed_rounds w r ≡ rounds (all_blocks 
 rounds_are w zero = refl
 rounds_are w (suc r) = ap (doomed_round w) (rounds_are w r)
 
-hangs_more : (w : World) (xs ys : List ℕ) → ((b : ℕ) → has_number xs b ≡ true → has_number ys b ≡ true) → (b : ℕ) → hangs_on w xs b ≡ true → hangs_on w ys b ≡ true
+pub hangs_more : (w : World) (xs ys : List ℕ) → ((b : ℕ) → has_number xs b ≡ true → has_number ys b ≡ true) → (b : ℕ) → hangs_on w xs b ≡ true → hangs_on w ys b ≡ true
 hangs_more w xs ys more b h = let parts = and_parts (is_live w b && not (is_primary w b)) (is_led_only_from w xs b) h in
     and_from _ _ parts.0 (all_more w.pairs parts.1)
   where
@@ -73,7 +73,7 @@ pub doomed_more : (w : World) (r b : ℕ) → has_number (doomed_rounds w r) b �
 doomed_more w r b h = ap (λ xs. has_number xs b) (rounds_are w (suc r)) ∙ round_more (all_blocks w) (hangs_on w) (hangs_more w) r b (ap (λ xs. has_number xs b) (sym (rounds_are w r)) ∙ h)
 
 -- one more round finds no more
-doomed_is_closed : (w : World) → length w.blocks ≡ w.geometry.blocks → doomed_round w (doomed w) ≡ doomed w
+pub doomed_is_closed : (w : World) → length w.blocks ≡ w.geometry.blocks → doomed_round w (doomed w) ≡ doomed w
 doomed_is_closed w long =
     let n = length (all_blocks w) in
     let count : w.geometry.blocks ≡ length (all_blocks w) = sym long ∙ sym (length-range 0 (length w.blocks)) in

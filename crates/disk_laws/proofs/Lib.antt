@@ -1,5 +1,6 @@
 pub mod AnswerLaws
 pub mod AttainedLaws
+pub mod ByteLaws
 pub mod ChangeLaws
 pub mod DoomLaws
 pub mod FitLaws
