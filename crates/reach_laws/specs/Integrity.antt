@@ -1,5 +1,5 @@
 -- Who changes what a block contains, its pointers and its capabilities: one request.
-use Rattle.std.specs.Prelude.{◌≡◌, ℕ, Bool, true, false, ◌&&◌, ◌==◌, slice_get, unwrap_or, IsTrue}
+use Rattle.std.specs.Prelude.{◌≡◌, ℕ, Bool, false, ◌&&◌, ◌==◌, slice_get, unwrap_or, IsTrue}
 use Rattle.std.specs.List.{list_any, list_all}
 use Rattle.tsd_model.specs.Pairs.{holds}
 use Rattle.tsd_model.specs.World.{contents, is_live}
@@ -14,8 +14,8 @@ use Rattle.tsd_model.specs.declared.needs.Need.{Need}
 use Rattle.tsd_model.specs.declared.requests.Level.TheVariants as level
 use Rattle.tsd_model.specs.declared.requests.PlaceKind.{PlaceKind}
 use Rattle.tsd_model.specs.declared.requests.Request.{Request}
-use Rattle.tsd_model.specs.declared.requests.Request.TheVariants as ask
 use Rattle.disk_laws.specs.Reached.{writes_to}
+use Rattle.disk_laws.specs.Changes.{has_source, is_create_of, is_removal}
 
 -- ---- who acts
 
@@ -35,31 +35,13 @@ writes_bytes b st q = writes_to q b && acts_with_write b st q
 abbrev pub sets_record : ℕ → State → Request → Bool
 sets_record b st q = is_set_cap_of q b && acts_with_write b st q
 
--- it adds pointers out of the block, or deletes one
-abbrev pub has_source : Request → ℕ → Bool
-has_source (ask.Alloc s a shown hint count) b = a == b
-has_source (ask.Contig s a shown hint count) b = a == b
-has_source (ask.Create s a shown x) b = a == b
-has_source (ask.Delete s a shown x) b = a == b
-has_source q b = false
-
 -- one that adds pointers out of b, or deletes one
 abbrev pub moves_pointers : ℕ → State → Request → Bool
 moves_pointers b st q = has_source q b && acts_with_write b st q
 
--- it asks for a pointer between these two blocks
-abbrev pub is_create_of : Request → ℕ → ℕ → Bool
-is_create_of (ask.Create s x shown y) a b = (x == a) && (y == b)
-is_create_of q a b = false
-
 -- a granted Create of this pointer, whose session attained write at both ends
 abbrev pub gives_pointer : ℕ → ℕ → State → Request → Bool
 gives_pointer a b st q = is_create_of q a b && (acts_with_write a st q && acts_with_write b st q)
-
-abbrev pub is_removal : Request → Bool
-is_removal (ask.Delete s a shown b) = true
-is_removal (ask.Sweep s shown) = true
-is_removal q = false
 
 -- a granted Delete or Sweep, whose session attained write at the source or at block 0
 abbrev pub removes_blocks : State → Request → Bool
