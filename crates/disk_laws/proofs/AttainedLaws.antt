@@ -1,6 +1,6 @@
 -- Where a level is attained.
 use Rattle.std.proofs.Common.{◌≡◌, ℕ, zero, suc, ◌+◌, ◌<◌, ◌≤◌, Bool, true, false, cond, ◌||◌, ◌==◌, ◌↔◌, List, [], ◌∷◌, refl, sym, ◌∙◌, ap, subst, arith, inl, inr, ◌⊎◌, IsTrue}
-use Rattle.std.proofs.lemmas.Bool.{cases_eq, cases_lt, eq-eqb, and_parts, and_from, or_cases, eqb-true, lt-ltb}
+use Rattle.std.proofs.lemmas.Bool.{cases_eq, cases_lt, eq-eqb, and_parts, and_from, or_cases, eqb-true, lt-ltb, or_left, or_right}
 use Rattle.std.specs.Prelude.{map, filter, slice_index_or}
 use Rattle.std.specs.List.{list_any, range_with_len}
 use Rattle.tsd_model.specs.Pairs.{is_pair, holds, sources_to}
@@ -15,7 +15,6 @@ use Rattle.tsd_model.specs.declared.requests.Level.TheVariants as level
 use Rattle.tsd_model.specs.declared.requests.PlaceKind.{PlaceKind}
 use Rattle.tsd_model.specs.declared.requests.Request.{Request}
 use Rattle.disk_laws.specs.Grants.{ShownAttains, GrantAttains}
-use Rattle.disk_laws.proofs.PairLaws.{or_left, or_right}
 use Rattle.disk_laws.proofs.DoomLaws.{not_primary}
 use Rattle.disk_laws.proofs.RunLaws.{run_geometry}
 use Rattle.disk_laws.proofs.HeldLaws.{le_greater, not_bare}

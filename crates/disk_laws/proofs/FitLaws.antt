@@ -17,7 +17,7 @@ use Rattle.tsd_model.specs.declared.requests.Level.TheVariants as level
 use Rattle.tsd_model.specs.declared.requests.PlaceKind.{PlaceKind}
 use Rattle.tsd_model.specs.declared.requests.Request.{Request}
 use Rattle.tsd_model.specs.declared.requests.Request.TheVariants as ask
-use Rattle.disk_laws.proofs.SessionLaws.{held_keeps, length-with_held, held-map}
+use Rattle.tsd_model.proofs.SessionLaws.{held_keeps, length-with_held, held-map}
 
 -- ---- sessions with a table for each origin
 

@@ -16,7 +16,7 @@ use Rattle.tsd_model.specs.declared.records.KeptCap.{KeptCap}
 use Rattle.tsd_model.specs.declared.records.KeptCap.TheVariants.{Plain, Digested}
 use Rattle.tsd_model.specs.declared.records.Record.{Record}
 use Rattle.tsd_model.specs.declared.requests.Level.TheVariants as level
-use Rattle.disk_laws.proofs.SessionLaws.{no_held}
+use Rattle.tsd_model.proofs.SessionLaws.{no_held}
 
 -- ---- no session
 

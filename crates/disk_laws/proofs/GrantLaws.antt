@@ -1,6 +1,6 @@
 -- What a session holds is what it was granted.
 use Rattle.std.proofs.Common.{◌≡◌, ℕ, zero, suc, ◌-◌, ◌<◌, ◌≤◌, Bool, true, false, not, cond, ◌&&◌, ◌||◌, ◌==◌, nat_lt, nat_le, List, [], ◌∷◌, length, refl, sym, ◌∙◌, ap, subst, arith, inl, inr, ◌⊎◌, Option, Some, None, drop}
-use Rattle.std.proofs.lemmas.Bool.{cases_eq, eq-eqb, ne_eqb, leb-false, ltb-false}
+use Rattle.std.proofs.lemmas.Bool.{cases_eq, eq-eqb, ne_eqb, leb-false, ltb-false, or_parts}
 use Rattle.std.proofs.lemmas.List.{get_or-set_same, get_or-set_other}
 use Rattle.std.specs.Prelude.{replicate, slice_index_or, is_some, is_none, IfSome}
 use Rattle.std.specs.List.{list_any}
@@ -20,10 +20,9 @@ use Rattle.tsd_model.specs.declared.requests.Request.{Request}
 use Rattle.tsd_model.specs.declared.requests.Request.TheVariants as ask
 use Rattle.tsd_model.specs.declared.replies.Rule.{Rule}
 use Rattle.disk_laws.specs.Grants.{onto_past, newest_first}
-use Rattle.disk_laws.proofs.PairLaws.{or_false}
 use Rattle.disk_laws.proofs.RuleLaws.{Passes, granted_passes}
 use Rattle.disk_laws.proofs.AnswerLaws.{refused_answer, granted_answer}
-use Rattle.disk_laws.proofs.SessionLaws.{no_held, held_keeps, held-with_other, held-with_same}
+use Rattle.tsd_model.proofs.SessionLaws.{no_held, held_keeps, held-with_other, held-with_same}
 use Rattle.disk_laws.proofs.FitLaws.{HasOrigins, origins-raised_by}
 use Rattle.disk_laws.proofs.RunLaws.{answer_valid, answer_fits, fits_have_origins, answer_geometry}
 use Rattle.disk_laws.proofs.FreshLaws.{no_sessions_fit}
@@ -33,7 +32,7 @@ use Rattle.disk_laws.proofs.HeldLaws.{not_bare, level-fitted, level-dropped_from
 
 -- the one or two blocks that are named are of the disk
 named_below : (n b : ℕ) (t : Bool) → (nat_le n b || t) ≡ false → b < n
-named_below n b t h = leb-false n b (or_false (nat_le n b) t h).0
+named_below n b t h = leb-false n b (or_parts (nat_le n b) t h).0
 
 needs_below : (w : World) (q : Request) → names_missing_block w q ≡ false → NeedsBelow w.geometry.blocks (needs q)
 needs_below w ask.Bad h = tt
@@ -44,7 +43,7 @@ needs_below w (ask.Write s b shown bytes) h = (named_below w.geometry.blocks b _
 needs_below w (ask.Alloc s a shown hint count) h = (named_below w.geometry.blocks a _ h, tt)
 needs_below w (ask.Contig s a shown hint count) h = (named_below w.geometry.blocks a _ h, tt)
 needs_below w ask.GetFree h = tt
-needs_below w (ask.Create s a shown b) h = (named_below w.geometry.blocks a _ h, (named_below w.geometry.blocks b _ (or_false (nat_le w.geometry.blocks a) _ h).1, tt))
+needs_below w (ask.Create s a shown b) h = (named_below w.geometry.blocks a _ h, (named_below w.geometry.blocks b _ (or_parts (nat_le w.geometry.blocks a) _ h).1, tt))
 needs_below w (ask.Delete s a shown b) h = (named_below w.geometry.blocks a _ h, tt)
 needs_below w (ask.SetCap s b shown caps) h = (named_below w.geometry.blocks b _ h, tt)
 needs_below w (ask.Sweep s shown) h = (named_below w.geometry.blocks 0 _ h, tt)
@@ -52,7 +51,7 @@ needs_below w (ask.List s a shown start) h = (named_below w.geometry.blocks a _ 
 
 -- a session that is named is in range
 pub in_range : (t : ℕ) → is_no_session t ≡ false → (1 ≤ t) × (t ≤ sessions_max)
-in_range t h = let parts = or_false (nat_lt t 1) (nat_lt sessions_max t) h in (ltb-false t 1 parts.0, ltb-false sessions_max t parts.1)
+in_range t h = let parts = or_parts (nat_lt t 1) (nat_lt sessions_max t) h in (ltb-false t 1 parts.0, ltb-false sessions_max t parts.1)
 
 is_opened : (t : Bool) → not t ≡ false → t ≡ true
 is_opened true h = refl

@@ -15,7 +15,7 @@ use Rattle.tsd_model.specs.History.{attains_at}
 use Rattle.tsd_model.specs.declared.needs.Need.{Need}
 use Rattle.tsd_model.specs.declared.requests.Level.{Level}
 use Rattle.tsd_model.specs.declared.requests.Level.TheVariants as level
-use Rattle.disk_laws.proofs.SessionLaws.{held-map, held-with_other, held-with_same}
+use Rattle.tsd_model.proofs.SessionLaws.{held-map, held-with_other, held-with_same}
 use Rattle.disk_laws.proofs.FitLaws.{HasOrigins, origins-raised}
 
 -- ---- the order of levels

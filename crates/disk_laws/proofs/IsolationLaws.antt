@@ -19,7 +19,7 @@ use Rattle.tsd_model.specs.declared.requests.Request.TheVariants as ask
 use Rattle.tsd_model.specs.declared.replies.Rule.{Rule}
 use Rattle.disk_laws.specs.Isolation.{renews}
 use Rattle.disk_laws.proofs.AnswerLaws.{after_answer, refused_answer, granted_answer}
-use Rattle.disk_laws.proofs.SessionLaws.{held-map, held-with_other}
+use Rattle.tsd_model.proofs.SessionLaws.{held-map, held-with_other}
 use Rattle.disk_laws.proofs.HeldLaws.{level-fitted, level-dropped_from, other-raised_at}
 
 another : (n t : ℕ) → (t == n) ≡ false → n ≡ t → ⊥

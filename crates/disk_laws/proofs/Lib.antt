@@ -4,14 +4,12 @@ pub mod ByteLaws
 pub mod ChangeLaws
 pub mod DoomLaws
 pub mod FitLaws
-pub mod SessionLaws
 pub mod GraphLaws
 pub mod FreshLaws
 pub mod GrantLaws
 pub mod HeldLaws
 pub mod IsolationLaws
 pub mod OrderLaws
-pub mod PairLaws
 pub mod ReachLaws
 pub mod ReclaimLaws
 pub mod RuleLaws

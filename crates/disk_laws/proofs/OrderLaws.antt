@@ -1,6 +1,6 @@
 -- The reclaimed blocks stand in an order.
 use Rattle.std.proofs.Common.{◌≡◌, ℕ, zero, suc, ◌+◌, nat_le, nat_lt, arith, Bool, true, false, not, ◌&&◌, ◌||◌, ◌==◌, cond, length, List, [], ◌∷◌, ◌++◌, refl, sym, ◌∙◌, ap, subst, append_assoc, append-nil}
-use Rattle.std.proofs.lemmas.Bool.{and_parts, and_from, eq-eqb, not-true}
+use Rattle.std.proofs.lemmas.Bool.{and_parts, and_from, eq-eqb, not-true, or_left, or_right}
 use Rattle.std.proofs.lemmas.List.Folds.{list_any-append}
 use Rattle.std.proofs.lemmas.Bool.Decides.{nat_tests}
 use Rattle.std.specs.Prelude.{filter}
@@ -10,7 +10,7 @@ use Rattle.tsd_model.specs.World.{World, is_live, is_primary, has_number, all_bl
 use Rattle.tsd_model.specs.Doomed.{is_led_only_from, hangs_on, doomed_rounds}
 use Rattle.disk_laws.specs.Reclaiming.{InOrder, all_apart}
 use Rattle.disk_laws.proofs.GraphLaws.{has_number-filter, has_number-range}
-use Rattle.disk_laws.proofs.PairLaws.{or_left, or_right, and_false, all_of_held}
+use Rattle.tsd_model.proofs.PairLaws.{and_false, all_of_held}
 use Rattle.disk_laws.proofs.DoomLaws.{doomed_more}
 
 -- what a round adds

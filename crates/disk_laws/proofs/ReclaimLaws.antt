@@ -18,7 +18,7 @@ use Rattle.tsd_model.specs.declared.requests.Request.TheVariants as ask
 use Rattle.tsd_model.specs.declared.replies.Rule.{Rule}
 use Rattle.disk_laws.specs.Reached.{KeepsWhatIsReached, writes_to}
 use Rattle.disk_laws.specs.Reclaiming.{is_sweep, LosesItsPointers, ReclaimsTheLost, ReclaimOrder}
-use Rattle.disk_laws.proofs.PairLaws.{all_of_held}
+use Rattle.tsd_model.proofs.PairLaws.{all_of_held}
 use Rattle.disk_laws.proofs.DoomLaws.{live-restricted, holds-restricted, is_doomed}
 use Rattle.disk_laws.proofs.ReachLaws.{reached_is_led_to}
 use Rattle.disk_laws.proofs.ChangeLaws.{held_before}

@@ -10,7 +10,7 @@ use crate::origins::Origins;
 use std::alloc::{AllocError, Global};
 use std::marker::Model;
 use tsd_model::Level;
-use tsd_model::sessions::greater;
+use tsd_model::levels::greater;
 
 /// What one open session holds: the levels from each origin.
 #[derive(Drop)]

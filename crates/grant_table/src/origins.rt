@@ -7,7 +7,7 @@ ghost use Rattle.grant_table.specs.Granted.{no_origins};
 
 use std::marker::Model;
 use tsd_model::Level;
-use tsd_model::sessions::greater;
+use tsd_model::levels::greater;
 
 /// How many primary blocks a disk may have.
 pub const ORIGINS: usize = 16;

@@ -7,8 +7,9 @@ ghost use Rattle.tsd_model.specs.Verdict.{is_empty};
 ghost use Rattle.grant_table.specs.Facts.{IsNextSource};
 
 use crate::facts::DiskFacts;
-use tsd_model::sessions::shown_level;
-use tsd_model::{Geometry, Level, Shown, World};
+use plain_disk::World;
+use plain_disk::sessions::shown_level;
+use tsd_model::{Geometry, Level, Shown};
 
 impl DiskFacts for World {
     ghost world = { λ w. w };

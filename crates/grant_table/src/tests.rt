@@ -3,13 +3,14 @@
 ghost use Rattle.std.specs.Prelude.{◌<◌};
 
 use crate::{BeginRefusal, EndRefusal, Granted, Grants, Origins};
+use plain_disk::{Sessions, World, plain_step};
 use std::alloc::Global;
 use std::process::Abort;
 use std::test::Fail;
 use tsd_model::needs::{needs, session_of};
 use tsd_model::{
-    Cap, CapList, CapPair, Data, Geometry, Hint, Level, PlaceKind, Reply, Request, Rule, Sessions,
-    Shown, World, lawful, plain_step,
+    Cap, CapList, CapPair, Data, Geometry, Hint, Level, PlaceKind, Reply, Request, Rule, Shown,
+    lawful,
 };
 
 /// What the definitions' plain program has, and the grants beside it.

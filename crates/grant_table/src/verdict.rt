@@ -10,8 +10,10 @@ ghost use Rattle.grant_table.specs.Table.{IsMadeFor};
 use crate::facts::DiskFacts;
 use crate::grants::Grants;
 use crate::origins::Origins;
-use tsd_model::needs::{Need, named_blocks, needs, session_of, wanted_blocks, wanted_pairs};
-use tsd_model::sessions::{SESSIONS, level_le};
+use tsd_model::levels::level_le;
+use tsd_model::needs::{
+    Need, SESSIONS, named_blocks, needs, session_of, wanted_blocks, wanted_pairs,
+};
 use tsd_model::{Request, Rule};
 
 /// The greatest number of blocks that one request takes.

@@ -5,7 +5,7 @@ use Rattle.std.specs.Prelude.{filter, map}
 use Rattle.std.proofs.lemmas.Bool.{or_cases, or_left, or_right, or_parts, and_parts, and_from, and_left, and_right, eqb-true, eq-eqb, ltb-true, ltb-false, leb-true, leb-false, le-leb, lt-leb, both_ways, false_from_ne_true}
 use Rattle.std.proofs.lemmas.Bool.Decides.{nat_tests}
 use Rattle.std.proofs.lemmas.List.{append_assoc, append-nil, length_push, take_all, take_at}
-use Rattle.tsd_model.proofs.StepLaws.{take-take-append}
+use Rattle.tsd_model.proofs.TakeLaws.{take-take-append}
 use Rattle.tsd_model.specs.Pairs.{is_pair, holds, pair_lt, is_below_first, is_rising}
 use Rattle.pointer_table.specs.declared.raw.RawSlot.{RawSlot}
 use Rattle.pointer_table.specs.Next.{IsNext, IsNextSource, IsNextTarget}

@@ -1,7 +1,10 @@
+pub mod CountLaws
 pub mod Examples
 pub mod LevelLaws
+pub mod PairLaws
 pub mod PlaceLaws
 pub mod RangeLaws
+pub mod SessionLaws
 pub mod SizeLaws
-pub mod StepLaws
+pub mod TakeLaws
 pub mod VerdictLaws

@@ -1,5 +1,5 @@
 -- A loop over a range that pushes what passes.
-use Rattle.std.proofs.Common.{◌≡◌, ℕ, zero, suc, ◌+◌, Bool, true, false, cond, List, [], ◌∷◌, ◌++◌, refl, ◌∙◌, ap, arith, add-one}
+use Rattle.std.proofs.Common.{◌≡◌, ℕ, zero, suc, ◌+◌, ◌<◌, ◌≤◌, Bool, true, false, cond, List, [], ◌∷◌, ◌++◌, refl, ◌∙◌, ap, arith, add-one}
 use Rattle.std.specs.Prelude.{filter, map}
 use Rattle.std.proofs.lemmas.List.{map-append}
 use Rattle.std.specs.List.{range_with_len}
@@ -31,3 +31,11 @@ map_range_next f b = ap (map f) (range_next b) ∙ map-append f (range_with_len 
 
 pub range_next_from : (a n : ℕ) → range_with_len a (n + 1) ≡ range_with_len a n ++ (a + n) ∷ []
 range_next_from a n = ap (range_with_len a) (add-one n) ∙ range_with_len-next a n (a + n) refl
+
+-- functions that agree on the numbers of a range make one list of it
+pub map_range_alike : {X : Type 0} (f g : ℕ → X) (a n : ℕ) → ((k : ℕ) → a ≤ k → k < a + n → f k ≡ g k) → map f (range_with_len a n) ≡ map g (range_with_len a n)
+map_range_alike f g a zero same = refl
+map_range_alike f g a (suc n) same =
+    let here : f a ≡ g a = same a (omega arith) (omega arith) in
+    let rest : map f (range_with_len (a + 1) n) ≡ map g (range_with_len (a + 1) n) = map_range_alike f g (a + 1) n (λ k low high. same k (omega arith) (omega arith)) in
+    cc

@@ -1,5 +1,6 @@
 pub mod Geometry
 pub mod Pairs
+pub mod Next
 pub mod World
 pub mod Records
 pub mod Reach
@@ -14,3 +15,4 @@ pub mod Verdict
 pub mod Step
 pub mod Run
 pub mod History
+pub mod ReplyForm

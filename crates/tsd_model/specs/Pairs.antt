@@ -1,5 +1,5 @@
 -- Pointers: an ascending list of pairs (source, target), none twice.
-use Rattle.std.specs.Prelude.{ℕ, Bool, true, not, cond, ◌&&◌, ◌||◌, ◌==◌, nat_lt, List, [], ◌∷◌, filter, map}
+use Rattle.std.specs.Prelude.{ℕ, Bool, true, not, cond, ◌&&◌, ◌||◌, ◌==◌, nat_lt, List, [], ◌∷◌, length, filter, map}
 use Rattle.std.specs.List.{list_any}
 
 abbrev pub is_pair : ℕ → ℕ → (ℕ × ℕ) → Bool
@@ -33,3 +33,7 @@ without_pair a b es = filter (λ e. not (is_pair a b e)) es
 -- the sources of the pairs to b, ascending
 abbrev pub sources_to : List (ℕ × ℕ) → ℕ → List ℕ
 sources_to es b = map (λ e. e.0) (filter (λ e. e.1 == b) es)
+
+-- how many of these pairs lead to b
+abbrev pub count_to : List (ℕ × ℕ) → ℕ → ℕ
+count_to es b = length (filter (λ e. e.1 == b) es)

@@ -3,6 +3,8 @@
 /// How many bytes a capability has. Whoever shows them has the right; nothing more is claimed of them.
 pub const CAP_BYTES: usize = 16;
 
+const _: () = prove!(CAP_BYTES == 16);
+
 /// A capability: 16 bytes.
 #[derive(Clone, Copy, Debug, Default, PartialEq, Eq)]
 pub struct Cap {

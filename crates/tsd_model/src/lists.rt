@@ -21,6 +21,12 @@ pub const BLOCKS_MAX: usize = 64;
 /// How many primary blocks a disk may have.
 pub const CAPS_MAX: usize = 16;
 
+const _: () = prove!(DATA_MAX == 4096);
+
+const _: () = prove!(BLOCKS_MAX == 64);
+
+const _: () = prove!(CAPS_MAX == 16);
+
 /// Bytes to write or that were read, at most 4,096.
 #[derive(Debug, Drop)]
 pub struct Data {

@@ -2,10 +2,17 @@
 
 ghost use Rattle.std.specs.Prelude.{◌≡◌, [], ◌∷◌};
 ghost use Rattle.tsd_model.specs.Needs.{session_of, named_blocks, needs, wanted_blocks, wanted_pairs};
+ghost use Rattle.tsd_model.specs.Verdict.{is_bad, is_begin, has_bad_session, has_bad_count};
 
 use crate::caps::Shown;
 use crate::requests::{Level, Request};
 use arrayvec::ArrayVec;
+
+/// How many sessions there are. They are numbered from 1.
+pub const SESSIONS: usize = 64;
+
+/// The greatest number of blocks that one request takes.
+pub const COUNT_MAX: u32 = 32;
 
 /// A level that is needed at a block, and what is shown there.
 #[derive(Clone, Copy, Debug, Default, PartialEq, Eq)]
@@ -122,4 +129,32 @@ pub fn wanted_pairs(request: &Request) -> Option<u32>
         Request::Create { .. } => Some(1),
         _ => None,
     }
+}
+
+/// Whether it is no request.
+pub fn is_bad(request: &Request) -> bool
+    ensures { result ≡ is_bad request.now }
+{
+    matches!(request, Request::Bad)
+}
+
+/// Whether it opens a session.
+pub fn is_begin(request: &Request) -> bool
+    ensures { result ≡ is_begin request.now }
+{
+    matches!(request, Request::Begin { .. })
+}
+
+/// Whether its session isn't in 1 to 64.
+pub fn has_bad_session(request: &Request) -> bool
+    ensures { result ≡ has_bad_session request.now }
+{
+    session_of(request).is_some_and(|session| session < 1 || SESSIONS < session as usize)
+}
+
+/// Whether it takes blocks, and not 1 to 32 of them.
+pub fn has_bad_count(request: &Request) -> bool
+    ensures { result ≡ has_bad_count request.now }
+{
+    wanted_blocks(request).is_some_and(|count| count < 1 || COUNT_MAX < count)
 }

@@ -4,6 +4,8 @@ ghost use Rattle.std.specs.Prelude.{◌≡◌, ◌+◌, ◌*◌, ◌^◌, slice_
 ghost use Rattle.tsd_model.specs.Rank.{rank_of, zone_of, zones_after};
 ghost use Rattle.tsd_model.specs.declared.requests.PlaceKind.TheVariants.{Low, Near, Spread};
 
+use crate::requests::PlaceKind;
+
 /// How many zones there are.
 pub const ZONES: u32 = 16;
 
@@ -13,6 +15,18 @@ pub const ZONE_BLOCKS: u32 = 256;
 /// When a zone's turn comes, by how many zones it stands after that of the hint: the hint's own first, then by turns the
 /// nearest one before it and the nearest one after it.
 pub const ZONE_TURNS: [u8; 16] = [0, 2, 4, 6, 8, 10, 12, 14, 15, 13, 11, 9, 7, 5, 3, 1];
+
+/// The rank of a block for a hint: the free blocks of least rank are taken first.
+pub fn rank(kind: PlaceKind, hint: u32, block: u32) -> u64
+    ensures { result ≡ rank_of kind hint block }
+{
+    match kind {
+        PlaceKind::Low => low_rank(hint, block),
+        PlaceKind::Near => near_rank(hint, block),
+        PlaceKind::Spread => spread_rank(hint, block),
+        PlaceKind::Zone => zone_rank(&ZONE_TURNS, hint, block),
+    }
+}
 
 /// The rank by number.
 pub fn low_rank(_hint: u32, block: u32) -> u64

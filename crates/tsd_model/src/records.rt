@@ -11,6 +11,8 @@ use sha2::{Digest, Sha256};
 /// How many bytes a SHA-256 digest has.
 pub const DIGEST_BYTES: usize = 32;
 
+const _: () = prove!(DIGEST_BYTES == 32);
+
 /// What is kept of one capability.
 #[derive(Clone, Copy, Debug, PartialEq, Eq)]
 pub enum KeptCap {

@@ -14,7 +14,7 @@ pub enum Hint {
 }
 
 /// What one may do at a block, in rising order.
-#[derive(Clone, Copy, Debug, Default, PartialEq, Eq, PartialOrd, Ord)]
+#[derive(Clone, Copy, Debug, Default, PartialEq, Eq)]
 pub enum Level {
     /// Nothing; printed `none`.
     #[default]

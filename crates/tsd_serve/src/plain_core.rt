@@ -9,11 +9,10 @@ ghost use Rattle.tsd_model.specs.declared.replies.Reply.TheVariants as reply;
 ghost use Rattle.tsd_serve.specs.Answers.{IsAnswer, is_opening, state_of};
 
 use place_policy::Placement;
+use plain_disk::{Sessions, World, plain_step};
 use std::alloc::Global;
-use tsd_model::sessions::SESSIONS;
-use tsd_model::{
-    CapList, CapPair, Geometry, NoMemory, Reply, Request, Sessions, World, plain_step,
-};
+use tsd_model::needs::SESSIONS;
+use tsd_model::{CapList, CapPair, Geometry, NoMemory, Reply, Request};
 
 /// A world and the sessions over it. Nothing of it is on a device.
 #[derive(Drop)]

@@ -1,5 +1,5 @@
 use Rattle.std.proofs.Common.{◌∙◌, ◌<◌, ap, sym, arith, length, take, cond, ◌++◌, ◌∷◌, [], ℕ, List, Bool}
-use Rattle.tsd_model.proofs.StepLaws.{pushed_with_room, not_pushed, nothing_pushed}
+use Rattle.tsd_model.proofs.TakeLaws.{pushed_with_room, not_pushed, nothing_pushed}
 use Rattle.tsd_model.proofs.lists.BlockList.push_wanted.Goals as goal
 use Rattle.tsd_model.proofs.lists.BlockList.push_wanted.Goals.{else-wanted-via-then-wanted+else-len-lt-BLOCKS_MAX, else-wanted-via-else-wanted}
 

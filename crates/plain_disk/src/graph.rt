@@ -1,0 +1,102 @@
+//! Which blocks are reached and which are doomed.
+
+ghost use Rattle.std.specs.Prelude.{◌≡◌, ◌==◌, ◌&&◌, ◌||◌, not, cond, length, IfOk};
+ghost use Rattle.std.specs.List.{list_any, list_all};
+ghost use Rattle.tsd_model.specs.World.{has_number, primary_blocks};
+ghost use Rattle.tsd_model.specs.Reach.{is_led_from, reach_round, reach, restricted};
+ghost use Rattle.tsd_model.specs.Doomed.{is_led_only_from, hangs_on, doomed_round, doomed};
+
+use crate::growing::{has_number, push_if};
+use crate::world::World;
+use std::alloc::{AllocError, Global};
+use tsd_model::NoMemory;
+
+/// The blocks that the primary blocks lead to, they included, ascending.
+pub fn plain_reach(alloc: Global, world: &World) -> Result<Vec<u32>, NoMemory>
+    ensures { IfOk result (λ v. v.items ≡ reach world.now) }
+{
+    let mut reached = primary_blocks(alloc, world)?;
+    let count = world.geometry().blocks;
+    for round in 0..count {
+        reached = reach_round(alloc, world, reached.as_slice())?;
+    }
+    Ok(reached)
+}
+
+/// The doomed blocks, ascending: those that would be reclaimed now.
+pub fn plain_doomed(alloc: Global, world: &World) -> Result<Vec<u32>, NoMemory>
+    ensures { IfOk result (λ v. v.items ≡ doomed world.now) }
+{
+    let mut gone = Vec::new(alloc);
+    let count = world.geometry().blocks;
+    for round in 0..count {
+        gone = doomed_round(alloc, world, gone.as_slice())?;
+    }
+    Ok(gone)
+}
+
+#[tactic(auto, using(tsd_model::proofs::RangeLaws::range_next))]
+fn primary_blocks(alloc: Global, world: &World) -> Result<Vec<u32>, AllocError>
+    ensures { IfOk result (λ v. v.items ≡ primary_blocks world.now) }
+{
+    let mut blocks = Vec::new(alloc);
+    let count = world.geometry().primaries;
+    for block in 0..count {
+        blocks.push(block)?;
+    }
+    Ok(blocks)
+}
+
+#[tactic(auto, using(tsd_model::proofs::RangeLaws::filter_range_next))]
+fn reach_round(alloc: Global, world: &World, reached: &[u32]) -> Result<Vec<u32>, AllocError>
+    ensures { IfOk result (λ v. v.items ≡ reach_round world.now reached.now) }
+{
+    let mut next = Vec::new(alloc);
+    let count = world.geometry().blocks;
+    for block in 0..count {
+        let wanted = is_reached(world, reached, block);
+        push_if(&mut next, block, wanted)?;
+    }
+    Ok(next)
+}
+
+#[tactic(auto, using(tsd_model::proofs::RangeLaws::filter_range_next))]
+fn doomed_round(alloc: Global, world: &World, gone: &[u32]) -> Result<Vec<u32>, AllocError>
+    ensures { IfOk result (λ v. v.items ≡ doomed_round world.now gone.now) }
+{
+    let mut next = Vec::new(alloc);
+    let count = world.geometry().blocks;
+    for block in 0..count {
+        let wanted = hangs_on(world, gone, block);
+        push_if(&mut next, block, wanted)?;
+    }
+    Ok(next)
+}
+
+fn is_reached(world: &World, reached: &[u32], block: u32) -> bool
+    ensures { result ≡ (has_number reached.now block || is_led_from world.now reached.now block) }
+{
+    has_number(reached, block) || is_led_from(world.pairs(), reached, block)
+}
+
+fn is_led_from(pairs: &[(u32, u32)], from: &[u32], block: u32) -> bool
+    ensures { result ≡ list_any (λ e. (e.1 == block) && has_number from.now e.0) pairs.now }
+{
+    pairs
+        .iter()
+        .any(|pair| pair.1 == block && has_number(from, pair.0))
+}
+
+fn hangs_on(world: &World, gone: &[u32], block: u32) -> bool
+    ensures { result ≡ hangs_on world.now gone.now block }
+{
+    world.is_live(block) && !world.is_primary(block) && is_led_only_from(world.pairs(), gone, block)
+}
+
+fn is_led_only_from(pairs: &[(u32, u32)], gone: &[u32], block: u32) -> bool
+    ensures { result ≡ list_all (λ e. not (e.1 == block) || has_number gone.now e.0) pairs.now }
+{
+    pairs
+        .iter()
+        .all(|pair| pair.1 != block || has_number(gone, pair.0))
+}
