@@ -1,6 +1,6 @@
 -- What a granted request attained, and what is led to where less is held.
 use Rattle.std.proofs.Common.{◌≡◌, ℕ, Bool, true, false, not, cond, ◌&&◌, ◌||◌, ◌==◌, nat_le, List, [], ◌∷◌, refl, sym, ◌∙◌, ap, inl, inr, arith, Option, None}
-use Rattle.std.proofs.lemmas.Bool.{and_parts, and_from, or_cases, eq-eqb}
+use Rattle.std.proofs.lemmas.Bool.{and_parts, and_from, or_cases, eq-eqb, or_left, or_right, or_parts}
 use Rattle.std.proofs.lemmas.Bool.Decides.{nat_tests}
 use Rattle.std.specs.Prelude.{map, filter, slice_index_or, unwrap_or}
 use Rattle.std.specs.List.{list_any, list_all}
@@ -15,7 +15,6 @@ use Rattle.tsd_model.specs.declared.requests.Level.{Level}
 use Rattle.tsd_model.specs.declared.requests.Level.TheVariants as level
 use Rattle.tsd_model.specs.declared.requests.Request.{Request}
 use Rattle.tsd_model.specs.declared.replies.Rule.{Rule}
-use Rattle.disk_laws.proofs.PairLaws.{or_left, or_right, or_false}
 use Rattle.disk_laws.proofs.RuleLaws.{NoRule, none_first, granted_passes}
 
 -- ---- the order of levels

@@ -16,7 +16,7 @@ use Rattle.tsd_model.specs.declared.requests.PlaceKind.{PlaceKind}
 use Rattle.tsd_model.specs.declared.requests.Request.{Request}
 use Rattle.tsd_model.specs.declared.requests.Request.TheVariants as ask
 use Rattle.disk_laws.specs.Changes.{has_source, is_create_of}
-use Rattle.disk_laws.proofs.PairLaws.{holds-with_pair, holds-filter}
+use Rattle.tsd_model.proofs.PairLaws.{holds-with_pair, holds-filter}
 use Rattle.disk_laws.proofs.DoomLaws.{holds-restricted, live-restricted}
 use Rattle.disk_laws.proofs.ChangeLaws.{AllOf, either_pair, held_before, chosen_are_free, chosen_run_is_free}
 

@@ -11,7 +11,7 @@ use Rattle.tsd_model.specs.declared.replies.Reply.{Reply}
 use Rattle.tsd_model.specs.declared.replies.Reply.TheVariants as reply
 use Rattle.tsd_model.specs.declared.replies.Rule.{Rule}
 use Rattle.disk_laws.specs.Reached.{writes_to}
-use Rattle.disk_laws.proofs.PairLaws.{and_false}
+use Rattle.tsd_model.proofs.PairLaws.{and_false}
 use Rattle.disk_laws.proofs.AnswerLaws.{refused_answer}
 
 -- what holds of two answers that a rule gives, or that found no memory, and of those that are granted, where the verdict is one

@@ -1,11 +1,10 @@
 -- What each request keeps that passes a test, a run of such requests keeps.
-use Rattle.std.proofs.Common.{◌≡◌, Bool, true, false, ◌&&◌, List, [], ◌∷◌, refl, drop}
-use Rattle.std.proofs.lemmas.Bool.{and_parts}
+use Rattle.std.proofs.Common.{◌≡◌, Bool, true, false, List, [], ◌∷◌, drop}
+use Rattle.std.proofs.lemmas.Bool.{and_parts, or_parts}
 use Rattle.tsd_model.specs.Step.{State}
 use Rattle.tsd_model.specs.Run.{answer, after, wants_now}
 use Rattle.tsd_model.specs.declared.requests.PlaceKind.{PlaceKind}
 use Rattle.tsd_model.specs.declared.requests.Request.{Request}
-use Rattle.disk_laws.proofs.PairLaws.{or_false}
 use Rattle.reach_laws.specs.Runs.{at_some_request, at_each_state}
 
 first_state : (there : State → Bool) (kind : PlaceKind) (s : State) (wants : List Bool) (qs : List Request) → at_each_state there kind s wants qs ≡ true → there s ≡ true
@@ -20,7 +19,7 @@ run_keeps_there P there test kind each s wants [] live none h = h
 run_keeps_there P there test kind each s wants (q ∷ qs) live none h =
     let next = (answer kind s q (wants_now wants)).state in
     let lives = and_parts (there s) (at_each_state there kind next (drop 1 wants) qs) live in
-    let no = or_false (test s q) (at_some_request test kind next (drop 1 wants) qs) none in
+    let no = or_parts (test s q) (at_some_request test kind next (drop 1 wants) qs) none in
     run_keeps_there P there test kind each next (drop 1 wants) qs lives.1 no.1
     (each s q (wants_now wants) lives.0 (first_state there kind next (drop 1 wants) qs lives.1) no.0 h)
 
@@ -30,5 +29,5 @@ pub run_keeps : (P : State → Type 0) (test : State → Request → Bool) (kind
 run_keeps P test kind each s wants [] none h = h
 run_keeps P test kind each s wants (q ∷ qs) none h =
     let next = (answer kind s q (wants_now wants)).state in
-    let no = or_false (test s q) (at_some_request test kind next (drop 1 wants) qs) none in
+    let no = or_parts (test s q) (at_some_request test kind next (drop 1 wants) qs) none in
     run_keeps P test kind each next (drop 1 wants) qs no.1 (each s q (wants_now wants) no.0 h)
