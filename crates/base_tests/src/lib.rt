@@ -4,3 +4,8 @@
 //! They use public calls alone and show what no clause says. They stand in a crate of their own, so that a change of a test
 //! proves no other crate again. Nothing stands on it, and it promises nothing.
 #![tactic(auto)]
+
+#[cfg(test)]
+mod grants;
+#[cfg(test)]
+mod plain_facts;

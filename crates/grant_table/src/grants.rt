@@ -3,7 +3,6 @@
 ghost use Rattle.std.specs.Prelude.{◌≡◌, ℕ, ◌-◌, ◌<◌, ◌≤◌, [], length, map, replicate, option_map, slice_index_or, slice_set, IfSome, OnOk, OnErr, IfErr, None, Some, MatchOption};
 ghost use Rattle.tsd_model.specs.Sessions.{Sessions as AllSessions, no_sessions, held_by, with_held, is_open, level_from, level_of, ended, raised, raised_held, dropped_from};
 ghost use Rattle.tsd_model.specs.declared.requests.Level.{Level as AnyLevel};
-ghost use Rattle.tsd_model.specs.Verdict.{is_no_session};
 ghost use Rattle.tsd_model.specs.declared.requests.Level.TheVariants as level;
 
 use crate::holding::Holding;
@@ -12,7 +11,7 @@ use arrayvec::ArrayVec;
 use std::alloc::Global;
 use std::marker::Model;
 use tsd_model::Level;
-use tsd_model::needs::SESSIONS;
+use tsd_model::needs::{SESSIONS, is_no_session};
 
 /// Why a session isn't opened. Nothing has changed then.
 #[derive(Clone, Copy, Debug, PartialEq, Eq)]
@@ -216,13 +215,6 @@ impl Grants {
             held[place] = holding;
         }
     }
-}
-
-/// Sessions are numbered from 1 to 64.
-fn is_no_session(session: u32) -> bool
-    ensures { result ≡ is_no_session session }
-{
-    session < 1 || SESSIONS < session as usize
 }
 
 fn raise_held(held: &mut Option<Holding>, block: u32, origins: &Origins)

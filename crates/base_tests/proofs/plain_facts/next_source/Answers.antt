@@ -1,7 +1,7 @@
 use Rattle.std.proofs.Common.{sym, subst, arith, take, ℕ, List}
 use Rattle.std.proofs.lemmas.List.{take_more, take_all}
-use Rattle.grant_table.specs.Facts.{IsNextSource}
-use Rattle.grant_table.proofs.plain.next_source.Goals as goal
+use Rattle.tsd_model.specs.Next.{IsNextSource}
+use Rattle.base_tests.proofs.plain_facts.next_source.Goals as goal
 
 pub loop-pair-preserved : goal.loop-pair-preserved
 loop-pair-preserved c =

@@ -1,49 +1,55 @@
-//! What a plain world tells, slowly. The tests ask it.
+//! What a plain world tells, slowly. The tests of the table of grants ask it.
 
 ghost use Rattle.std.specs.Prelude.{◌≡◌, ℕ, ◌+◌, ◌<◌, ◌≤◌, ◌^◌, List, [], ◌∷◌, ◌++◌, not};
 ghost use Rattle.std.specs.List.{list_any, range_with_len};
 ghost use Rattle.tsd_model.specs.Placing.{is_free_run, runs};
 ghost use Rattle.tsd_model.specs.Verdict.{is_empty};
-ghost use Rattle.grant_table.specs.Facts.{IsNextSource};
+ghost use Rattle.tsd_model.specs.Next.{IsNextSource};
 
-use crate::facts::DiskFacts;
+use grant_table::DiskFacts;
 use plain_disk::World;
 use plain_disk::sessions::shown_level;
 use tsd_model::{Geometry, Level, Shown};
 
-impl DiskFacts for World {
-    ghost world = { λ w. w };
+/// A plain world that is asked.
+#[derive(Drop)]
+pub struct PlainFacts {
+    pub world: World,
+}
+
+impl DiskFacts for PlainFacts {
+    ghost world = { λ f. f.world };
 
     fn geometry(&self) -> Geometry {
-        World::geometry(self)
+        self.world.geometry()
     }
 
     fn live(&self, block: u32) -> bool {
-        self.is_live(block)
+        self.world.is_live(block)
     }
 
     fn shown_level(&self, block: u32, shown: &Shown) -> Level {
-        shown_level(self, block, shown)
+        shown_level(&self.world, block, shown)
     }
 
     fn next_source(&self, target: u32, start: u32) -> Option<u32> {
-        next_source(self.pairs(), target, start)
+        next_source(self.world.pairs(), target, start)
     }
 
     fn has(&self, source: u32, target: u32) -> bool {
-        self.holds(source, target)
+        self.world.holds(source, target)
     }
 
     fn free(&self) -> u32 {
-        self.free_count()
+        self.world.free_count()
     }
 
     fn has_run(&self, count: u32) -> bool {
-        has_run(self, count)
+        has_run(&self.world, count)
     }
 
     fn pointers(&self) -> u32 {
-        self.pair_count()
+        self.world.pair_count()
     }
 }
 

@@ -1,8 +1,9 @@
-//! Runs over a plain world: each verdict and each level beside the plain program's.
+//! The table of grants, in runs over a plain world: each verdict and each level beside the plain program's.
 
 ghost use Rattle.std.specs.Prelude.{◌<◌};
 
-use crate::{BeginRefusal, EndRefusal, Granted, Grants, Origins};
+use crate::plain_facts::PlainFacts;
+use grant_table::{BeginRefusal, EndRefusal, Granted, Grants, Origins};
 use plain_disk::{Sessions, World, plain_step};
 use std::alloc::Global;
 use std::process::Abort;
@@ -16,7 +17,7 @@ use tsd_model::{
 /// What the definitions' plain program has, and the grants beside it.
 #[derive(Drop)]
 struct Disk {
-    world: World,
+    facts: PlainFacts,
     sessions: Sessions,
     grants: Grants,
 }
@@ -52,17 +53,17 @@ fn eight(rt: &impl Abort, alloc: Global, pairs: &[CapPair], slots: u32) -> Disk 
     assert_eq!(rt; caps.len(), geometry.primaries as usize);
     let world = World::fresh(alloc, &geometry, &caps).expect(rt, "ample memory");
     Disk {
-        world,
+        facts: PlainFacts { world },
         sessions: Sessions::none(alloc),
         grants: Grants::new(alloc, geometry.blocks, geometry.primaries),
     }
 }
 
 fn verdict(rt: &impl Abort, disk: &Disk, request: &Request) -> Result<Granted, Rule> {
-    let geometry = disk.world.geometry();
+    let geometry = disk.facts.world.geometry();
     assert_eq!(rt; disk.grants.blocks(), geometry.blocks);
     assert_eq!(rt; disk.grants.primaries(), geometry.primaries);
-    disk.grants.verdict(&disk.world, request)
+    disk.grants.verdict(&disk.facts, request)
 }
 
 /// What a granted request does to the grants.
@@ -97,7 +98,7 @@ fn drop_reclaimed(grants: &mut Grants, world: &World) {
 fn ask(rt: &impl Abort, alloc: Global, disk: Disk, request: &Request) -> (Disk, Option<Rule>) {
     let found = verdict(rt, &disk, request);
     let Disk {
-        world,
+        facts: PlainFacts { world },
         sessions,
         mut grants,
     } = disk;
@@ -120,7 +121,7 @@ fn ask(rt: &impl Abort, alloc: Global, disk: Disk, request: &Request) -> (Disk, 
     assert_eq!(rt; refused, wanted, "{request:?}");
     (
         Disk {
-            world: next,
+            facts: PlainFacts { world: next },
             sessions: held,
             grants,
         },
