@@ -154,4 +154,5 @@ none_opens x kind hidden s wants (q ∷ qs) h =
 pub secret_is_kept : (x y : ℕ) (kind : PlaceKind) (wants : List Bool) (qs : List Request) → list_all (λ q. not (is_of_session q 1)) qs ≡ true → list_all (keeps_to (knows x) others) qs ≡ true
     → replies_to others kind (kept_secret y) wants qs ≡ replies_to others kind (kept_secret x) wants qs
 secret_is_kept x y kind wants qs silent_one keeps =
-    region_is_hidden kind (knows x) region (kept_secret x) (kept_secret y) wants qs others (stands x).0 (stands x).1 (shut x) (alike x y) keeps (none_opens x kind region (kept_secret x) wants qs silent_one)
+    region_is_hidden kind (knows x) region others (kept_secret x) (kept_secret y) wants qs
+    (record { valid = (stands x).0; fits = (stands x).1; shut = shut x; keeps = keeps; closed = none_opens x kind region (kept_secret x) wants qs silent_one }) (alike x y)
