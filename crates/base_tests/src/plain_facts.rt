@@ -7,8 +7,7 @@ ghost use Rattle.tsd_model.specs.Verdict.{is_empty};
 ghost use Rattle.tsd_model.specs.Next.{IsNextSource};
 
 use grant_table::DiskFacts;
-use plain_disk::World;
-use plain_disk::sessions::shown_level;
+use plain_disk::{World, shown_level};
 use tsd_model::{Geometry, Level, Shown};
 
 /// A plain world that is asked.

@@ -7,17 +7,16 @@
 #![tactic(auto)]
 
 mod graph;
-mod growing;
 mod pairs;
 mod placing;
-pub mod sessions;
-pub mod step;
+mod sessions;
+mod step;
 #[cfg(test)]
 mod tests;
 mod verdict;
-pub mod world;
+mod world;
 
 pub use graph::{plain_doomed, plain_reach};
-pub use sessions::Sessions;
+pub use sessions::{Sessions, shown_level};
 pub use step::plain_step;
 pub use world::World;

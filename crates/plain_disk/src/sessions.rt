@@ -18,7 +18,7 @@ use tsd_model::{Level, Shown};
 
 /// The level at each block, of one session and from one origin.
 #[derive(Drop)]
-pub struct LevelTable {
+pub(crate) struct LevelTable {
     levels: Vec<Level>,
 }
 
@@ -35,10 +35,7 @@ impl LevelTable {
     fn bare(alloc: Global, blocks: u32) -> Result<LevelTable, AllocError>
         ensures { IfOk result (λ t. t ≡ replicate blocks level.Bare) }
     {
-        let mut levels = Vec::new(alloc);
-        for block in 0..blocks {
-            levels.push(Level::Bare)?;
-        }
+        let levels = vec![in alloc; Level::Bare; blocks as usize]?;
         Ok(LevelTable { levels })
     }
 
@@ -83,23 +80,20 @@ impl LevelTable {
         best
     }
 
-    #[tactic(auto, using(tsd_model::proofs::RangeLaws::map_range_next))]
     /// Without the levels at blocks that aren't live.
     fn at_live(&self, alloc: Global, world: &World) -> Result<LevelTable, AllocError>
         ensures { IfOk result (λ t. t ≡ levels_at_live world.now self.now) }
     {
-        let mut levels = Vec::new(alloc);
-        let count = world.geometry().blocks;
-        for block in 0..count {
-            levels.push(level_if(world.is_live(block), self.level(block)))?;
-        }
+        let levels = (0..world.geometry().blocks)
+            .map(|block| level_if(world.is_live(block), self.level(block)))
+            .collect(alloc)?;
         Ok(LevelTable { levels })
     }
 }
 
 /// What one session holds: the levels from each origin.
 #[derive(Drop)]
-pub struct Holding {
+pub(crate) struct Holding {
     tables: Vec<LevelTable>,
 }
 
@@ -236,10 +230,8 @@ impl Sessions {
     fn holding(&self, session: u32) -> Option<&Holding>
         ensures { MatchOption result (held_by self.now session ≡ None) (λ held. held_by self.now session ≡ Some held.now) }
     {
-        if session == 0 {
-            return None;
-        }
-        match self.held.as_slice().get((session - 1) as usize) {
+        let place = session.checked_sub(1)?;
+        match self.held.as_slice().get(place as usize) {
             Some(Some(holding)) => Some(holding),
             _ => None,
         }
@@ -273,72 +265,72 @@ impl Sessions {
         }
     }
 
-    fn set(&mut self, session: u32, holding: Option<Holding>)
-        ensures { self.new ≡ with_held self.old session holding }
+    /// With this at a session's place.
+    fn with(mut self, session: u32, holding: Option<Holding>) -> Sessions
+        ensures { result ≡ with_held self session holding }
     {
         if session == 0 {
-            return;
+            return self;
         }
         let place = (session - 1) as usize;
         let held = self.held.as_mut_slice();
         if place < held.len() {
             held[place] = holding;
         }
+        self
     }
 
-    pub fn copy(&self, alloc: Global) -> Result<Sessions, AllocError>
+    /// The same sessions.
+    pub(crate) fn copy(&self, alloc: Global) -> Result<Sessions, AllocError>
         ensures { IfOk result (λ v. v ≡ self.now) }
     {
         let mut held = ArrayVec::new();
         for holding in self.held.as_slice() {
-            held.push(copy_of(alloc, holding)?);
+            held.push(match holding {
+                None => None,
+                Some(holding) => Some(holding.copy(alloc)?),
+            });
         }
         Ok(Sessions { held })
     }
 
     /// With this session open, holding nothing.
-    pub fn begun(&self, alloc: Global, world: &World, session: u32) -> Result<Sessions, AllocError>
-        ensures { IfOk result (λ v. v ≡ begun world.now self.now session) }
+    pub(crate) fn begun(self, alloc: Global, world: &World, session: u32) -> Result<Sessions, AllocError>
+        ensures { IfOk result (λ v. v ≡ begun world.now self session) }
     {
-        let mut sessions = self.copy(alloc)?;
         let geometry = world.geometry();
         let holding = Holding::nothing(alloc, geometry.primaries, geometry.blocks)?;
-        sessions.set(session, Some(holding));
-        Ok(sessions)
+        Ok(self.with(session, Some(holding)))
     }
 
     /// With this session closed.
-    pub fn ended(&self, alloc: Global, session: u32) -> Result<Sessions, AllocError>
-        ensures { IfOk result (λ v. v ≡ ended self.now session) }
+    pub(crate) fn ended(self, session: u32) -> Sessions
+        ensures { result ≡ ended self session }
     {
-        let mut sessions = self.copy(alloc)?;
-        sessions.set(session, None);
-        Ok(sessions)
+        self.with(session, None)
     }
 
     /// At a block the levels of a session, from each origin, become the greater of the old ones and those that the
     /// session attains there in a world, as `before` tells what was held.
-    pub fn raise(
-        &self,
+    pub(crate) fn raise(
+        self,
         alloc: Global,
         world: &World,
         before: &Sessions,
         session: u32,
         need: &Need,
     ) -> Result<Sessions, AllocError>
-        ensures { IfOk result (λ v. v ≡ raised self.now session need.now.block (attained_from world.now before.now session need.now.block need.now.shown)) }
+        ensures { IfOk result (λ v. v ≡ raised self session need.now.block (attained_from world.now before.now session need.now.block need.now.shown)) }
     {
-        let mut sessions = self.copy(alloc)?;
         let raised = match self.holding(session) {
             None => None,
             Some(holding) => Some(holding.raise(alloc, world, before, session, need)?),
         };
-        sessions.set(session, raised);
-        Ok(sessions)
+        Ok(self.with(session, raised))
     }
 
     /// Without what came from this origin, in every session.
-    pub fn without_origin(
+    pub(crate) fn without_origin(
         &self,
         alloc: Global,
         blocks: u32,
@@ -348,47 +340,26 @@ impl Sessions {
     {
         let mut held = ArrayVec::new();
         for holding in self.held.as_slice() {
-            held.push(without_origin(alloc, holding, blocks, origin)?);
+            held.push(match holding {
+                None => None,
+                Some(holding) => Some(holding.without_origin(alloc, blocks, origin)?),
+            });
         }
         Ok(Sessions { held })
     }
 
     /// Without the levels at blocks that aren't live, in every session.
-    pub fn at_live(&self, alloc: Global, world: &World) -> Result<Sessions, AllocError>
+    pub(crate) fn at_live(&self, alloc: Global, world: &World) -> Result<Sessions, AllocError>
         ensures { IfOk result (λ v. v ≡ fitted world.now self.now) }
     {
         let mut held = ArrayVec::new();
         for holding in self.held.as_slice() {
-            held.push(at_live(alloc, holding, world)?);
+            held.push(match holding {
+                None => None,
+                Some(holding) => Some(holding.at_live(alloc, world)?),
+            });
         }
         Ok(Sessions { held })
-    }
-}
-
-fn without_origin(
-    alloc: Global,
-    holding: &Option<Holding>,
-    blocks: u32,
-    origin: u32,
-) -> Result<Option<Holding>, AllocError>
-    ensures { IfOk result (λ h. h ≡ option_map (λ held. slice_set held origin (replicate blocks level.Bare)) holding.now) }
-{
-    match holding {
-        None => Ok(None),
-        Some(holding) => Ok(Some(holding.without_origin(alloc, blocks, origin)?)),
-    }
-}
-
-fn at_live(
-    alloc: Global,
-    holding: &Option<Holding>,
-    world: &World,
-) -> Result<Option<Holding>, AllocError>
-    ensures { IfOk result (λ h. h ≡ option_map (map (levels_at_live world.now)) holding.now) }
-{
-    match holding {
-        None => Ok(None),
-        Some(holding) => Ok(Some(holding.at_live(alloc, world)?)),
     }
 }
 
@@ -406,7 +377,7 @@ pub fn shown_level(world: &World, block: u32, shown: &Shown) -> Level
 }
 
 /// The level that a session attains at a block from an origin.
-pub fn attained_from(
+pub(crate) fn attained_from(
     world: &World,
     sessions: &Sessions,
     session: u32,
@@ -427,7 +398,7 @@ pub fn attained_from(
 
 #[tactic(auto, using(tsd_model::proofs::LevelLaws::greatest_range_next))]
 /// The greatest level that a session attains at a block, from any origin.
-pub fn attained(
+pub(crate) fn attained(
     world: &World,
     sessions: &Sessions,
     session: u32,
@@ -445,15 +416,6 @@ pub fn attained(
         );
     }
     best
-}
-
-fn copy_of(alloc: Global, holding: &Option<Holding>) -> Result<Option<Holding>, AllocError>
-    ensures { IfOk result (λ h. h ≡ holding.now) }
-{
-    match holding {
-        None => Ok(None),
-        Some(holding) => Ok(Some(holding.copy(alloc)?)),
-    }
 }
 
 fn level_if(counts: bool, found: Level) -> Level
