@@ -1,6 +1,6 @@
 -- What a granted request attained, and what is led to where less is held.
-use Rattle.std.proofs.Common.{◌≡◌, ℕ, Bool, true, false, not, cond, ◌&&◌, ◌||◌, ◌==◌, nat_le, List, [], ◌∷◌, refl, sym, ◌∙◌, ap, inl, inr, arith, Option, None}
-use Rattle.std.proofs.lemmas.Bool.{and_parts, and_from, or_cases, eq-eqb, or_left, or_right, or_parts}
+use Rattle.std.proofs.Common.{◌≡◌, ℕ, Bool, true, false, not, cond, ◌&&◌, ◌==◌, nat_le, List, [], ◌∷◌, refl, inl, inr, arith, Option, None}
+use Rattle.std.proofs.lemmas.Bool.{and_parts, and_from, or_cases, eq-eqb, or_left, or_right}
 use Rattle.std.proofs.lemmas.Bool.Decides.{nat_tests}
 use Rattle.std.specs.Prelude.{map, filter, slice_index_or, unwrap_or}
 use Rattle.std.specs.List.{list_any, list_all}
@@ -9,7 +9,7 @@ use Rattle.tsd_model.specs.World.{World}
 use Rattle.tsd_model.specs.Sessions.{Sessions, Levels, level_rank, level_le, greater, greatest}
 use Rattle.tsd_model.specs.Attained.{led_level, attained}
 use Rattle.tsd_model.specs.Needs.{session_of, needs}
-use Rattle.tsd_model.specs.Verdict.{denied, level_rules, verdict}
+use Rattle.tsd_model.specs.Verdict.{denied, verdict}
 use Rattle.tsd_model.specs.declared.needs.Need.{Need}
 use Rattle.tsd_model.specs.declared.requests.Level.{Level}
 use Rattle.tsd_model.specs.declared.requests.Level.TheVariants as level
