@@ -1,14 +1,13 @@
 -- The premises of the laws can be met: a secret that is kept, whatever the others ask.
-use Rattle.std.proofs.Common.{◌≡◌, ℕ, ◌<◌, ◌≤◌, zero, suc, Bool, true, false, not, ◌&&◌, ◌||◌, ◌==◌, List, [], ◌∷◌, refl, ap, arith, inl, inr, drop, Option, Some, None}
+use Rattle.std.proofs.Common.{◌≡◌, ℕ, ◌<◌, zero, suc, Bool, true, false, not, ◌&&◌, ◌||◌, ◌==◌, List, [], ◌∷◌, refl, arith, inl, inr, drop}
 use Rattle.std.proofs.lemmas.Bool.Decides.{nat_tests}
-use Rattle.std.proofs.lemmas.Bool.{and_parts, eq-eqb, eqb-true, or_cases, or_left}
+use Rattle.std.proofs.lemmas.Bool.{and_parts, or_cases, or_left}
 use Rattle.std.specs.List.{list_all}
 use Rattle.tsd_model.specs.Geometry.{IsLawful}
 use Rattle.tsd_model.specs.Pairs.{holds}
 use Rattle.tsd_model.specs.World.{contents, is_live}
 use Rattle.tsd_model.specs.Sessions.{level_le, level_from, Fits}
 use Rattle.tsd_model.specs.Attained.{shown_level}
-use Rattle.tsd_model.specs.Needs.{needs}
 use Rattle.tsd_model.specs.Valid.{IsValid}
 use Rattle.tsd_model.specs.Verdict.{is_granted}
 use Rattle.tsd_model.specs.Step.{State}
@@ -23,7 +22,6 @@ use Rattle.tsd_model.specs.declared.requests.PlaceKind.{PlaceKind}
 use Rattle.tsd_model.specs.declared.requests.PlaceKind.TheVariants.{Near}
 use Rattle.tsd_model.specs.declared.requests.Request.{Request}
 use Rattle.tsd_model.specs.declared.requests.Request.TheVariants as ask
-use Rattle.tsd_model.proofs.PairLaws.{and_false}
 use Rattle.disk_laws.proofs.FreshLaws.{fresh_is_valid, no_sessions_fit}
 use Rattle.disk_laws.proofs.NeedLaws.{is_bare}
 use Rattle.disk_laws.proofs.RunLaws.{run_valid}
