@@ -1,6 +1,5 @@
 -- What each answer keeps, a run keeps.
-use Rattle.std.proofs.Common.{◌≡◌, ◌+◌, ◌-◌, Bool, List, [], ◌∷◌, arith, refl, sym, ◌∙◌, subst, Option, None, drop}
-use Rattle.std.specs.Prelude.{IfSome, slice_index_or, length}
+use Rattle.std.proofs.Common.{◌≡◌, Bool, List, [], ◌∷◌, refl, sym, ◌∙◌, subst, Option, None, drop}
 use Rattle.tsd_model.specs.Sessions.{Fits}
 use Rattle.tsd_model.specs.Valid.{IsValid}
 use Rattle.tsd_model.specs.Verdict.{verdict}

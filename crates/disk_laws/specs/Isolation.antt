@@ -1,5 +1,5 @@
 -- What a request does to the sessions of others.
-use Rattle.std.specs.Prelude.{◌≡◌, ℕ, ◌≤◌, Bool, false, not, cond, ◌&&◌}
+use Rattle.std.specs.Prelude.{◌≡◌, ℕ, Bool, false, not, cond, ◌&&◌}
 use Rattle.tsd_model.specs.World.{is_live}
 use Rattle.tsd_model.specs.Sessions.{is_open, level_from, Fits}
 use Rattle.tsd_model.specs.Verdict.{is_granted}
