@@ -9,3 +9,13 @@
 mod grants;
 #[cfg(test)]
 mod plain_facts;
+#[cfg(test)]
+mod model;
+#[cfg(test)]
+mod plain;
+#[cfg(test)]
+mod plain_levels;
+#[cfg(test)]
+mod plain_runs;
+#[cfg(test)]
+mod plain_versions;

@@ -11,8 +11,6 @@ mod pairs;
 mod placing;
 mod sessions;
 mod step;
-#[cfg(test)]
-mod tests;
 mod verdict;
 mod world;
 

@@ -295,7 +295,12 @@ impl Sessions {
     }
 
     /// With this session open, holding nothing.
-    pub(crate) fn begun(self, alloc: Global, world: &World, session: u32) -> Result<Sessions, AllocError>
+    pub(crate) fn begun(
+        self,
+        alloc: Global,
+        world: &World,
+        session: u32,
+    ) -> Result<Sessions, AllocError>
         ensures { IfOk result (λ v. v ≡ begun world.now self session) }
     {
         let geometry = world.geometry();

@@ -361,7 +361,10 @@ fn copy_blocks(alloc: Global, blocks: &[Option<Block>]) -> Result<Vec<Option<Blo
 fn upgraded_records(alloc: Global, records: &[Record]) -> Result<Vec<Record>, AllocError>
     ensures { IfOk result (λ v. v.items ≡ map upgraded_record records.now) }
 {
-    records.iter().map(|held| upgraded_record(held)).collect(alloc)
+    records
+        .iter()
+        .map(|held| upgraded_record(held))
+        .collect(alloc)
 }
 
 fn fresh_blocks(alloc: Global, geometry: &Geometry) -> Result<Vec<Option<Block>>, AllocError>

@@ -1,7 +1,7 @@
 use Rattle.std.proofs.Common.{◌≡◌, ◌∙◌, ap, subst}
 use Rattle.std.specs.Prelude.{IfOk}
 use Rattle.tsd_model.specs.World.{World, has_number}
-use Rattle.tsd_model.specs.Reach.{restricted, swept}
+use Rattle.tsd_model.specs.Reach.{restricted}
 use Rattle.tsd_model.specs.Step.{gives, reclaimed}
 use Rattle.plain_disk.proofs.step.sweep.Goals as goal
 
