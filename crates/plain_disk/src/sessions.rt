@@ -131,25 +131,6 @@ impl Holding {
         Ok(Holding { tables })
     }
 
-    fn level_from(&self, origin: u32, block: u32) -> Level
-        ensures { result ≡ slice_index_or (slice_index_or self.now origin []) block level.Bare }
-    {
-        match self.tables.get(origin as usize) {
-            Some(table) => table.level(block),
-            None => Level::Bare,
-        }
-    }
-
-    #[tactic(auto, using(tsd_model::proofs::LevelLaws::led_level_nothing))]
-    fn led_level(&self, origin: u32, block: u32, pairs: &[(u32, u32)]) -> Level
-        ensures { result ≡ led_level (slice_index_or self.now origin []) block pairs.now }
-    {
-        match self.tables.get(origin as usize) {
-            Some(table) => table.led_level(block, pairs),
-            None => Level::Bare,
-        }
-    }
-
     /// The same with the levels at a block raised to those that the session attains there.
     fn raise(
         &self,
@@ -237,6 +218,13 @@ impl Sessions {
         }
     }
 
+    /// The levels that a session holds from an origin; none where there are none.
+    fn table(&self, session: u32, origin: u32) -> Option<&LevelTable>
+        ensures { MatchOption result (levels_from self.now session origin ≡ []) (λ table. levels_from self.now session origin ≡ table.now) }
+    {
+        self.holding(session)?.tables.get(origin as usize)
+    }
+
     /// Whether a session is open.
     pub fn is_open(&self, session: u32) -> bool
         ensures { result ≡ is_open self.now session }
@@ -248,8 +236,8 @@ impl Sessions {
     pub fn level_from(&self, session: u32, origin: u32, block: u32) -> Level
         ensures { result ≡ level_from self.now session origin block }
     {
-        match self.holding(session) {
-            Some(holding) => holding.level_from(origin, block),
+        match self.table(session, origin) {
+            Some(table) => table.level(block),
             None => Level::Bare,
         }
     }
@@ -259,8 +247,8 @@ impl Sessions {
     fn led_level(&self, session: u32, origin: u32, block: u32, pairs: &[(u32, u32)]) -> Level
         ensures { result ≡ led_level (levels_from self.now session origin) block pairs.now }
     {
-        match self.holding(session) {
-            Some(holding) => holding.led_level(origin, block, pairs),
+        match self.table(session, origin) {
+            Some(table) => table.led_level(block, pairs),
             None => Level::Bare,
         }
     }

@@ -52,7 +52,7 @@ fn carry_out(
     world: &World,
     sessions: &Sessions,
     request: &Request,
-) -> Result<(World, Sessions, Reply), NoMemory>
+) -> Result<Changed, NoMemory>
     ensures { IfOk result (λ r. gives r.0 r.1 r.2 ≡ step kind (record { world = world.now; sessions = sessions.now }) request.now) }
 {
     match verdict(world, sessions, request) {
