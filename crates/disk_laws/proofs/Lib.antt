@@ -16,3 +16,7 @@ pub mod RuleLaws
 pub mod RunLaws
 pub mod StayLaws
 pub mod ValidLaws
+pub mod LikeLaws
+pub mod NeedLaws
+pub mod PointerLaws
+pub mod TwinLaws

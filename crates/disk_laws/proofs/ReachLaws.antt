@@ -5,8 +5,8 @@ use Rattle.std.proofs.lemmas.Bool.Decides.{nat_tests}
 use Rattle.std.specs.Prelude.{filter}
 use Rattle.std.specs.List.{list_any, range_with_len}
 use Rattle.tsd_model.specs.Pairs.{holds, is_pair}
-use Rattle.tsd_model.specs.World.{World, all_blocks, primary_blocks, has_number}
-use Rattle.tsd_model.specs.Reach.{is_led_from, reach_round, reach_rounds, reach, swept}
+use Rattle.tsd_model.specs.World.{World, is_live, all_blocks, primary_blocks, has_number}
+use Rattle.tsd_model.specs.Reach.{is_led_from, reach_round, reach_rounds, reach_from, reach, swept}
 use Rattle.tsd_model.specs.Valid.{IsRaw, IsValid}
 use Rattle.disk_laws.proofs.GraphLaws.{has_number-filter, has_number-range, length-range, rounds_from, from_more, from_end}
 use Rattle.disk_laws.proofs.DoomLaws.{live_below, in_all, restricted_is_valid}
@@ -52,38 +52,60 @@ found_any xs b (e ∷ es) h = elim (or_cases ((e.1 == b) && has_number xs e.0) (
   | inr later ↦ let rest = found_any xs b es later in (rest.0, or_right (is_pair rest.0 b e) _ rest.1, rest.2)
 ]
 
+-- ---- from any start
+
+module _ (w : World) (raw : IsRaw w) (start : List ℕ) (first : ℕ → Bool) (begins : start ≡ filter first (all_blocks w)) where
+  rounds_are : (r : ℕ) → reach_rounds w start r ≡ rounds_from (all_blocks w) start first (leads w) r
+  rounds_are zero = refl
+  rounds_are (suc r) = ap (reach_round w) (rounds_are r)
+
+  pub from_reach_more : (r : ℕ) (b : ℕ) → has_number (reach_rounds w start r) b ≡ true → has_number (reach_rounds w start (suc r)) b ≡ true
+  from_reach_more r b h = ap (λ xs. has_number xs b) (rounds_are (suc r)) ∙ from_more (all_blocks w) start first (leads w) begins (leads_stays w) (leads_grows w) r b (ap (λ xs. has_number xs b) (sym (rounds_are r)) ∙ h)
+
+  pub from_is_closed : reach_round w (reach_from w start) ≡ reach_from w start
+  from_is_closed =
+      let n = length (all_blocks w) in
+      let count : w.geometry.blocks ≡ length (all_blocks w) = sym raw.sized.each_block ∙ sym (length-range 0 (length w.blocks)) in
+      ap (λ k. reach_rounds w start (suc k)) count ∙ rounds_are (suc n)
+      ∙ from_end (all_blocks w) start first (leads w) begins (leads_stays w) (leads_grows w)
+      ∙ sym (rounds_are n) ∙ ap (reach_rounds w start) (sym count)
+
+  -- the target of a pair from a reached block is reached
+  pub from_target_reached : (a b : ℕ) → holds w.pairs a b ≡ true → has_number (reach_from w start) a ≡ true → has_number (reach_from w start) b ≡ true
+  from_target_reached a b h k =
+      let live = raw.targets a b h in
+      ap (λ xs. has_number xs b) (sym from_is_closed) ∙ has_number-filter (leads w (reach_from w start)) (all_blocks w) b
+      ∙ and_from (has_number (all_blocks w) b) (leads w (reach_from w start) b) (in_all w b (live_below w.blocks b live)) (or_right (has_number (reach_from w start) b) _ (led w.pairs h))
+    where
+      led : (es : List (ℕ × ℕ)) → holds es a b ≡ true → list_any (λ e. (e.1 == b) && has_number (reach_from w start) e.0) es ≡ true
+      led [] g = absurd (cc)
+      led (e ∷ es) g = elim (or_cases (is_pair a b e) (holds es a b) g) [
+        | inl here ↦ let at = and_parts (e.0 == a) (e.1 == b) here in or_left ((e.1 == b) && has_number (reach_from w start) e.0) _ (and_from (e.1 == b) (has_number (reach_from w start) e.0) at.1 (subst (λ c. has_number (reach_from w start) c ≡ true) (sym (eqb-true e.0 a at.0)) k))
+        | inr later ↦ or_right ((e.1 == b) && has_number (reach_from w start) e.0) _ (led es later)
+      ]
+
+  -- a live block of the start is reached
+  pub from_start_reached : (b : ℕ) → is_live w b ≡ true → first b ≡ true → has_number (reach_from w start) b ≡ true
+  from_start_reached b live h = at w.geometry.blocks
+    where
+      at : (r : ℕ) → has_number (reach_rounds w start r) b ≡ true
+      at zero = ap (λ xs. has_number xs b) begins ∙ has_number-filter first (all_blocks w) b ∙ and_from (has_number (all_blocks w) b) (first b) (in_all w b (live_below w.blocks b live)) h
+      at (suc r) = from_reach_more r b (at r)
+
+-- ---- from the primary blocks
+
 module _ (w : World) (raw : IsRaw w) where
   begins : primary_blocks w ≡ filter (λ b. nat_lt b w.geometry.primaries) (all_blocks w)
   begins = let e : w.geometry.primaries ≡ w.geometry.primaries - 0 = omega arith in ap (range_with_len 0) e ∙ prefix w.geometry.primaries 0 (length w.blocks) (omega arith) (omega (arith, raw.sized.lawful.primaries.2, raw.sized.each_block))
 
-  rounds_are : (r : ℕ) → reach_rounds w (primary_blocks w) r ≡ rounds_from (all_blocks w) (primary_blocks w) (λ b. nat_lt b w.geometry.primaries) (leads w) r
-  rounds_are zero = refl
-  rounds_are (suc r) = ap (reach_round w) (rounds_are r)
-
   pub reach_more : (r : ℕ) (b : ℕ) → has_number (reach_rounds w (primary_blocks w) r) b ≡ true → has_number (reach_rounds w (primary_blocks w) (suc r)) b ≡ true
-  reach_more r b h = ap (λ xs. has_number xs b) (rounds_are (suc r)) ∙ from_more (all_blocks w) (primary_blocks w) (λ b. nat_lt b w.geometry.primaries) (leads w) begins (leads_stays w) (leads_grows w) r b (ap (λ xs. has_number xs b) (sym (rounds_are r)) ∙ h)
+  reach_more = from_reach_more w raw (primary_blocks w) (λ b. nat_lt b w.geometry.primaries) begins
 
   pub reach_is_closed : reach_round w (reach w) ≡ reach w
-  reach_is_closed =
-      let n = length (all_blocks w) in
-      let count : w.geometry.blocks ≡ length (all_blocks w) = sym raw.sized.each_block ∙ sym (length-range 0 (length w.blocks)) in
-      ap (λ k. reach_rounds w (primary_blocks w) (suc k)) count ∙ rounds_are (suc n)
-      ∙ from_end (all_blocks w) (primary_blocks w) (λ b. nat_lt b w.geometry.primaries) (leads w) begins (leads_stays w) (leads_grows w)
-      ∙ sym (rounds_are n) ∙ ap (reach_rounds w (primary_blocks w)) (sym count)
+  reach_is_closed = from_is_closed w raw (primary_blocks w) (λ b. nat_lt b w.geometry.primaries) begins
 
-  -- the target of a pair from a reached block is reached
   pub target_reached : (a b : ℕ) → holds w.pairs a b ≡ true → has_number (reach w) a ≡ true → has_number (reach w) b ≡ true
-  target_reached a b h k =
-      let live = raw.targets a b h in
-      ap (λ xs. has_number xs b) (sym reach_is_closed) ∙ has_number-filter (leads w (reach w)) (all_blocks w) b
-      ∙ and_from (has_number (all_blocks w) b) (leads w (reach w) b) (in_all w b (live_below w.blocks b live)) (or_right (has_number (reach w) b) _ (led w.pairs h))
-    where
-      led : (es : List (ℕ × ℕ)) → holds es a b ≡ true → list_any (λ e. (e.1 == b) && has_number (reach w) e.0) es ≡ true
-      led [] g = absurd (cc)
-      led (e ∷ es) g = elim (or_cases (is_pair a b e) (holds es a b) g) [
-        | inl here ↦ let at = and_parts (e.0 == a) (e.1 == b) here in or_left _ _ (and_from (e.1 == b) (has_number (reach w) e.0) at.1 (subst (λ c. has_number (reach w) c ≡ true) (sym (eqb-true e.0 a at.0)) k))
-        | inr later ↦ or_right ((e.1 == b) && has_number (reach w) e.0) _ (led es later)
-      ]
+  target_reached = from_target_reached w raw (primary_blocks w) (λ b. nat_lt b w.geometry.primaries) begins
 
   primary_in : (r b : ℕ) → b < w.geometry.primaries → has_number (reach_rounds w (primary_blocks w) r) b ≡ true
   primary_in zero b h = has_number-range 0 w.geometry.primaries b ∙ grind (arith, nat_tests)

@@ -6,3 +6,4 @@ pub mod Refusals
 pub mod Grants
 pub mod Isolation
 pub mod Bytes
+pub mod Changes
