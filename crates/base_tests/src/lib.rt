@@ -8,11 +8,11 @@
 #[cfg(test)]
 mod grants;
 #[cfg(test)]
-mod plain_facts;
-#[cfg(test)]
 mod model;
 #[cfg(test)]
 mod plain;
+#[cfg(test)]
+mod plain_facts;
 #[cfg(test)]
 mod plain_levels;
 #[cfg(test)]

@@ -33,7 +33,11 @@ fn lists_hold_so_many_and_no_more(rt: HostRuntime) -> Result<(), Fail> {
     assert_eq!(rt; blocks.len(), 64);
     let mut caps = CapList::new();
     for place in 0..16 {
-        assert!(rt; caps.push(CapPair { read: cap(place), write: cap(place) }).is_ok());
+        let pair = CapPair {
+            read: cap(place),
+            write: cap(place),
+        };
+        assert!(rt; caps.push(pair).is_ok());
     }
     assert!(rt; caps.push(CapPair::default()).is_err());
     assert_eq!(rt; caps.len(), 16);
@@ -54,13 +58,30 @@ fn geometries_have_bounds(rt: HostRuntime) -> Result<(), Fail> {
         primaries: 16,
         slots: 4_194_304,
     };
+    let three_sectors = Geometry {
+        sectors: 3,
+        ..least
+    };
+    let too_few_blocks = Geometry { blocks: 7, ..least };
+    let all_primary = Geometry {
+        primaries: 8,
+        ..least
+    };
+    let too_many_primaries = Geometry {
+        primaries: 17,
+        ..most
+    };
+    let too_many_slots = Geometry {
+        slots: 4_194_305,
+        ..most
+    };
     assert!(rt; lawful(&least));
     assert!(rt; lawful(&most));
-    assert!(rt; !lawful(&Geometry { sectors: 3, ..least }));
-    assert!(rt; !lawful(&Geometry { blocks: 7, ..least }));
-    assert!(rt; !lawful(&Geometry { primaries: 8, ..least }));
-    assert!(rt; !lawful(&Geometry { primaries: 17, ..most }));
-    assert!(rt; !lawful(&Geometry { slots: 4_194_305, ..most }));
+    assert!(rt; !lawful(&three_sectors));
+    assert!(rt; !lawful(&too_few_blocks));
+    assert!(rt; !lawful(&all_primary));
+    assert!(rt; !lawful(&too_many_primaries));
+    assert!(rt; !lawful(&too_many_slots));
     Ok(())
 }
 
@@ -71,6 +92,8 @@ fn levels_are_in_order(rt: HostRuntime) -> Result<(), Fail> {
     assert!(rt; !level_le(Level::Write, Level::Read));
     assert_eq!(rt; greater(Level::Read, Level::Write), Level::Write);
     assert_eq!(rt; greater(Level::Read, Level::Bare), Level::Read);
+    assert_eq!(rt; Level::default(), Level::Bare);
+    assert_eq!(rt; Shown::default(), Shown::Nothing);
     Ok(())
 }
 

@@ -81,12 +81,18 @@ fn version_2_keeps_digests(rt: HostRuntime) -> Result<(), Fail> {
     let first = eight(&rt, rt.alloc());
     let second = World::upgraded(rt.alloc(), &first)?;
     assert_eq!(rt; second.version(), 2);
-    assert_eq!(rt; second.records(), digests(READ_DIGEST, WRITE_DIGEST).as_slice());
+    assert_eq!(rt;
+        second.records(),
+        digests(READ_DIGEST, WRITE_DIGEST).as_slice()
+    );
     assert_eq!(rt; second.free_count(), 7);
     let rows = new_capabilities(&rt);
     let after = run(&rt, rt.alloc(), PlaceKind::Near, second, rows.as_slice());
     assert_eq!(rt; after.version(), 2);
-    assert_eq!(rt; after.records(), digests(NEW_READ_DIGEST, NEW_WRITE_DIGEST).as_slice());
+    assert_eq!(rt;
+        after.records(),
+        digests(NEW_READ_DIGEST, NEW_WRITE_DIGEST).as_slice()
+    );
     assert_eq!(rt; after.pairs(), [(0, 1)].as_slice());
     Ok(())
 }
@@ -97,7 +103,10 @@ fn a_disk_may_be_upgraded_twice(rt: HostRuntime) -> Result<(), Fail> {
     let once = World::upgraded(rt.alloc(), &first)?;
     let twice = World::upgraded(rt.alloc(), &once)?;
     assert_eq!(rt; twice.version(), 2);
-    assert_eq!(rt; twice.records(), digests(READ_DIGEST, WRITE_DIGEST).as_slice());
+    assert_eq!(rt;
+        twice.records(),
+        digests(READ_DIGEST, WRITE_DIGEST).as_slice()
+    );
     let hi = Reply::Bytes(data(&rt, b"hi", 512));
     let rows = [
         (open(1), Reply::Done),
@@ -115,7 +124,10 @@ fn a_disk_may_be_upgraded_twice(rt: HostRuntime) -> Result<(), Fail> {
     ];
     let after = run(&rt, rt.alloc(), PlaceKind::Near, twice, rows.as_slice());
     assert_eq!(rt; after.version(), 2);
-    assert_eq!(rt; after.records(), digests(NEW_READ_DIGEST, NEW_WRITE_DIGEST).as_slice());
+    assert_eq!(rt;
+        after.records(),
+        digests(NEW_READ_DIGEST, NEW_WRITE_DIGEST).as_slice()
+    );
     Ok(())
 }
 
