@@ -6,6 +6,20 @@
 #![tactic(auto)]
 
 #[cfg(test)]
+mod grants;
+#[cfg(test)]
 mod layout;
+#[cfg(test)]
+mod model;
+#[cfg(test)]
+mod plain;
+#[cfg(test)]
+mod plain_facts;
+#[cfg(test)]
+mod plain_levels;
+#[cfg(test)]
+mod plain_runs;
+#[cfg(test)]
+mod plain_versions;
 #[cfg(test)]
 mod policy;

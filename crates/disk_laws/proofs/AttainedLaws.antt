@@ -1,6 +1,6 @@
 -- Where a level is attained.
 use Rattle.std.proofs.Common.{◌≡◌, ℕ, zero, suc, ◌+◌, ◌<◌, ◌≤◌, Bool, true, false, cond, ◌||◌, ◌==◌, ◌↔◌, List, [], ◌∷◌, refl, sym, ◌∙◌, ap, subst, arith, inl, inr, ◌⊎◌, IsTrue}
-use Rattle.std.proofs.lemmas.Bool.{cases_eq, cases_lt, eq-eqb, and_parts, and_from, or_cases, eqb-true, lt-ltb}
+use Rattle.std.proofs.lemmas.Bool.{cases_eq, cases_lt, eq-eqb, and_parts, and_from, or_cases, eqb-true, lt-ltb, or_left, or_right}
 use Rattle.std.specs.Prelude.{map, filter, slice_index_or}
 use Rattle.std.specs.List.{list_any, range_with_len}
 use Rattle.tsd_model.specs.Pairs.{is_pair, holds, sources_to}
@@ -15,7 +15,6 @@ use Rattle.tsd_model.specs.declared.requests.Level.TheVariants as level
 use Rattle.tsd_model.specs.declared.requests.PlaceKind.{PlaceKind}
 use Rattle.tsd_model.specs.declared.requests.Request.{Request}
 use Rattle.disk_laws.specs.Grants.{ShownAttains, GrantAttains}
-use Rattle.disk_laws.proofs.PairLaws.{or_left, or_right}
 use Rattle.disk_laws.proofs.DoomLaws.{not_primary}
 use Rattle.disk_laws.proofs.RunLaws.{run_geometry}
 use Rattle.disk_laws.proofs.HeldLaws.{le_greater, not_bare}
@@ -30,7 +29,7 @@ or_swap false true = refl
 or_swap false false = refl
 
 -- a level that isn't none is at most the greatest just where it is at most one of them
-le_greatest : (l : Level) (ls : List Level) → level_le l level.Bare ≡ false → level_le l (greatest ls) ≡ list_any (level_le l) ls
+pub le_greatest : (l : Level) (ls : List Level) → level_le l level.Bare ≡ false → level_le l (greatest ls) ≡ list_any (level_le l) ls
 le_greatest l [] some = some
 le_greatest l (x ∷ ls) some = le_greater l x (greatest ls) ∙ (ap (λ t. t || level_le l x) (le_greatest l ls some) ∙ or_swap (list_any (level_le l) ls) (level_le l x))
 
@@ -50,7 +49,7 @@ in_range_any p f i (suc n) o from to h = elim (cases_eq o i) [
 ]
 
 -- one of the sources
-any_source : (p : Level → Bool) (f : ℕ → Level) (b : ℕ) (es : List (ℕ × ℕ)) → list_any p (map f (sources_to es b)) ≡ true → (a : ℕ) × (holds es a b ≡ true) × (p (f a) ≡ true)
+pub any_source : (p : Level → Bool) (f : ℕ → Level) (b : ℕ) (es : List (ℕ × ℕ)) → list_any p (map f (sources_to es b)) ≡ true → (a : ℕ) × (holds es a b ≡ true) × (p (f a) ≡ true)
 any_source p f b [] h = absurd (cc)
 any_source p f b (e ∷ es) h =
     elim (e.1 == b) as (λ t. (e.1 == b) ≡ t → list_any p (map f (map (λ g. g.0) (cond t (e ∷ filter (λ g. g.1 == b) es) (filter (λ g. g.1 == b) es)))) ≡ true → (a : ℕ) × (holds (e ∷ es) a b ≡ true) × (p (f a) ≡ true)) [
@@ -61,7 +60,7 @@ any_source p f b (e ∷ es) h =
       | false ↦ λ to g. let found = any_source p f b es g in (found.0, or_right (is_pair found.0 b e) _ found.1, found.2)
     ] refl h
 
-source_any : (p : Level → Bool) (f : ℕ → Level) (b a : ℕ) (es : List (ℕ × ℕ)) → holds es a b ≡ true → p (f a) ≡ true → list_any p (map f (sources_to es b)) ≡ true
+pub source_any : (p : Level → Bool) (f : ℕ → Level) (b a : ℕ) (es : List (ℕ × ℕ)) → holds es a b ≡ true → p (f a) ≡ true → list_any p (map f (sources_to es b)) ≡ true
 source_any p f b a [] h k = absurd (cc)
 source_any p f b a (e ∷ es) h k =
     elim (e.1 == b) as (λ t. (e.1 == b) ≡ t → list_any p (map f (map (λ g. g.0) (cond t (e ∷ filter (λ g. g.1 == b) es) (filter (λ g. g.1 == b) es)))) ≡ true) [
@@ -81,10 +80,10 @@ source_any p f b a (e ∷ es) h k =
 abbrev HeldAttains : World → Sessions → ℕ → ℕ → Level → Type 0
 HeldAttains w v s b l = (w.geometry.primaries ≤ b) × ((a o : ℕ) × (holds w.pairs a b ≡ true) × (o < w.geometry.primaries) × (level_le l (level_from v s o a) ≡ true))
 
-at_primary : (w : World) (v : Sessions) (s b : ℕ) (shown : Shown) (o : ℕ) → b < w.geometry.primaries → attained_from w v s b shown o ≡ cond (o == b) (shown_level w b shown) level.Bare
+pub at_primary : (w : World) (v : Sessions) (s b : ℕ) (shown : Shown) (o : ℕ) → b < w.geometry.primaries → attained_from w v s b shown o ≡ cond (o == b) (shown_level w b shown) level.Bare
 at_primary w v s b shown o h = ap (λ t. cond t (cond (o == b) (shown_level w b shown) level.Bare) (led_level (levels_from v s o) b w.pairs)) (lt-ltb b w.geometry.primaries h)
 
-at_other : (w : World) (v : Sessions) (s b : ℕ) (shown : Shown) (o : ℕ) → w.geometry.primaries ≤ b → attained_from w v s b shown o ≡ led_level (levels_from v s o) b w.pairs
+pub at_other : (w : World) (v : Sessions) (s b : ℕ) (shown : Shown) (o : ℕ) → w.geometry.primaries ≤ b → attained_from w v s b shown o ≡ led_level (levels_from v s o) b w.pairs
 at_other w v s b shown o h = ap (λ t. cond t (cond (o == b) (shown_level w b shown) level.Bare) (led_level (levels_from v s o) b w.pairs)) (not_primary w b h)
 
 le_shown : (t : Bool) (l x : Level) → level_le l level.Bare ≡ false → level_le l (cond t x level.Bare) ≡ true → level_le l x ≡ true
@@ -118,10 +117,10 @@ attained_where w v s b shown l some = (forth, back)
         ∙ (le_greatest l (map (λ a. slice_index_or (levels_from v s h.1.1) a level.Bare) (sources_to w.pairs b)) some
         ∙ source_any (level_le l) (λ a. slice_index_or (levels_from v s h.1.1) a level.Bare) b h.1.0 w.pairs h.1.2 h.1.4))
 
-pub attained_by_history : (kind : PlaceKind) (w : World) (wants : List Bool) (qs : List Request) (s b : ℕ) (shown : Shown) (l : Level) → IsValid w → 1 ≤ s → (l ≡ level.Bare → ⊥)
+pub attained_by_history : (kind : PlaceKind) (w : World) (wants : List Bool) (qs : List Request) (s b : ℕ) (shown : Shown) (l : Level) → IsValid w → (l ≡ level.Bare → ⊥)
     → IsTrue (level_le l (attained (after kind (at_rest w) wants qs).world (after kind (at_rest w) wants qs).sessions s b shown))
     ↔ (ShownAttains (after kind (at_rest w) wants qs).world b shown l ⊎ GrantAttains kind w wants qs s b l)
-attained_by_history kind w wants qs s b shown l valid s1 some =
+attained_by_history kind w wants qs s b shown l valid some =
     let now = after kind (at_rest w) wants qs in
     let same : now.world.geometry ≡ w.geometry = run_geometry kind (at_rest w) wants qs in
     let where_held = attained_where now.world now.sessions s b shown l (not_bare l some) in (
@@ -129,10 +128,10 @@ attained_by_history kind w wants qs s b shown l valid s1 some =
         | inl known ↦ inl known
         | inr held ↦
             let below : held.1.1 < w.geometry.primaries = subst (λ g. held.1.1 < g.primaries) same held.1.3 in
-            inr (subst (λ g. g.primaries ≤ b) same held.0, (held.1.0, held.1.1, held.1.2, below, sym (levels_are_grants kind w wants qs s held.1.1 held.1.0 l valid s1 below some) ∙ held.1.4))
+            inr (subst (λ g. g.primaries ≤ b) same held.0, (held.1.0, held.1.1, held.1.2, below, sym (levels_are_grants kind w wants qs s held.1.1 held.1.0 l valid below some) ∙ held.1.4))
       ],
       λ h. where_held.1 (elim h [
         | inl known ↦ inl known
-        | inr granted ↦ inr (subst (λ g. g.primaries ≤ b) (sym same) granted.0, (granted.1.0, granted.1.1, granted.1.2, subst (λ g. granted.1.1 < g.primaries) (sym same) granted.1.3, levels_are_grants kind w wants qs s granted.1.1 granted.1.0 l valid s1 granted.1.3 some ∙ granted.1.4))
+        | inr granted ↦ inr (subst (λ g. g.primaries ≤ b) (sym same) granted.0, (granted.1.0, granted.1.1, granted.1.2, subst (λ g. granted.1.1 < g.primaries) (sym same) granted.1.3, levels_are_grants kind w wants qs s granted.1.1 granted.1.0 l valid granted.1.3 some ∙ granted.1.4))
       ]),
     )

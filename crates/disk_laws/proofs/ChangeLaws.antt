@@ -1,6 +1,6 @@
 -- Changes of a world keep it valid.
 use Rattle.std.proofs.Common.{◌≡◌, ℕ, zero, suc, ◌+◌, ◌<◌, ◌≤◌, Bool, true, false, not, cond, ◌==◌, nat_lt, List, [], ◌∷◌, ◌⊎◌, length, refl, sym, ◌∙◌, ap, subst, arith, inl, inr, Option, Some, None, take, length-append}
-use Rattle.std.proofs.lemmas.Bool.{eqb-true, eq-eqb, and_parts, and_from, or_cases, ltb-true, cases_eq, cases_lt}
+use Rattle.std.proofs.lemmas.Bool.{eqb-true, eq-eqb, and_parts, and_from, or_cases, ltb-true, cases_eq, cases_lt, or_left, or_right}
 use Rattle.std.proofs.lemmas.List.{get_or-set_same, get_or-set_other, length-set, length-replicate, length-take}
 use Rattle.std.specs.Prelude.{filter, is_some, is_none, IfSome}
 use Rattle.std.specs.List.{list_all, range_with_len}
@@ -15,7 +15,7 @@ use Rattle.tsd_model.specs.declared.requests.Hint.{Hint}
 use Rattle.tsd_model.specs.declared.requests.PlaceKind.{PlaceKind}
 use Rattle.tsd_model.proofs.SizeLaws.{length-with_pair, sized-with_pointer, sized-without_pointer}
 use Rattle.disk_laws.proofs.GraphLaws.{length-range}
-use Rattle.disk_laws.proofs.PairLaws.{or_left, or_right, holds-with_pair, holds-filter, is_rising-with_pair, is_rising-filter}
+use Rattle.tsd_model.proofs.PairLaws.{holds-with_pair, holds-filter, is_rising-with_pair, is_rising-filter}
 use Rattle.disk_laws.proofs.DoomLaws.{live_below}
 
 -- ---- contents

@@ -1,6 +1,6 @@
 -- Doomed blocks, and what is left without them.
 use Rattle.std.proofs.Common.{◌≡◌, ℕ, zero, suc, ◌<◌, ◌≤◌, Bool, true, false, not, cond, ◌&&◌, ◌||◌, ◌==◌, List, [], ◌∷◌, length, refl, sym, ◌∙◌, ap, subst, arith, Option, None}
-use Rattle.std.proofs.lemmas.Bool.{eqb-true, and_parts, and_from, lt-ltb, not-true, not-false}
+use Rattle.std.proofs.lemmas.Bool.{eqb-true, and_parts, and_from, lt-ltb, not-true, not-false, or_parts}
 use Rattle.std.proofs.lemmas.Bool.Decides.{nat_tests}
 use Rattle.std.specs.Prelude.{slice_index_or, is_some}
 use Rattle.std.specs.List.{list_all}
@@ -11,7 +11,7 @@ use Rattle.tsd_model.specs.Doomed.{is_led_only_from, hangs_on, doomed_round, doo
 use Rattle.tsd_model.specs.Valid.{IsRaw, IsValid}
 use Rattle.tsd_model.proofs.SizeLaws.{contents-restricted, sized-restricted}
 use Rattle.disk_laws.proofs.GraphLaws.{rounds, round_more, rounds_end, has_number-filter, has_number-range, length-range}
-use Rattle.disk_laws.proofs.PairLaws.{or_false, and_false, holds-filter, is_rising-filter, all_of_held, one_fails}
+use Rattle.tsd_model.proofs.PairLaws.{and_false, holds-filter, is_rising-filter, all_of_held, one_fails}
 
 pub live_below : (cs : List (Option (List ℕ))) (b : ℕ) → is_some (slice_index_or cs b None) ≡ true → b < length cs
 live_below [] b h = absurd (cc)
@@ -56,7 +56,7 @@ rounds_are : (w : World) (r : ℕ) → doomed_rounds w r ≡ rounds (all_blocks 
 rounds_are w zero = refl
 rounds_are w (suc r) = ap (doomed_round w) (rounds_are w r)
 
-hangs_more : (w : World) (xs ys : List ℕ) → ((b : ℕ) → has_number xs b ≡ true → has_number ys b ≡ true) → (b : ℕ) → hangs_on w xs b ≡ true → hangs_on w ys b ≡ true
+pub hangs_more : (w : World) (xs ys : List ℕ) → ((b : ℕ) → has_number xs b ≡ true → has_number ys b ≡ true) → (b : ℕ) → hangs_on w xs b ≡ true → hangs_on w ys b ≡ true
 hangs_more w xs ys more b h = let parts = and_parts (is_live w b && not (is_primary w b)) (is_led_only_from w xs b) h in
     and_from _ _ parts.0 (all_more w.pairs parts.1)
   where
@@ -73,7 +73,7 @@ pub doomed_more : (w : World) (r b : ℕ) → has_number (doomed_rounds w r) b �
 doomed_more w r b h = ap (λ xs. has_number xs b) (rounds_are w (suc r)) ∙ round_more (all_blocks w) (hangs_on w) (hangs_more w) r b (ap (λ xs. has_number xs b) (sym (rounds_are w r)) ∙ h)
 
 -- one more round finds no more
-doomed_is_closed : (w : World) → length w.blocks ≡ w.geometry.blocks → doomed_round w (doomed w) ≡ doomed w
+pub doomed_is_closed : (w : World) → length w.blocks ≡ w.geometry.blocks → doomed_round w (doomed w) ≡ doomed w
 doomed_is_closed w long =
     let n = length (all_blocks w) in
     let count : w.geometry.blocks ≡ length (all_blocks w) = sym long ∙ sym (length-range 0 (length w.blocks)) in
@@ -127,7 +127,7 @@ source_stays w long b le stay live =
     let hangs : hangs_on w (doomed w) b ≡ false = sym (is_doomed w long b) ∙ not-true _ stay in
     let some = last_false (is_live w b) (is_primary w b) _ live (not_primary w b le) hangs in
     let found = one_fails (λ f. not (f.1 == b) || has_number (doomed w) f.0) w.pairs some in
-    let two = or_false (not (found.1 == b)) (has_number (doomed w) found.0) found.3 in
+    let two = or_parts (not (found.1 == b)) (has_number (doomed w) found.0) found.3 in
     (found.0, subst (λ c. holds w.pairs found.0 c ≡ true) (eqb-true found.1 b (not-false _ two.0)) found.2, ap not two.1)
 
 pub settle_is_valid : (w : World) → IsRaw w → IsValid (settle w)

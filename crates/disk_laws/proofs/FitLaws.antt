@@ -1,12 +1,12 @@
 -- The sessions after a request fit the world after it.
-use Rattle.std.proofs.Common.{◌≡◌, ℕ, zero, suc, ◌-◌, ◌<◌, true, false, cond, List, [], ◌∷◌, length, refl, sym, ◌∙◌, ap, subst, arith, Option, Some, None, ◌⊎◌, inl, inr}
-use Rattle.std.proofs.lemmas.Bool.{cases_lt, cases_eq}
-use Rattle.std.proofs.lemmas.List.{get_or-set_same, get_or-set_other, get_or_past, get_or-map, length-set, length-map, length-replicate}
+use Rattle.std.proofs.Common.{◌≡◌, ℕ, zero, suc, ◌<◌, true, false, cond, List, [], ◌∷◌, length, refl, sym, ◌∙◌, ap, subst, arith, Option, Some, None, ◌⊎◌, inl, inr}
+use Rattle.std.proofs.lemmas.Bool.{cases_lt}
+use Rattle.std.proofs.lemmas.List.{get_or_past, get_or-map, length-set, length-map, length-replicate}
 use Rattle.std.proofs.lemmas.List.FromFn.{length-map-range_with_len, get_or-map-range_with_len, length-enumerate_from}
 use Rattle.std.specs.Prelude.{map, replicate, slice_index_or, slice_set, option_map, is_some, IfSome}
 use Rattle.std.specs.List.{enumerate_from}
 use Rattle.tsd_model.specs.World.{World, is_live}
-use Rattle.tsd_model.specs.Sessions.{Levels, Held, Sessions, sessions_max, held_by, levels_in, raised_level, raised_held, raised, levels_at_live, fitted, Fits}
+use Rattle.tsd_model.specs.Sessions.{Levels, Held, Sessions, sessions_max, held_by, with_held, levels_in, raised_level, raised_held, raised, levels_at_live, fitted, Fits}
 use Rattle.tsd_model.specs.Needs.{session_of, needs}
 use Rattle.tsd_model.specs.Attained.{attained_from}
 use Rattle.tsd_model.specs.Placing.{chosen, chosen_run}
@@ -17,51 +17,36 @@ use Rattle.tsd_model.specs.declared.requests.Level.TheVariants as level
 use Rattle.tsd_model.specs.declared.requests.PlaceKind.{PlaceKind}
 use Rattle.tsd_model.specs.declared.requests.Request.{Request}
 use Rattle.tsd_model.specs.declared.requests.Request.TheVariants as ask
-
--- ---- one place of a list
-
-pub set_keeps : {X : Type 0} (P : X → Type 0) (v : List X) (i j : ℕ) (x d : X) → P x → P (slice_index_or v j d) → P (slice_index_or (slice_set v i x) j d)
-set_keeps P v i j x d new old = elim (cases_eq j i) [
-  | inr other ↦ subst P (sym (get_or-set_other v i j x d other)) old
-  | inl same ↦ elim (cases_lt i (length v)) [
-    | inl within ↦ subst (λ k. P (slice_index_or (slice_set v i x) k d)) (sym same) (subst P (sym (get_or-set_same v i x d within)) new)
-    | inr past ↦ subst P (get_or_past v j d (omega (arith, past, same)) ∙ sym (get_or_past (slice_set v i x) j d (omega (arith, past, same, length-set v i x)))) old
-  ]
-]
-
-pub held-map : (g : Held → Held) (v : Sessions) (i : ℕ) → slice_index_or (map (option_map g) v) i None ≡ option_map g (slice_index_or v i None)
-held-map g [] i = refl
-held-map g (o ∷ v) zero = refl
-held-map g (o ∷ v) (suc i) = held-map g v i
+use Rattle.tsd_model.proofs.SessionLaws.{held_keeps, length-with_held, held-map}
 
 -- ---- sessions with a table for each origin
 
 -- there are as many sessions as there may be, and each open one has levels from so many origins
 pub record HasOrigins (p : ℕ) (v : Sessions) : Type 0 where
   pub count : length v ≡ sessions_max
-  pub origins : (i : ℕ) → IfSome (slice_index_or v i None) (λ held. length held ≡ p)
+  pub origins : (s : ℕ) → IfSome (held_by v s) (λ held. length held ≡ p)
 
 origins-map : (p : ℕ) (g : Held → Held) → ((held : Held) → length (g held) ≡ length held) → (v : Sessions) → HasOrigins p v → HasOrigins p (map (option_map g) v)
 origins-map p g same v h = record {
   count = length-map v (option_map g) ∙ h.count;
-  origins = λ i. subst (λ o. IfSome o (λ held. length held ≡ p)) (sym (held-map g v i)) (each (slice_index_or v i None) (h.origins i));
+  origins = λ s. subst (λ o. IfSome o (λ held. length held ≡ p)) (sym (held-map g v s)) (each (held_by v s) (h.origins s));
 }
   where
     each : (o : Option Held) → IfSome o (λ held. length held ≡ p) → IfSome (option_map g o) (λ held. length held ≡ p)
     each None k = tt
     each (Some held) k = same held ∙ k
 
-origins-set : (p : ℕ) (v : Sessions) (i : ℕ) (o : Option Held) → IfSome o (λ held. length held ≡ p) → HasOrigins p v → HasOrigins p (slice_set v i o)
-origins-set p v i o new h = record {
-  count = length-set v i o ∙ h.count;
-  origins = λ j. set_keeps (λ x. IfSome x (λ held. length held ≡ p)) v i j o None new (h.origins j);
+origins-with_held : (p : ℕ) (v : Sessions) (t : ℕ) (o : Option Held) → IfSome o (λ held. length held ≡ p) → HasOrigins p v → HasOrigins p (with_held v t o)
+origins-with_held p v t o new h = record {
+  count = length-with_held v t o ∙ h.count;
+  origins = λ s. held_keeps (λ x. IfSome x (λ held. length held ≡ p)) v t s o new (h.origins s);
 }
 
 pub length-raised_held : (b : ℕ) (f : ℕ → Level) (held : Held) → length (raised_held b f held) ≡ length held
 length-raised_held b f held = length-map (enumerate_from 0 held) (λ e. raised_level b (f e.0) e.1) ∙ length-enumerate_from 0 held
 
 pub origins-raised : (p : ℕ) (v : Sessions) (s b : ℕ) (f : ℕ → Level) → HasOrigins p v → HasOrigins p (raised v s b f)
-origins-raised p v s b f h = origins-set p v (s - 1) (option_map (raised_held b f) (held_by v s)) (each (held_by v s) (h.origins (s - 1))) h
+origins-raised p v s b f h = origins-with_held p v s (option_map (raised_held b f) (held_by v s)) (each (held_by v s) (h.origins s)) h
   where
     each : (o : Option Held) → IfSome o (λ held. length held ≡ p) → IfSome (option_map (raised_held b f) o) (λ held. length held ≡ p)
     each None k = tt
@@ -80,8 +65,8 @@ origins-raised_by p w v q h = go (session_of q)
 
 pub origins-change : (kind : PlaceKind) (w : World) (u : Sessions) (q : Request) → HasOrigins w.geometry.primaries u → HasOrigins w.geometry.primaries (change kind w u q).state.sessions
 origins-change kind w u ask.Bad h = h
-origins-change kind w u (ask.Begin s) h = origins-set w.geometry.primaries u (s - 1) (Some (replicate w.geometry.primaries (replicate (length w.blocks) level.Bare))) (length-replicate w.geometry.primaries (replicate (length w.blocks) level.Bare)) h
-origins-change kind w u (ask.End s) h = origins-set w.geometry.primaries u (s - 1) None tt h
+origins-change kind w u (ask.Begin s) h = origins-with_held w.geometry.primaries u s (Some (replicate w.geometry.primaries (replicate (length w.blocks) level.Bare))) (length-replicate w.geometry.primaries (replicate (length w.blocks) level.Bare)) h
+origins-change kind w u (ask.End s) h = origins-with_held w.geometry.primaries u s None tt h
 origins-change kind w u (ask.Read s b shown) h = h
 origins-change kind w u (ask.Write s b shown bytes) h = h
 origins-change kind w u (ask.Alloc s a shown hint count) h = h
@@ -114,9 +99,9 @@ at_origin w (levels ∷ held) (suc o) = at_origin w held o
 pub fitted_fits : (w : World) (v : Sessions) → length w.blocks ≡ w.geometry.blocks → HasOrigins w.geometry.primaries v → Fits w (fitted w v)
 fitted_fits w v long h = record {
   count = length-map v (option_map (map (levels_at_live w))) ∙ h.count;
-  origins = λ s. subst (λ x. IfSome x (λ held. length held ≡ w.geometry.primaries)) (sym (held-map (map (levels_at_live w)) v (s - 1))) (as_many (slice_index_or v (s - 1) None) (h.origins (s - 1)));
-  blocks = λ s o. subst (λ x. is_some x ≡ true → o < w.geometry.primaries → length (levels_in x o) ≡ w.geometry.blocks) (sym (held-map (map (levels_at_live w)) v (s - 1))) (as_long o (slice_index_or v (s - 1) None) (h.origins (s - 1)));
-  live = λ s o b. subst (λ x. (slice_index_or (levels_in x o) b level.Bare ≡ level.Bare) ⊎ (is_live w b ≡ true)) (sym (held-map (map (levels_at_live w)) v (s - 1))) (only_live o b (slice_index_or v (s - 1) None));
+  origins = λ s. subst (λ x. IfSome x (λ held. length held ≡ w.geometry.primaries)) (sym (held-map (map (levels_at_live w)) v s)) (as_many (held_by v s) (h.origins s));
+  blocks = λ s o. subst (λ x. is_some x ≡ true → o < w.geometry.primaries → length (levels_in x o) ≡ w.geometry.blocks) (sym (held-map (map (levels_at_live w)) v s)) (as_long o (held_by v s) (h.origins s));
+  live = λ s o b. subst (λ x. (slice_index_or (levels_in x o) b level.Bare ≡ level.Bare) ⊎ (is_live w b ≡ true)) (sym (held-map (map (levels_at_live w)) v s)) (only_live o b (held_by v s));
 }
   where
     as_many : (x : Option Held) → IfSome x (λ held. length held ≡ w.geometry.primaries) → IfSome (option_map (map (levels_at_live w)) x) (λ held. length held ≡ w.geometry.primaries)

@@ -16,23 +16,16 @@ use Rattle.tsd_model.specs.declared.records.KeptCap.{KeptCap}
 use Rattle.tsd_model.specs.declared.records.KeptCap.TheVariants.{Plain, Digested}
 use Rattle.tsd_model.specs.declared.records.Record.{Record}
 use Rattle.tsd_model.specs.declared.requests.Level.TheVariants as level
+use Rattle.tsd_model.proofs.SessionLaws.{no_held}
 
 -- ---- no session
-
-none_in : (n i : ℕ) → ◌≡◌ {A = Option Held} (slice_index_or (replicate n None) i None) None
-none_in zero i = refl
-none_in (suc n) zero = refl
-none_in (suc n) (suc i) = none_in n i
-
-pub no_held : (i : ℕ) → ◌≡◌ {A = Option Held} (slice_index_or no_sessions i None) None
-no_held i = none_in sessions_max i
 
 pub no_sessions_fit : (w : World) → Fits w no_sessions
 no_sessions_fit w = record {
   count = length-replicate {A = Option Held} sessions_max None;
-  origins = λ t. subst (λ x. IfSome x (λ held. length held ≡ w.geometry.primaries)) (sym (no_held (t - 1))) tt;
-  blocks = λ t o. subst (λ x. is_some x ≡ true → o < w.geometry.primaries → length (levels_in x o) ≡ w.geometry.blocks) (sym (no_held (t - 1))) (λ e. absurd (cc));
-  live = λ t o b. inl (ap (λ x. slice_index_or (levels_in x o) b level.Bare) (no_held (t - 1)));
+  origins = λ t. subst (λ x. IfSome x (λ held. length held ≡ w.geometry.primaries)) (sym (no_held t)) tt;
+  blocks = λ t o. subst (λ x. is_some x ≡ true → o < w.geometry.primaries → length (levels_in x o) ≡ w.geometry.blocks) (sym (no_held t)) (λ e. absurd (cc));
+  live = λ t o b. inl (ap (λ x. slice_index_or (levels_in x o) b level.Bare) (no_held t));
 }
 
 -- ---- a new disk

@@ -1,7 +1,6 @@
 -- What a session holds is what it was granted.
-use Rattle.std.proofs.Common.{◌≡◌, ℕ, zero, suc, ◌-◌, ◌<◌, ◌≤◌, Bool, true, false, not, cond, ◌&&◌, ◌||◌, ◌==◌, nat_lt, nat_le, List, [], ◌∷◌, length, refl, sym, ◌∙◌, ap, subst, arith, inl, inr, ◌⊎◌, Option, Some, None, drop}
-use Rattle.std.proofs.lemmas.Bool.{cases_eq, eq-eqb, ne_eqb, leb-false, ltb-false}
-use Rattle.std.proofs.lemmas.List.{get_or-set_same, get_or-set_other}
+use Rattle.std.proofs.Common.{◌≡◌, ℕ, zero, suc, ◌<◌, ◌≤◌, Bool, true, false, not, cond, ◌&&◌, ◌||◌, ◌==◌, nat_lt, nat_le, List, [], ◌∷◌, length, refl, sym, ◌∙◌, ap, subst, arith, inl, inr, ◌⊎◌, Option, Some, None, drop}
+use Rattle.std.proofs.lemmas.Bool.{cases_eq, eq-eqb, ne_eqb, leb-false, ltb-false, or_parts}
 use Rattle.std.specs.Prelude.{replicate, slice_index_or, is_some, is_none, IfSome}
 use Rattle.std.specs.List.{list_any}
 use Rattle.std.specs.Option.{option_map_or}
@@ -20,19 +19,19 @@ use Rattle.tsd_model.specs.declared.requests.Request.{Request}
 use Rattle.tsd_model.specs.declared.requests.Request.TheVariants as ask
 use Rattle.tsd_model.specs.declared.replies.Rule.{Rule}
 use Rattle.disk_laws.specs.Grants.{onto_past, newest_first}
-use Rattle.disk_laws.proofs.PairLaws.{or_false}
 use Rattle.disk_laws.proofs.RuleLaws.{Passes, granted_passes}
 use Rattle.disk_laws.proofs.AnswerLaws.{refused_answer, granted_answer}
-use Rattle.disk_laws.proofs.FitLaws.{HasOrigins, set_keeps, origins-raised_by}
+use Rattle.tsd_model.proofs.SessionLaws.{no_held, held_keeps, held-with_other, held-with_same}
+use Rattle.disk_laws.proofs.FitLaws.{HasOrigins, origins-raised_by}
 use Rattle.disk_laws.proofs.RunLaws.{answer_valid, answer_fits, fits_have_origins, answer_geometry}
-use Rattle.disk_laws.proofs.FreshLaws.{no_held, no_sessions_fit}
+use Rattle.disk_laws.proofs.FreshLaws.{no_sessions_fit}
 use Rattle.disk_laws.proofs.HeldLaws.{not_bare, level-fitted, level-dropped_from, IsReady, NeedsBelow, level-raised_for}
 
 -- ---- the needs of a request that passes
 
 -- the one or two blocks that are named are of the disk
 named_below : (n b : ℕ) (t : Bool) → (nat_le n b || t) ≡ false → b < n
-named_below n b t h = leb-false n b (or_false (nat_le n b) t h).0
+named_below n b t h = leb-false n b (or_parts (nat_le n b) t h).0
 
 needs_below : (w : World) (q : Request) → names_missing_block w q ≡ false → NeedsBelow w.geometry.blocks (needs q)
 needs_below w ask.Bad h = tt
@@ -43,7 +42,7 @@ needs_below w (ask.Write s b shown bytes) h = (named_below w.geometry.blocks b _
 needs_below w (ask.Alloc s a shown hint count) h = (named_below w.geometry.blocks a _ h, tt)
 needs_below w (ask.Contig s a shown hint count) h = (named_below w.geometry.blocks a _ h, tt)
 needs_below w ask.GetFree h = tt
-needs_below w (ask.Create s a shown b) h = (named_below w.geometry.blocks a _ h, (named_below w.geometry.blocks b _ (or_false (nat_le w.geometry.blocks a) _ h).1, tt))
+needs_below w (ask.Create s a shown b) h = (named_below w.geometry.blocks a _ h, (named_below w.geometry.blocks b _ (or_parts (nat_le w.geometry.blocks a) _ h).1, tt))
 needs_below w (ask.Delete s a shown b) h = (named_below w.geometry.blocks a _ h, tt)
 needs_below w (ask.SetCap s b shown caps) h = (named_below w.geometry.blocks b _ h, tt)
 needs_below w (ask.Sweep s shown) h = (named_below w.geometry.blocks 0 _ h, tt)
@@ -51,7 +50,7 @@ needs_below w (ask.List s a shown start) h = (named_below w.geometry.blocks a _ 
 
 -- a session that is named is in range
 pub in_range : (t : ℕ) → is_no_session t ≡ false → (1 ≤ t) × (t ≤ sessions_max)
-in_range t h = let parts = or_false (nat_lt t 1) (nat_lt sessions_max t) h in (ltb-false t 1 parts.0, ltb-false sessions_max t parts.1)
+in_range t h = let parts = or_parts (nat_lt t 1) (nat_lt sessions_max t) h in (ltb-false t 1 parts.0, ltb-false sessions_max t parts.1)
 
 is_opened : (t : Bool) → not t ≡ false → t ≡ true
 is_opened true h = refl
@@ -101,7 +100,7 @@ unchanged live e g s y old h p q = subst (λ c. old ≡ ((live && not c) && (((g
         end true = refl
         end false = refl
 
-module _ (w : World) (v : Sessions) (valid : IsValid w) (fits : Fits w v) (s o a : ℕ) (l : Level) (s1 : 1 ≤ s) (below : o < w.geometry.primaries) (some : level_le l level.Bare ≡ false) where
+module _ (w : World) (v : Sessions) (valid : IsValid w) (fits : Fits w v) (s o a : ℕ) (l : Level) (below : o < w.geometry.primaries) (some : level_le l level.Bare ≡ false) where
   abbrev before : State
   before = record { world = w; sessions = v }
 
@@ -129,31 +128,31 @@ module _ (w : World) (v : Sessions) (valid : IsValid w) (fits : Fits w v) (s o a
 
   level-raised_by : (q : Request) → Passes w v q → level_le l (level_from (raised_by w v q) s o a) ≡ raises q
   level-raised_by (ask.Begin n) pass = drop_begin (n == s) (level_le l (level_from v s o a))
-  level-raised_by q pass = level-raised_for w v w.geometry.primaries w.geometry.blocks s o a l (session_of q) (needs q) s1 below (session_ready q refl pass) (needs_below w q pass.there)
+  level-raised_by q pass = level-raised_for w v w.geometry.primaries w.geometry.blocks s o a l (session_of q) (needs q) below (session_ready q refl pass) (needs_below w q pass.there)
 
   -- the changes of the sessions themselves
-  level-begun : (u : Sessions) (n : ℕ) → 1 ≤ n → is_open u n ≡ false → level_le l (level_from (begun w u n) s o a) ≡ level_le l (level_from u s o a)
-  level-begun u n n1 shut = elim (cases_eq s n) [
-    | inr other ↦ ap (λ x. level_le l (slice_index_or (levels_in x o) a level.Bare)) (get_or-set_other u (n - 1) (s - 1) (Some (replicate w.geometry.primaries (replicate (length w.blocks) level.Bare))) None (λ e. other (omega arith)))
+  level-begun : (u : Sessions) (n : ℕ) → is_open u n ≡ false → level_le l (level_from (begun w u n) s o a) ≡ level_le l (level_from u s o a)
+  level-begun u n shut = elim (cases_eq s n) [
+    | inr other ↦ ap (λ x. level_le l (slice_index_or (levels_in x o) a level.Bare)) (held-with_other u n s (Some (replicate w.geometry.primaries (replicate (length w.blocks) level.Bare))) other)
     | inl same ↦ subst (λ k. level_le l (level_from (begun w u n) k o a) ≡ level_le l (level_from u k o a)) (sym same)
         (let none = closed (held_by u n) shut in
         let was : level_from u n o a ≡ level.Bare = ap (λ x. slice_index_or (levels_in x o) a level.Bare) none in
-        let now : level_from (begun w u n) n o a ≡ level.Bare = set_keeps (λ x. slice_index_or (levels_in x o) a level.Bare ≡ level.Bare) u (n - 1) (n - 1) (Some (replicate w.geometry.primaries (replicate (length w.blocks) level.Bare))) None (begun_bare (length w.blocks) w.geometry.primaries o a) was in
+        let now : level_from (begun w u n) n o a ≡ level.Bare = held_keeps (λ x. slice_index_or (levels_in x o) a level.Bare ≡ level.Bare) u n n (Some (replicate w.geometry.primaries (replicate (length w.blocks) level.Bare))) (begun_bare (length w.blocks) w.geometry.primaries o a) was in
         ap (level_le l) (now ∙ sym was))
   ]
 
   level-ended : (u : Sessions) (n : ℕ) → 1 ≤ n → n ≤ length u → level_le l (level_from (ended u n) s o a) ≡ (not ((n == s) || false) && level_le l (level_from u s o a))
   level-ended u n n1 most = elim (cases_eq s n) [
-    | inr other ↦ ap (λ x. level_le l (slice_index_or (levels_in x o) a level.Bare)) (get_or-set_other u (n - 1) (s - 1) None None (λ e. other (omega arith)))
+    | inr other ↦ ap (λ x. level_le l (slice_index_or (levels_in x o) a level.Bare)) (held-with_other u n s None other)
         ∙ ap (λ t. not (t || false) && level_le l (level_from u s o a)) (sym (ne_eqb n s (λ e. other (sym e))))
     | inl same ↦ subst (λ k. level_le l (level_from (ended u n) k o a) ≡ (not ((n == k) || false) && level_le l (level_from u k o a))) (sym same)
-        (ap (λ x. level_le l (slice_index_or (levels_in x o) a level.Bare)) (get_or-set_same u (n - 1) None None (omega arith))
+        (ap (λ x. level_le l (slice_index_or (levels_in x o) a level.Bare)) (held-with_same u n None n1 most)
         ∙ (some ∙ ap (λ t. not (t || false) && level_le l (level_from u n o a)) (sym (eq-eqb n n refl))))
   ]
 
   level-change : (kind : PlaceKind) (u : Sessions) (q : Request) → length u ≡ sessions_max → has_bad_session q ≡ false → is_already_open u q ≡ false
       → level_le l (level_from (change kind w u q).state.sessions s o a) ≡ (not (is_end_of q s || is_set_cap_of q o) && level_le l (level_from u s o a))
-  level-change kind u (ask.Begin n) long good shut = level-begun u n (in_range n good).0 shut
+  level-change kind u (ask.Begin n) long good shut = level-begun u n shut
   level-change kind u (ask.End n) long good shut = level-ended u n (in_range n good).0 (omega (arith, (in_range n good).1, long))
   level-change kind u (ask.SetCap n b shown caps) long good shut = ap (level_le l) (level-dropped_from (length w.blocks) b u s o a) ∙ le_not_cond (b == o) l (level_from u s o a) some
   level-change kind u q long good shut = refl
@@ -231,22 +230,22 @@ stands_after kind w valid (e ∷ past) =
       geometry = answer_geometry kind st e.request e.wants ∙ is.geometry;
     }
 
-grants_after : (kind : PlaceKind) (w : World) (past : List Asked) (s o a : ℕ) (l : Level) → IsValid w → 1 ≤ s → o < w.geometry.primaries → level_le l level.Bare ≡ false
+grants_after : (kind : PlaceKind) (w : World) (past : List Asked) (s o a : ℕ) (l : Level) → IsValid w → o < w.geometry.primaries → level_le l level.Bare ≡ false
     → level_le l (level_from (state_after kind (at_rest w) past).sessions s o a) ≡ has_grant kind (at_rest w) past s o a l
-grants_after kind w [] s o a l valid s1 below some = ap (λ x. level_le l (slice_index_or (levels_in x o) a level.Bare)) (no_held (s - 1)) ∙ some
-grants_after kind w (e ∷ past) s o a l valid s1 below some =
+grants_after kind w [] s o a l valid below some = ap (λ x. level_le l (slice_index_or (levels_in x o) a level.Bare)) (no_held s) ∙ some
+grants_after kind w (e ∷ past) s o a l valid below some =
     let st = state_after kind (at_rest w) past in
     let is : Stands w (state_after kind (at_rest w) past) = stands_after kind w valid past in
-    answer_level st.world st.sessions is.valid is.fits s o a l s1 (subst (λ g. o < g.primaries) (sym is.geometry) below) some kind e.request e.wants
-    ∙ ap (λ t. keeps_grant st (state_after kind (at_rest w) (e ∷ past)) e.request s o a && (gives_grant st e.request s o a l || t)) (grants_after kind w past s o a l valid s1 below some)
+    answer_level st.world st.sessions is.valid is.fits s o a l (subst (λ g. o < g.primaries) (sym is.geometry) below) some kind e.request e.wants
+    ∙ ap (λ t. keeps_grant st (state_after kind (at_rest w) (e ∷ past)) e.request s o a && (gives_grant st e.request s o a l || t)) (grants_after kind w past s o a l valid below some)
 
 -- a run and its requests, the newest first
 pub after_newest_first : (kind : PlaceKind) (start : State) (wants : List Bool) (qs : List Request) (past : List Asked) → after kind (state_after kind start past) wants qs ≡ state_after kind start (onto_past wants qs past)
 after_newest_first kind start wants [] past = refl
 after_newest_first kind start wants (q ∷ qs) past = after_newest_first kind start (drop 1 wants) qs (record { request = q; wants = wants_now wants } ∷ past)
 
-pub levels_are_grants : (kind : PlaceKind) (w : World) (wants : List Bool) (qs : List Request) (s o a : ℕ) (l : Level) → IsValid w → 1 ≤ s → o < w.geometry.primaries → (l ≡ level.Bare → ⊥)
+pub levels_are_grants : (kind : PlaceKind) (w : World) (wants : List Bool) (qs : List Request) (s o a : ℕ) (l : Level) → IsValid w → o < w.geometry.primaries → (l ≡ level.Bare → ⊥)
     → level_le l (level_from (after kind (at_rest w) wants qs).sessions s o a) ≡ has_grant kind (at_rest w) (newest_first wants qs) s o a l
-levels_are_grants kind w wants qs s o a l valid s1 below some =
+levels_are_grants kind w wants qs s o a l valid below some =
     ap (λ t. level_le l (level_from t.sessions s o a)) (after_newest_first kind (at_rest w) wants qs [])
-    ∙ grants_after kind w (newest_first wants qs) s o a l valid s1 below (not_bare l some)
+    ∙ grants_after kind w (newest_first wants qs) s o a l valid below (not_bare l some)

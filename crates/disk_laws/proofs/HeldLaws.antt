@@ -1,5 +1,5 @@
 -- Levels that sessions hold, after a change.
-use Rattle.std.proofs.Common.{◌≡◌, ℕ, zero, suc, ◌+◌, ◌-◌, ◌<◌, ◌≤◌, Bool, true, false, cond, ◌&&◌, ◌||◌, ◌==◌, List, [], ◌∷◌, length, refl, sym, ◌∙◌, ap, subst, arith, inl, inr, Option, Some, None}
+use Rattle.std.proofs.Common.{◌≡◌, ℕ, zero, suc, ◌+◌, ◌<◌, ◌≤◌, Bool, true, false, cond, ◌&&◌, ◌||◌, ◌==◌, List, [], ◌∷◌, length, refl, sym, ◌∙◌, ap, subst, arith, inl, inr, Option, Some, None}
 use Rattle.std.proofs.lemmas.Bool.{cases_eq, cases_lt, eq-eqb, ne_eqb}
 use Rattle.std.proofs.lemmas.Bool.Decides.{nat_tests}
 use Rattle.std.proofs.lemmas.List.{get_or-set_same, get_or-set_other, get_or_past, get_or-map, length-set}
@@ -15,7 +15,8 @@ use Rattle.tsd_model.specs.History.{attains_at}
 use Rattle.tsd_model.specs.declared.needs.Need.{Need}
 use Rattle.tsd_model.specs.declared.requests.Level.{Level}
 use Rattle.tsd_model.specs.declared.requests.Level.TheVariants as level
-use Rattle.disk_laws.proofs.FitLaws.{HasOrigins, origins-raised, held-map}
+use Rattle.tsd_model.proofs.SessionLaws.{held-map, held-with_other, held-with_same}
+use Rattle.disk_laws.proofs.FitLaws.{HasOrigins, origins-raised}
 
 -- ---- the order of levels
 
@@ -51,7 +52,7 @@ bare_both false = refl
 
 -- what is held once the levels at blocks that aren't live are dropped
 pub level-fitted : (w : World) (v : Sessions) (s o a : ℕ) → level_from (fitted w v) s o a ≡ cond (is_live w a) (level_from v s o a) level.Bare
-level-fitted w v s o a = ap (λ x. slice_index_or (levels_in x o) a level.Bare) (held-map (map (levels_at_live w)) v (s - 1)) ∙ go (held_by v s)
+level-fitted w v s o a = ap (λ x. slice_index_or (levels_in x o) a level.Bare) (held-map (map (levels_at_live w)) v s) ∙ go (held_by v s)
   where
     at : (held : Held) (i : ℕ) → slice_index_or (slice_index_or (map (levels_at_live w) held) i []) a level.Bare ≡ cond (is_live w a) (slice_index_or (slice_index_or held i []) a level.Bare) level.Bare
     at [] i = bare_both (is_live w a)
@@ -65,7 +66,7 @@ level-fitted w v s o a = ap (λ x. slice_index_or (levels_in x o) a level.Bare) 
 -- ---- where an origin got new capabilities
 
 pub level-dropped_from : (n b : ℕ) (v : Sessions) (s o a : ℕ) → level_from (dropped_from n b v) s o a ≡ cond (b == o) level.Bare (level_from v s o a)
-level-dropped_from n b v s o a = ap (λ x. slice_index_or (levels_in x o) a level.Bare) (held-map (λ held. slice_set held b (replicate n level.Bare)) v (s - 1)) ∙ go (held_by v s)
+level-dropped_from n b v s o a = ap (λ x. slice_index_or (levels_in x o) a level.Bare) (held-map (λ held. slice_set held b (replicate n level.Bare)) v s) ∙ go (held_by v s)
   where
     bare_in : (m i : ℕ) → slice_index_or (replicate m level.Bare) i level.Bare ≡ level.Bare
     bare_in zero i = refl
@@ -91,12 +92,12 @@ level-dropped_from n b v s o a = ap (λ x. slice_index_or (levels_in x o) a leve
 -- ---- raising
 
 -- another session's table
-pub levels-raised_other : (v : Sessions) (s t b o : ℕ) (f : ℕ → Level) → 1 ≤ s → 1 ≤ t → (s ≡ t → ⊥) → held_by (raised v t b f) s ≡ held_by v s
-levels-raised_other v s t b o f s1 t1 other = get_or-set_other v (t - 1) (s - 1) (option_map (raised_held b f) (held_by v t)) None (λ e. other (omega arith))
+pub levels-raised_other : (v : Sessions) (s t b o : ℕ) (f : ℕ → Level) → (s ≡ t → ⊥) → held_by (raised v t b f) s ≡ held_by v s
+levels-raised_other v s t b o f other = held-with_other v t s (option_map (raised_held b f) (held_by v t)) other
 
 -- the session's own, which is open
 pub held-raised : (v : Sessions) (t b : ℕ) (f : ℕ → Level) → 1 ≤ t → t ≤ length v → held_by (raised v t b f) t ≡ option_map (raised_held b f) (held_by v t)
-held-raised v t b f t1 tn = get_or-set_same v (t - 1) (option_map (raised_held b f) (held_by v t)) None (omega arith)
+held-raised v t b f t1 tn = held-with_same v t (option_map (raised_held b f) (held_by v t)) t1 tn
 
 levels-raised_held : (b : ℕ) (f : ℕ → Level) (held : Held) (o : ℕ) → o < length held → slice_index_or (raised_held b f held) o [] ≡ raised_level b (f o) (slice_index_or held o [])
 levels-raised_held b f held o below =
@@ -119,7 +120,7 @@ open_held (Some held) h = (held, refl)
 levels-raised : (p n o t b : ℕ) (f : ℕ → Level) (v : Sessions) → 1 ≤ t → t ≤ sessions_max → o < p → IsReady p n o t v → levels_from (raised v t b f) t o ≡ raised_level b (f o) (levels_from v t o)
 levels-raised p n o t b f v t1 tn below ready =
     let held = open_held (held_by v t) ready.there in
-    let as_many : length held.0 ≡ p = subst (λ x. IfSome x (λ h. length h ≡ p)) held.1 (ready.shape.origins (t - 1)) in
+    let as_many : length held.0 ≡ p = subst (λ x. IfSome x (λ h. length h ≡ p)) held.1 (ready.shape.origins t) in
     ap (λ x. levels_in x o) (held-raised v t b f t1 (omega (arith, tn, ready.shape.count)) ∙ ap (option_map (raised_held b f)) held.1)
     ∙ (levels-raised_held b f held.0 o (omega (arith, below, as_many))
     ∙ ap (λ x. raised_level b (f o) (levels_in x o)) (sym held.1))
@@ -173,20 +174,20 @@ own-raised_at w v p n o t a l t1 tn below (m ∷ ms) now ready each =
     ∙ (ap (λ x. rest || level_le l x) (level-raised_level m.block (f o) (levels_from now t o) a within)
     ∙ le_raised (m.block == a) rest l (level_from now t o a) (f o)))
 
-pub other-raised_at : (w : World) (v : Sessions) (s t : ℕ) → 1 ≤ s → 1 ≤ t → (s ≡ t → ⊥) → (ns : List Need) (now : Sessions) → held_by (raised_at w v t ns now) s ≡ held_by now s
-other-raised_at w v s t s1 t1 other [] now = refl
-other-raised_at w v s t s1 t1 other (m ∷ ms) now =
-    other-raised_at w v s t s1 t1 other ms (raised now t m.block (attained_from w v t m.block m.shown)) ∙ levels-raised_other now s t m.block 0 (attained_from w v t m.block m.shown) s1 t1 other
+pub other-raised_at : (w : World) (v : Sessions) (s t : ℕ) → (s ≡ t → ⊥) → (ns : List Need) (now : Sessions) → held_by (raised_at w v t ns now) s ≡ held_by now s
+other-raised_at w v s t other [] now = refl
+other-raised_at w v s t other (m ∷ ms) now =
+    other-raised_at w v s t other ms (raised now t m.block (attained_from w v t m.block m.shown)) ∙ levels-raised_other now s t m.block 0 (attained_from w v t m.block m.shown) other
 
 -- what a session holds once a request of a session that is open, or of none, has raised levels
-pub level-raised_for : (w : World) (v : Sessions) (p n s o a : ℕ) (l : Level) (x : Option ℕ) (ns : List Need) → 1 ≤ s → o < p
+pub level-raised_for : (w : World) (v : Sessions) (p n s o a : ℕ) (l : Level) (x : Option ℕ) (ns : List Need) → o < p
     → IfSome x (λ t. (1 ≤ t) × (t ≤ sessions_max) × IsReady p n o t v) → NeedsBelow n ns
     → level_le l (level_from (raised_for w v x ns) s o a) ≡ ((option_map_or (λ t. t == s) x false && list_any (attains_at (record { world = w; sessions = v }) s o a l) ns) || level_le l (level_from v s o a))
-level-raised_for w v p n s o a l None ns s1 below h each = refl
-level-raised_for w v p n s o a l (Some t) ns s1 below h each = elim (cases_eq s t) [
+level-raised_for w v p n s o a l None ns below h each = refl
+level-raised_for w v p n s o a l (Some t) ns below h each = elim (cases_eq s t) [
   | inl same ↦ subst (λ k. level_le l (level_from (raised_at w v t ns v) k o a) ≡ (((t == k) && list_any (attains_at (record { world = w; sessions = v }) k o a l) ns) || level_le l (level_from v k o a))) (sym same)
       (own-raised_at w v p n o t a l h.0 h.1 below ns v h.2 each
       ∙ ap (λ u. (u && list_any (attains_at (record { world = w; sessions = v }) t o a l) ns) || level_le l (level_from v t o a)) (sym (eq-eqb t t refl)))
-  | inr other ↦ ap (λ x. level_le l (slice_index_or (levels_in x o) a level.Bare)) (other-raised_at w v s t s1 h.0 other ns v)
+  | inr other ↦ ap (λ x. level_le l (slice_index_or (levels_in x o) a level.Bare)) (other-raised_at w v s t other ns v)
       ∙ ap (λ u. (u && list_any (attains_at (record { world = w; sessions = v }) s o a l) ns) || level_le l (level_from v s o a)) (sym (ne_eqb t s (λ e. other (sym e))))
 ]

@@ -1,13 +1,12 @@
 -- A request of one session and the levels of another.
-use Rattle.std.proofs.Common.{◌≡◌, ℕ, ◌-◌, ◌≤◌, Bool, true, false, not, cond, ◌&&◌, ◌==◌, length, refl, sym, ◌∙◌, ap, subst, arith, inl, inr, ◌⊎◌, Option, Some, None}
+use Rattle.std.proofs.Common.{◌≡◌, ℕ, Bool, true, false, not, cond, ◌&&◌, ◌==◌, length, refl, sym, ◌∙◌, ap, subst, inl, inr, ◌⊎◌, Option, Some, None}
 use Rattle.std.proofs.lemmas.Bool.{eq-eqb}
-use Rattle.std.proofs.lemmas.List.{get_or-set_other}
 use Rattle.std.specs.Prelude.{map, replicate, slice_index_or, slice_set, option_map, is_some, is_none}
 use Rattle.std.specs.Option.{option_map_or}
 use Rattle.tsd_model.specs.World.{World, is_live}
 use Rattle.tsd_model.specs.Sessions.{Held, Sessions, held_by, is_open, levels_in, level_from, levels_at_live, fitted, Fits}
 use Rattle.tsd_model.specs.Needs.{session_of, needs}
-use Rattle.tsd_model.specs.Verdict.{is_no_session, is_granted, verdict}
+use Rattle.tsd_model.specs.Verdict.{is_granted, verdict}
 use Rattle.tsd_model.specs.Step.{State, change, judged, raised_by, raised_for}
 use Rattle.tsd_model.specs.Run.{answer}
 use Rattle.tsd_model.specs.History.{is_of_session, is_set_cap_of}
@@ -18,11 +17,9 @@ use Rattle.tsd_model.specs.declared.requests.Request.{Request}
 use Rattle.tsd_model.specs.declared.requests.Request.TheVariants as ask
 use Rattle.tsd_model.specs.declared.replies.Rule.{Rule}
 use Rattle.disk_laws.specs.Isolation.{renews}
-use Rattle.disk_laws.proofs.RuleLaws.{Passes, granted_passes}
 use Rattle.disk_laws.proofs.AnswerLaws.{after_answer, refused_answer, granted_answer}
-use Rattle.disk_laws.proofs.FitLaws.{held-map}
+use Rattle.tsd_model.proofs.SessionLaws.{held-map, held-with_other}
 use Rattle.disk_laws.proofs.HeldLaws.{level-fitted, level-dropped_from, other-raised_at}
-use Rattle.disk_laws.proofs.GrantLaws.{in_range}
 
 another : (n t : ℕ) → (t == n) ≡ false → n ≡ t → ⊥
 another n t h e = clash (sym (eq-eqb t n (sym e)) ∙ h)
@@ -30,36 +27,32 @@ another n t h e = clash (sym (eq-eqb t n (sym e)) ∙ h)
     clash : true ≡ false → ⊥
     clash k = cc
 
--- a place of another session
-other_place : (v : Sessions) (t n : ℕ) (x : Option Held) → 1 ≤ n → 1 ≤ t → (t == n) ≡ false → held_by (slice_set v (t - 1) x) n ≡ held_by v n
-other_place v t n x n1 t1 h = let apart = another n t h in get_or-set_other v (t - 1) (n - 1) x None (λ e. apart (omega arith))
-
-raised-other : (w : World) (v : Sessions) (q : Request) (n : ℕ) → 1 ≤ n → Passes w v q → is_of_session q n ≡ false → held_by (raised_by w v q) n ≡ held_by v n
-raised-other w v q n n1 pass h = go (session_of q) pass.in_range h
+raised-other : (w : World) (v : Sessions) (q : Request) (n : ℕ) → is_of_session q n ≡ false → held_by (raised_by w v q) n ≡ held_by v n
+raised-other w v q n h = go (session_of q) h
   where
-    go : (x : Option ℕ) → option_map_or is_no_session x false ≡ false → option_map_or (λ t. t == n) x false ≡ false → held_by (raised_for w v x (needs q)) n ≡ held_by v n
-    go None g k = refl
-    go (Some t) g k = other-raised_at w v n t n1 (in_range t g).0 (another n t k) (needs q) v
+    go : (x : Option ℕ) → option_map_or (λ t. t == n) x false ≡ false → held_by (raised_for w v x (needs q)) n ≡ held_by v n
+    go None k = refl
+    go (Some t) k = other-raised_at w v n t (another n t k) (needs q) v
 
 -- what a request changes of another session but to drop the levels of a block
-change-other : (kind : PlaceKind) (w : World) (u : Sessions) (q : Request) (n o a : ℕ) → 1 ≤ n → option_map_or is_no_session (session_of q) false ≡ false → is_of_session q n ≡ false
+change-other : (kind : PlaceKind) (w : World) (u : Sessions) (q : Request) (n o a : ℕ) → is_of_session q n ≡ false
     → (level_from (change kind w u q).state.sessions n o a ≡ cond (is_set_cap_of q o) level.Bare (level_from u n o a)) × (is_open (change kind w u q).state.sessions n ≡ is_open u n)
-change-other kind w u (ask.Begin t) n o a n1 g h = let same = other_place u t n (Some (replicate w.geometry.primaries (replicate (length w.blocks) level.Bare))) n1 (in_range t g).0 h in
+change-other kind w u (ask.Begin t) n o a h = let same = held-with_other u t n (Some (replicate w.geometry.primaries (replicate (length w.blocks) level.Bare))) (another n t h) in
     (ap (λ x. slice_index_or (levels_in x o) a level.Bare) same, ap is_some same)
-change-other kind w u (ask.End t) n o a n1 g h = let same = other_place u t n None n1 (in_range t g).0 h in
+change-other kind w u (ask.End t) n o a h = let same = held-with_other u t n None (another n t h) in
     (ap (λ x. slice_index_or (levels_in x o) a level.Bare) same, ap is_some same)
-change-other kind w u (ask.SetCap t b shown caps) n o a n1 g h = (level-dropped_from (length w.blocks) b u n o a, open-map (λ held. slice_set held b (replicate (length w.blocks) level.Bare)) u n)
+change-other kind w u (ask.SetCap t b shown caps) n o a h = (level-dropped_from (length w.blocks) b u n o a, open-map (λ held. slice_set held b (replicate (length w.blocks) level.Bare)) u n)
   where
     open-map : (f : Held → Held) (v : Sessions) (s : ℕ) → is_open (map (option_map f) v) s ≡ is_open v s
-    open-map f v s = ap is_some (held-map f v (s - 1)) ∙ some_map (held_by v s)
+    open-map f v s = ap is_some (held-map f v s) ∙ some_map (held_by v s)
       where
         some_map : (x : Option Held) → is_some (option_map f x) ≡ is_some x
         some_map None = refl
         some_map (Some held) = refl
-change-other kind w u q n o a n1 g h = (refl, refl)
+change-other kind w u q n o a h = (refl, refl)
 
 open-fitted : (w : World) (v : Sessions) (n : ℕ) → is_open (fitted w v) n ≡ is_open v n
-open-fitted w v n = ap is_some (held-map (map (levels_at_live w)) v (n - 1)) ∙ same (held_by v n)
+open-fitted w v n = ap is_some (held-map (map (levels_at_live w)) v n) ∙ same (held_by v n)
   where
     same : (x : Option Held) → is_some (option_map (map (levels_at_live w)) x) ≡ is_some x
     same None = refl
@@ -87,9 +80,9 @@ and_never false = refl
 abbrev LevelAfter : State → ℕ → ℕ → ℕ → State → Request → Type 0
 LevelAfter s n o a t p = level_from t.sessions n o a ≡ cond (is_live t.world a && not (renews s p o)) (level_from s.sessions n o a) level.Bare
 
-pub others_keep_levels : (kind : PlaceKind) (s : State) (q : Request) (want : Bool) (n o a : ℕ) → Fits s.world s.sessions → 1 ≤ n → is_of_session q n ≡ false
+pub others_keep_levels : (kind : PlaceKind) (s : State) (q : Request) (want : Bool) (n o a : ℕ) → Fits s.world s.sessions → is_of_session q n ≡ false
     → level_from (answer kind s q want).state.sessions n o a ≡ cond (is_live (answer kind s q want).state.world a && not (renews s q o)) (level_from s.sessions n o a) level.Bare
-others_keep_levels kind s q want n o a fits n1 h = elim (verdict s.world s.sessions q) as (λ x. verdict s.world s.sessions q ≡ x → LevelAfter s n o a (answer kind s q want).state q) [
+others_keep_levels kind s q want n o a fits h = elim (verdict s.world s.sessions q) as (λ x. verdict s.world s.sessions q ≡ x → LevelAfter s n o a (answer kind s q want).state q) [
   | Some r ↦ λ e. subst (λ out. LevelAfter s n o a out.state q) (sym (refused_answer kind s q want r e))
       (as_was (is_live s.world a) (is_granted s.world s.sessions q) (is_set_cap_of q o) (level_from s.sessions n o a) (fits.live n o a) (ap (λ x. is_none x && is_set_cap_of q o) e))
   | None ↦ λ e. elim (granted_answer kind s q want e) [
@@ -101,23 +94,21 @@ others_keep_levels kind s q want n o a fits n1 h = elim (verdict s.world s.sessi
   where
     granted : ◌≡◌ {A = Option Rule} (verdict s.world s.sessions q) None → LevelAfter s n o a (judged kind s q None).state q
     granted e =
-        let pass = granted_passes s.world s.sessions q e in
         let u = raised_by s.world s.sessions q in
         let next = (change kind s.world u q).state in
-        let was : level_from u n o a ≡ level_from s.sessions n o a = ap (λ x. slice_index_or (levels_in x o) a level.Bare) (raised-other s.world s.sessions q n n1 pass h) in
+        let was : level_from u n o a ≡ level_from s.sessions n o a = ap (λ x. slice_index_or (levels_in x o) a level.Bare) (raised-other s.world s.sessions q n h) in
         level-fitted next.world next.sessions n o a
-        ∙ (ap (λ x. cond (is_live next.world a) x level.Bare) ((change-other kind s.world u q n o a n1 pass.in_range h).0 ∙ ap (cond (is_set_cap_of q o) level.Bare) was)
+        ∙ (ap (λ x. cond (is_live next.world a) x level.Bare) ((change-other kind s.world u q n o a h).0 ∙ ap (cond (is_set_cap_of q o) level.Bare) was)
         ∙ (twice (is_live next.world a) (is_set_cap_of q o) (level_from s.sessions n o a)
         ∙ ap (λ x. cond (is_live next.world a && not (is_none x && is_set_cap_of q o)) (level_from s.sessions n o a) level.Bare) (sym e)))
 
-pub others_stay_open : (kind : PlaceKind) (s : State) (q : Request) (want : Bool) (n : ℕ) → 1 ≤ n → is_of_session q n ≡ false → is_open (answer kind s q want).state.sessions n ≡ is_open s.sessions n
-others_stay_open kind s q want n n1 h = after_answer (λ t. is_open t.sessions n ≡ is_open s.sessions n) kind s q want refl granted
+pub others_stay_open : (kind : PlaceKind) (s : State) (q : Request) (want : Bool) (n : ℕ) → is_of_session q n ≡ false → is_open (answer kind s q want).state.sessions n ≡ is_open s.sessions n
+others_stay_open kind s q want n h = after_answer (λ t. is_open t.sessions n ≡ is_open s.sessions n) kind s q want refl granted
   where
     granted : ◌≡◌ {A = Option Rule} (verdict s.world s.sessions q) None → is_open (judged kind s q None).state.sessions n ≡ is_open s.sessions n
     granted e =
-        let pass = granted_passes s.world s.sessions q e in
         let u = raised_by s.world s.sessions q in
         let next = (change kind s.world u q).state in
         open-fitted next.world next.sessions n
-        ∙ ((change-other kind s.world u q n 0 0 n1 pass.in_range h).1
-        ∙ ap is_some (raised-other s.world s.sessions q n n1 pass h))
+        ∙ ((change-other kind s.world u q n 0 0 h).1
+        ∙ ap is_some (raised-other s.world s.sessions q n h))

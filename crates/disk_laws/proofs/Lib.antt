@@ -1,5 +1,6 @@
 pub mod AnswerLaws
 pub mod AttainedLaws
+pub mod ByteLaws
 pub mod ChangeLaws
 pub mod DoomLaws
 pub mod FitLaws
@@ -9,7 +10,6 @@ pub mod GrantLaws
 pub mod HeldLaws
 pub mod IsolationLaws
 pub mod OrderLaws
-pub mod PairLaws
 pub mod ReachLaws
 pub mod ReclaimLaws
 pub mod RuleLaws

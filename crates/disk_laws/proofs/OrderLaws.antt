@@ -1,6 +1,6 @@
 -- The reclaimed blocks stand in an order.
 use Rattle.std.proofs.Common.{◌≡◌, ℕ, zero, suc, ◌+◌, nat_le, nat_lt, arith, Bool, true, false, not, ◌&&◌, ◌||◌, ◌==◌, cond, length, List, [], ◌∷◌, ◌++◌, refl, sym, ◌∙◌, ap, subst, append_assoc, append-nil}
-use Rattle.std.proofs.lemmas.Bool.{and_parts, and_from, eq-eqb, not-true}
+use Rattle.std.proofs.lemmas.Bool.{and_parts, and_from, eq-eqb, not-true, or_left, or_right}
 use Rattle.std.proofs.lemmas.List.Folds.{list_any-append}
 use Rattle.std.proofs.lemmas.Bool.Decides.{nat_tests}
 use Rattle.std.specs.Prelude.{filter}
@@ -10,7 +10,7 @@ use Rattle.tsd_model.specs.World.{World, is_live, is_primary, has_number, all_bl
 use Rattle.tsd_model.specs.Doomed.{is_led_only_from, hangs_on, doomed_rounds}
 use Rattle.disk_laws.specs.Reclaiming.{InOrder, all_apart}
 use Rattle.disk_laws.proofs.GraphLaws.{has_number-filter, has_number-range}
-use Rattle.disk_laws.proofs.PairLaws.{or_left, or_right, and_false, all_of_held}
+use Rattle.tsd_model.proofs.PairLaws.{and_false, all_of_held}
 use Rattle.disk_laws.proofs.DoomLaws.{doomed_more}
 
 -- what a round adds
@@ -68,7 +68,7 @@ rounds_in_order w (suc r) = in_order-append w.pairs [] (by_round w r) (added w r
 
 -- ---- each once
 
-apart-filter : (p : ℕ → Bool) (xs : List ℕ) → all_apart xs ≡ true → all_apart (filter p xs) ≡ true
+pub apart-filter : (p : ℕ → Bool) (xs : List ℕ) → all_apart xs ≡ true → all_apart (filter p xs) ≡ true
 apart-filter p [] h = refl
 apart-filter p (x ∷ xs) h = let parts = and_parts (not (has_number xs x)) (all_apart xs) h in
     elim (p x) as (λ t. all_apart (cond t (x ∷ filter p xs) (filter p xs)) ≡ true) [
@@ -76,14 +76,14 @@ apart-filter p (x ∷ xs) h = let parts = and_parts (not (has_number xs x)) (all
       | false ↦ apart-filter p xs parts.1
     ]
 
-apart-range : (i n : ℕ) → all_apart (range_with_len i n) ≡ true
+pub apart-range : (i n : ℕ) → all_apart (range_with_len i n) ≡ true
 apart-range i zero = refl
 apart-range i (suc n) = and_from (not (has_number (range_with_len (i + 1) n) i)) (all_apart (range_with_len (i + 1) n)) (ap not (has_number-range (i + 1) n i ∙ below)) (apart-range (i + 1) n)
   where
     below : (nat_le (i + 1) i && nat_lt i ((i + 1) + n)) ≡ false
     below = grind (arith, nat_tests)
 
-apart-append : (xs ys : List ℕ) → all_apart xs ≡ true → all_apart ys ≡ true → ((b : ℕ) → has_number xs b ≡ true → has_number ys b ≡ false) → all_apart (xs ++ ys) ≡ true
+pub apart-append : (xs ys : List ℕ) → all_apart xs ≡ true → all_apart ys ≡ true → ((b : ℕ) → has_number xs b ≡ true → has_number ys b ≡ false) → all_apart (xs ++ ys) ≡ true
 apart-append [] ys p q h = q
 apart-append (x ∷ xs) ys p q h = let parts = and_parts (not (has_number xs x)) (all_apart xs) p in
     and_from (not (has_number (xs ++ ys) x)) (all_apart (xs ++ ys))

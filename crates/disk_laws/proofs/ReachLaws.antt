@@ -1,6 +1,6 @@
 -- What is reached is closed under pairs, and the world on it is valid.
 use Rattle.std.proofs.Common.{◌≡◌, ℕ, zero, suc, ◌+◌, ◌-◌, ◌<◌, ◌≤◌, Bool, true, false, cond, ◌&&◌, ◌||◌, ◌==◌, nat_lt, nat_le, List, [], ◌∷◌, length, refl, sym, ◌∙◌, ap, subst, arith, inl, inr}
-use Rattle.std.proofs.lemmas.Bool.{and_parts, and_from, or_cases, eq-eqb, eqb-true, ltb-true}
+use Rattle.std.proofs.lemmas.Bool.{and_parts, and_from, or_cases, eq-eqb, eqb-true, ltb-true, or_left, or_right}
 use Rattle.std.proofs.lemmas.Bool.Decides.{nat_tests}
 use Rattle.std.specs.Prelude.{filter}
 use Rattle.std.specs.List.{list_any, range_with_len}
@@ -9,24 +9,23 @@ use Rattle.tsd_model.specs.World.{World, all_blocks, primary_blocks, has_number}
 use Rattle.tsd_model.specs.Reach.{is_led_from, reach_round, reach_rounds, reach, swept}
 use Rattle.tsd_model.specs.Valid.{IsRaw, IsValid}
 use Rattle.disk_laws.proofs.GraphLaws.{has_number-filter, has_number-range, length-range, rounds_from, from_more, from_end}
-use Rattle.disk_laws.proofs.PairLaws.{or_left, or_right}
 use Rattle.disk_laws.proofs.DoomLaws.{live_below, in_all, restricted_is_valid}
 
 -- reached, or led to from what is
 abbrev pub leads : World → List ℕ → ℕ → Bool
 leads w xs b = has_number xs b || is_led_from w xs b
 
-any_more : (xs ys : List ℕ) (b : ℕ) → ((c : ℕ) → has_number xs c ≡ true → has_number ys c ≡ true) → (es : List (ℕ × ℕ)) → list_any (λ e. (e.1 == b) && has_number xs e.0) es ≡ true → list_any (λ e. (e.1 == b) && has_number ys e.0) es ≡ true
+pub any_more : (xs ys : List ℕ) (b : ℕ) → ((c : ℕ) → has_number xs c ≡ true → has_number ys c ≡ true) → (es : List (ℕ × ℕ)) → list_any (λ e. (e.1 == b) && has_number xs e.0) es ≡ true → list_any (λ e. (e.1 == b) && has_number ys e.0) es ≡ true
 any_more xs ys b more [] h = absurd (cc)
 any_more xs ys b more (e ∷ es) h = elim (or_cases ((e.1 == b) && has_number xs e.0) (list_any (λ f. (f.1 == b) && has_number xs f.0) es) h) [
   | inl here ↦ let parts = and_parts (e.1 == b) (has_number xs e.0) here in or_left _ _ (and_from (e.1 == b) (has_number ys e.0) parts.0 (more e.0 parts.1))
   | inr later ↦ or_right ((e.1 == b) && has_number ys e.0) _ (any_more xs ys b more es later)
 ]
 
-leads_stays : (w : World) (xs : List ℕ) (b : ℕ) → has_number xs b ≡ true → leads w xs b ≡ true
+pub leads_stays : (w : World) (xs : List ℕ) (b : ℕ) → has_number xs b ≡ true → leads w xs b ≡ true
 leads_stays w xs b h = or_left (has_number xs b) _ h
 
-leads_grows : (w : World) (xs ys : List ℕ) → ((b : ℕ) → has_number xs b ≡ true → has_number ys b ≡ true) → (b : ℕ) → leads w xs b ≡ true → leads w ys b ≡ true
+pub leads_grows : (w : World) (xs ys : List ℕ) → ((b : ℕ) → has_number xs b ≡ true → has_number ys b ≡ true) → (b : ℕ) → leads w xs b ≡ true → leads w ys b ≡ true
 leads_grows w xs ys more b h = elim (or_cases (has_number xs b) (list_any (λ e. (e.1 == b) && has_number xs e.0) w.pairs) h) [
   | inl here ↦ or_left (has_number ys b) _ (more b here)
   | inr led ↦ or_right (has_number ys b) _ (any_more xs ys b more w.pairs led)
@@ -46,7 +45,7 @@ prefix p i (suc n) h k = elim (nat_lt i p) as (λ t. nat_lt i p ≡ t → range_
     all_above j (suc m) g = let no : nat_lt j p ≡ false = grind (arith, nat_tests) in
         ap (λ t. cond t (j ∷ filter (λ b. nat_lt b p) (range_with_len (j + 1) m)) (filter (λ b. nat_lt b p) (range_with_len (j + 1) m))) no ∙ all_above (j + 1) m (omega arith)
 
-found_any : (xs : List ℕ) (b : ℕ) (es : List (ℕ × ℕ)) → list_any (λ e. (e.1 == b) && has_number xs e.0) es ≡ true → (a : ℕ) × (holds es a b ≡ true) × (has_number xs a ≡ true)
+pub found_any : (xs : List ℕ) (b : ℕ) (es : List (ℕ × ℕ)) → list_any (λ e. (e.1 == b) && has_number xs e.0) es ≡ true → (a : ℕ) × (holds es a b ≡ true) × (has_number xs a ≡ true)
 found_any xs b [] h = absurd (cc)
 found_any xs b (e ∷ es) h = elim (or_cases ((e.1 == b) && has_number xs e.0) (list_any (λ f. (f.1 == b) && has_number xs f.0) es) h) [
   | inl here ↦ let parts = and_parts (e.1 == b) (has_number xs e.0) here in (e.0, or_left (is_pair e.0 b e) _ (and_from (e.0 == e.0) (e.1 == b) (eq-eqb e.0 e.0 refl) parts.0), parts.1)
@@ -61,11 +60,11 @@ module _ (w : World) (raw : IsRaw w) where
   rounds_are zero = refl
   rounds_are (suc r) = ap (reach_round w) (rounds_are r)
 
-  more : (r : ℕ) (b : ℕ) → has_number (reach_rounds w (primary_blocks w) r) b ≡ true → has_number (reach_rounds w (primary_blocks w) (suc r)) b ≡ true
-  more r b h = ap (λ xs. has_number xs b) (rounds_are (suc r)) ∙ from_more (all_blocks w) (primary_blocks w) (λ b. nat_lt b w.geometry.primaries) (leads w) begins (leads_stays w) (leads_grows w) r b (ap (λ xs. has_number xs b) (sym (rounds_are r)) ∙ h)
+  pub reach_more : (r : ℕ) (b : ℕ) → has_number (reach_rounds w (primary_blocks w) r) b ≡ true → has_number (reach_rounds w (primary_blocks w) (suc r)) b ≡ true
+  reach_more r b h = ap (λ xs. has_number xs b) (rounds_are (suc r)) ∙ from_more (all_blocks w) (primary_blocks w) (λ b. nat_lt b w.geometry.primaries) (leads w) begins (leads_stays w) (leads_grows w) r b (ap (λ xs. has_number xs b) (sym (rounds_are r)) ∙ h)
 
-  closed : reach_round w (reach w) ≡ reach w
-  closed =
+  pub reach_is_closed : reach_round w (reach w) ≡ reach w
+  reach_is_closed =
       let n = length (all_blocks w) in
       let count : w.geometry.blocks ≡ length (all_blocks w) = sym raw.sized.each_block ∙ sym (length-range 0 (length w.blocks)) in
       ap (λ k. reach_rounds w (primary_blocks w) (suc k)) count ∙ rounds_are (suc n)
@@ -76,7 +75,7 @@ module _ (w : World) (raw : IsRaw w) where
   pub target_reached : (a b : ℕ) → holds w.pairs a b ≡ true → has_number (reach w) a ≡ true → has_number (reach w) b ≡ true
   target_reached a b h k =
       let live = raw.targets a b h in
-      ap (λ xs. has_number xs b) (sym closed) ∙ has_number-filter (leads w (reach w)) (all_blocks w) b
+      ap (λ xs. has_number xs b) (sym reach_is_closed) ∙ has_number-filter (leads w (reach w)) (all_blocks w) b
       ∙ and_from (has_number (all_blocks w) b) (leads w (reach w) b) (in_all w b (live_below w.blocks b live)) (or_right (has_number (reach w) b) _ (led w.pairs h))
     where
       led : (es : List (ℕ × ℕ)) → holds es a b ≡ true → list_any (λ e. (e.1 == b) && has_number (reach w) e.0) es ≡ true
@@ -88,7 +87,7 @@ module _ (w : World) (raw : IsRaw w) where
 
   primary_in : (r b : ℕ) → b < w.geometry.primaries → has_number (reach_rounds w (primary_blocks w) r) b ≡ true
   primary_in zero b h = has_number-range 0 w.geometry.primaries b ∙ grind (arith, nat_tests)
-  primary_in (suc r) b h = more r b (primary_in r b h)
+  primary_in (suc r) b h = reach_more r b (primary_in r b h)
 
   pub primary_reached : (b : ℕ) → b < w.geometry.primaries → has_number (reach w) b ≡ true
   primary_reached b h = primary_in w.geometry.blocks b h
@@ -103,8 +102,8 @@ module _ (w : World) (raw : IsRaw w) where
       let xs = reach_rounds w (primary_blocks w) r in
       let passes = (and_parts (has_number (all_blocks w) b) (leads w xs b) (sym (has_number-filter (leads w xs) (all_blocks w) b) ∙ h)).1 in
       elim (or_cases (has_number xs b) (list_any (λ e. (e.1 == b) && has_number xs e.0) w.pairs) passes) [
-        | inl old ↦ let before = led_from r b le old in (before.0, before.1, more r before.0 before.2)
-        | inr new ↦ let found = found_any xs b w.pairs new in (found.0, found.1, more r found.0 found.2)
+        | inl old ↦ let before = led_from r b le old in (before.0, before.1, reach_more r before.0 before.2)
+        | inr new ↦ let found = found_any xs b w.pairs new in (found.0, found.1, reach_more r found.0 found.2)
       ]
 
   pub reached_is_led_to : (b : ℕ) → w.geometry.primaries ≤ b → has_number (reach w) b ≡ true → (a : ℕ) × (holds w.pairs a b ≡ true) × (has_number (reach w) a ≡ true)

@@ -16,9 +16,9 @@ use Rattle.tsd_model.specs.declared.requests.PlaceKind.{PlaceKind}
 use Rattle.tsd_model.specs.declared.requests.Request.{Request}
 use Rattle.tsd_model.specs.declared.requests.Request.TheVariants as ask
 use Rattle.tsd_model.specs.declared.replies.Rule.{Rule}
-use Rattle.disk_laws.specs.Reached.{writes_to}
-use Rattle.disk_laws.specs.Reclaiming.{is_sweep, LosesItsPointers, ReclaimOrder}
-use Rattle.disk_laws.proofs.PairLaws.{all_of_held}
+use Rattle.disk_laws.specs.Reached.{KeepsWhatIsReached, writes_to}
+use Rattle.disk_laws.specs.Reclaiming.{is_sweep, LosesItsPointers, ReclaimsTheLost, ReclaimOrder}
+use Rattle.tsd_model.proofs.PairLaws.{all_of_held}
 use Rattle.disk_laws.proofs.DoomLaws.{live-restricted, holds-restricted, is_doomed}
 use Rattle.disk_laws.proofs.ReachLaws.{reached_is_led_to}
 use Rattle.disk_laws.proofs.ChangeLaws.{held_before}
@@ -38,8 +38,8 @@ reached_is_live w b valid h = elim (cases_lt b w.geometry.primaries) [
   | inr above ↦ let found = reached_is_led_to w valid.raw b above h in valid.raw.targets found.0 b found.1
 ]
 
-pub reached_stays : (kind : PlaceKind) (s : State) (q : Request) (want : Bool) (b : ℕ) → IsValid s.world → is_live s.world b ≡ true → has_number (reach (answer kind s q want).state.world) b ≡ true → is_live (answer kind s q want).state.world b ≡ true
-reached_stays kind s q want b valid live h = reached_is_live (answer kind s q want).state.world b (answer_valid kind s q want valid) h
+pub reached_stays : (kind : PlaceKind) (s : State) (q : Request) (want : Bool) → IsValid s.world → KeepsWhatIsReached s.world (answer kind s q want).state.world
+reached_stays kind s q want valid b live h = reached_is_live (answer kind s q want).state.world b (answer_valid kind s q want valid) h
 
 pub bytes_stay : (kind : PlaceKind) (s : State) (q : Request) (want : Bool) (b : ℕ) → is_live s.world b ≡ true → is_live (answer kind s q want).state.world b ≡ true → writes_to q b ≡ false → contents (answer kind s q want).state.world b ≡ contents s.world b
 bytes_stay kind s q want b live after n =
@@ -96,8 +96,8 @@ change_loses kind w u (ask.Delete s x shown y) b n valid next live = delete_lose
 change_loses kind w u (ask.Sweep s shown) b n valid next live = absurd (cc)
 change_loses kind w u q b n valid next live = adds_loses kind w u q b refl valid live
 
-pub last_pointer : (kind : PlaceKind) (s : State) (q : Request) (want : Bool) (b : ℕ) → IsValid s.world → is_sweep q ≡ false → is_live s.world b ≡ true → (is_live (answer kind s q want).state.world b ≡ false) ↔ LosesItsPointers s.world (answer kind s q want).state.world b
-last_pointer kind s q want b valid n live =
+pub last_pointer : (kind : PlaceKind) (s : State) (q : Request) (want : Bool) → IsValid s.world → is_sweep q ≡ false → ReclaimsTheLost s.world (answer kind s q want).state.world
+last_pointer kind s q want valid n b live =
     after_answer (λ t. (is_live t.world b ≡ false) ↔ LosesItsPointers s.world t.world b) kind s q want (stays_loses s.world b valid live)
     (λ e. change_loses kind s.world (raised_by s.world s.sessions q) q b n valid (granted_is_valid kind s q valid e) live)
 
@@ -117,7 +117,7 @@ doomed_goes true false k h e = absurd (clash false (h refl) refl)
 doomed_goes false true k h e = sym (ap not e)
 doomed_goes false false k h e = refl
 
-doomed_is_live : (w : World) → length w.blocks ≡ w.geometry.blocks → (b : ℕ) → has_number (doomed w) b ≡ true → is_live w b ≡ true
+pub doomed_is_live : (w : World) → length w.blocks ≡ w.geometry.blocks → (b : ℕ) → has_number (doomed w) b ≡ true → is_live w b ≡ true
 doomed_is_live w long b h = (and_parts (is_live w b) (not (is_primary w b)) (and_parts (is_live w b && not (is_primary w b)) (is_led_only_from w (doomed w) b) (sym (is_doomed w long b) ∙ h)).0).0
 
 delete_order : (w : World) (s x y : ℕ) (shown : Shown) → IsValid w → ReclaimOrder w (settle (without_pointer w x y)) (ask.Delete s x shown y)

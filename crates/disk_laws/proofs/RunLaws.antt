@@ -1,6 +1,5 @@
 -- What each answer keeps, a run keeps.
-use Rattle.std.proofs.Common.{◌≡◌, ◌+◌, ◌-◌, Bool, List, [], ◌∷◌, arith, refl, sym, ◌∙◌, subst, Option, None, drop}
-use Rattle.std.specs.Prelude.{IfSome, slice_index_or, length}
+use Rattle.std.proofs.Common.{◌≡◌, Bool, List, [], ◌∷◌, refl, sym, ◌∙◌, subst, Option, None, drop}
 use Rattle.tsd_model.specs.Sessions.{Fits}
 use Rattle.tsd_model.specs.Valid.{IsValid}
 use Rattle.tsd_model.specs.Verdict.{verdict}
@@ -27,7 +26,7 @@ pub answer_valid : (kind : PlaceKind) (s : State) (q : Request) (want : Bool) �
 answer_valid kind s q want valid = after_answer (λ t. IsValid t.world) kind s q want valid (granted_is_valid kind s q valid)
 
 pub fits_have_origins : (s : State) → Fits s.world s.sessions → HasOrigins s.world.geometry.primaries s.sessions
-fits_have_origins s fits = record { count = fits.count; origins = λ i. let back : (i + 1) - 1 ≡ i = omega arith in subst (λ k. IfSome (slice_index_or s.sessions k None) (λ held. length held ≡ s.world.geometry.primaries)) back (fits.origins (i + 1)) }
+fits_have_origins s fits = record { count = fits.count; origins = fits.origins }
 
 pub answer_fits : (kind : PlaceKind) (s : State) (q : Request) (want : Bool) → IsValid s.world → Fits s.world s.sessions → Fits (answer kind s q want).state.world (answer kind s q want).state.sessions
 answer_fits kind s q want valid fits = after_answer (λ t. Fits t.world t.sessions) kind s q want fits changed

@@ -1,6 +1,6 @@
 -- A request leaves a valid world.
 use Rattle.std.proofs.Common.{◌≡◌, ℕ, zero, suc, ◌+◌, ◌<◌, Bool, true, false, ◌&&◌, ◌||◌, nat_lt, nat_le, List, [], ◌∷◌, length, refl, sym, ◌∙◌, subst, arith, Option, Some, None, ◌⊎◌, inl, inr}
-use Rattle.std.proofs.lemmas.Bool.{and_parts, and_from, leb-false, ltb-false}
+use Rattle.std.proofs.lemmas.Bool.{and_parts, and_from, leb-false, ltb-false, or_parts}
 use Rattle.std.proofs.lemmas.Bool.Decides.{nat_tests}
 use Rattle.std.proofs.lemmas.List.{length-set}
 use Rattle.std.specs.Prelude.{slice_set, is_some, is_none}
@@ -18,7 +18,6 @@ use Rattle.tsd_model.specs.declared.records.Record.{Record}
 use Rattle.tsd_model.specs.declared.requests.PlaceKind.{PlaceKind}
 use Rattle.tsd_model.specs.declared.requests.Request.{Request}
 use Rattle.tsd_model.specs.declared.requests.Request.TheVariants as ask
-use Rattle.disk_laws.proofs.PairLaws.{or_false}
 use Rattle.disk_laws.proofs.DoomLaws.{settle_is_valid}
 use Rattle.disk_laws.proofs.ReachLaws.{swept_is_valid}
 use Rattle.disk_laws.proofs.RuleLaws.{Passes}
@@ -37,7 +36,7 @@ named_is_live w b long p q =
 
 -- the one block that is named
 pub one_is_live : (w : World) (b : ℕ) → length w.blocks ≡ w.geometry.blocks → (nat_le w.geometry.blocks b || false) ≡ false → (is_free w b || false) ≡ false → is_live w b ≡ true
-one_is_live w b long p q = named_is_live w b long (or_false _ _ p).0 (or_false _ _ q).0
+one_is_live w b long p q = named_is_live w b long (or_parts _ _ p).0 (or_parts _ _ q).0
 
 -- ---- records
 
@@ -86,8 +85,8 @@ change_valid kind w v u (ask.Contig s a shown h count) valid pass =
     (omega (arith, ltb-false w.geometry.slots (length w.pairs + count) pass.room, length-run_at (chosen_run kind w h count) count))
 change_valid kind w v u ask.GetFree valid pass = valid
 change_valid kind w v u (ask.Create s a shown b) valid pass =
-    let there = or_false (nat_le w.geometry.blocks a) (nat_le w.geometry.blocks b || false) pass.there in
-    let live = or_false (is_free w a) (is_free w b || false) pass.live in
+    let there = or_parts (nat_le w.geometry.blocks a) (nat_le w.geometry.blocks b || false) pass.there in
+    let live = or_parts (is_free w a) (is_free w b || false) pass.live in
     with_pointer_is_valid w a b valid (named_is_live w a valid.raw.sized.each_block there.0 live.0) (one_is_live w b valid.raw.sized.each_block there.1 live.1)
     (ltb-false b w.geometry.primaries pass.to_others) (omega (arith, ltb-false w.geometry.slots (length w.pairs + 1) pass.room))
 change_valid kind w v u (ask.Delete s a shown b) valid pass = settle_is_valid (without_pointer w a b) (raw-without_pointer w a b valid.raw)

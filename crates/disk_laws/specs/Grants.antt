@@ -26,7 +26,7 @@ newest_first wants qs = onto_past wants qs []
 abbrev pub LevelsAreGrants : Type 0
 LevelsAreGrants =
     (kind : PlaceKind) (w : World) (wants : List Bool) (qs : List Request) (s o a : ℕ) (l : Level)
-    → IsValid w → 1 ≤ s → o < w.geometry.primaries → (l ≡ level.Bare → ⊥)
+    → IsValid w → o < w.geometry.primaries → (l ≡ level.Bare → ⊥)
     → level_le l (level_from (after kind (at_rest w) wants qs).sessions s o a) ≡ has_grant kind (at_rest w) (newest_first wants qs) s o a l
 
 -- The block is primary, and what is shown attains the level there now.
@@ -43,6 +43,6 @@ GrantAttains kind w wants qs s b l =
 abbrev pub AttainedByHistory : Type 0
 AttainedByHistory =
     (kind : PlaceKind) (w : World) (wants : List Bool) (qs : List Request) (s b : ℕ) (shown : Shown) (l : Level)
-    → IsValid w → 1 ≤ s → (l ≡ level.Bare → ⊥)
+    → IsValid w → (l ≡ level.Bare → ⊥)
     → IsTrue (level_le l (attained (after kind (at_rest w) wants qs).world (after kind (at_rest w) wants qs).sessions s b shown))
     ↔ (ShownAttains (after kind (at_rest w) wants qs).world b shown l ⊎ GrantAttains kind w wants qs s b l)

@@ -1,5 +1,5 @@
 -- What a request does to the sessions of others.
-use Rattle.std.specs.Prelude.{◌≡◌, ℕ, ◌≤◌, Bool, false, not, cond, ◌&&◌}
+use Rattle.std.specs.Prelude.{◌≡◌, ℕ, Bool, false, not, cond, ◌&&◌}
 use Rattle.tsd_model.specs.World.{is_live}
 use Rattle.tsd_model.specs.Sessions.{is_open, level_from, Fits}
 use Rattle.tsd_model.specs.Verdict.{is_granted}
@@ -18,7 +18,7 @@ renews s q o = is_granted s.world s.sessions q && is_set_cap_of q o
 abbrev pub OthersKeepTheirLevels : Type 0
 OthersKeepTheirLevels =
     (kind : PlaceKind) (s : State) (q : Request) (want : Bool) (n o a : ℕ)
-    → Fits s.world s.sessions → 1 ≤ n → is_of_session q n ≡ false
+    → Fits s.world s.sessions → is_of_session q n ≡ false
     → level_from (answer kind s q want).state.sessions n o a
     ≡ cond (is_live (answer kind s q want).state.world a && not (renews s q o)) (level_from s.sessions n o a) level.Bare
 
@@ -26,5 +26,5 @@ OthersKeepTheirLevels =
 abbrev pub OthersStayOpen : Type 0
 OthersStayOpen =
     (kind : PlaceKind) (s : State) (q : Request) (want : Bool) (n : ℕ)
-    → 1 ≤ n → is_of_session q n ≡ false
+    → is_of_session q n ≡ false
     → is_open (answer kind s q want).state.sessions n ≡ is_open s.sessions n

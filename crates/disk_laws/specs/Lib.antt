@@ -5,3 +5,4 @@ pub mod FullDisk
 pub mod Refusals
 pub mod Grants
 pub mod Isolation
+pub mod Bytes

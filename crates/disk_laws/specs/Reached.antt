@@ -13,12 +13,15 @@ use Rattle.tsd_model.specs.declared.requests.Request.TheVariants as ask
 abbrev pub ReachedIsLive : Type 0
 ReachedIsLive = (w : World) (b : ℕ) → IsValid w → IsTrue (has_number (reach w) b) → IsTrue (is_live w b)
 
--- A block that is live before a request and reached by the pairs after it is live after it: the request doesn't reclaim it.
+-- A block that is live in the one world and reached by the pairs of the next is live in the next: it isn't reclaimed.
+abbrev pub KeepsWhatIsReached : World → World → Type 0
+KeepsWhatIsReached w next = (b : ℕ) → IsTrue (is_live w b) → IsTrue (has_number (reach next) b) → IsTrue (is_live next b)
+
+-- So it is before and after a request.
 abbrev pub ReachedIsNotReclaimed : Type 0
 ReachedIsNotReclaimed =
-    (kind : PlaceKind) (s : State) (q : Request) (want : Bool) (b : ℕ)
-    → IsValid s.world → IsTrue (is_live s.world b) → IsTrue (has_number (reach (answer kind s q want).state.world) b)
-    → IsTrue (is_live (answer kind s q want).state.world b)
+    (kind : PlaceKind) (s : State) (q : Request) (want : Bool)
+    → IsValid s.world → KeepsWhatIsReached s.world (answer kind s q want).state.world
 
 -- whether the request writes to the block
 abbrev pub writes_to : Request → ℕ → Bool

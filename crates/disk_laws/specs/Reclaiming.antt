@@ -24,12 +24,15 @@ is_reclaimed w next b = is_live w b && not (is_live next b)
 abbrev pub LosesItsPointers : World → World → ℕ → Type 0
 LosesItsPointers w next b = (w.geometry.primaries ≤ b) × ((a : ℕ) → IsTrue (holds w.pairs a b) → holds next.pairs a b ≡ false)
 
--- By a request other than a sweep a live block becomes free exactly there.
+-- A live block becomes free exactly there.
+abbrev pub ReclaimsTheLost : World → World → Type 0
+ReclaimsTheLost w next = (b : ℕ) → IsTrue (is_live w b) → (is_live next b ≡ false) ↔ LosesItsPointers w next b
+
+-- So it is by a request other than a sweep.
 abbrev pub ExactlyTheLastPointer : Type 0
 ExactlyTheLastPointer =
-    (kind : PlaceKind) (s : State) (q : Request) (want : Bool) (b : ℕ)
-    → IsValid s.world → is_sweep q ≡ false → IsTrue (is_live s.world b)
-    → (is_live (answer kind s q want).state.world b ≡ false) ↔ LosesItsPointers s.world (answer kind s q want).state.world b
+    (kind : PlaceKind) (s : State) (q : Request) (want : Bool)
+    → IsValid s.world → is_sweep q ≡ false → ReclaimsTheLost s.world (answer kind s q want).state.world
 
 -- the pairs but the one that the request deletes
 abbrev pub pairs_but_deleted : Request → List (ℕ × ℕ) → List (ℕ × ℕ)

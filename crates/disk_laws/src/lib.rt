@@ -8,6 +8,7 @@
 #![tactic(auto)]
 
 pub mod access;
+pub mod bytes;
 pub mod full;
 pub mod isolation;
 pub mod reached;
@@ -16,6 +17,7 @@ pub mod refusals;
 pub mod validity;
 
 pub use access::access_is_by_grants;
+pub use bytes::verdicts_read_no_bytes;
 pub use full::full_means_full;
 pub use isolation::sessions_are_apart;
 pub use reached::what_is_reached_stays;

@@ -1,4 +1,3 @@
 pub mod Levels
 pub mod Table
-pub mod Facts
 pub mod Granted

@@ -1,7 +1,7 @@
 -- What a grant table tells: for how many blocks and primary blocks it was made, and what each session holds.
-use Rattle.std.specs.Prelude.{◌≡◌, ℕ, ◌-◌, ◌<◌, ◌≤◌, [], length, map, replicate, slice_index_or, slice_set, Option, Some, None, option_map, IfSome}
+use Rattle.std.specs.Prelude.{◌≡◌, ℕ, ◌<◌, ◌≤◌, [], length, map, replicate, slice_index_or, slice_set, Option, Some, None, option_map, IfSome}
 use Rattle.tsd_model.specs.World.{World}
-use Rattle.tsd_model.specs.Sessions.{Held, Sessions, sessions_max}
+use Rattle.tsd_model.specs.Sessions.{Held, Sessions, sessions_max, with_held}
 use Rattle.tsd_model.specs.Verdict.{first_rule, session_rules}
 use Rattle.tsd_model.specs.declared.requests.Level.TheVariants as level
 use Rattle.tsd_model.specs.declared.requests.Request.TheVariants as ask
@@ -38,7 +38,7 @@ with_sessions t v = record t { sessions = v }
 
 -- with this session open, holding nothing
 abbrev pub begun_in : Table → ℕ → Table
-begun_in t s = with_sessions t (slice_set t.sessions (s - 1) (Some (replicate t.primaries (replicate t.blocks level.Bare))))
+begun_in t s = with_sessions t (with_held t.sessions s (Some (replicate t.primaries (replicate t.blocks level.Bare))))
 
 -- without what is held at block b, in every session
 abbrev pub dropped_at : ℕ → Sessions → Sessions

@@ -2,10 +2,10 @@
 
 ghost use Rattle.std.specs.Prelude.{◌≡◌, ℕ, ◌<◌, ◌≤◌, [], length, slice_index_or, IsTrue, MatchOption};
 ghost use Rattle.tsd_model.specs.Attained.{led_level};
+ghost use Rattle.tsd_model.specs.Next.{IsLeast};
 ghost use Rattle.tsd_model.specs.Pairs.{holds};
 ghost use Rattle.tsd_model.specs.Sessions.{Sessions as AllSessions, levels_from};
 ghost use Rattle.tsd_model.specs.declared.requests.Level.TheVariants as level;
-ghost use Rattle.grant_table.specs.Facts.{IsLeastSource};
 ghost use Rattle.grant_table.specs.Granted.{attained_at};
 ghost use Rattle.grant_table.specs.Table.{IsHeldAt, IsMadeFor};
 
@@ -81,7 +81,7 @@ fn led_by<F: DiskFacts>(holding: &Holding, facts: &F, block: u32) -> Origins
 /// The next source that is below a number: at no other block is anything held.
 fn next_source_within<F: DiskFacts>(facts: &F, block: u32, start: u32, end: u32) -> Option<u32>
     requires { block < (F.world facts.now).geometry.blocks }
-    ensures { MatchOption result ((a : ℕ) → IsTrue (holds (F.world facts.now).pairs a block) → start ≤ a → end ≤ a) (λ a. IsLeastSource (F.world facts.now).pairs block start a × (a < end)) }
+    ensures { MatchOption result ((a : ℕ) → IsTrue (holds (F.world facts.now).pairs a block) → start ≤ a → end ≤ a) (λ a. IsLeast (λ n. holds (F.world facts.now).pairs n block) start a × (a < end)) }
 {
     match facts.next_source(block, start) {
         Some(source) if source < end => Some(source),

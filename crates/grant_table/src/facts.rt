@@ -2,12 +2,12 @@
 
 ghost use Rattle.std.specs.Prelude.{◌≡◌, ◌<◌, ◌≤◌, not, length};
 ghost use Rattle.tsd_model.specs.Attained.{shown_level};
+ghost use Rattle.tsd_model.specs.Next.{IsNextSource};
 ghost use Rattle.tsd_model.specs.Pairs.{holds};
 ghost use Rattle.tsd_model.specs.Placing.{runs};
 ghost use Rattle.tsd_model.specs.Valid.{IsSized};
 ghost use Rattle.tsd_model.specs.Verdict.{is_empty};
 ghost use Rattle.tsd_model.specs.World.{World, is_live, free_count};
-ghost use Rattle.grant_table.specs.Facts.{IsNextSource};
 
 use tsd_model::{Geometry, Level, Shown};
 

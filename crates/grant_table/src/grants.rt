@@ -1,9 +1,8 @@
 //! What all sessions hold.
 
 ghost use Rattle.std.specs.Prelude.{◌≡◌, ℕ, ◌-◌, ◌<◌, ◌≤◌, [], length, map, replicate, option_map, slice_index_or, slice_set, IfSome, OnOk, OnErr, IfErr, None, Some, MatchOption};
-ghost use Rattle.tsd_model.specs.Sessions.{Sessions as AllSessions, no_sessions, held_by, is_open, level_from, level_of, ended, raised, raised_held, dropped_from};
+ghost use Rattle.tsd_model.specs.Sessions.{Sessions as AllSessions, no_sessions, held_by, with_held, is_open, level_from, level_of, ended, raised, raised_held, dropped_from};
 ghost use Rattle.tsd_model.specs.declared.requests.Level.{Level as AnyLevel};
-ghost use Rattle.tsd_model.specs.Verdict.{is_no_session};
 ghost use Rattle.tsd_model.specs.declared.requests.Level.TheVariants as level;
 
 use crate::holding::Holding;
@@ -12,7 +11,7 @@ use arrayvec::ArrayVec;
 use std::alloc::Global;
 use std::marker::Model;
 use tsd_model::Level;
-use tsd_model::needs::SESSIONS;
+use tsd_model::needs::{SESSIONS, is_no_session};
 
 /// Why a session isn't opened. Nothing has changed then.
 #[derive(Clone, Copy, Debug, PartialEq, Eq)]
@@ -137,7 +136,11 @@ impl Grants {
         ensures held { MatchOption result (held_by self.now.sessions session ≡ None) (λ held. held_by self.now.sessions session ≡ Some held.now) }
         ensures table { IsTable self.now }
     {
-        match self.held.as_slice().get(session.saturating_sub(1) as usize) {
+        let held = self.held.as_slice();
+        if session == 0 {
+            return None;
+        }
+        match held.get((session - 1) as usize) {
             Some(Some(holding)) => Some(holding),
             _ => None,
         }
@@ -175,7 +178,10 @@ impl Grants {
     pub fn raise(&mut self, session: u32, block: u32, origins: &Origins)
         ensures { (f : ℕ → AnyLevel) → ((o : ℕ) → o < self.old.primaries → f o ≡ slice_index_or origins.now o level.Bare) → self.new ≡ with_sessions self.old (raised self.old.sessions session block f) }
     {
-        let place = session.saturating_sub(1) as usize;
+        if session == 0 {
+            return;
+        }
+        let place = (session - 1) as usize;
         let held = self.held.as_mut_slice();
         if place < held.len() {
             raise_held(&mut held[place], block, origins);
@@ -198,21 +204,17 @@ impl Grants {
 
     fn set(&mut self, session: u32, holding: Option<Holding>)
         requires { IfSome holding (IsHeldAt self.old.blocks self.old.primaries) }
-        ensures { self.new ≡ with_sessions self.old (slice_set self.old.sessions (session - 1) holding) }
+        ensures { self.new ≡ with_sessions self.old (with_held self.old.sessions session holding) }
     {
-        let place = session.saturating_sub(1) as usize;
+        if session == 0 {
+            return;
+        }
+        let place = (session - 1) as usize;
         let held = self.held.as_mut_slice();
         if place < held.len() {
             held[place] = holding;
         }
     }
-}
-
-/// Sessions are numbered from 1 to 64.
-fn is_no_session(session: u32) -> bool
-    ensures { result ≡ is_no_session session }
-{
-    session < 1 || SESSIONS < session as usize
 }
 
 fn raise_held(held: &mut Option<Holding>, block: u32, origins: &Origins)

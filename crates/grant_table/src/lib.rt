@@ -15,10 +15,6 @@ mod grants;
 mod holding;
 mod levels;
 mod origins;
-#[cfg(test)]
-mod plain;
-#[cfg(test)]
-mod tests;
 mod verdict;
 
 pub use facts::DiskFacts;

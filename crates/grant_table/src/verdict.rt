@@ -12,12 +12,10 @@ use crate::grants::Grants;
 use crate::origins::Origins;
 use tsd_model::levels::level_le;
 use tsd_model::needs::{
-    Need, SESSIONS, named_blocks, needs, session_of, wanted_blocks, wanted_pairs,
+    Need, has_bad_count, has_bad_session, is_bad, is_begin, named_blocks, needs, session_of,
+    wanted_blocks, wanted_pairs,
 };
 use tsd_model::{Request, Rule};
-
-/// The greatest number of blocks that one request takes.
-const COUNT_MAX: u32 = 32;
 
 /// How many bytes a sector has.
 const SECTOR_BYTES: usize = 512;
@@ -138,35 +136,11 @@ impl Grants {
     }
 }
 
-fn is_bad(request: &Request) -> bool
-    ensures { result ≡ is_bad request.now }
-{
-    matches!(request, Request::Bad)
-}
-
-fn is_begin(request: &Request) -> bool
-    ensures { result ≡ is_begin request.now }
-{
-    matches!(request, Request::Begin { .. })
-}
-
-fn has_bad_session(request: &Request) -> bool
-    ensures { result ≡ has_bad_session request.now }
-{
-    session_of(request).is_some_and(|session| session < 1 || SESSIONS < session as usize)
-}
-
 /// The first or the second need of a request.
 fn need_at(request: &Request, place: usize) -> Option<Need>
     ensures { result ≡ slice_get (needs request.now) place }
 {
     needs(request).as_slice().get(place).copied()
-}
-
-fn has_bad_count(request: &Request) -> bool
-    ensures { result ≡ has_bad_count request.now }
-{
-    wanted_blocks(request).is_some_and(|count| count < 1 || COUNT_MAX < count)
 }
 
 fn has_bad_size<F: DiskFacts>(facts: &F, request: &Request) -> bool

@@ -6,7 +6,6 @@ ghost use Rattle.tsd_model.specs.World.{has_number, primary_blocks};
 ghost use Rattle.tsd_model.specs.Reach.{is_led_from, reach_round, reach, restricted};
 ghost use Rattle.tsd_model.specs.Doomed.{is_led_only_from, hangs_on, doomed_round, doomed};
 
-use crate::growing::{has_number, push_if};
 use crate::world::World;
 use std::alloc::{AllocError, Global};
 use tsd_model::NoMemory;
@@ -35,42 +34,26 @@ pub fn plain_doomed(alloc: Global, world: &World) -> Result<Vec<u32>, NoMemory>
     Ok(gone)
 }
 
-#[tactic(auto, using(tsd_model::proofs::RangeLaws::range_next))]
 fn primary_blocks(alloc: Global, world: &World) -> Result<Vec<u32>, AllocError>
     ensures { IfOk result (λ v. v.items ≡ primary_blocks world.now) }
 {
-    let mut blocks = Vec::new(alloc);
-    let count = world.geometry().primaries;
-    for block in 0..count {
-        blocks.push(block)?;
-    }
-    Ok(blocks)
+    (0..world.geometry().primaries).collect(alloc)
 }
 
-#[tactic(auto, using(tsd_model::proofs::RangeLaws::filter_range_next))]
 fn reach_round(alloc: Global, world: &World, reached: &[u32]) -> Result<Vec<u32>, AllocError>
     ensures { IfOk result (λ v. v.items ≡ reach_round world.now reached.now) }
 {
-    let mut next = Vec::new(alloc);
-    let count = world.geometry().blocks;
-    for block in 0..count {
-        let wanted = is_reached(world, reached, block);
-        push_if(&mut next, block, wanted)?;
-    }
-    Ok(next)
+    (0..world.geometry().blocks)
+        .filter(|block| is_reached(world, reached, *block))
+        .collect(alloc)
 }
 
-#[tactic(auto, using(tsd_model::proofs::RangeLaws::filter_range_next))]
 fn doomed_round(alloc: Global, world: &World, gone: &[u32]) -> Result<Vec<u32>, AllocError>
     ensures { IfOk result (λ v. v.items ≡ doomed_round world.now gone.now) }
 {
-    let mut next = Vec::new(alloc);
-    let count = world.geometry().blocks;
-    for block in 0..count {
-        let wanted = hangs_on(world, gone, block);
-        push_if(&mut next, block, wanted)?;
-    }
-    Ok(next)
+    (0..world.geometry().blocks)
+        .filter(|block| hangs_on(world, gone, *block))
+        .collect(alloc)
 }
 
 fn is_reached(world: &World, reached: &[u32], block: u32) -> bool
@@ -99,4 +82,11 @@ fn is_led_only_from(pairs: &[(u32, u32)], gone: &[u32], block: u32) -> bool
     pairs
         .iter()
         .all(|pair| pair.1 != block || has_number(gone, pair.0))
+}
+
+/// Whether a list has this block.
+pub fn has_number(list: &[u32], block: u32) -> bool
+    ensures { result ≡ has_number list.now block }
+{
+    list.iter().any(|number| *number == block)
 }

@@ -3,7 +3,7 @@
 ghost use Rattle.std.specs.Prelude.{◌≡◌, ◌-◌, ◌+◌, ◌<◌, ◌≤◌, length, map, replicate, slice_set, slice_index_or, filter, ◌==◌, cond, [], Some, None, option_map, IfOk, OnOk, OnErr, MatchOption};
 ghost use Rattle.std.specs.List.{enumerate_from};
 ghost use Rattle.tsd_model.specs.Pairs.{sources_to};
-ghost use Rattle.tsd_model.specs.Sessions.{held_by, is_open, level_from, levels_from, levels_in, level_of, greatest, no_sessions, begun, ended, raised, raised_held, raised_level, dropped_from, levels_at_live, fitted};
+ghost use Rattle.tsd_model.specs.Sessions.{held_by, is_open, level_from, levels_from, levels_in, level_of, greatest, no_sessions, with_held, begun, ended, raised, raised_held, raised_level, dropped_from, levels_at_live, fitted};
 ghost use Rattle.tsd_model.specs.Attained.{shown_level, led_level, attained_from, attained};
 ghost use Rattle.tsd_model.specs.declared.requests.Level.TheVariants as level;
 
@@ -18,7 +18,7 @@ use tsd_model::{Level, Shown};
 
 /// The level at each block, of one session and from one origin.
 #[derive(Drop)]
-pub struct LevelTable {
+pub(crate) struct LevelTable {
     levels: Vec<Level>,
 }
 
@@ -35,10 +35,7 @@ impl LevelTable {
     fn bare(alloc: Global, blocks: u32) -> Result<LevelTable, AllocError>
         ensures { IfOk result (λ t. t ≡ replicate blocks level.Bare) }
     {
-        let mut levels = Vec::new(alloc);
-        for block in 0..blocks {
-            levels.push(Level::Bare)?;
-        }
+        let levels = vec![in alloc; Level::Bare; blocks as usize]?;
         Ok(LevelTable { levels })
     }
 
@@ -83,23 +80,20 @@ impl LevelTable {
         best
     }
 
-    #[tactic(auto, using(tsd_model::proofs::RangeLaws::map_range_next))]
     /// Without the levels at blocks that aren't live.
     fn at_live(&self, alloc: Global, world: &World) -> Result<LevelTable, AllocError>
         ensures { IfOk result (λ t. t ≡ levels_at_live world.now self.now) }
     {
-        let mut levels = Vec::new(alloc);
-        let count = world.geometry().blocks;
-        for block in 0..count {
-            levels.push(level_if(world.is_live(block), self.level(block)))?;
-        }
+        let levels = (0..world.geometry().blocks)
+            .map(|block| level_if(world.is_live(block), self.level(block)))
+            .collect(alloc)?;
         Ok(LevelTable { levels })
     }
 }
 
 /// What one session holds: the levels from each origin.
 #[derive(Drop)]
-pub struct Holding {
+pub(crate) struct Holding {
     tables: Vec<LevelTable>,
 }
 
@@ -135,25 +129,6 @@ impl Holding {
             tables.push(table.copy(alloc)?)?;
         }
         Ok(Holding { tables })
-    }
-
-    fn level_from(&self, origin: u32, block: u32) -> Level
-        ensures { result ≡ slice_index_or (slice_index_or self.now origin []) block level.Bare }
-    {
-        match self.tables.get(origin as usize) {
-            Some(table) => table.level(block),
-            None => Level::Bare,
-        }
-    }
-
-    #[tactic(auto, using(tsd_model::proofs::LevelLaws::led_level_nothing))]
-    fn led_level(&self, origin: u32, block: u32, pairs: &[(u32, u32)]) -> Level
-        ensures { result ≡ led_level (slice_index_or self.now origin []) block pairs.now }
-    {
-        match self.tables.get(origin as usize) {
-            Some(table) => table.led_level(block, pairs),
-            None => Level::Bare,
-        }
     }
 
     /// The same with the levels at a block raised to those that the session attains there.
@@ -236,13 +211,21 @@ impl Sessions {
     fn holding(&self, session: u32) -> Option<&Holding>
         ensures { MatchOption result (held_by self.now session ≡ None) (λ held. held_by self.now session ≡ Some held.now) }
     {
-        match self.held.as_slice().get(session.saturating_sub(1) as usize) {
+        let place = session.checked_sub(1)?;
+        match self.held.as_slice().get(place as usize) {
             Some(Some(holding)) => Some(holding),
             _ => None,
         }
     }
 
-    /// Whether a session is open. Of the numbers that aren't 1 to 64 it says nothing of use.
+    /// The levels that a session holds from an origin; none where there are none.
+    fn table(&self, session: u32, origin: u32) -> Option<&LevelTable>
+        ensures { MatchOption result (levels_from self.now session origin ≡ []) (λ table. levels_from self.now session origin ≡ table.now) }
+    {
+        self.holding(session)?.tables.get(origin as usize)
+    }
+
+    /// Whether a session is open.
     pub fn is_open(&self, session: u32) -> bool
         ensures { result ≡ is_open self.now session }
     {
@@ -253,8 +236,8 @@ impl Sessions {
     pub fn level_from(&self, session: u32, origin: u32, block: u32) -> Level
         ensures { result ≡ level_from self.now session origin block }
     {
-        match self.holding(session) {
-            Some(holding) => holding.level_from(origin, block),
+        match self.table(session, origin) {
+            Some(table) => table.level(block),
             None => Level::Bare,
         }
     }
@@ -264,75 +247,83 @@ impl Sessions {
     fn led_level(&self, session: u32, origin: u32, block: u32, pairs: &[(u32, u32)]) -> Level
         ensures { result ≡ led_level (levels_from self.now session origin) block pairs.now }
     {
-        match self.holding(session) {
-            Some(holding) => holding.led_level(origin, block, pairs),
+        match self.table(session, origin) {
+            Some(table) => table.led_level(block, pairs),
             None => Level::Bare,
         }
     }
 
-    fn set(&mut self, session: u32, holding: Option<Holding>)
-        ensures { self.new ≡ slice_set self.old (session - 1) holding }
+    /// With this at a session's place.
+    fn with(mut self, session: u32, holding: Option<Holding>) -> Sessions
+        ensures { result ≡ with_held self session holding }
     {
-        let place = session.saturating_sub(1) as usize;
+        if session == 0 {
+            return self;
+        }
+        let place = (session - 1) as usize;
         let held = self.held.as_mut_slice();
         if place < held.len() {
             held[place] = holding;
         }
+        self
     }
 
-    pub fn copy(&self, alloc: Global) -> Result<Sessions, AllocError>
+    /// The same sessions.
+    pub(crate) fn copy(&self, alloc: Global) -> Result<Sessions, AllocError>
         ensures { IfOk result (λ v. v ≡ self.now) }
     {
         let mut held = ArrayVec::new();
         for holding in self.held.as_slice() {
-            held.push(copy_of(alloc, holding)?);
+            held.push(match holding {
+                None => None,
+                Some(holding) => Some(holding.copy(alloc)?),
+            });
         }
         Ok(Sessions { held })
     }
 
     /// With this session open, holding nothing.
-    pub fn begun(&self, alloc: Global, world: &World, session: u32) -> Result<Sessions, AllocError>
-        ensures { IfOk result (λ v. v ≡ begun world.now self.now session) }
+    pub(crate) fn begun(
+        self,
+        alloc: Global,
+        world: &World,
+        session: u32,
+    ) -> Result<Sessions, AllocError>
+        ensures { IfOk result (λ v. v ≡ begun world.now self session) }
     {
-        let mut sessions = self.copy(alloc)?;
         let geometry = world.geometry();
         let holding = Holding::nothing(alloc, geometry.primaries, geometry.blocks)?;
-        sessions.set(session, Some(holding));
-        Ok(sessions)
+        Ok(self.with(session, Some(holding)))
     }
 
     /// With this session closed.
-    pub fn ended(&self, alloc: Global, session: u32) -> Result<Sessions, AllocError>
-        ensures { IfOk result (λ v. v ≡ ended self.now session) }
+    pub(crate) fn ended(self, session: u32) -> Sessions
+        ensures { result ≡ ended self session }
     {
-        let mut sessions = self.copy(alloc)?;
-        sessions.set(session, None);
-        Ok(sessions)
+        self.with(session, None)
     }
 
     /// At a block the levels of a session, from each origin, become the greater of the old ones and those that the
     /// session attains there in a world, as `before` tells what was held.
-    pub fn raise(
-        &self,
+    pub(crate) fn raise(
+        self,
         alloc: Global,
         world: &World,
         before: &Sessions,
         session: u32,
         need: &Need,
     ) -> Result<Sessions, AllocError>
-        ensures { IfOk result (λ v. v ≡ raised self.now session need.now.block (attained_from world.now before.now session need.now.block need.now.shown)) }
+        ensures { IfOk result (λ v. v ≡ raised self session need.now.block (attained_from world.now before.now session need.now.block need.now.shown)) }
     {
-        let mut sessions = self.copy(alloc)?;
         let raised = match self.holding(session) {
             None => None,
             Some(holding) => Some(holding.raise(alloc, world, before, session, need)?),
         };
-        sessions.set(session, raised);
-        Ok(sessions)
+        Ok(self.with(session, raised))
     }
 
     /// Without what came from this origin, in every session.
-    pub fn without_origin(
+    pub(crate) fn without_origin(
         &self,
         alloc: Global,
         blocks: u32,
@@ -342,47 +333,26 @@ impl Sessions {
     {
         let mut held = ArrayVec::new();
         for holding in self.held.as_slice() {
-            held.push(without_origin(alloc, holding, blocks, origin)?);
+            held.push(match holding {
+                None => None,
+                Some(holding) => Some(holding.without_origin(alloc, blocks, origin)?),
+            });
         }
         Ok(Sessions { held })
     }
 
     /// Without the levels at blocks that aren't live, in every session.
-    pub fn at_live(&self, alloc: Global, world: &World) -> Result<Sessions, AllocError>
+    pub(crate) fn at_live(&self, alloc: Global, world: &World) -> Result<Sessions, AllocError>
         ensures { IfOk result (λ v. v ≡ fitted world.now self.now) }
     {
         let mut held = ArrayVec::new();
         for holding in self.held.as_slice() {
-            held.push(at_live(alloc, holding, world)?);
+            held.push(match holding {
+                None => None,
+                Some(holding) => Some(holding.at_live(alloc, world)?),
+            });
         }
         Ok(Sessions { held })
-    }
-}
-
-fn without_origin(
-    alloc: Global,
-    holding: &Option<Holding>,
-    blocks: u32,
-    origin: u32,
-) -> Result<Option<Holding>, AllocError>
-    ensures { IfOk result (λ h. h ≡ option_map (λ held. slice_set held origin (replicate blocks level.Bare)) holding.now) }
-{
-    match holding {
-        None => Ok(None),
-        Some(holding) => Ok(Some(holding.without_origin(alloc, blocks, origin)?)),
-    }
-}
-
-fn at_live(
-    alloc: Global,
-    holding: &Option<Holding>,
-    world: &World,
-) -> Result<Option<Holding>, AllocError>
-    ensures { IfOk result (λ h. h ≡ option_map (map (levels_at_live world.now)) holding.now) }
-{
-    match holding {
-        None => Ok(None),
-        Some(holding) => Ok(Some(holding.at_live(alloc, world)?)),
     }
 }
 
@@ -400,7 +370,7 @@ pub fn shown_level(world: &World, block: u32, shown: &Shown) -> Level
 }
 
 /// The level that a session attains at a block from an origin.
-pub fn attained_from(
+pub(crate) fn attained_from(
     world: &World,
     sessions: &Sessions,
     session: u32,
@@ -421,7 +391,7 @@ pub fn attained_from(
 
 #[tactic(auto, using(tsd_model::proofs::LevelLaws::greatest_range_next))]
 /// The greatest level that a session attains at a block, from any origin.
-pub fn attained(
+pub(crate) fn attained(
     world: &World,
     sessions: &Sessions,
     session: u32,
@@ -439,15 +409,6 @@ pub fn attained(
         );
     }
     best
-}
-
-fn copy_of(alloc: Global, holding: &Option<Holding>) -> Result<Option<Holding>, AllocError>
-    ensures { IfOk result (λ h. h ≡ holding.now) }
-{
-    match holding {
-        None => Ok(None),
-        Some(holding) => Ok(Some(holding.copy(alloc)?)),
-    }
 }
 
 fn level_if(counts: bool, found: Level) -> Level

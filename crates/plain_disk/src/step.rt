@@ -11,7 +11,10 @@ ghost use Rattle.tsd_model.specs.Reach.{swept};
 ghost use Rattle.tsd_model.specs.Doomed.{settle};
 ghost use Rattle.tsd_model.specs.Placing.{chosen, chosen_run};
 ghost use Rattle.tsd_model.specs.Step.{gives, done, filled, with_contents, with_pointer, with_caps, raised_by, run_at, without_pointer, targets_from, with_new_blocks, allocated, reclaimed, change, step};
+ghost use Rattle.tsd_model.specs.Valid.{IsValid};
 ghost use Rattle.tsd_model.specs.Verdict.{has_bad_count, has_bad_size, has_no_room};
+ghost use Rattle.disk_laws.specs.Reached.{KeepsWhatIsReached};
+ghost use Rattle.disk_laws.specs.Reclaiming.{is_sweep, ReclaimsTheLost};
 
 use crate::graph::{plain_doomed, plain_reach};
 use crate::placing::{choose, choose_run};
@@ -25,6 +28,9 @@ use tsd_model::{BlockList, CapPair, Data, Hint, NoMemory, PlaceKind, Reply, Requ
 
 /// Carries out one request: the world and the sessions after it, and the reply. The reply is never `Reply::NoMemory`;
 /// want of memory is `Err(NoMemory)` at every request.
+///
+/// At a valid world a request reclaims no block that is reached after it; and one that isn't a sweep reclaims exactly the
+/// blocks that have lost their last pointer.
 pub fn plain_step(
     alloc: Global,
     kind: PlaceKind,
@@ -32,6 +38,21 @@ pub fn plain_step(
     sessions: &Sessions,
     request: &Request,
 ) -> Result<(World, Sessions, Reply), NoMemory>
+    ensures value { IfOk result (λ r. gives r.0 r.1 r.2 ≡ step kind (record { world = world.now; sessions = sessions.now }) request.now) }
+    ensures reached { IsValid world.now → IfOk result (λ r. KeepsWhatIsReached world.now r.0) }
+    ensures last_pointer { IsValid world.now → is_sweep request.now ≡ false → IfOk result (λ r. ReclaimsTheLost world.now r.0) }
+{
+    carry_out(alloc, kind, world, sessions, request)
+}
+
+/// The world, the sessions and the reply, as the definitions say.
+fn carry_out(
+    alloc: Global,
+    kind: PlaceKind,
+    world: &World,
+    sessions: &Sessions,
+    request: &Request,
+) -> Result<Changed, NoMemory>
     ensures { IfOk result (λ r. gives r.0 r.1 r.2 ≡ step kind (record { world = world.now; sessions = sessions.now }) request.now) }
 {
     match verdict(world, sessions, request) {
@@ -42,7 +63,7 @@ pub fn plain_step(
         )),
         Ok(()) => {
             let raised = raised_by(alloc, world, sessions, request)?;
-            let (next, held, reply) = change(alloc, kind, world, &raised, request)?;
+            let (next, held, reply) = change(alloc, kind, world, raised, request)?;
             let fitted = held.at_live(alloc, &next)?;
             Ok((next, fitted, reply))
         }
@@ -76,13 +97,13 @@ fn change(
     alloc: Global,
     kind: PlaceKind,
     world: &World,
-    sessions: &Sessions,
+    sessions: Sessions,
     request: &Request,
 ) -> Result<Changed, NoMemory>
     requires counted { has_bad_count request.now ≡ false }
     requires sized { has_bad_size world.now request.now ≡ false }
     requires room { has_no_room world.now request.now ≡ false }
-    ensures { IfOk result (λ r. gives r.0 r.1 r.2 ≡ change kind world.now sessions.now request.now) }
+    ensures { IfOk result (λ r. gives r.0 r.1 r.2 ≡ change kind world.now sessions request.now) }
 {
     match request {
         Request::Bad => unchanged(alloc, world, sessions, Reply::Done),
@@ -119,66 +140,60 @@ fn change(
 fn unchanged(
     alloc: Global,
     world: &World,
-    sessions: &Sessions,
+    sessions: Sessions,
     reply: Reply,
 ) -> Result<Changed, NoMemory>
-    ensures { IfOk result (λ r. gives r.0 r.1 r.2 ≡ gives world.now sessions.now reply) }
+    ensures { IfOk result (λ r. gives r.0 r.1 r.2 ≡ gives world.now sessions reply) }
 {
-    let next = world.copy(alloc)?;
-    let held = sessions.copy(alloc)?;
-    Ok((next, held, reply))
+    Ok((world.copy(alloc)?, sessions, reply))
 }
 
 fn begin(
     alloc: Global,
     world: &World,
-    sessions: &Sessions,
+    sessions: Sessions,
     session: u32,
 ) -> Result<Changed, NoMemory>
-    ensures { IfOk result (λ r. gives r.0 r.1 r.2 ≡ done world.now (begun world.now sessions.now session)) }
+    ensures { IfOk result (λ r. gives r.0 r.1 r.2 ≡ done world.now (begun world.now sessions session)) }
 {
-    let next = world.copy(alloc)?;
     let begun = sessions.begun(alloc, world, session)?;
-    Ok((next, begun, Reply::Done))
+    unchanged(alloc, world, begun, Reply::Done)
 }
 
-fn end(alloc: Global, world: &World, sessions: &Sessions, session: u32) -> Result<Changed, NoMemory>
-    ensures { IfOk result (λ r. gives r.0 r.1 r.2 ≡ done world.now (ended sessions.now session)) }
+fn end(alloc: Global, world: &World, sessions: Sessions, session: u32) -> Result<Changed, NoMemory>
+    ensures { IfOk result (λ r. gives r.0 r.1 r.2 ≡ done world.now (ended sessions session)) }
 {
-    let next = world.copy(alloc)?;
-    let ended = sessions.ended(alloc, session)?;
-    Ok((next, ended, Reply::Done))
+    unchanged(alloc, world, sessions.ended(session), Reply::Done)
 }
 
 fn write(
     alloc: Global,
     world: &World,
-    sessions: &Sessions,
+    sessions: Sessions,
     block: u32,
     bytes: &Data,
 ) -> Result<Changed, NoMemory>
     requires { length bytes.now ≤ block_len world.now.geometry }
-    ensures { IfOk result (λ r. gives r.0 r.1 r.2 ≡ done (with_contents world.now block (filled (block_len world.now.geometry) bytes.now)) sessions.now) }
+    ensures { IfOk result (λ r. gives r.0 r.1 r.2 ≡ done (with_contents world.now block (filled (block_len world.now.geometry) bytes.now)) sessions) }
 {
     let mut next = world.copy(alloc)?;
     let filled = Block::filled(alloc, world.block_len(), bytes.as_slice())?;
     next.set_block(block, filled);
-    let held = sessions.copy(alloc)?;
-    Ok((next, held, Reply::Done))
+    Ok((next, sessions, Reply::Done))
 }
 
 fn allocate(
     alloc: Global,
     kind: PlaceKind,
     world: &World,
-    sessions: &Sessions,
+    sessions: Sessions,
     source: u32,
     hint: &Hint,
     count: u32,
 ) -> Result<Changed, NoMemory>
     requires counted { count ≤ 32 }
     requires room { length world.now.pairs + count ≤ world.now.geometry.slots }
-    ensures { IfOk result (λ r. gives r.0 r.1 r.2 ≡ allocated world.now sessions.now source (chosen kind world.now hint.now count)) }
+    ensures { IfOk result (λ r. gives r.0 r.1 r.2 ≡ allocated world.now sessions source (chosen kind world.now hint.now count)) }
 {
     let blocks = choose(alloc, kind, world, hint, count)?;
     take(alloc, world, sessions, source, blocks.as_slice())
@@ -188,14 +203,14 @@ fn allocate_run(
     alloc: Global,
     kind: PlaceKind,
     world: &World,
-    sessions: &Sessions,
+    sessions: Sessions,
     source: u32,
     hint: &Hint,
     count: u32,
 ) -> Result<Changed, NoMemory>
     requires counted { count ≤ 32 }
     requires room { length world.now.pairs + count ≤ world.now.geometry.slots }
-    ensures { IfOk result (λ r. gives r.0 r.1 r.2 ≡ allocated world.now sessions.now source (run_at (chosen_run kind world.now hint.now count) count)) }
+    ensures { IfOk result (λ r. gives r.0 r.1 r.2 ≡ allocated world.now sessions source (run_at (chosen_run kind world.now hint.now count) count)) }
 {
     let first = choose_run(alloc, kind, world, hint, count)?;
     let blocks = run_at(alloc, first, count)?;
@@ -206,46 +221,44 @@ fn allocate_run(
 fn take(
     alloc: Global,
     world: &World,
-    sessions: &Sessions,
+    sessions: Sessions,
     source: u32,
     blocks: &[u32],
 ) -> Result<Changed, NoMemory>
     requires count { length blocks.now ≤ 32 }
     requires room { length world.now.pairs + length blocks.now ≤ world.now.geometry.slots }
-    ensures { IfOk result (λ r. gives r.0 r.1 r.2 ≡ allocated world.now sessions.now source blocks.now) }
+    ensures { IfOk result (λ r. gives r.0 r.1 r.2 ≡ allocated world.now sessions source blocks.now) }
 {
     let next = with_new_blocks(alloc, world, source, blocks)?;
-    let held = sessions.copy(alloc)?;
     let mut taken = BlockList::new();
     let _fits = taken.extend_from_slice(blocks);
-    Ok((next, held, Reply::Blocks(taken)))
+    Ok((next, sessions, Reply::Blocks(taken)))
 }
 
 fn create(
     alloc: Global,
     world: &World,
-    sessions: &Sessions,
+    sessions: Sessions,
     source: u32,
     target: u32,
 ) -> Result<Changed, NoMemory>
     requires { length world.now.pairs < world.now.geometry.slots }
-    ensures { IfOk result (λ r. gives r.0 r.1 r.2 ≡ done (with_pointer world.now source target) sessions.now) }
+    ensures { IfOk result (λ r. gives r.0 r.1 r.2 ≡ done (with_pointer world.now source target) sessions) }
 {
     let mut next = world.copy(alloc)?;
     next.add_pointer(source, target)?;
-    let held = sessions.copy(alloc)?;
-    Ok((next, held, Reply::Done))
+    Ok((next, sessions, Reply::Done))
 }
 
 /// Deletes a pointer and reclaims what is doomed then.
 fn delete(
     alloc: Global,
     world: &World,
-    sessions: &Sessions,
+    sessions: Sessions,
     source: u32,
     target: u32,
 ) -> Result<Changed, NoMemory>
-    ensures { IfOk result (λ r. gives r.0 r.1 r.2 ≡ reclaimed world.now sessions.now (settle (without_pointer world.now source target))) }
+    ensures { IfOk result (λ r. gives r.0 r.1 r.2 ≡ reclaimed world.now sessions (settle (without_pointer world.now source target))) }
 {
     let raw = world.without_pointer(alloc, source, target)?;
     let doomed = plain_doomed(alloc, &raw)?;
@@ -254,8 +267,8 @@ fn delete(
 }
 
 /// Reclaims the blocks that no primary block leads to.
-fn sweep(alloc: Global, world: &World, sessions: &Sessions) -> Result<Changed, NoMemory>
-    ensures { IfOk result (λ r. gives r.0 r.1 r.2 ≡ reclaimed world.now sessions.now (swept world.now)) }
+fn sweep(alloc: Global, world: &World, sessions: Sessions) -> Result<Changed, NoMemory>
+    ensures { IfOk result (λ r. gives r.0 r.1 r.2 ≡ reclaimed world.now sessions (swept world.now)) }
 {
     let reached = plain_reach(alloc, world)?;
     let left = world.restricted(alloc, reached.as_slice(), true)?;
@@ -266,24 +279,23 @@ fn sweep(alloc: Global, world: &World, sessions: &Sessions) -> Result<Changed, N
 fn reclaim(
     alloc: Global,
     world: &World,
-    sessions: &Sessions,
+    sessions: Sessions,
     left: World,
 ) -> Result<Changed, NoMemory>
-    ensures { IfOk result (λ r. gives r.0 r.1 r.2 ≡ reclaimed world.now sessions.now left) }
+    ensures { IfOk result (λ r. gives r.0 r.1 r.2 ≡ reclaimed world.now sessions left) }
 {
     let gone = left.free_count().saturating_sub(world.free_count());
-    let held = sessions.copy(alloc)?;
-    Ok((left, held, Reply::Gone(gone)))
+    Ok((left, sessions, Reply::Gone(gone)))
 }
 
 fn set_caps(
     alloc: Global,
     world: &World,
-    sessions: &Sessions,
+    sessions: Sessions,
     block: u32,
     caps: &CapPair,
 ) -> Result<Changed, NoMemory>
-    ensures { IfOk result (λ r. gives r.0 r.1 r.2 ≡ done (with_caps world.now block (kept world.now.version caps.now)) (dropped_from (length world.now.blocks) block sessions.now)) }
+    ensures { IfOk result (λ r. gives r.0 r.1 r.2 ≡ done (with_caps world.now block (kept world.now.version caps.now)) (dropped_from (length world.now.blocks) block sessions)) }
 {
     let mut next = world.copy(alloc)?;
     next.set_record(block, kept(world.version(), caps));
@@ -330,22 +342,8 @@ fn run_at(alloc: Global, first: Option<u32>, count: u32) -> Result<Vec<u32>, All
 {
     match first {
         None => Ok(Vec::new(alloc)),
-        Some(first) => run_from(alloc, first, count),
+        Some(first) => (first..first + count).collect(alloc),
     }
-}
-
-#[tactic(auto, using(tsd_model::proofs::RangeLaws::range_next_from))]
-fn run_from(alloc: Global, first: u32, count: u32) -> Result<Vec<u32>, AllocError>
-    requires first { first < 2 ^ 31 }
-    requires counted { count < 2 ^ 31 }
-    ensures value { IfOk result (λ v. v.items ≡ range_with_len first count) }
-    ensures counted { IfOk result (λ v. length v.items ≡ count) }
-{
-    let mut blocks = Vec::new(alloc);
-    for member in 0..count {
-        blocks.push(first + member)?;
-    }
-    Ok(blocks)
 }
 
 #[tactic(auto, using(crate::proofs::StepLaws::targets_from_more))]

@@ -54,19 +54,14 @@ fn check_session(sessions: &Sessions, request: &Request) -> Result<(), Rule>
     Ok(())
 }
 
-fn is_missing(world: &World, block: u32) -> bool
-    ensures { result ≡ nat_le world.now.geometry.blocks block }
-{
-    world.geometry().blocks <= block
-}
-
 fn names_missing_block(world: &World, request: &Request) -> bool
     ensures { result ≡ names_missing_block world.now request.now }
 {
+    let blocks = world.geometry().blocks;
     named_blocks(request)
         .as_slice()
         .iter()
-        .any(|block| is_missing(world, *block))
+        .any(|block| blocks <= *block)
 }
 
 fn names_free_block(world: &World, request: &Request) -> bool

@@ -10,7 +10,7 @@ ghost use Rattle.tsd_model.specs.Step.{filled, with_contents, with_pointer, with
 ghost use Rattle.tsd_model.specs.Valid.{IsSized};
 ghost use Rattle.tsd_model.specs.World.{contents, is_live, is_free, is_primary, free_count, has_number};
 
-use crate::growing::{has_number, push_if};
+use crate::graph::has_number;
 use crate::pairs::{add_pair, pairs_without};
 use std::alloc::{AllocError, Global};
 use std::marker::Model;
@@ -19,7 +19,7 @@ use tsd_model::{CapList, CapPair, Geometry, NoMemory, Record};
 
 /// The bytes of one live block.
 #[derive(Debug, Drop)]
-pub struct Block {
+pub(crate) struct Block {
     bytes: Vec<u8>,
 }
 
@@ -33,7 +33,7 @@ impl Model for Block {
 
 impl Block {
     /// A block of so many zeros.
-    pub fn zeros(alloc: Global, len: usize) -> Result<Block, AllocError>
+    pub(crate) fn zeros(alloc: Global, len: usize) -> Result<Block, AllocError>
         ensures { IfOk result (λ b. b ≡ replicate len 0) }
     {
         let bytes = vec![in alloc; 0u8; len]?;
@@ -41,20 +41,17 @@ impl Block {
     }
 
     /// These bytes, then zeros up to this length.
-    pub fn filled(alloc: Global, len: usize, bytes: &[u8]) -> Result<Block, AllocError>
+    pub(crate) fn filled(alloc: Global, len: usize, bytes: &[u8]) -> Result<Block, AllocError>
         requires { length bytes.now ≤ len }
         ensures { IfOk result (λ b. b ≡ filled len bytes.now) }
     {
         let mut filled = bytes.to_vec(alloc)?;
-        let rest = len - bytes.len();
-        for zero in 0..rest {
-            filled.push(0)?;
-        }
+        filled.resize(len, 0)?;
         Ok(Block { bytes: filled })
     }
 
     /// A block of these bytes.
-    pub fn from_slice(alloc: Global, bytes: &[u8]) -> Result<Block, AllocError>
+    pub(crate) fn from_slice(alloc: Global, bytes: &[u8]) -> Result<Block, AllocError>
         ensures { IfOk result (λ b. b ≡ bytes.now) }
     {
         let bytes = bytes.to_vec(alloc)?;
@@ -62,7 +59,7 @@ impl Block {
     }
 
     /// The bytes.
-    pub fn as_slice(&self) -> &[u8]
+    pub(crate) fn as_slice(&self) -> &[u8]
         ensures { result.now ≡ self.now }
     {
         self.bytes.as_slice()
@@ -205,7 +202,7 @@ impl World {
 
 impl World {
     /// The same world.
-    pub fn copy(&self, alloc: Global) -> Result<World, AllocError>
+    pub(crate) fn copy(&self, alloc: Global) -> Result<World, AllocError>
         ensures { IfOk result (λ w. w ≡ self.now) }
     {
         Ok(World {
@@ -231,7 +228,7 @@ impl World {
     }
 
     /// A block becomes live, if it wasn't, and contains these bytes.
-    pub fn set_block(&mut self, block: u32, bytes: Block)
+    pub(crate) fn set_block(&mut self, block: u32, bytes: Block)
         requires { length bytes ≡ block_len self.old.geometry }
         ensures { self.new ≡ with_contents self.old block bytes }
     {
@@ -242,7 +239,7 @@ impl World {
     }
 
     /// Adds a pointer. Without memory the world stays.
-    pub fn add_pointer(&mut self, source: u32, target: u32) -> Result<(), AllocError>
+    pub(crate) fn add_pointer(&mut self, source: u32, target: u32) -> Result<(), AllocError>
         requires { length self.old.pairs < self.old.geometry.slots }
         ensures ok { OnOk result (self.new ≡ with_pointer self.old source target) }
         ensures err { OnErr result (self.new ≡ self.old) }
@@ -251,7 +248,7 @@ impl World {
     }
 
     /// What is kept for a primary block becomes this.
-    pub fn set_record(&mut self, block: u32, kept: Record)
+    pub(crate) fn set_record(&mut self, block: u32, kept: Record)
         ensures { self.new ≡ with_caps self.old block kept }
     {
         let place = block as usize;
@@ -261,7 +258,7 @@ impl World {
     }
 
     /// The world without a pointer. What hung on it is still there.
-    pub fn without_pointer(
+    pub(crate) fn without_pointer(
         &self,
         alloc: Global,
         source: u32,
@@ -279,7 +276,7 @@ impl World {
     }
 
     /// The world on the listed blocks, or on all others, with the pairs from them.
-    pub fn restricted(
+    pub(crate) fn restricted(
         &self,
         alloc: Global,
         listed: &[u32],
@@ -308,27 +305,17 @@ impl World {
         let mut blocks = Vec::new(alloc);
         let count = self.geometry().blocks;
         for block in 0..count {
-            let keep = keeps(listed, keep_listed, block);
-            blocks.push(self.contents_if(alloc, keep, block)?)?;
+            let kept = if keeps(listed, keep_listed, block) {
+                self.bytes_of(block)
+            } else {
+                None
+            };
+            blocks.push(match kept {
+                None => None,
+                Some(bytes) => Some(Block::from_slice(alloc, bytes)?),
+            })?;
         }
         Ok(blocks)
-    }
-
-    fn contents_if(
-        &self,
-        alloc: Global,
-        keep: bool,
-        block: u32,
-    ) -> Result<Option<Block>, AllocError>
-        ensures { IfOk result (λ c. c ≡ cond keep (contents self.now block) None) }
-    {
-        if !keep {
-            return Ok(None);
-        }
-        match self.bytes_of(block) {
-            None => Ok(None),
-            Some(bytes) => Ok(Some(Block::from_slice(alloc, bytes)?)),
-        }
     }
 }
 
@@ -351,12 +338,11 @@ fn pairs_from(
 ) -> Result<Vec<(u32, u32)>, AllocError>
     ensures { IfOk result (λ v. v.items ≡ filter (λ e. cond keep_listed (has_number listed.now e.0) (not (has_number listed.now e.0))) pairs.now) }
 {
-    let mut kept = Vec::new(alloc);
-    for pair in pairs {
-        let keep = keeps(listed, keep_listed, pair.0);
-        push_if(&mut kept, *pair, keep)?;
-    }
-    Ok(kept)
+    pairs
+        .iter()
+        .copied()
+        .filter(|pair| keeps(listed, keep_listed, pair.0))
+        .collect(alloc)
 }
 
 fn copy_blocks(alloc: Global, blocks: &[Option<Block>]) -> Result<Vec<Option<Block>>, AllocError>
@@ -364,28 +350,21 @@ fn copy_blocks(alloc: Global, blocks: &[Option<Block>]) -> Result<Vec<Option<Blo
 {
     let mut copy = Vec::new(alloc);
     for block in blocks {
-        copy.push(copy_block(alloc, block)?)?;
+        copy.push(match block {
+            None => None,
+            Some(block) => Some(Block::from_slice(alloc, block.as_slice())?),
+        })?;
     }
     Ok(copy)
-}
-
-fn copy_block(alloc: Global, block: &Option<Block>) -> Result<Option<Block>, AllocError>
-    ensures { IfOk result (λ c. c ≡ block.now) }
-{
-    match block {
-        None => Ok(None),
-        Some(block) => Ok(Some(Block::from_slice(alloc, block.as_slice())?)),
-    }
 }
 
 fn upgraded_records(alloc: Global, records: &[Record]) -> Result<Vec<Record>, AllocError>
     ensures { IfOk result (λ v. v.items ≡ map upgraded_record records.now) }
 {
-    let mut upgraded = Vec::new(alloc);
-    for held in records {
-        upgraded.push(upgraded_record(held))?;
-    }
-    Ok(upgraded)
+    records
+        .iter()
+        .map(|held| upgraded_record(held))
+        .collect(alloc)
 }
 
 fn fresh_blocks(alloc: Global, geometry: &Geometry) -> Result<Vec<Option<Block>>, AllocError>
@@ -413,9 +392,5 @@ fn zero_blocks(alloc: Global, count: u32, len: usize) -> Result<Vec<Option<Block
 fn fresh_records(alloc: Global, caps: &[CapPair]) -> Result<Vec<Record>, AllocError>
     ensures { IfOk result (λ v. v.items ≡ map (kept 1) caps.now) }
 {
-    let mut records = Vec::new(alloc);
-    for pair in caps {
-        records.push(kept(1, pair))?;
-    }
-    Ok(records)
+    caps.iter().map(|pair| kept(1, pair)).collect(alloc)
 }

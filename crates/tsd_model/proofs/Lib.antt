@@ -4,6 +4,7 @@ pub mod LevelLaws
 pub mod PairLaws
 pub mod PlaceLaws
 pub mod RangeLaws
+pub mod SessionLaws
 pub mod SizeLaws
 pub mod TakeLaws
 pub mod VerdictLaws

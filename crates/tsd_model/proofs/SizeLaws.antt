@@ -11,8 +11,6 @@ use Rattle.tsd_model.specs.World.{World, contents}
 use Rattle.tsd_model.specs.Reach.{blocks_that, restricted}
 use Rattle.tsd_model.specs.Step.{with_pointer, without_pointer}
 use Rattle.tsd_model.specs.Valid.{IsSized}
-use Rattle.tsd_model.specs.declared.geometry.Geometry.{Geometry}
-use Rattle.tsd_model.specs.declared.records.Record.{Record}
 
 pub length-with_pair : (e : ℕ × ℕ) (es : List (ℕ × ℕ)) → length (with_pair e es) ≤ length es + 1
 length-with_pair e [] = omega arith

@@ -1,5 +1,5 @@
 -- What each session holds: at each block a level from each primary block that it came from.
-use Rattle.std.specs.Prelude.{◌≡◌, ℕ, ◌-◌, ◌⊎◌, ◌<◌, Bool, cond, nat_le, List, [], ◌∷◌, length, map, replicate, slice_index_or, slice_set, Option, Some, None, is_some, option_map, unwrap_or, IfSome, IsTrue}
+use Rattle.std.specs.Prelude.{◌≡◌, ℕ, ◌-◌, ◌⊎◌, ◌<◌, ◌==◌, Bool, cond, nat_le, List, [], ◌∷◌, length, map, replicate, slice_index_or, slice_set, Option, Some, None, is_some, option_map, unwrap_or, IfSome, IsTrue}
 use Rattle.std.specs.List.{enumerate_from}
 use Rattle.tsd_model.specs.World.{World, is_live, all_blocks}
 use Rattle.tsd_model.specs.declared.requests.Level.{Level}
@@ -39,9 +39,9 @@ abbrev pub greatest : List Level → Level
 greatest [] = level.Bare
 greatest (l ∷ ls) = greater l (greatest ls)
 
--- what an open session holds
+-- what an open session holds; no session has number 0
 abbrev pub held_by : Sessions → ℕ → Option Held
-held_by v s = slice_index_or v (s - 1) None
+held_by v s = cond (s == 0) None (slice_index_or v (s - 1) None)
 
 abbrev pub is_open : Sessions → ℕ → Bool
 is_open v s = is_some (held_by v s)
@@ -64,12 +64,16 @@ level_of v s b = greatest (map (λ levels. slice_index_or levels b level.Bare) (
 
 -- ---- changes
 
+-- with this at the session's place; number 0 has none
+abbrev pub with_held : Sessions → ℕ → Option Held → Sessions
+with_held v s held = cond (s == 0) v (slice_set v (s - 1) held)
+
 -- a session that holds nothing, and one that is closed
 abbrev pub begun : World → Sessions → ℕ → Sessions
-begun w v s = slice_set v (s - 1) (Some (replicate w.geometry.primaries (replicate (length w.blocks) level.Bare)))
+begun w v s = with_held v s (Some (replicate w.geometry.primaries (replicate (length w.blocks) level.Bare)))
 
 abbrev pub ended : Sessions → ℕ → Sessions
-ended v s = slice_set v (s - 1) None
+ended v s = with_held v s None
 
 abbrev pub raised_level : ℕ → Level → List Level → List Level
 raised_level b l levels = slice_set levels b (greater (slice_index_or levels b level.Bare) l)
@@ -79,7 +83,7 @@ abbrev pub raised_held : ℕ → (ℕ → Level) → Held → Held
 raised_held b attained_from held = map (λ p. raised_level b (attained_from p.0) p.1) (enumerate_from 0 held)
 
 abbrev pub raised : Sessions → ℕ → ℕ → (ℕ → Level) → Sessions
-raised v s b attained_from = slice_set v (s - 1) (option_map (raised_held b attained_from) (held_by v s))
+raised v s b attained_from = with_held v s (option_map (raised_held b attained_from) (held_by v s))
 
 -- without what came from this origin, in every session
 abbrev pub dropped_from : ℕ → ℕ → Sessions → Sessions

@@ -2,7 +2,7 @@
 
 ghost use Rattle.std.specs.Prelude.{◌≡◌, [], ◌∷◌};
 ghost use Rattle.tsd_model.specs.Needs.{session_of, named_blocks, needs, wanted_blocks, wanted_pairs};
-ghost use Rattle.tsd_model.specs.Verdict.{is_bad, is_begin, has_bad_session, has_bad_count};
+ghost use Rattle.tsd_model.specs.Verdict.{is_bad, is_begin, is_no_session, has_bad_session, has_bad_count};
 
 use crate::caps::Shown;
 use crate::requests::{Level, Request};
@@ -145,11 +145,18 @@ pub fn is_begin(request: &Request) -> bool
     matches!(request, Request::Begin { .. })
 }
 
+/// Whether a number is none of a session: they are numbered from 1 to 64.
+pub fn is_no_session(session: u32) -> bool
+    ensures { result ≡ is_no_session session }
+{
+    session < 1 || SESSIONS < session as usize
+}
+
 /// Whether its session isn't in 1 to 64.
 pub fn has_bad_session(request: &Request) -> bool
     ensures { result ≡ has_bad_session request.now }
 {
-    session_of(request).is_some_and(|session| session < 1 || SESSIONS < session as usize)
+    session_of(request).is_some_and(is_no_session)
 }
 
 /// Whether it takes blocks, and not 1 to 32 of them.

@@ -1,10 +1,11 @@
 //! The ranks of blocks, one function for each kind of placement.
 
 ghost use Rattle.std.specs.Prelude.{◌≡◌, ◌+◌, ◌*◌, ◌^◌, slice_index};
+ghost use Rattle.tsd_model.specs.Placing.{hint_block};
 ghost use Rattle.tsd_model.specs.Rank.{rank_of, zone_of, zones_after};
 ghost use Rattle.tsd_model.specs.declared.requests.PlaceKind.TheVariants.{Low, Near, Spread};
 
-use crate::requests::PlaceKind;
+use crate::requests::{Hint, PlaceKind};
 
 /// How many zones there are.
 pub const ZONES: u32 = 16;
@@ -15,6 +16,16 @@ pub const ZONE_BLOCKS: u32 = 256;
 /// When a zone's turn comes, by how many zones it stands after that of the hint: the hint's own first, then by turns the
 /// nearest one before it and the nearest one after it.
 pub const ZONE_TURNS: [u8; 16] = [0, 2, 4, 6, 8, 10, 12, 14, 15, 13, 11, 9, 7, 5, 3, 1];
+
+/// The block that a hint names, 0 where it names none.
+pub fn hint_block(hint: &Hint) -> u32
+    ensures { result ≡ hint_block hint.now }
+{
+    match hint {
+        Hint::Null => 0,
+        Hint::At(block) => *block,
+    }
+}
 
 /// The rank of a block for a hint: the free blocks of least rank are taken first.
 pub fn rank(kind: PlaceKind, hint: u32, block: u32) -> u64

@@ -27,7 +27,7 @@ loop-source-preserved g c =
           let f : ℕ → Level = λ a. slice_index_or (slice_index_or c.args.holding.now o []) a level.Bare in
           c.add_to.ensures.each o h
           ∙ (ap (λ l. greater l (f c.in-Some.source)) (c.loop-source.invariant.each o h)
-          ∙ sym (next_member f (g.F.DiskFacts.world c.args.facts.now).pairs c.args.block c.loop-source.start c.in-Some.source c.in-Some.ensures.0.from c.in-Some.ensures.0.source c.in-Some.ensures.0.least));
+          ∙ sym (next_member f (g.F.DiskFacts.world c.args.facts.now).pairs c.args.block c.loop-source.start c.in-Some.source c.in-Some.ensures.0.from c.in-Some.ensures.0.there c.in-Some.ensures.0.least));
     }
 
 pub returns-clause-each : goal.returns-clause-each

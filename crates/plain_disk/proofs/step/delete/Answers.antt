@@ -9,7 +9,7 @@ use Rattle.plain_disk.proofs.step.delete.Goals as goal
 pub returns : goal.returns
 returns c =
     let w = c.args.world.now in
-    let v = c.args.sessions.now in
+    let v = c.args.sessions in
     let raw = c.in_ok-raw.raw in
     let left_is = c.in_ok-left.ensures ∙ (ap (λ gone. restricted raw (λ b. not (has_number gone b))) (c.as_slice.ensures.value ∙ c.in_ok-doomed.ensures) ∙ ap settle c.in_ok-raw.ensures) in
     let P : World → Type 0 = λ left. IfOk c.reclaim.result (λ r. gives r.0 r.1 r.2 ≡ reclaimed w v left) in

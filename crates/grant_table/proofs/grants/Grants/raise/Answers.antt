@@ -1,9 +1,10 @@
-use Rattle.std.proofs.Common.{sym, ◌∙◌, ap, subst, ◌≡◌, ℕ, ◌<◌, Option, None, length, take, drop, ◌++◌}
+use Rattle.std.proofs.Common.{sym, ◌∙◌, ap, subst, ◌≡◌, ℕ, ◌-◌, ◌<◌, Option, None, length, take, drop, ◌++◌}
 use Rattle.std.specs.Prelude.{slice_set, slice_index_or, option_map}
 use Rattle.std.proofs.lemmas.List.{length-set, get_or_default}
-use Rattle.tsd_model.specs.Sessions.{Sessions, Held, raised, raised_held}
+use Rattle.tsd_model.specs.Sessions.{Sessions, Held, held_by, raised, raised_held}
 use Rattle.tsd_model.specs.declared.requests.Level.{Level}
 use Rattle.tsd_model.specs.declared.requests.Level.TheVariants as level
+use Rattle.tsd_model.proofs.SessionLaws.{held-placed, with_held-placed}
 use Rattle.grant_table.specs.Table.{Table, IsTable, with_sessions}
 use Rattle.grant_table.proofs.TableLaws.{table_set, held_raised, IfSome-map, option_raised_same, refill_whole}
 use Rattle.grant_table.proofs.grants.Grants.raise.Goals as goal
@@ -20,7 +21,7 @@ pub invariant_of-self : goal.invariant_of-self
 invariant_of-self c =
     let t : Table = record { blocks = c.self.inside.blocks; primaries = c.self.inside.primaries; sessions = c.self.inside.held.items } in
     let f : ℕ → Level = λ o. slice_index_or c.args.origins.now o level.Bare in
-    let place = c.saturating_sub-place.result in
+    let place = c.args.session - 1 in
     let Q : Sessions → Type 0 = λ v. IsTable (record { blocks = t.blocks; primaries = t.primaries; sessions = v }) in
     subst Q (sym (whole t.sessions c.as_mut_slice-held.result.now place c.args.block f c.index-held-place.result c.raise_held.new.held c.as_mut_slice-held.ensures.value c.if-place-held.true c.raise_held.ensures))
     (table_set t place _ c.self.invariant
@@ -30,10 +31,12 @@ pub returns-then-place-held : goal.returns-then-place-held
 returns-then-place-held c = λ f same.
     let t : Table = record { blocks = c.self.inside.blocks; primaries = c.self.inside.primaries; sessions = c.self.inside.held.items } in
     let g : ℕ → Level = λ o. slice_index_or c.args.origins.now o level.Bare in
-    let place = c.saturating_sub-place.result in
+    let place = c.args.session - 1 in
     let P : Table → Type 0 = λ u. (o : ℕ) → o < u.primaries → f o ≡ g o in
     let alike : P t = subst P (sym c.self.view_is) same in
+    let some : c.args.session ≡ 0 → ⊥ = c.if-session-eq0.false in
     ap (λ v. with_sessions t v) (whole t.sessions c.as_mut_slice-held.result.now place c.args.block g c.index-held-place.result c.raise_held.new.held c.as_mut_slice-held.ensures.value c.if-place-held.true c.raise_held.ensures)
     ∙ (ap (λ x. with_sessions t (slice_set t.sessions place x)) (sym (option_raised_same t.blocks t.primaries c.args.block f g alike (slice_index_or t.sessions place None) (c.self.invariant.held place)))
-    ∙ (ap (λ k. with_sessions t (slice_set t.sessions k (option_map (raised_held c.args.block f) (slice_index_or t.sessions k None)))) c.saturating_sub-place.ensures
-    ∙ ap (λ u. with_sessions u (raised u.sessions c.args.session c.args.block f)) c.self.view_is))
+    ∙ (ap (λ x. with_sessions t (slice_set t.sessions place (option_map (raised_held c.args.block f) x))) (sym (held-placed t.sessions c.args.session some))
+    ∙ (ap (λ v. with_sessions t v) (sym (with_held-placed t.sessions c.args.session (option_map (raised_held c.args.block f) (held_by t.sessions c.args.session)) some))
+    ∙ ap (λ u. with_sessions u (raised u.sessions c.args.session c.args.block f)) c.self.view_is)))

@@ -1,4 +1,4 @@
-use Rattle.std.proofs.Common.{sym, ◌∙◌, ap, subst, ◌≡◌, length, take, drop, ◌++◌}
+use Rattle.std.proofs.Common.{sym, ◌∙◌, ap, subst, ◌≡◌, ◌-◌, length, take, drop, ◌++◌}
 use Rattle.std.specs.Prelude.{slice_set, IfSome}
 use Rattle.std.proofs.lemmas.List.{length-set}
 use Rattle.tsd_model.specs.Sessions.{Sessions}
@@ -10,7 +10,7 @@ pub invariant_of-self : goal.invariant_of-self
 invariant_of-self c =
     let old : Sessions = c.self.inside.held.items in
     let t : Table = record { blocks = c.self.inside.blocks; primaries = c.self.inside.primaries; sessions = old } in
-    let place = c.saturating_sub-place.result in
+    let place = c.args.session - 1 in
     let seen : Sessions = c.as_mut_slice-held.result.now in
     let new : Sessions = slice_set seen place c.args.holding in
     let long : length new ≡ length old = length-set seen place c.args.holding ∙ ap length c.as_mut_slice-held.ensures.value in
