@@ -6,6 +6,8 @@
 #![tactic(auto)]
 
 #[cfg(test)]
+mod device;
+#[cfg(test)]
 mod grants;
 #[cfg(test)]
 mod layout;

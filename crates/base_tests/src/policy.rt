@@ -4,9 +4,7 @@ ghost use Rattle.std.specs.Prelude.{◌≡◌, ◌+◌, ◌*◌, ◌^◌, slice_
 ghost use Rattle.tsd_model.specs.Rank.{rank_of, zones_after};
 ghost use Rattle.tsd_model.specs.declared.requests.PlaceKind.TheVariants.{Low, Near, Spread};
 
-use place_policy::{
-    PlaceBook, Placement, ZONE_TURNS, low_rank, near_rank, spread_rank, zone_rank,
-};
+use place_policy::{PlaceBook, Placement, ZONE_TURNS, low_rank, near_rank, spread_rank, zone_rank};
 use std::cell::Cell;
 use std::rc::Rc;
 use std::test::Fail;

@@ -1,19 +1,20 @@
 -- The bitmap of a fresh disk, and sectors that are written as those of a map.
-use Rattle.std.proofs.Common.{◌≡◌, ℕ, ◌+◌, ◌-◌, ◌*◌, ◌/◌, ◌%◌, ◌<◌, ◌≤◌, nat_lt, inl, inr, Bool, true, false, not, ◌==◌, List, ◌++◌, length, length-append, replicate, sym, ◌∙◌, ap, arith}
-use Rattle.std.specs.Prelude.{count_by, cond, slice_index}
+use Rattle.std.proofs.Common.{◌≡◌, ◌≢◌, ℕ, ◌+◌, ◌-◌, ◌*◌, ◌/◌, ◌%◌, ◌<◌, nat_lt, inl, inr, Bool, true, false, not, ◌==◌, List, length, length-append, replicate, sym, ◌∙◌, ap, arith}
+use Rattle.std.specs.Prelude.{cond, slice_index}
 use Rattle.std.specs.Int.{bit_at, div_ceil}
 use Rattle.std.proofs.lemmas.Bool.{cases_lt, cases_eq, eq-eqb, ne_eqb, lt-ltb, le-ltb}
 use Rattle.std.proofs.lemmas.Grind.{div_ceil_times}
 use Rattle.std.proofs.lemmas.List.{length-replicate, get_or_append_left, get_or-append_right, get_or-replicate, get_or_past}
 use Rattle.std.proofs.lemmas.List.Folds.{sum_by-replicate}
 use Rattle.std.proofs.lemmas.List.Sums.{sum_by-append}
+use Rattle.std.proofs.lemmas.Nat.Bits.{bit_at-zero}
 use Rattle.image_device.specs.Image.{Image}
 use Rattle.image_layout.specs.Areas.{bitmap_start, slots_start}
 use Rattle.tsd_model.specs.Geometry.{IsLawful}
 use Rattle.tsd_model.specs.declared.geometry.Geometry.{Geometry}
 use Rattle.block_alloc.specs.Bytes.{bit_in, bitmap_sector_bytes}
 use Rattle.block_alloc.specs.Fresh.{fresh_live}
-use Rattle.block_alloc.specs.LiveMap.{LiveMap, IsTable, is_live, free_count}
+use Rattle.block_alloc.specs.LiveMap.{IsTable, is_live, free_count}
 use Rattle.block_alloc.specs.Stored.{AreWritten, IsStored, sector_of}
 use Rattle.block_alloc.proofs.ByteLaws.{sector_by_bits}
 use Rattle.block_alloc.proofs.StoredLaws.{marked_by, bit_here}
@@ -56,6 +57,29 @@ fresh_free g =
     weight x = cond (not x) 1 0
 
 -- ---- its sectors
+-- zeros have no bit
+zero_byte : (i : ℕ) → slice_index (replicate 512 0) i ≡ 0
+zero_byte i = elim (cases_lt i 512) [
+  | inl h ↦ get_or-replicate 512 i 0 0 h
+  | inr h ↦ get_or_past (replicate 512 0) i 0 h
+]
+
+pub zeros_fit : (i : ℕ) → slice_index (replicate 512 0) i < 256
+zeros_fit i = let byte = zero_byte i in omega (arith, byte)
+
+pub no_bits : (b : ℕ) → bit_in (replicate 512 0) b ≡ nat_lt b 0
+no_bits b = ap (λ n. bit_at n (b % 8) == 1) (zero_byte (b / 8)) ∙ (ap (λ n. n == 1) (bit_at-zero (b % 8)) ∙ sym (le-ltb b 0 (omega arith)))
+
+-- one bit more
+pub one_bit_more : (old new : List ℕ) (bit : ℕ) → ((b : ℕ) → bit_in old b ≡ nat_lt b bit) → bit_in new bit ≡ true → ((b : ℕ) → b ≢ bit → bit_in new b ≡ bit_in old b) → (b : ℕ) → bit_in new b ≡ nat_lt b (bit + 1)
+one_bit_more old new bit so_far same others b = elim (cases_eq b bit) [
+  | inl here ↦ ap (bit_in new) here ∙ (same ∙ sym (lt-ltb b (bit + 1) (omega arith)))
+  | inr apart ↦ others b apart ∙ (so_far b ∙ elim (cases_lt b bit) [
+    | inl low ↦ lt-ltb b bit low ∙ sym (lt-ltb b (bit + 1) (omega arith))
+    | inr high ↦ le-ltb b bit high ∙ sym (le-ltb b (bit + 1) (omega (arith, apart)))
+  ])
+]
+
 pub fresh_bytes : (g : Geometry) (part count : ℕ) (sector : List ℕ) → IsLawful g → count ≡ cond (part == 0) g.primaries 0 → length sector ≡ 512
     → ((i : ℕ) → slice_index sector i < 256) → ((b : ℕ) → bit_in sector b ≡ nat_lt b count) → sector ≡ bitmap_sector_bytes (fresh_live g) part
 fresh_bytes g part count sector lawful first size fits bits =

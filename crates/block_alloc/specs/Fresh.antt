@@ -1,5 +1,5 @@
 -- The blocks of a fresh disk.
-use Rattle.std.specs.Prelude.{ℕ, ◌-◌, Bool, true, false, List, ◌++◌, replicate}
+use Rattle.std.specs.Prelude.{◌-◌, Bool, true, false, List, ◌++◌, replicate}
 use Rattle.tsd_model.specs.declared.geometry.Geometry.{Geometry}
 
 -- the primary blocks are live, and all others are free

@@ -1,6 +1,6 @@
 //! The bitmap of a fresh disk, in which the primary blocks are live and all others are free.
 
-ghost use Rattle.std.specs.Prelude.{◌≡◌, ℕ, ◌-◌, ◌<◌, ◌≤◌, Bool, List, length, nat_lt, slice_index};
+ghost use Rattle.std.specs.Prelude.{◌≡◌, ℕ, ◌-◌, ◌<◌, ◌≤◌, ◌≢◌, Bool, true, List, length, nat_lt, slice_index};
 ghost use Rattle.image_device.specs.Image.{Image};
 ghost use Rattle.block_alloc.specs.Bytes.{bit_in, bitmap_sector_bytes};
 ghost use Rattle.block_alloc.specs.Fresh.{fresh_live};
@@ -9,9 +9,20 @@ ghost use Rattle.block_alloc.specs.Stored.{AreWritten, IsStored};
 ghost use Rattle.tsd_model.specs.Geometry.{IsLawful};
 ghost use Rattle.tsd_model.specs.declared.geometry.Geometry.{Geometry};
 
-use crate::bits::put_bit;
+use crate::bits::{BYTE_BITS, with_bit};
 use image_layout::sectors::SECTOR_BYTES;
 use tsd_model::Geometry;
+
+/// Makes a bit of a sector 1.
+fn set_bit(sector: &mut [u8; SECTOR_BYTES], bit: u32)
+    requires { bit < 4096 }
+    ensures same { bit_in sector.new bit ≡ true }
+    ensures others { (b : ℕ) → b ≢ bit → bit_in sector.new b ≡ bit_in sector.old b }
+    ensures fits { (i : ℕ) → slice_index sector.new i < 256 }
+{
+    let place = (bit / BYTE_BITS) as usize;
+    sector[place] = with_bit(sector[place], bit, true);
+}
 
 /// A sector whose first so many bits are 1.
 fn first_bits(count: u32) -> [u8; SECTOR_BYTES]
@@ -22,7 +33,7 @@ fn first_bits(count: u32) -> [u8; SECTOR_BYTES]
 {
     let mut sector = [0; SECTOR_BYTES];
     for bit in 0..count {
-        put_bit(&mut sector, bit, true);
+        set_bit(&mut sector, bit);
     }
     sector
 }

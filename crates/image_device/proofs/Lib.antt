@@ -8,4 +8,3 @@ mod Pushes
 mod Cells
 mod Images
 mod PutAll
-mod TwoCopies

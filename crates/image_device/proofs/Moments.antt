@@ -4,7 +4,7 @@
 -- `after_sync` or `after_put`, which ask P of what a crash inside that call leaves; a function called is `joined` by its own
 -- LeavesOnly. Where a phase of several writes keeps P whatever its sectors hold, state it by IsConfined
 -- (proofs/Confined.antt) and join it once. In the end `ends_in` and `leaves_now` give P of the device as it stands.
-use Rattle.std.proofs.Common.{◌≡◌, inl, inr, ⊎_elim, ℕ, ◌+◌, ◌==◌, false, List, refl, ◌∙◌, arith}
+use Rattle.std.proofs.Common.{◌≡◌, inl, inr, ⊎_elim, ℕ, ◌+◌, ◌≤◌, ◌==◌, false, List, refl, ◌∙◌, arith}
 use Rattle.image_device.specs.Image.{Image}
 use Rattle.image_device.specs.View.{View, IsLeftNow, IsLeftWithin, IsLeftInPut, IsSound}
 use Rattle.image_device.specs.Calls.{Elapses, Rests, Touches, Settles, Appends, Uses}
@@ -99,3 +99,10 @@ uses_joined few many old mid new a b = record {
   writes = omega (arith, a.writes, b.writes);
   most = omega (arith, a.most, b.most);
 }
+
+-- the same with a higher limit
+pub uses_within : (few many : ℕ) (old new : View) → few ≤ many → Uses few old new → Uses many old new
+uses_within few many old new le a = record { clock = a.clock; faults = a.faults; put_faults = a.put_faults; writes = a.writes; most = omega (arith, a.most) }
+
+pub uses_and : (few many all : ℕ) (old mid new : View) → few + many ≤ all → Uses few old mid → Uses many mid new → Uses all old new
+uses_and few many all old mid new le a b = uses_within (few + many) all old new le (uses_joined few many old mid new a b)

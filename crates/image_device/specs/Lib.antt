@@ -9,4 +9,3 @@ pub mod Laws
 pub mod MemStation
 pub mod FuseStation
 pub mod MemSource
-pub mod TwoCopies

@@ -19,8 +19,6 @@ mod mem;
 mod mem_source;
 mod put;
 mod source;
-#[cfg(test)]
-mod tests;
 mod write;
 
 pub use cell::Pick;

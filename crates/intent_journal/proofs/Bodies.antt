@@ -12,7 +12,7 @@ use Rattle.image_layout.specs.Ring.{body_sector, descriptor_sector}
 use Rattle.image_layout.specs.declared.place.Patch.{Patch}
 use Rattle.intent_journal.specs.Descriptor.{count_in, home_in, homes_in, is_valid}
 use Rattle.intent_journal.specs.Records.{descriptor_of, record_at}
-use Rattle.intent_journal.proofs.Opened.{map_range_alike}
+use Rattle.tsd_model.proofs.RangeLaws.{map_range_alike}
 use Rattle.intent_journal.specs.Closing.{is_body_of, is_in_record}
 
 -- the patch at an index

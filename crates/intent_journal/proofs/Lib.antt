@@ -9,10 +9,8 @@ pub mod Puts
 pub mod Uses
 pub mod Lasts
 pub mod Closings
-pub mod Counts
 pub mod Bodies
 pub mod Parts
-pub mod Resting
 pub mod Reading
 pub mod Places
 pub mod Checkpointing
@@ -20,3 +18,4 @@ pub mod Committing
 pub mod Replaying
 pub mod Emptying
 pub mod Roomy
+pub mod Costs

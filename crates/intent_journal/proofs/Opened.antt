@@ -4,6 +4,7 @@ use Rattle.std.specs.List.{list_all, slice_get, range_with_len}
 use Rattle.std.proofs.lemmas.Bool.{cases_Bool}
 use Rattle.std.proofs.lemmas.Bool.Decides.{nat_tests}
 use Rattle.std.proofs.lemmas.List.FromFn.{length-map-range_with_len}
+use Rattle.tsd_model.proofs.RangeLaws.{map_range_alike}
 use Rattle.image_device.specs.Image.{Image}
 use Rattle.image_layout.specs.Ring.{records, bodies, body_sector}
 use Rattle.image_layout.specs.declared.place.Patch.{Patch}
@@ -15,15 +16,6 @@ use Rattle.intent_journal.specs.Records.{Record, patches_of, record_at, open_fro
 use Rattle.intent_journal.proofs.HomesOf.{homes_append}
 use Rattle.intent_journal.proofs.Bools.{and_true_parts}
 use Rattle.intent_journal.proofs.Descriptors.{items_at, batch_count, batch_home, descriptor_valid}
-
--- ---- lists that are made of numbers
--- two functions that agree on the numbers make the same list
-pub map_range_alike : {X : Type 0} (f g : ℕ → X) (a n : ℕ) → ((k : ℕ) → a ≤ k → k < a + n → f k ≡ g k) → map f (range_with_len a n) ≡ map g (range_with_len a n)
-map_range_alike f g a zero same = refl
-map_range_alike f g a (suc n) same =
-    let here : f a ≡ g a = same a (omega arith) (omega arith) in
-    let rest : map f (range_with_len (a + 1) n) ≡ map g (range_with_len (a + 1) n) = map_range_alike f g (a + 1) n (λ k low high. same k (omega arith) (omega arith)) in
-    cc
 
 -- ---- records from an index on
 -- of the records from an index on, both images have the same: the gates as open, the descriptors, and the bodies from one on

@@ -17,7 +17,7 @@ use Rattle.intent_journal.specs.Ring.{last_patches, distinct_homes, IsFound, rep
 use Rattle.intent_journal.specs.declared.ring.Replayed.TheVariants.{Nothing, Homes}
 use Rattle.intent_journal.specs.Written.{ClosesGates}
 use Rattle.intent_journal.proofs.Opened.{begins, valid_parts}
-use Rattle.intent_journal.proofs.Resting.{rests_joined}
+use Rattle.image_device.proofs.Resting.{rests_joined}
 
 -- ---- how many homes
 pub lasts_some : (p : Patch) (ps : List Patch) → 0 < length (last_patches (p ∷ ps))

@@ -1,5 +1,6 @@
 -- What the crates above need of rings and batches.
 use Rattle.std.proofs.Common.{◌≡◌, inl, inr, ℕ, zero, suc, ◌<◌, ◌==◌, not, true, false, IsTrue, List, [], ◌∷◌, length, refl, sym, ◌∙◌, ap, arith}
+use Rattle.std.specs.List.{list_all}
 use Rattle.std.proofs.lemmas.Bool.{cases_Bool}
 use Rattle.std.proofs.lemmas.Bool.Decides.{nat_tests}
 use Rattle.image_device.specs.Image.{Image, put_at}
@@ -8,14 +9,14 @@ use Rattle.image_device.specs.View.{View}
 use Rattle.image_layout.specs.Image.{is_open}
 use Rattle.image_layout.specs.Ring.{records, bodies, gate_sector, descriptor_sector, body_sector}
 use Rattle.image_layout.specs.declared.place.Patch.{Patch}
-use Rattle.intent_journal.specs.Homes.{is_distinct}
+use Rattle.intent_journal.specs.Homes.{is_lawful_home, is_distinct}
 use Rattle.intent_journal.specs.Batch.{homes_of, has_home, with_patch}
 use Rattle.intent_journal.specs.Home.{overlaid, home, is_journal}
 use Rattle.intent_journal.specs.Records.{Record, patches_of, open_records, is_open_gate, has_valid_records}
 use Rattle.intent_journal.specs.Ring.{IsAt}
 use Rattle.intent_journal.proofs.Bools.{and_true_parts, not_true, equal_numbers}
 use Rattle.intent_journal.proofs.Overlays.{put_here, put_elsewhere, overlaid_alike, overlaid_missed}
-use Rattle.intent_journal.proofs.Opened.{opened_kept, opened_none}
+use Rattle.intent_journal.proofs.Opened.{opened_kept, opened_lawful, opened_none}
 use Rattle.intent_journal.proofs.Gates.{IsAlike, opened_same}
 
 -- ---- images whose journals are the same
@@ -44,6 +45,24 @@ home_alike x y n same at = ap (λ rs. overlaid (patches_of rs) y n) (opened_same
 -- a sector that no record has stands for itself
 pub home_missed : (x : Image) (n : ℕ) → has_home (patches_of (open_records x)) n ≡ false → home x n ≡ x n
 home_missed x n missed = overlaid_missed (patches_of (open_records x)) x n missed
+
+-- patches with lawful homes have no other
+pub lawful_missed : (ps : List Patch) (n : ℕ) → list_all is_lawful_home (homes_of ps) ≡ true → is_lawful_home n ≡ false → has_home ps n ≡ false
+lawful_missed [] n lawful out = refl
+lawful_missed (p ∷ ps) n lawful out =
+    let parts = and_true_parts (is_lawful_home p.sector) (list_all is_lawful_home (homes_of ps)) lawful in
+    elim (cases_Bool (p.sector == n)) [
+      | inl e ↦ let same : is_lawful_home p.sector ≡ is_lawful_home n = ap is_lawful_home (equal_numbers p.sector n e) in absurd (cc)
+      | inr e ↦ rw e (lawful_missed ps n parts.1 out)
+    ]
+
+-- no open record has an unlawful home
+pub opened_missed : (x : Image) (n : ℕ) → is_lawful_home n ≡ false → has_home (patches_of (open_records x)) n ≡ false
+opened_missed x n out = lawful_missed (patches_of (open_records x)) n (opened_lawful x) out
+
+-- so such a sector stands for itself
+pub home_unlawful : (x : Image) (n : ℕ) → is_lawful_home n ≡ false → home x n ≡ x n
+home_unlawful x n out = home_missed x n (opened_missed x n out)
 
 -- ---- where a ring is
 -- writes outside the journal leave a ring where it is

@@ -1,6 +1,6 @@
 //! Batches: new bytes for some sectors, to be put in place as one.
 
-ghost use Rattle.std.specs.Prelude.{◌≡◌, ◌==◌, ◌⊎◌, ◌<◌, ◌≤◌, [], length, true, false, IsTrue, IfOk, OnOk, OnErr, position};
+ghost use Rattle.std.specs.Prelude.{◌≡◌, ◌==◌, ◌⊎◌, ◌<◌, ◌≤◌, ◌+◌, [], length, true, false, IsTrue, IfOk, OnOk, OnErr, position};
 ghost use Rattle.image_layout.specs.Ring.{bodies};
 ghost use Rattle.intent_journal.specs.Homes.{is_lawful_home};
 
@@ -74,6 +74,9 @@ impl Batch {
         ensures room { OnOk result ((has_home self.old sector ≡ true) ⊎ (length self.old < bodies)) }
         ensures full { OnErr result ((has_home self.old sector ≡ false) × (length self.old ≡ bodies)) }
         ensures unchanged { OnErr result (self.new ≡ self.old) }
+        ensures batch { IsBatch self.new }
+        ensures grows { length self.old ≤ length self.new }
+        ensures by_one { length self.new ≤ length self.old + 1 }
     {
         match index_of(self.patches.as_slice(), sector) {
             Some(index) => {

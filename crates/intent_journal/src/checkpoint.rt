@@ -25,7 +25,7 @@ pub(crate) type Gates = [bool; RECORD_PLACES];
 
 impl Ring {
     /// Puts all records in place and closes their gates. `Failed` comes only where the device's count of faults rose; the
-    /// records are then still the ring's, and the call may be made again.
+    /// records are then still the ring's. Ok leaves that count as it was.
     pub fn checkpoint<D: Device>(&mut self, dev: &mut D) -> Result<(), Failed>
         requires { D.told → IsAt self.old (D.view dev.old) }
         ensures at { D.told → OnOk result (IsAt [] (D.view dev.new)) }
@@ -42,6 +42,7 @@ impl Ring {
 
         ensures uses { Uses (checkpoint_writes self.old) (D.view dev.old) (D.view dev.new) }
         ensures most { checkpoint_writes self.old ≤ 121 }
+        ensures faultless { OnOk result ((D.view dev.new).faults ≡ (D.view dev.old).faults) }
         ensures cause { OnErr result (Rose (D.view dev.old).faults (D.view dev.new).faults) }
     {
         if self.records() == 0 {
@@ -88,6 +89,7 @@ pub(crate) fn put_in_place<D: Device>(
     ensures any_moment { D.told → LeavesOnly (D.view dev.old) (D.view dev.new)
         (λ x f. IsBefore (D.view dev.old) x × (f ≡ (D.view dev.old).sent)) }
     ensures uses { Uses (closing_writes patches.now gates.now) (D.view dev.old) (D.view dev.new) }
+    ensures faultless { OnOk result ((D.view dev.new).faults ≡ (D.view dev.old).faults) }
     ensures cause { OnErr result (Rose (D.view dev.old).faults (D.view dev.new).faults) }
 {
     // The homes first: a gate may be closed only once they hold the bodies.
@@ -109,6 +111,7 @@ fn write_homes<D: Device>(dev: &mut D, patches: &[Patch]) -> Result<u32, Failed>
     ensures firm { D.told → OnOk result (IsFirm (D.view dev.new)) }
     ensures confined { D.told → IsConfined (has_home patches.now) (D.view dev.old) (D.view dev.new) }
     ensures uses { Uses (length (last_patches patches.now)) (D.view dev.old) (D.view dev.new) }
+    ensures faultless { OnOk result ((D.view dev.new).faults ≡ (D.view dev.old).faults) }
     ensures cause { OnErr result (Rose (D.view dev.old).faults (D.view dev.new).faults) }
 {
     let homes = write_last_bodies(dev, patches)?;
@@ -123,6 +126,7 @@ fn write_last_bodies<D: Device>(dev: &mut D, patches: &[Patch]) -> Result<u32, F
     ensures homes { IfOk result (λ homes. homes ≡ length (last_patches patches.now)) }
     ensures confined { D.told → IsConfined (has_home patches.now) (D.view dev.old) (D.view dev.new) }
     ensures uses { Uses (length (last_patches patches.now)) (D.view dev.old) (D.view dev.new) }
+    ensures faultless { OnOk result ((D.view dev.new).faults ≡ (D.view dev.old).faults) }
     ensures cause { OnErr result (Rose (D.view dev.old).faults (D.view dev.new).faults) }
 {
     let mut homes = 0;
@@ -140,6 +144,7 @@ fn write_if_last<D: Device>(dev: &mut D, patch: &Patch, later: &[Patch]) -> Resu
     ensures homes { IfOk result (λ homes. homes ≡ one_if (not (has_home later.now patch.now.sector))) }
     ensures confined { D.told → IsConfined (λ n. n == patch.now.sector) (D.view dev.old) (D.view dev.new) }
     ensures uses { Uses (one_if (not (has_home later.now patch.now.sector))) (D.view dev.old) (D.view dev.new) }
+    ensures faultless { OnOk result ((D.view dev.new).faults ≡ (D.view dev.old).faults) }
     ensures cause { OnErr result (Rose (D.view dev.old).faults (D.view dev.new).faults) }
 {
     if has_home(later, patch.sector) {
@@ -158,6 +163,7 @@ fn close_first_gate<D: Device>(dev: &mut D, is_open: bool) -> Result<(), Failed>
     ensures firm { D.told → OnOk result (IsFirm (D.view dev.new)) }
     ensures confined { D.told → IsConfined (λ n. is_open && (n == gate_sector 0)) (D.view dev.old) (D.view dev.new) }
     ensures uses { Uses (one_if is_open) (D.view dev.old) (D.view dev.new) }
+    ensures faultless { OnOk result ((D.view dev.new).faults ≡ (D.view dev.old).faults) }
     ensures cause { OnErr result (Rose (D.view dev.old).faults (D.view dev.new).faults) }
 {
     close_gate(dev, 0, is_open)?;
@@ -174,6 +180,7 @@ fn close_later_gates<D: Device>(dev: &mut D, gates: &Gates) -> Result<(), Failed
     ensures firm { D.told → OnOk result (IsFirm (D.view dev.new)) }
     ensures confined { D.told → IsConfined (λ n. nat_le 117 n && nat_le n 129) (D.view dev.old) (D.view dev.new) }
     ensures uses { Uses (later_open gates.now 8) (D.view dev.old) (D.view dev.new) }
+    ensures faultless { OnOk result ((D.view dev.new).faults ≡ (D.view dev.old).faults) }
     ensures cause { OnErr result (Rose (D.view dev.old).faults (D.view dev.new).faults) }
 {
     for index in 1..RECORDS {
@@ -191,6 +198,7 @@ fn close_gate<D: Device>(dev: &mut D, index: u32, is_open: bool) -> Result<(), F
     ensures written { D.told → OnOk result ((D.view dev.new).reads (gate_sector index) ≡ cond is_open (gate_bytes false) ((D.view dev.old).reads (gate_sector index))) }
     ensures confined { D.told → IsConfined (λ n. is_open && (n == gate_sector index)) (D.view dev.old) (D.view dev.new) }
     ensures uses { Uses (one_if is_open) (D.view dev.old) (D.view dev.new) }
+    ensures faultless { OnOk result ((D.view dev.new).faults ≡ (D.view dev.old).faults) }
     ensures cause { OnErr result (Rose (D.view dev.old).faults (D.view dev.new).faults) }
 {
     if is_open {

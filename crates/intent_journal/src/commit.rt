@@ -25,7 +25,7 @@ use image_layout::ring::{BODIES, RECORDS, body_sector, descriptor_sector, gate_s
 impl Ring {
     /// Makes a whole batch count, or nothing of it. An empty batch writes nothing but syncs, and for any other a ring
     /// without room is emptied first. `Failed` comes only where the device's count of faults rose; the ring is then as it
-    /// was, or emptied where it had no room.
+    /// was, or emptied where it had no room. Ok leaves that count as it was.
     pub fn commit<D: Device>(&mut self, dev: &mut D, batch: &Batch) -> Result<(), Failed>
         requires { D.told → IsAt self.old (D.view dev.old) }
         ensures at { D.told → OnOk result (IsAt self.new (D.view dev.new)) }
@@ -42,8 +42,12 @@ impl Ring {
             (λ x f. IsBeforeOrAfter batch.now (D.view dev.old) x × (f ≡ (D.view dev.old).sent)) }
 
         ensures uses { Uses (commit_writes self.old batch.now) (D.view dev.old) (D.view dev.new) }
+        ensures most { checkpoint_writes self.old ≤ 121 }
+        ensures faultless { OnOk result ((D.view dev.new).faults ≡ (D.view dev.old).faults) }
         ensures cause { OnErr result (Rose (D.view dev.old).faults (D.view dev.new).faults) }
     {
+        // So many records and bodies as a ring has are put in place by at most 121 writes.
+        let _records = self.records();
         if batch.len() == 0 {
             // What was written before is to be on the disk.
             return dev.sync();
@@ -66,6 +70,7 @@ impl Ring {
         ensures any_moment { D.told → LeavesOnly (D.view dev.old) (D.view dev.new)
             (λ x f. IsBefore (D.view dev.old) x × (f ≡ (D.view dev.old).sent)) }
         ensures uses { Uses (cond (is_full_for self.old len) (checkpoint_writes self.old) 0) (D.view dev.old) (D.view dev.new) }
+        ensures faultless { OnOk result ((D.view dev.new).faults ≡ (D.view dev.old).faults) }
         ensures cause { OnErr result (Rose (D.view dev.old).faults (D.view dev.new).faults) }
     {
         if self.is_full_for(len) {
@@ -98,6 +103,7 @@ impl Ring {
         ensures any_moment { D.told → LeavesOnly (D.view dev.old) (D.view dev.new)
             (λ x f. IsBeforeOrAfter batch.now (D.view dev.old) x × (f ≡ (D.view dev.old).sent)) }
         ensures uses { Uses (length batch.now + 2) (D.view dev.old) (D.view dev.new) }
+        ensures faultless { OnOk result ((D.view dev.new).faults ≡ (D.view dev.old).faults) }
         ensures cause { OnErr result (Rose (D.view dev.old).faults (D.view dev.new).faults) }
     {
         // The record first, behind its closed gate: the gate may be opened only once the record is whole.
@@ -123,6 +129,7 @@ fn write_record<D: Device>(dev: &mut D, index: u32, start: u32, batch: &Batch) -
     ensures firm { D.told → OnOk result (IsFirm (D.view dev.new)) }
     ensures confined { D.told → IsConfined (is_in_record index start (length batch.now)) (D.view dev.old) (D.view dev.new) }
     ensures uses { Uses (length batch.now + 1) (D.view dev.old) (D.view dev.new) }
+    ensures faultless { OnOk result ((D.view dev.new).faults ≡ (D.view dev.old).faults) }
     ensures cause { OnErr result (Rose (D.view dev.old).faults (D.view dev.new).faults) }
 {
     write_bodies(dev, start, batch.patches())?;
@@ -137,6 +144,7 @@ fn write_bodies<D: Device>(dev: &mut D, start: u32, patches: &[Patch]) -> Result
     ensures bodies { D.told → OnOk result ((k : ℕ) (p : Patch) → slice_get patches.now k ≡ Some p → (D.view dev.new).reads (body_sector (start + k)) ≡ p.bytes) }
     ensures confined { D.told → IsConfined (is_body_of start (length patches.now)) (D.view dev.old) (D.view dev.new) }
     ensures uses { Uses (length patches.now) (D.view dev.old) (D.view dev.new) }
+    ensures faultless { OnOk result ((D.view dev.new).faults ≡ (D.view dev.old).faults) }
     ensures cause { OnErr result (Rose (D.view dev.old).faults (D.view dev.new).faults) }
 {
     let mut body = start;

@@ -28,6 +28,8 @@ const NUMBER_BYTES: usize = 4;
 /// The most homes that a record has.
 pub(crate) const MOST_HOMES: usize = BODIES as usize;
 
+const _: () = prove!(NUMBER_BYTES == 4 && MOST_HOMES == 113);
+
 /// The number at a byte of a sector.
 fn number_in(sector: &[u8; SECTOR_BYTES], at: usize) -> u32
     requires { at + 4 ≤ SECTOR_BYTES }

@@ -31,6 +31,3 @@ pub mod ring;
 pub use batch::{Batch, BatchFull};
 pub use homes::is_lawful_home;
 pub use ring::{ReplayFault, Replayed, Ring};
-
-#[cfg(test)]
-mod tests;

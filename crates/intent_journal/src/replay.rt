@@ -47,6 +47,8 @@ impl Ring {
 
         ensures uses { Uses 121 (D.view dev.old) (D.view dev.new) }
         ensures needed { D.told → Uses (replay_writes (D.view dev.old).reads) (D.view dev.old) (D.view dev.new) }
+        ensures faultless { OnOk result ((D.view dev.new).faults ≡ (D.view dev.old).faults) }
+        ensures bad_faultless { IsErrOf result ReplayFault.BadDescriptor → (D.view dev.new).faults ≡ (D.view dev.old).faults }
         ensures cause { IsErrOf result ReplayFault.Device → Rose (D.view dev.old).faults (D.view dev.new).faults }
     {
         self.counts.clear();
@@ -59,7 +61,8 @@ impl Ring {
 
 impl Ring {
     /// Reads what a sector is to hold once the open records of a disk are in place, and writes nothing. Whatever it held
-    /// before, the ring is empty after. `Device` comes only where the device's count of faults rose.
+    /// before, the ring is empty after. `Device` comes only where the device's count of faults rose. After an error `into`
+    /// is as it was.
     pub fn look<D: Device>(
         &mut self,
         dev: &mut D,
@@ -68,10 +71,13 @@ impl Ring {
     ) -> Result<(), ReplayFault>
         ensures empty { self.new ≡ [] }
         ensures bytes { D.told → OnOk result (into.new ≡ home (D.view dev.old).reads sector) }
+        ensures kept { OnErr result (into.new ≡ into.old) }
         ensures valid { D.told → OnOk result (has_valid_records (D.view dev.old).reads ≡ true) }
         ensures bad { D.told → IsErrOf result ReplayFault.BadDescriptor → has_valid_records (D.view dev.old).reads ≡ false }
         ensures rests { D.told → Rests (D.view dev.old) (D.view dev.new) }
         ensures uses { Uses 0 (D.view dev.old) (D.view dev.new) }
+        ensures faultless { OnOk result ((D.view dev.new).faults ≡ (D.view dev.old).faults) }
+        ensures bad_faultless { IsErrOf result ReplayFault.BadDescriptor → (D.view dev.new).faults ≡ (D.view dev.old).faults }
         ensures cause { IsErrOf result ReplayFault.Device → Rose (D.view dev.old).faults (D.view dev.new).faults }
     {
         self.counts.clear();
@@ -83,7 +89,7 @@ impl Ring {
 }
 
 /// Reads a sector over the open records, through an empty list of patches.
-#[tactic(auto, using(crate::proofs::Resting::rests_calls))]
+#[tactic(auto, using(image_device::proofs::Resting::rests_calls))]
 fn look_through<D: Device>(
     dev: &mut D,
     patches: &mut PatchList,
@@ -92,10 +98,13 @@ fn look_through<D: Device>(
 ) -> Result<(), ReplayFault>
     requires { patches.old ≡ [] }
     ensures bytes { D.told → OnOk result (into.new ≡ home (D.view dev.old).reads sector) }
+    ensures kept { OnErr result (into.new ≡ into.old) }
     ensures valid { D.told → OnOk result (has_valid_records (D.view dev.old).reads ≡ true) }
     ensures bad { D.told → IsErrOf result ReplayFault.BadDescriptor → has_valid_records (D.view dev.old).reads ≡ false }
     ensures rests { D.told → Rests (D.view dev.old) (D.view dev.new) }
     ensures uses { Uses 0 (D.view dev.old) (D.view dev.new) }
+    ensures faultless { OnOk result ((D.view dev.new).faults ≡ (D.view dev.old).faults) }
+    ensures bad_faultless { IsErrOf result ReplayFault.BadDescriptor → (D.view dev.new).faults ≡ (D.view dev.old).faults }
     ensures cause { IsErrOf result ReplayFault.Device → Rose (D.view dev.old).faults (D.view dev.new).faults }
 {
     read_records(dev, patches)?;
@@ -120,6 +129,8 @@ fn replay_into<D: Device>(dev: &mut D, patches: &mut PatchList) -> Result<Replay
         (λ x f. IsTheSame (D.view dev.old).reads x × (f ≡ (D.view dev.old).sent)) }
     ensures uses { Uses 121 (D.view dev.old) (D.view dev.new) }
     ensures needed { D.told → Uses (replay_writes (D.view dev.old).reads) (D.view dev.old) (D.view dev.new) }
+    ensures faultless { OnOk result ((D.view dev.new).faults ≡ (D.view dev.old).faults) }
+    ensures bad_faultless { IsErrOf result ReplayFault.BadDescriptor → (D.view dev.new).faults ≡ (D.view dev.old).faults }
     ensures cause { IsErrOf result ReplayFault.Device → Rose (D.view dev.old).faults (D.view dev.new).faults }
 {
     read_records(dev, patches)?;
@@ -140,7 +151,7 @@ fn found(homes: u32) -> Replayed
 }
 
 /// Reads the patches of the open records.
-#[tactic(auto, using(crate::proofs::Resting::rests_calls))]
+#[tactic(auto, using(image_device::proofs::Resting::rests_calls))]
 fn read_records<D: Device>(dev: &mut D, patches: &mut PatchList) -> Result<(), ReplayFault>
     requires { patches.old ≡ [] }
     ensures found { D.told → OnOk result (patches.new ≡ patches_of (open_records (D.view dev.old).reads)) }
@@ -148,6 +159,8 @@ fn read_records<D: Device>(dev: &mut D, patches: &mut PatchList) -> Result<(), R
     ensures bad { D.told → IsErrOf result ReplayFault.BadDescriptor → has_valid_records (D.view dev.old).reads ≡ false }
     ensures rests { D.told → Rests (D.view dev.old) (D.view dev.new) }
     ensures uses { Uses 0 (D.view dev.old) (D.view dev.new) }
+    ensures faultless { OnOk result ((D.view dev.new).faults ≡ (D.view dev.old).faults) }
+    ensures bad_faultless { IsErrOf result ReplayFault.BadDescriptor → (D.view dev.new).faults ≡ (D.view dev.old).faults }
     ensures cause { IsErrOf result ReplayFault.Device → Rose (D.view dev.old).faults (D.view dev.new).faults }
 {
     for index in 0..RECORDS {
@@ -159,7 +172,7 @@ fn read_records<D: Device>(dev: &mut D, patches: &mut PatchList) -> Result<(), R
 }
 
 /// Reads a record behind the patches of those before it. False where its gate is closed.
-#[tactic(auto, using(crate::proofs::Resting::rests_calls))]
+#[tactic(auto, using(image_device::proofs::Resting::rests_calls))]
 fn read_record<D: Device>(
     dev: &mut D,
     index: u32,
@@ -174,6 +187,8 @@ fn read_record<D: Device>(
         × (is_valid (length patches.old) (descriptor_of (D.view dev.old).reads index) ≡ false) }
     ensures rests { D.told → Rests (D.view dev.old) (D.view dev.new) }
     ensures uses { Uses 0 (D.view dev.old) (D.view dev.new) }
+    ensures faultless { OnOk result ((D.view dev.new).faults ≡ (D.view dev.old).faults) }
+    ensures bad_faultless { IsErrOf result ReplayFault.BadDescriptor → (D.view dev.new).faults ≡ (D.view dev.old).faults }
     ensures cause { IsErrOf result ReplayFault.Device → Rose (D.view dev.old).faults (D.view dev.new).faults }
 {
     if !is_gate_open(dev, index)? {
@@ -185,7 +200,7 @@ fn read_record<D: Device>(
 }
 
 /// Reads the homes of a record whose bodies begin at this one.
-#[tactic(auto, using(crate::proofs::Resting::rests_calls))]
+#[tactic(auto, using(image_device::proofs::Resting::rests_calls))]
 fn read_homes<D: Device>(
     dev: &mut D,
     index: u32,
@@ -198,6 +213,8 @@ fn read_homes<D: Device>(
     ensures bad { D.told → IsErrOf result ReplayFault.BadDescriptor → is_valid start (descriptor_of (D.view dev.old).reads index) ≡ false }
     ensures rests { D.told → Rests (D.view dev.old) (D.view dev.new) }
     ensures uses { Uses 0 (D.view dev.old) (D.view dev.new) }
+    ensures faultless { OnOk result ((D.view dev.new).faults ≡ (D.view dev.old).faults) }
+    ensures bad_faultless { IsErrOf result ReplayFault.BadDescriptor → (D.view dev.new).faults ≡ (D.view dev.old).faults }
     ensures cause { IsErrOf result ReplayFault.Device → Rose (D.view dev.old).faults (D.view dev.new).faults }
 {
     let mut sector = [0; 512];
@@ -209,7 +226,7 @@ fn read_homes<D: Device>(
 }
 
 /// Reads the body of each home, behind those read before.
-#[tactic(auto, using(crate::proofs::Resting::rests_calls))]
+#[tactic(auto, using(image_device::proofs::Resting::rests_calls))]
 fn read_bodies<D: Device>(dev: &mut D, homes: &[u32], patches: &mut PatchList) -> Result<(), Failed>
     requires { length patches.old + length homes.now ≤ bodies }
     ensures read { D.told → OnOk result (patches.new ≡ patches.old
@@ -217,6 +234,7 @@ fn read_bodies<D: Device>(dev: &mut D, homes: &[u32], patches: &mut PatchList) -
         (range_with_len 0 (length homes.now))) }
     ensures rests { D.told → Rests (D.view dev.old) (D.view dev.new) }
     ensures uses { Uses 0 (D.view dev.old) (D.view dev.new) }
+    ensures faultless { OnOk result ((D.view dev.new).faults ≡ (D.view dev.old).faults) }
     ensures cause { OnErr result (Rose (D.view dev.old).faults (D.view dev.new).faults) }
 {
     let mut body = [0; 512];
@@ -228,12 +246,13 @@ fn read_bodies<D: Device>(dev: &mut D, homes: &[u32], patches: &mut PatchList) -
 }
 
 /// Reads whether a gate is open.
-#[tactic(auto, using(crate::proofs::Resting::rests_calls))]
+#[tactic(auto, using(image_device::proofs::Resting::rests_calls))]
 fn is_gate_open<D: Device>(dev: &mut D, index: u32) -> Result<bool, Failed>
     requires { index < records }
     ensures gate { D.told → IfOk result (λ b. b ≡ is_open_gate (D.view dev.old).reads index) }
     ensures rests { D.told → Rests (D.view dev.old) (D.view dev.new) }
     ensures uses { Uses 0 (D.view dev.old) (D.view dev.new) }
+    ensures faultless { OnOk result ((D.view dev.new).faults ≡ (D.view dev.old).faults) }
     ensures cause { OnErr result (Rose (D.view dev.old).faults (D.view dev.new).faults) }
 {
     let mut gate = [0; 512];
@@ -242,11 +261,12 @@ fn is_gate_open<D: Device>(dev: &mut D, index: u32) -> Result<bool, Failed>
 }
 
 /// Reads which gates are open, also those behind a closed one.
-#[tactic(auto, using(crate::proofs::Resting::rests_calls))]
+#[tactic(auto, using(image_device::proofs::Resting::rests_calls))]
 fn read_gates<D: Device>(dev: &mut D) -> Result<Gates, Failed>
     ensures gates { D.told → IfOk result (λ gates. (index : ℕ) → index < records → is_listed_open gates index ≡ is_open_gate (D.view dev.old).reads index) }
     ensures rests { D.told → Rests (D.view dev.old) (D.view dev.new) }
     ensures uses { Uses 0 (D.view dev.old) (D.view dev.new) }
+    ensures faultless { OnOk result ((D.view dev.new).faults ≡ (D.view dev.old).faults) }
     ensures cause { OnErr result (Rose (D.view dev.old).faults (D.view dev.new).faults) }
 {
     let mut gates = [false; RECORD_PLACES];

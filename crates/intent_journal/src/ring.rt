@@ -22,6 +22,8 @@ use tsd_model::NoMemory;
 /// How many records there are.
 pub(crate) const RECORD_PLACES: usize = RECORDS as usize;
 
+const _: () = prove!(RECORD_PLACES == 8);
+
 /// What a replay found.
 #[derive(Clone, Copy, Debug, PartialEq, Eq)]
 pub enum Replayed {
@@ -112,8 +114,8 @@ impl Ring {
         has_home(self.patches.as_slice(), sector)
     }
 
-    /// Reads what a sector is to hold once all records are in place, and writes nothing. `Failed` comes only where the device's count of
-    /// faults rose.
+    /// Reads what a sector is to hold once all records are in place, and writes nothing. `Failed` comes only where the
+    /// device's count of faults rose, and leaves `into` as it was.
     pub fn read<D: Device>(
         &self,
         dev: &mut D,
@@ -122,8 +124,10 @@ impl Ring {
     ) -> Result<(), Failed>
         requires { D.told → IsAt self.now (D.view dev.old) }
         ensures bytes { D.told → OnOk result (into.new ≡ home (D.view dev.old).reads sector) }
+        ensures kept { OnErr result (into.new ≡ into.old) }
         ensures rests { D.told → Rests (D.view dev.old) (D.view dev.new) }
         ensures uses { Uses 0 (D.view dev.old) (D.view dev.new) }
+        ensures faultless { OnOk result ((D.view dev.new).faults ≡ (D.view dev.old).faults) }
         ensures cause { OnErr result (Rose (D.view dev.old).faults (D.view dev.new).faults) }
     {
         read_over(dev, self.patches.as_slice(), sector, into)
@@ -177,8 +181,10 @@ pub(crate) fn read_over<D: Device>(
     into: &mut [u8; 512],
 ) -> Result<(), Failed>
     ensures bytes { D.told → OnOk result (into.new ≡ overlaid patches.now (D.view dev.old).reads sector) }
+    ensures kept { OnErr result (into.new ≡ into.old) }
     ensures rests { D.told → Rests (D.view dev.old) (D.view dev.new) }
     ensures uses { Uses 0 (D.view dev.old) (D.view dev.new) }
+    ensures faultless { OnOk result ((D.view dev.new).faults ≡ (D.view dev.old).faults) }
     ensures cause { OnErr result (Rose (D.view dev.old).faults (D.view dev.new).faults) }
 {
     match last_of(patches, sector) {

@@ -4,7 +4,8 @@
 //! closures call.
 //!
 //! What it promises: a `Placement` ranks every block for every hint as its kind defines it, by the fact that it keeps
-//! beside its closure; no two blocks have one rank; `PlaceBook::pick` gives the placement of the kind that is asked for.
+//! beside its closure, and each rank that it answers is one that this closure answers; no two blocks have one rank;
+//! `PlaceBook::pick` gives the placement of the kind that is asked for.
 #![tactic(auto)]
 
 pub mod book;

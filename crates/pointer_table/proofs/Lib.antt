@@ -1,11 +1,9 @@
-pub mod PairLaws
 pub mod SlotLaws
 pub mod RawLaws
 pub mod NextLaws
 pub mod SectorLaws
 pub mod RepeatLaws
 pub mod LoadLaws
-pub mod DeviceLaws
 pub mod TableLaws
 pub mod LoadingLaws
 pub mod FreshLaws

@@ -8,11 +8,11 @@ use Rattle.std.proofs.lemmas.List.{append_assoc, append-nil, length_push, take_a
 use Rattle.tsd_model.proofs.TakeLaws.{take-take-append}
 use Rattle.tsd_model.specs.Pairs.{is_pair, holds, pair_lt, is_below_first, is_rising}
 use Rattle.pointer_table.specs.declared.raw.RawSlot.{RawSlot}
-use Rattle.pointer_table.specs.Next.{IsNext, IsNextSource, IsNextTarget}
+use Rattle.tsd_model.specs.Next.{IsNext, IsNextSource, IsNextTarget}
 use Rattle.pointer_table.specs.Raw.{slot_in, slots_in}
 use Rattle.pointer_table.specs.Slots.{pairs_in}
 use Rattle.pointer_table.specs.Scanning.{is_at, lesser_from, source_to, target_from}
-use Rattle.pointer_table.proofs.PairLaws.{above_first}
+use Rattle.tsd_model.proofs.PairLaws.{above_first}
 use Rattle.pointer_table.proofs.RawLaws.{holds_more}
 
 -- ---- one slot more

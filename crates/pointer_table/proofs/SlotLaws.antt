@@ -10,7 +10,7 @@ use Rattle.tsd_model.specs.Pairs.{is_pair, holds, is_rising, with_pair, without_
 use Rattle.tsd_model.proofs.SizeLaws.{length-with_pair}
 use Rattle.pointer_table.specs.Slots.{slot_at, pairs_in}
 use Rattle.pointer_table.specs.Scanning.{is_at}
-use Rattle.pointer_table.proofs.PairLaws.{same_tests, is_pair_ext, is_pair_same, holds-with_pair, holds-filter, is_rising-with_pair, is_rising-filter, rising_same, length-with_new_pair}
+use Rattle.tsd_model.proofs.PairLaws.{same_tests, is_pair_ext, is_pair_same, holds-with_pair, holds-filter, is_rising-with_pair, is_rising-filter, rising_same, length-with_new_pair}
 
 -- ---- which pairs are held
 

@@ -20,7 +20,7 @@ use Rattle.pointer_table.specs.Reading.{IsReadTo, AreWithinTo}
 use Rattle.pointer_table.specs.Repeats.{IsRepeatedIn, IsLeastOfAll}
 use Rattle.pointer_table.specs.Slots.{slot_at, pairs_in}
 use Rattle.pointer_table.specs.Table.{Table, pairs, IsWithin, IsTable, ArePairs}
-use Rattle.pointer_table.proofs.PairLaws.{length-with_new_pair}
+use Rattle.tsd_model.proofs.PairLaws.{length-with_new_pair}
 use Rattle.image_layout.specs.declared.place.Patch.{Patch}
 use Rattle.std.specs.List.{position}
 use Rattle.pointer_table.specs.Changes.{IsChange}

@@ -8,5 +8,4 @@ pub mod Raw
 pub mod Loading
 pub mod Reading
 pub mod Changes
-pub mod Next
 pub mod Fresh

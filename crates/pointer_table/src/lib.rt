@@ -5,8 +5,9 @@
 //!
 //! What it promises: `load` answers exactly what the slot sectors say, and names the first thing that is wrong with them.
 //! `add` and `remove` change one slot and give the patch of its sector: where an image had the slots of the table, it
-//! has them again with the patch. Each question is answered by the pairs that the slots hold, ascending. Only `load` takes
-//! memory: eight bytes a slot.
+//! has them again with the patch. Each question is answered by the pairs that the slots hold, ascending. An image whose
+//! sectors are those of `fresh_sector` has a table that holds no pair. A load that answers Ok leaves the device's count
+//! of faults as it was. Only `load` takes memory: eight bytes a slot.
 #![tactic(auto)]
 
 mod fault;

@@ -4,7 +4,7 @@ ghost use Rattle.std.specs.Prelude.{◌≡◌, ◌==◌, ℕ, ◌+◌, ◌^◌, 
 ghost use Rattle.std.specs.List.{list_any};
 ghost use Rattle.tsd_model.specs.Pairs.{holds};
 ghost use Rattle.tsd_model.specs.Step.{targets_from};
-ghost use Rattle.pointer_table.specs.Next.{IsNextSource, IsNextTarget};
+ghost use Rattle.tsd_model.specs.Next.{IsNextSource, IsNextTarget};
 ghost use Rattle.pointer_table.specs.Raw.{slot_in, slots_in};
 ghost use Rattle.pointer_table.specs.Slots.{pairs_in};
 ghost use Rattle.pointer_table.specs.Scanning.{is_at, lesser_from};

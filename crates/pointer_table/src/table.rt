@@ -8,7 +8,7 @@ ghost use Rattle.tsd_model.specs.Pairs.{holds, with_pair, without_pair};
 ghost use Rattle.tsd_model.specs.Step.{targets_from};
 ghost use Rattle.pointer_table.specs.Changes.{IsChange, IsSlotSector, KeepsStored};
 ghost use Rattle.pointer_table.specs.Loading.{IsLoading};
-ghost use Rattle.pointer_table.specs.Next.{IsNextSource, IsNextTarget};
+ghost use Rattle.tsd_model.specs.Next.{IsNextSource, IsNextTarget};
 ghost use Rattle.pointer_table.specs.Raw.{slot_in, slots_in};
 ghost use Rattle.pointer_table.specs.Reading.{AreWithinTo};
 ghost use Rattle.pointer_table.specs.Repeating.{IsRepeating};
@@ -69,6 +69,7 @@ impl PointerTable {
         ensures read { D.told → IsLoading (D.view dev.old).reads geometry.now result }
         ensures rests { D.told → Rests (D.view dev.old) (D.view dev.new) }
         ensures uses { Uses 0 (D.view dev.old) (D.view dev.new) }
+        ensures faultless { OnOk result ((D.view dev.new).faults ≡ (D.view dev.old).faults) }
         ensures cause { IsErrOf result TableFault.Device → Rose (D.view dev.old).faults (D.view dev.new).faults }
     {
         let mut slots = empty_slots(alloc, geometry)?;

@@ -11,4 +11,6 @@ mod caps;
 #[cfg(test)]
 mod counts;
 #[cfg(test)]
+mod journal;
+#[cfg(test)]
 mod pointers;

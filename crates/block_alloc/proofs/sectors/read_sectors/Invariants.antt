@@ -10,4 +10,5 @@ invariant-loop-index g l =
       read : g.D.Device.told → (i : ℕ) → i < 512 * l.index → get_or l.bytes.items i 0 ≡ get_or ((view l.fn.dev).reads (l.first + i / 512)) (i % 512) 0;
       rests : g.D.Device.told → Rests (view l.fn.dev) (view l.dev);
       uses : Uses 0 (view l.fn.dev) (view l.dev);
+      faultless : (view l.dev).faults ≡ (view l.fn.dev).faults;
     }

@@ -16,4 +16,5 @@ invariant-loop-index g l =
       others : g.D.Device.told → (i : ℕ) → l.index ≤ i → i < records → (view l.dev).reads (gate_sector i) ≡ (view l.fn.dev).reads (gate_sector i);
       confined : g.D.Device.told → IsConfined (λ n. nat_le 117 n && nat_le n 129) (view l.fn.dev) (view l.dev);
       uses : Uses (later_open l.gates l.index) (view l.fn.dev) (view l.dev);
+      faultless : (view l.dev).faults ≡ (view l.fn.dev).faults;
     }

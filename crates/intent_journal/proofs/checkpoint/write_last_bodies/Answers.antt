@@ -1,8 +1,9 @@
-use Rattle.std.proofs.Common.{◌+◌, refl, arith}
+use Rattle.std.proofs.Common.{◌+◌, refl, ◌∙◌, arith}
 use Rattle.std.proofs.lemmas.List.{take_rest}
 use Rattle.image_device.proofs.Confined.{confined_start, confined_wider, confined_joined}
 use Rattle.intent_journal.specs.Batch.{has_home}
-use Rattle.intent_journal.proofs.Counts.{uses_start, uses_and}
+use Rattle.image_device.proofs.Moments.{uses_and}
+use Rattle.image_device.proofs.Resting.{uses_none}
 use Rattle.intent_journal.proofs.Lasts.{placed_start, placed_more, count_more, home_at}
 use Rattle.intent_journal.proofs.checkpoint.write_last_bodies.Goals as goal
 
@@ -14,7 +15,8 @@ loop-index-init g c =
       few = omega arith;
       placed = λ told n. placed_start c.args.patches.now v.reads n;
       confined = λ told. confined_start _ v (g.met.D.Device.sound c.args.dev.now told);
-      uses = uses_start v;
+      uses = uses_none v;
+      faultless = refl;
     }
 
 pub returns-in_err-homes-clause-confined : goal.returns-in_err-homes-clause-confined
@@ -38,4 +40,5 @@ loop-index-preserved g c =
           let one = confined_wider _ (has_home ps) (view c.loop-index.dev) (view c.write_if_last.new.dev) (home_at ps i _ _ c.loop-index-test.true refl) (c.write_if_last.ensures.confined told) in
           confined_joined (has_home ps) _ (view c.loop-index.dev) (view c.write_if_last.new.dev) (c.loop-index.invariant.confined told) one;
       uses = uses_and c.loop-index.homes _ _ _ _ _ (omega (arith, c.in_ok-homes.ensures.homes)) c.loop-index.invariant.uses c.write_if_last.ensures.uses;
+      faultless = c.in_ok-homes.ensures.faultless ∙ c.loop-index.invariant.faultless;
     }

@@ -15,4 +15,5 @@ invariant-loop-index g l =
       placed : g.D.Device.told → (n : ℕ) → (view l.dev).reads n ≡ cond (has_home (drop l.index l.patches) n) ((view l.fn.dev).reads n) (overlaid l.patches (view l.fn.dev).reads n);
       confined : g.D.Device.told → IsConfined (has_home l.patches) (view l.fn.dev) (view l.dev);
       uses : Uses l.homes (view l.fn.dev) (view l.dev);
+      faultless : (view l.dev).faults ≡ (view l.fn.dev).faults;
     }

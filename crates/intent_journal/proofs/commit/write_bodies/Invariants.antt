@@ -15,4 +15,5 @@ invariant-loop-patch g l =
       bodies : g.D.Device.told → (k : ℕ) (p : Patch) → k < l.patch-index → slice_get l.patches k ≡ Some p → (view l.dev).reads (body_sector (l.start + k)) ≡ p.bytes;
       confined : g.D.Device.told → IsConfined (is_body_of l.start (length l.patches)) (view l.fn.dev) (view l.dev);
       uses : Uses l.patch-index (view l.fn.dev) (view l.dev);
+      faultless : (view l.dev).faults ≡ (view l.fn.dev).faults;
     }

@@ -2,8 +2,8 @@ use Rattle.std.proofs.Common.{◌≡◌, ◌+◌, length, get_or, List, ℕ, ◌
 use Rattle.std.proofs.lemmas.List.{length_push}
 use Rattle.image_layout.specs.Ring.{body_sector}
 use Rattle.intent_journal.proofs.Bodies.{read_more}
-use Rattle.intent_journal.proofs.Counts.{uses_and}
-use Rattle.intent_journal.proofs.Resting.{rests_joined}
+use Rattle.image_device.proofs.Moments.{uses_and}
+use Rattle.image_device.proofs.Resting.{rests_joined}
 use Rattle.intent_journal.proofs.replay.read_bodies.Goals as goal
 
 pub loop-home-preserved : goal.loop-home-preserved
@@ -18,4 +18,5 @@ loop-home-preserved g c =
           read_more c.args.patches.now _ c.loop-home.home-index c.loop-home.patches c.push.new.self _ c.push.ensures (ap (λ (l : List ℕ). record { sector = get_or c.args.homes.now c.loop-home.home-index 0; bytes = l }) bytes) (c.loop-home.invariant.read told);
       rests = λ told. rests_joined _ _ _ (c.loop-home.invariant.rests told) (c.read.ensures.rests told);
       uses = uses_and 0 0 0 _ _ _ (omega arith) c.loop-home.invariant.uses c.read.ensures.uses;
+      faultless = c.in_ok-read.ensures.faultless ∙ c.loop-home.invariant.faultless;
     }

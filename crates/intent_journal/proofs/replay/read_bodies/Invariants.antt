@@ -13,4 +13,5 @@ invariant-loop-home g l =
           ++ map (λ k. record { sector = get_or l.homes k 0; bytes = (view l.fn.dev).reads (body_sector (length l.fn.patches + k)) }) (range_with_len 0 l.home-index);
       rests : g.D.Device.told → Rests (view l.fn.dev) (view l.dev);
       uses : Uses 0 (view l.fn.dev) (view l.dev);
+      faultless : (view l.dev).faults ≡ (view l.fn.dev).faults;
     }

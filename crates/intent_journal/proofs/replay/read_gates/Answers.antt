@@ -1,8 +1,8 @@
 use Rattle.std.proofs.Common.{◌∙◌, arith, length-set, Bool}
 use Rattle.intent_journal.specs.Records.{is_open_gate}
 use Rattle.intent_journal.proofs.Closings.{listed_more}
-use Rattle.intent_journal.proofs.Counts.{uses_and}
-use Rattle.intent_journal.proofs.Resting.{rests_joined}
+use Rattle.image_device.proofs.Moments.{uses_and}
+use Rattle.image_device.proofs.Resting.{rests_joined}
 use Rattle.intent_journal.proofs.replay.read_gates.Goals as goal
 
 pub loop-index-preserved : goal.loop-index-preserved
@@ -15,4 +15,5 @@ loop-index-preserved g c =
           (c.in_ok-gates.ensures.gate told ∙ (λ i. is_open_gate ((c.loop-index.invariant.rests told).reads i) c.loop-index.index));
       rests = λ told. rests_joined _ _ _ (c.loop-index.invariant.rests told) (c.is_gate_open.ensures.rests told);
       uses = uses_and 0 0 0 _ _ _ (omega arith) c.loop-index.invariant.uses c.is_gate_open.ensures.uses;
+      faultless = c.in_ok-gates.ensures.faultless ∙ c.loop-index.invariant.faultless;
     }

@@ -12,4 +12,5 @@ invariant-loop-index g l =
       gates : g.D.Device.told → (i : ℕ) → i < l.index → is_listed_open l.gates i ≡ is_open_gate (view l.fn.dev).reads i;
       rests : g.D.Device.told → Rests (view l.fn.dev) (view l.dev);
       uses : Uses 0 (view l.fn.dev) (view l.dev);
+      faultless : (view l.dev).faults ≡ (view l.fn.dev).faults;
     }

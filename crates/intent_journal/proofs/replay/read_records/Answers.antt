@@ -1,4 +1,4 @@
-use Rattle.std.proofs.Common.{◌≡◌, ◌++◌, length, List, sym, ◌∙◌, ap, subst, arith}
+use Rattle.std.proofs.Common.{◌≡◌, ◌++◌, length, List, refl, sym, ◌∙◌, ap, subst, arith}
 use Rattle.std.proofs.lemmas.Result.{err_from_is_err_and}
 use Rattle.std.specs.Prelude.{IsErrOf, Err}
 use Rattle.intent_journal.specs.declared.ring.ReplayFault.TheVariants.{BadDescriptor}
@@ -6,9 +6,10 @@ use Rattle.image_device.specs.Image.{Image}
 use Rattle.image_layout.specs.declared.place.Patch.{Patch}
 use Rattle.intent_journal.specs.Descriptor.{is_valid}
 use Rattle.intent_journal.specs.Records.{is_open_gate, descriptor_of, record_at}
-use Rattle.intent_journal.proofs.Counts.{uses_start, uses_and}
+use Rattle.image_device.proofs.Moments.{uses_and}
+use Rattle.image_device.proofs.Resting.{uses_none}
 use Rattle.intent_journal.proofs.Reading.{found_start, valid_start, found_more, valid_more, found_end, valid_end, bad_end}
-use Rattle.intent_journal.proofs.Resting.{rests_start, rests_joined}
+use Rattle.image_device.proofs.Resting.{rests_none, rests_joined}
 use Rattle.intent_journal.proofs.replay.read_records.Goals as goal
 
 pub loop-index-init : goal.loop-index-init
@@ -17,8 +18,9 @@ loop-index-init g c =
     record {
       found = λ told. found_start v.reads c.args.patches.now c.requires;
       valid = λ told. valid_start v.reads c.args.patches.now c.requires;
-      rests = λ told. rests_start v;
-      uses = uses_start v;
+      rests = λ told. rests_none v;
+      uses = uses_none v;
+      faultless = refl;
     }
 
 pub returns-in_err-read_record-clause-bad : goal.returns-in_err-read_record-clause-bad
@@ -74,4 +76,5 @@ loop-index-preserved g c =
           c.loop-index.invariant.valid told ∙ valid_more x i ps c.loop-index-test.true new gate valid is;
       rests = λ told. rests_joined _ _ _ (c.loop-index.invariant.rests told) (c.read_record.ensures.rests told);
       uses = uses_and 0 0 0 _ _ _ (omega arith) c.loop-index.invariant.uses c.read_record.ensures.uses;
+      faultless = c.in_ok-read_record.ensures.faultless ∙ c.loop-index.invariant.faultless;
     }

@@ -11,4 +11,5 @@ invariant-loop-index g l =
       valid : g.D.Device.told → has_valid_records (view l.fn.dev).reads ≡ are_valid_from (view l.fn.dev).reads l.index (length l.patches) (8 - l.index);
       rests : g.D.Device.told → Rests (view l.fn.dev) (view l.dev);
       uses : Uses 0 (view l.fn.dev) (view l.dev);
+      faultless : (view l.dev).faults ≡ (view l.fn.dev).faults;
     }

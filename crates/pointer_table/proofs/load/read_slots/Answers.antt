@@ -3,7 +3,8 @@ use Rattle.std.specs.Int.{div_ceil}
 use Rattle.image_layout.specs.Areas.{slots_start, data_start}
 use Rattle.pointer_table.specs.Raw.{slots_in}
 use Rattle.pointer_table.specs.Reading.{IsReadTo, AreWithinTo}
-use Rattle.pointer_table.proofs.DeviceLaws.{rests_more, uses_more, on_ok}
+use Rattle.image_device.proofs.Outcomes.{unless_err}
+use Rattle.image_device.proofs.Resting.{rests_joined, uses_read}
 use Rattle.pointer_table.proofs.LoadLaws.{part_inside}
 use Rattle.pointer_table.proofs.load.read_slots.Goals as goal
 
@@ -26,7 +27,7 @@ loop-part-preserved g c =
     record {
       read = λ told.
           let still = (so_far.rests told).reads in
-          let bytes = on_ok c.read.result c.is_err.result c.is_err.ensures.value c.if-is_err.false (c.read.ensures.bytes told) in
+          let bytes = unless_err c.read.result c.is_err.result c.if-is_err.false c.is_err.ensures.value (c.read.ensures.bytes told) in
           let sector : v0.reads (slots_start size + part) ≡ c.read.new.into =
           ap (λ (s : ℕ). v0.reads (s + part)) (sym starts) ∙ (sym (ap (λ r. r (c.slots_start-start.result + part)) still) ∙ sym bytes) in
           subst (λ (n : ℕ). IsReadTo v0.reads size n (slots_in c.take_sector.new.slots)) end
@@ -34,6 +35,7 @@ loop-part-preserved g c =
       within =
           subst (λ (n : ℕ). AreWithinTo size n (slots_in c.take_sector.new.slots)) end
           (c.in_default.ensures.within (subst (λ (n : ℕ). AreWithinTo size n (slots_in c.loop-part.slots)) first so_far.within));
-      rests = λ told. rests_more v0 v v' (so_far.rests told) (c.read.ensures.rests told);
-      uses = uses_more v0 v v' so_far.uses c.read.ensures.uses;
+      rests = λ told. rests_joined v0 v v' (so_far.rests told) (c.read.ensures.rests told);
+      uses = uses_read 0 v0 v v' so_far.uses c.read.ensures.uses;
+      faultless = unless_err c.read.result c.is_err.result c.if-is_err.false c.is_err.ensures.value c.read.ensures.faultless ∙ so_far.faultless;
     }

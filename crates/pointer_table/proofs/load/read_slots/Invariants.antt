@@ -1,4 +1,4 @@
-use Rattle.std.proofs.Common.{◌*◌, min}
+use Rattle.std.proofs.Common.{◌≡◌, ◌*◌, min}
 use Rattle.image_device.specs.Calls.{Rests, Uses}
 use Rattle.pointer_table.specs.Raw.{slots_in}
 use Rattle.pointer_table.specs.Reading.{IsReadTo, AreWithinTo}
@@ -12,4 +12,5 @@ invariant-loop-part g l =
       within : AreWithinTo l.geometry (min l.geometry.slots (64 * l.part)) (slots_in l.slots);
       rests : g.D.Device.told → Rests (view l.fn.dev) (view l.dev);
       uses : Uses 0 (view l.fn.dev) (view l.dev);
+      faultless : (view l.dev).faults ≡ (view l.fn.dev).faults;
     }

@@ -1,6 +1,6 @@
 use Rattle.std.proofs.Common.{List, subst, arith}
 use Rattle.std.proofs.lemmas.List.{take_all}
-use Rattle.pointer_table.specs.Next.{IsNextSource}
+use Rattle.tsd_model.specs.Next.{IsNextSource}
 use Rattle.pointer_table.specs.Raw.{slots_in}
 use Rattle.pointer_table.specs.Slots.{pairs_in}
 use Rattle.pointer_table.specs.declared.raw.RawSlot.{RawSlot}

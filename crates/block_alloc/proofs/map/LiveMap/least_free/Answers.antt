@@ -13,10 +13,10 @@ loop-block-preserved-then-not-is_live g c =
     let rank = rank_of c.args.place.now.kind c.args.hint in
     let next : c.loop-block.block ≡ block + 1 = omega arith in
     let within : block < blocks = omega arith in
-    let inside : block < length live = omega (arith, c.geometry-blocks.ensures.sized.each_block, ap (λ m. m.blocks) c.geometry-blocks.ensures.value) in
+    let inside : block < length live = omega (arith, c.geometry-blocks.ensures.table.each_block, ap (λ m. m.blocks) c.geometry-blocks.ensures.value) in
     let free : is_free live block ≡ true = ap (λ t. t && not (is_live live block)) (lt-ltb block (length live) inside) ∙ ap not (sym c.is_live.ensures ∙ c.if-not-is_live.true) in
     let offered : Ranked = record { rank = c.rank.result; block = block } in
-    let is : offered ≡ ranked rank block = ap (λ r. let s : Ranked = record { rank = r; block = block } in s) c.rank.ensures in
+    let is : offered ≡ ranked rank block = ap (λ r. let s : Ranked = record { rank = r; block = block } in s) c.rank.ensures.value in
     record {
       wanted = c.offer.ensures.wanted ∙ c.loop-block.invariant.wanted;
       kept = c.offer.ensures.kept ∙ (ap (λ w. take w (in_order offered c.loop-block.least.kept.items)) c.loop-block.invariant.wanted

@@ -18,7 +18,7 @@ loop-block-preserved-then-count-row g c =
     let row : IsRow live block c.row_from-row.result = c.row_from-row.ensures.row (subst P next c.loop-block.invariant.row) in
     let found : is_free_run live count block ≡ true = row-run live block c.row_from-row.result count row c.if-count-row.true in
     let offered : Ranked = record { rank = c.rank.result; block = block } in
-    let is : offered ≡ ranked rank block = ap (λ r. let s : Ranked = record { rank = r; block = block } in s) c.rank.ensures in
+    let is : offered ≡ ranked rank block = ap (λ r. let s : Ranked = record { rank = r; block = block } in s) c.rank.ensures.value in
     record {
       row = row;
       within = omega (arith, c.row_from-row.ensures.within, ap (λ m. m.blocks) c.geometry-blocks.ensures.value);

@@ -5,8 +5,8 @@ use Rattle.block_alloc.proofs.BitLaws.{length-bits_of}
 use Rattle.block_alloc.proofs.StoredLaws.{read_is_stored}
 use Rattle.block_alloc.proofs.map.LiveMap.load.Goals as goal
 
-pub returns-clause-sized : goal.returns-clause-sized
-returns-clause-sized g c = record { lawful = c.requires; each_block = length-bits_of c.cut_to.new.bytes.items c.args.geometry.now.blocks }
+pub returns-clause-table : goal.returns-clause-table
+returns-clause-table g c = record { lawful = c.requires; each_block = length-bits_of c.cut_to.new.bytes.items c.args.geometry.now.blocks }
 
 pub returns-clause-stored : goal.returns-clause-stored
 returns-clause-stored g c = λ told.

@@ -5,6 +5,7 @@ use Rattle.image_device.proofs.Outcomes.{on_ok}
 use Rattle.image_device.proofs.Moments.{started, after_sync}
 use Rattle.intent_journal.specs.Crash.{IsBeforeOrAfter}
 use Rattle.intent_journal.proofs.Committing.{before_now}
+use Rattle.intent_journal.proofs.Emptying.{ring_most}
 use Rattle.intent_journal.proofs.Roomy.{only_made, then_added, done_added, written_last}
 use Rattle.intent_journal.proofs.ring.Ring.commit.Goals as goal
 
@@ -37,3 +38,12 @@ returns-clause-written g c told =
 
 pub returns-then-len-eq0-clause-written : goal.returns-then-len-eq0-clause-written
 returns-then-len-eq0-clause-written g c told = on_ok c.sync.result (λ some. absurd (some (nil_from_length c.args.batch.now (sym c.len.ensures.value ∙ c.if-len-eq0.true))))
+
+pub returns-then-len-eq0-clause-most : goal.returns-then-len-eq0-clause-most
+returns-then-len-eq0-clause-most g c = ring_most c.args.self.now c.records-records.ensures.ring
+
+pub returns-in_err-make_room-clause-most : goal.returns-in_err-make_room-clause-most
+returns-in_err-make_room-clause-most g c = ring_most c.args.self.now c.records-records.ensures.ring
+
+pub returns-clause-most : goal.returns-clause-most
+returns-clause-most g c = ring_most c.args.self.now c.records-records.ensures.ring

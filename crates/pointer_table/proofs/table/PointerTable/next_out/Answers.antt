@@ -1,5 +1,5 @@
 use Rattle.std.proofs.Common.{ℕ, List, subst, ap, ◌∙◌}
-use Rattle.pointer_table.specs.Next.{IsNextTarget}
+use Rattle.tsd_model.specs.Next.{IsNextTarget}
 use Rattle.pointer_table.specs.Raw.{slots_in}
 use Rattle.pointer_table.specs.Slots.{pairs_in}
 use Rattle.pointer_table.specs.Table.{pairs}

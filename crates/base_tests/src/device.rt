@@ -1,0 +1,5 @@
+// The outside: worked calls, faults by number, each crash image, and time.
+mod images;
+mod replace;
+mod source;
+mod station;

@@ -1,5 +1,0 @@
-// What no clause shows: worked calls, faults by number, each crash image, and time.
-mod images;
-mod replace;
-mod source;
-mod station;
