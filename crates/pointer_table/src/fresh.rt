@@ -9,11 +9,11 @@ ghost use Rattle.tsd_model.specs.Geometry.{IsLawful};
 ghost use Rattle.tsd_model.specs.declared.geometry.Geometry.{Geometry};
 
 use image_layout::sectors::SECTOR_BYTES;
-use tsd_model::Geometry;
 
-/// A sector of the slots of a fresh disk, counted from the first such sector.
-pub fn fresh_sector(_geometry: &Geometry, _part: u32) -> [u8; SECTOR_BYTES]
-    ensures { result ≡ slot_sector_bytes (fresh_slots _geometry.now) _part }
+/// The 512 bytes of a sector of slots of a fresh disk: zeros, whatever its number and the size of the disk are.
+pub fn fresh_sector() -> [u8; SECTOR_BYTES]
+    ensures value { (g : Geometry) (part : ℕ) → result ≡ slot_sector_bytes (fresh_slots g) part }
+    ensures zeros { result ≡ zeros }
 {
     [0; SECTOR_BYTES]
 }
