@@ -327,7 +327,11 @@ fn fresh_sectors_have_their_capabilities(rt: HostRuntime) -> Result<(), Fail> {
         }
         let store = CapStore::load(alloc, &mut station, &header)?;
         for block in 0..primaries {
-            let held = caps.as_slice().get(block as usize).copied().unwrap_or_default();
+            let held = caps
+                .as_slice()
+                .get(block as usize)
+                .copied()
+                .unwrap_or_default();
             for (cap, level) in [(held.read, Level::Read), (held.write, Level::Write)] {
                 let shown = Shown::Key(cap);
                 assert_eq!(rt; store.level_shown(block, &shown), level, "at {block}");
