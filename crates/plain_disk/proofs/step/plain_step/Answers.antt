@@ -2,12 +2,11 @@ use Rattle.std.proofs.Common.{◌≡◌, false, sym, ap, subst}
 use Rattle.std.specs.Prelude.{Result, Ok, Err, IfOk}
 use Rattle.tsd_model.specs.World.{World}
 use Rattle.tsd_model.specs.Sessions.{Sessions}
-use Rattle.tsd_model.specs.Valid.{IsValid}
 use Rattle.tsd_model.specs.Step.{Outcome, gives, step}
 use Rattle.tsd_model.specs.declared.memory.NoMemory.{NoMemory}
 use Rattle.tsd_model.specs.declared.replies.Reply.{Reply}
 use Rattle.disk_laws.specs.Reached.{KeepsWhatIsReached}
-use Rattle.disk_laws.specs.Reclaiming.{is_sweep, ReclaimsTheLost}
+use Rattle.disk_laws.specs.Reclaiming.{ReclaimsTheLost}
 use Rattle.disk_laws.proofs.ReclaimLaws.{reached_stays, last_pointer}
 use Rattle.plain_disk.proofs.step.plain_step.Goals as goal
 
