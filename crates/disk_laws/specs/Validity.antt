@@ -27,6 +27,6 @@ FreshWorldsAreValid = (g : Geometry) (caps : List CapPair) → IsLawful g → le
 abbrev pub UpgradedWorldsAreValid : Type 0
 UpgradedWorldsAreValid = (w : World) → IsValid w → IsValid (upgraded w)
 
--- No open session fits every world.
+-- Sessions of which none is open fit each world.
 abbrev pub NoSessionsFit : Type 0
 NoSessionsFit = (w : World) → Fits w no_sessions

@@ -8,7 +8,7 @@ pub fn worlds_stay_valid()
 {}
 
 /// Where a run may begin: the world of a new disk is valid, so is a valid world once its capabilities are digests, and
-/// no open session fits every world.
+/// sessions of which none is open fit each world.
 pub fn runs_begin_valid()
     ensures fresh { FreshWorldsAreValid }
     ensures upgraded { UpgradedWorldsAreValid }
