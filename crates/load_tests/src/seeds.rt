@@ -46,7 +46,11 @@ fn draws(rt: &impl Abort, seed: &[u8; 32], geometry: &Geometry, lines: &[&str])
         let request = draw(rt, &mut load);
         assert!(rt; request != Request::Bad);
         print_request(&request, &mut line);
-        assert_eq!(rt; line.as_slice().split_last(), Some((&b'\n', text.as_bytes())), "{text}");
+        assert_eq!(rt;
+            line.as_slice().split_last(),
+            Some((&b'\n', text.as_bytes())),
+            "{text}"
+        );
     }
 }
 
@@ -59,8 +63,8 @@ fn the_seed_of_zeros(rt: HostRuntime) {
 #[test]
 fn a_seed_that_counts(rt: HostRuntime) {
     let seed = [
-        0, 1, 2, 3, 4, 5, 6, 7, 8, 9, 10, 11, 12, 13, 14, 15, 16, 17, 18, 19, 20, 21, 22, 23, 24, 25, 26,
-        27, 28, 29, 30, 31,
+        0, 1, 2, 3, 4, 5, 6, 7, 8, 9, 10, 11, 12, 13, 14, 15, 16, 17, 18, 19, 20, 21, 22, 23, 24,
+        25, 26, 27, 28, 29, 30, 31,
     ];
     draws(&rt, &seed, &size(&rt, 64, 2, 256), &COUNTING);
 }
