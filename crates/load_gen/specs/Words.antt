@@ -1,5 +1,5 @@
 -- What holds inside a generator.
-use Rattle.std.specs.Prelude.{◌≡◌, ◌≤◌, ◌<◌, ℕ}
+use Rattle.std.specs.Prelude.{◌≡◌, ◌≤◌, ℕ}
 use Rattle.rand_chacha.specs.ChaCha.{ChaCha}
 use Rattle.tsd_model.specs.declared.geometry.Geometry.{Geometry}
 use Rattle.load_gen.specs.Requests.{words_place}

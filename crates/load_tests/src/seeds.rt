@@ -1,6 +1,5 @@
 //! The requests of seeds, against those that another program computed.
 
-ghost use Rattle.std.specs.Prelude.{◌≡◌};
 ghost use Rattle.tsd_model.specs.Geometry.{IsLawful};
 
 use crate::lines::{COUNTING, MIXED, ONES, ZERO};
@@ -36,21 +35,31 @@ fn draw(rt: &impl Abort, load: &mut LoadGen) -> Request {
     load.next_request()
 }
 
+/// Asserts that the bytes are this text and a line feed.
+fn is_line(rt: &impl Abort, line: &OutBuf, text: &str) {
+    assert_eq!(rt;
+        line.as_slice().split_last(),
+        Some((&b'\n', text.as_bytes())),
+        "{text}"
+    );
+}
+
+/// Asserts that the next request is this line.
+fn draws_line(rt: &impl Abort, load: &mut LoadGen, text: &str) {
+    let request = draw(rt, load);
+    let mut line = OutBuf::new();
+    assert!(rt; request != Request::Bad);
+    print_request(&request, &mut line);
+    is_line(rt, &line, text);
+}
+
 /// Asserts that the first requests of a seed are these lines.
 fn draws(rt: &impl Abort, seed: &[u8; 32], geometry: &Geometry, lines: &[&str])
     requires { IsLawful geometry.now }
 {
     let mut load = LoadGen::new(seed, geometry);
-    let mut line = OutBuf::new();
-    for text in lines {
-        let request = draw(rt, &mut load);
-        assert!(rt; request != Request::Bad);
-        print_request(&request, &mut line);
-        assert_eq!(rt;
-            line.as_slice().split_last(),
-            Some((&b'\n', text.as_bytes())),
-            "{text}"
-        );
+    for text in lines.iter() {
+        draws_line(rt, &mut load, text);
     }
 }
 
