@@ -1,0 +1,44 @@
+//! The disk as one call.
+
+ghost use Rattle.std.specs.Prelude.{◌≡◌, true, false, IsTrue, IsOk, IsErr, OnOk, OnErr, IfOk};
+ghost use Rattle.image_device.specs.Counts.{Rose};
+ghost use Rattle.fs_port.specs.View.{View, IsSound};
+ghost use Rattle.fs_port.specs.Calls.{Counts, IsCarriedOut, IsEitherSide, LeavesOnly, Stays, is_steady};
+
+use image_device::Failed;
+use tsd_model::{Geometry, Reply, Request};
+
+/// A disk of blocks, as its clients ask it. An ask that is answered leaves the count of faults as it was, so that no
+/// failed call is tried again and forgotten.
+pub trait Blocks {
+    /// Whether it tells its world: a type tells or doesn't.
+    ghost told: { Type 0 };
+
+    /// What it is. The world, the bytes sent and what a crash leaves are said only where it is told.
+    ghost view: { Self → View };
+
+    /// How large the disk is.
+    fn geometry(&self) -> Geometry
+        ensures { result ≡ (view self.now).geometry };
+
+    /// Carries out a request: the answer is that of the rules of the disk, or NoMemory to an open that they don't
+    /// refuse, with nothing changed. A crash inside leaves the world before or the one after. `Failed` comes only where
+    /// `faults` rose, and then the disk is spent.
+    fn ask(&mut self, request: &Request) -> Result<Reply, Failed>
+        requires { (view self.old).spent ≡ false }
+        ensures step { told → IfOk result (λ reply. IsCarriedOut (view self.old) (view self.new) request.now reply) }
+        ensures crash { told → LeavesOnly (view self.old) (view self.new) (IsEitherSide (view self.old) request.now) }
+        ensures stays { is_steady request.now ≡ true → OnOk result (Stays (view self.old) (view self.new)) }
+        ensures counts { Counts (view self.old) (view self.new) }
+        ensures faultless { OnOk result ((view self.new).faults ≡ (view self.old).faults) }
+        ensures unspent { OnOk result ((view self.new).spent ≡ false) }
+        ensures spent { OnErr result ((view self.new).spent ≡ true) }
+        ensures cause { OnErr result (Rose (view self.old).faults (view self.new).faults) };
+
+    /// Whether an ask failed.
+    fn is_spent(&self) -> bool
+        ensures { result ≡ (view self.now).spent };
+
+    /// What holds of it at each moment.
+    ghost sound: { (d : Self) → told → (view d).spent ≡ false → IsSound (view d) };
+}
