@@ -1,0 +1,11 @@
+pub mod Lists
+pub mod AreaLaws
+pub mod AlikeLaws
+pub mod StandLaws
+pub mod RawLaws
+pub mod LikeLaws
+pub mod WrittenLaws
+pub mod SoundLaws
+pub mod FaultLaws
+pub mod FreshLaws
+pub mod GrowLaws
