@@ -4,8 +4,13 @@ pub mod AlikeLaws
 pub mod StandLaws
 pub mod RawLaws
 pub mod LikeLaws
+pub mod WorldLaws
+pub mod DebtLaws
 pub mod WrittenLaws
+pub mod AgreeLaws
 pub mod SoundLaws
+pub mod TurnLaws
+pub mod ChangeLaws
 pub mod FaultLaws
 pub mod FreshLaws
 pub mod GrowLaws

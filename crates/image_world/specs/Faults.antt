@@ -118,3 +118,12 @@ IsFirstFault image (fault.Repeated a b) = IsDamaged image (fault.Repeated a b)
 IsFirstFault image (fault.Primary b) = IsDamaged image (fault.Primary b)
 IsFirstFault image (fault.EndNotLive a b) = IsDamaged image (fault.EndNotLive a b)
 IsFirstFault image (fault.Count b stored found) = IsDamaged image (fault.Count b stored found)
+
+-- ---- laws
+
+-- Two faults of one image are the same, and an image that passes has none.
+abbrev pub FaultsAreOne : Type 0
+FaultsAreOne = (image : Image) (one other : ImageFault) → IsFirstFault image one → IsFirstFault image other → one ≡ other
+
+abbrev pub GoodHasNoFault : Type 0
+GoodHasNoFault = (image : Image) (why : ImageFault) → IsGood image → ¬ IsFirstFault image why

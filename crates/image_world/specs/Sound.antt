@@ -4,13 +4,15 @@ use Rattle.tsd_model.specs.Pairs.{count_to, holds}
 use Rattle.image_layout.specs.Areas.{header_sector, sweep_flag}
 use Rattle.image_layout.specs.Header.{IsVersion, IsReading}
 use Rattle.image_layout.specs.Image.{Image, is_open}
+use Rattle.intent_journal.specs.Home.{home}
 use Rattle.pointer_table.specs.Table.{IsTable}
 use Rattle.pointer_table.specs.Sectors.{IsStored as AreSlots}
 use Rattle.ref_counts.specs.Stored.{IsStored as AreCounts}
 use Rattle.block_alloc.specs.LiveMap.{is_live}
 use Rattle.block_alloc.specs.Stored.{IsStored as AreBits}
 use Rattle.cap_store.specs.Stored.{IsStored as AreKept}
-use Rattle.image_world.specs.Tables.{Tables, pairs_of}
+use Rattle.image_world.specs.Faults.{IsFormatted, HasJournal, HasHeader, AreRight, IsGood}
+use Rattle.image_world.specs.Tables.{Tables, pairs_of, header_on, tables_of}
 
 -- The sectors have these tables: the header is right and gives their version and size, and each table is stored.
 pub record HasTables (t : Tables) (x : Image) : Type 0 where
@@ -35,3 +37,21 @@ pub record AreSound (t : Tables) : Type 0 where
   pub ends : (a b : ℕ) → holds (pairs_of t) a b ≡ true → (is_live t.live a && is_live t.live b) ≡ true
   -- each count is the number of pairs to its block
   pub counted : (b : ℕ) → b < t.geometry.blocks → slice_index t.counts b ≡ count_to (pairs_of t) b
+
+-- ---- laws
+
+-- Tables that fit one another and that sectors have are those of the image.
+abbrev pub TablesAreOne : Type 0
+TablesAreOne = (t : Tables) (x : Image) → AreSound t → HasTables t x → tables_of x ≡ t
+
+-- An image with a right header has its tables.
+abbrev pub TablesAreHad : Type 0
+TablesAreHad = (x : Image) → HasHeader x → HasTables (tables_of x) x
+
+-- Where tests 4 to 8 pass they fit one another, and where they do the tests pass.
+abbrev pub RightTablesAreSound : Type 0
+RightTablesAreSound = (x : Image) → HasHeader x → AreRight x (header_on x).geometry → AreSound (tables_of x)
+
+abbrev pub SoundTablesPass : Type 0
+SoundTablesPass =
+    (t : Tables) (image : Image) → IsFormatted image → HasJournal image → AreSound t → HasTables t (home image) → IsGood image
