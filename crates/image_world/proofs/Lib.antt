@@ -12,5 +12,7 @@ pub mod SoundLaws
 pub mod TurnLaws
 pub mod ChangeLaws
 pub mod FaultLaws
+pub mod LeastLaws
+pub mod AnswerLaws
 pub mod FreshLaws
 pub mod GrowLaws
