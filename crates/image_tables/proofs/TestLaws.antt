@@ -12,9 +12,9 @@ use Rattle.pointer_table.proofs.LoadingLaws.{one_table}
 use Rattle.pointer_table.proofs.SlotLaws.{holds_from_slot, slot_from_holds}
 use Rattle.ref_counts.specs.Table.{Table as Counts}
 use Rattle.block_alloc.specs.LiveMap.{LiveMap, is_live}
-use Rattle.image_world.specs.Faults.{are_marked, HasPrimaries as HasPrimariesOn, HasEnds as HasEndsOn, IsLeastEnd, IsLeastCount}
+use Rattle.image_world.specs.Faults.{are_marked, HasPrimaries as HasPrimariesOn, HasEnds as HasEndsOn, AreRight, IsLeastEnd, IsLeastCount}
 use Rattle.image_world.specs.Tables.{slots_on}
-use Rattle.image_tables.specs.Tests.{are_live, HasPrimaries, HasEnds, HasCounts, IsLooseBefore, IsLeastLoose, AreFound, AreSame, IsLeastWrong}
+use Rattle.image_tables.specs.Tests.{are_live, HasPrimaries, HasEnds, HasCounts, IsLooseBefore, IsLeastLoose, AreFound, AreSame, IsLeastWrong, DoAgree}
 use Rattle.image_tables.specs.Testing.{AreRead}
 
 -- ---- ends in memory
@@ -75,4 +75,14 @@ least_count p m c x found b stored number read is least here there = record {
       let inside = least.inside in
       let low : a < p.geometry.blocks = omega arith in
       read.counts a low ∙ (least.least a less ∙ (is a low ∙ found_on p m c x a read));
+}
+
+-- tables that agree are of an image that passes
+pub right_on : (p : Pointers) (m : LiveMap) (c : Counts) (x : Image) → IsTable p → m.geometry ≡ p.geometry → AreRead p m c x → DoAgree p m c → AreRight x p.geometry
+right_on p m c x table same read agree = record {
+  no_bad = read.no_bad;
+  none_repeated = read.none_repeated;
+  primaries = primaries_on p m c x table same read agree.primaries;
+  ends = ends_on p m c x table read agree.ends;
+  counts = λ b h. read.counts b h ∙ (agree.counts b h ∙ found_on p m c x b read);
 }

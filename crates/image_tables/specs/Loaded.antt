@@ -22,11 +22,12 @@ tables_with h t is_sweeping = record {
   is_sweeping = is_sweeping;
 }
 
--- they are of the disk with this header, and fit one another
+-- they are of the disk with this header and fit one another, and no block is hidden
 pub record DoFit (h : Header) (t : ImageTables) : Type 0 where
   pub pointers : t.pointers.geometry ≡ h.geometry
   pub counts : t.counts.geometry ≡ h.geometry
   pub live : t.live.geometry ≡ h.geometry
+  pub none_hidden : t.live.unhidden ≡ t.live.live
   pub version : t.caps.version ≡ h.version
   pub caps : t.caps.geometry ≡ h.geometry
   pub sound : (is_sweeping : Bool) → AreSound (tables_with h t is_sweeping)

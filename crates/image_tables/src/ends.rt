@@ -15,7 +15,7 @@ fn loose_pair(pointers: &PointerTable, live: &LiveMap, slot: u32) -> Option<(u32
     ensures { result ≡ loose_in live.now.live (slot_at pointers.now.slots slot) }
 {
     match pointers.pair_in(slot) {
-        Some((source, target)) if !(live.is_live(source) && live.is_live(target)) => {
+        Some((source, target)) if !(live.raw_live(source) && live.raw_live(target)) => {
             Some((source, target))
         }
         _ => None,

@@ -14,7 +14,7 @@ pub(crate) fn least_free_primary(live: &LiveMap) -> Option<u32>
         (λ b. (x : Image) → IsStored live.now.live live.now.geometry x → IsLeastPrimary x live.now.geometry b) }
 {
     for block in 0..live.geometry().primaries {
-        if !live.is_live(block) {
+        if !live.raw_live(block) {
             return Some(block);
         }
     }
