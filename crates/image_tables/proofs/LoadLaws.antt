@@ -1,5 +1,6 @@
 -- From the four loadings and the tests to the tables.
 use Rattle.std.proofs.Common.{◌≡◌, ℕ, ◌<◌, ◌&&◌, Bool, true, length, sym, ◌∙◌, ap, subst}
+use Rattle.std.proofs.Common.{Err}
 use Rattle.tsd_model.specs.declared.geometry.Geometry.{Geometry}
 use Rattle.image_layout.specs.declared.header.Header.{Header}
 use Rattle.image_layout.specs.Header.{IsVersion}
@@ -15,7 +16,11 @@ use Rattle.cap_store.specs.Store.{Store, IsTable as IsStore}
 use Rattle.cap_store.specs.Stored.{IsStored as AreKept}
 use Rattle.image_tables.specs.declared.tables.ImageTables.{ImageTables}
 use Rattle.image_tables.specs.Loaded.{DoFit, AreStored}
-use Rattle.image_tables.specs.Testing.{AreRead}
+use Rattle.image_world.specs.Faults.{IsTableFault}
+use Rattle.image_tables.specs.declared.fault.LoadFault.{LoadFault}
+use Rattle.image_tables.specs.declared.fault.LoadFault.TheVariants as fault
+use Rattle.image_tables.specs.Loading.{IsLoading}
+use Rattle.image_tables.specs.Testing.{AreRead, IsTesting}
 use Rattle.image_tables.specs.Tests.{DoAgree}
 
 -- three tables of one size, read from one image
@@ -62,3 +67,9 @@ do_fit h t version p m c s v hidden pointers live counts caps agree = record {
     counted = λ b inside. agree.counts b (subst (λ (g : Geometry). b < g.blocks) (sym p) inside);
   };
 }
+
+-- a test that fails is the first fault of the image
+pub failed : (h : Header) (p : Pointers) (m : LiveMap) (c : Counts) (x : Image) (why : LoadFault) → p.geometry ≡ h.geometry → AreRead p m c x → IsTesting p m c (Err why) → IsLoading x h (Err why)
+failed h p m c x fault.NoMemory size read test = tt
+failed h p m c x fault.Device size read test = absurd test
+failed h p m c x (fault.Image why) size read test = subst (λ (g : Geometry). IsTableFault x g why) size (test x read)

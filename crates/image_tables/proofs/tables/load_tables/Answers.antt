@@ -1,16 +1,29 @@
 use Rattle.std.proofs.Common.{◌≡◌, sym, ◌∙◌, subst}
+use Rattle.std.proofs.lemmas.Result.{err_from_is_err_and}
 use Rattle.image_device.specs.Calls.{Rests}
 use Rattle.image_device.proofs.Resting.{rests_joined}
 use Rattle.tsd_model.specs.declared.geometry.Geometry.{Geometry}
 use Rattle.image_layout.specs.Image.{Image}
 use Rattle.image_world.specs.Faults.{AreRight}
 use Rattle.image_tables.specs.declared.tables.ImageTables.{ImageTables}
-use Rattle.image_tables.proofs.LoadLaws.{are_read, are_stored, do_fit}
+use Rattle.image_tables.proofs.LoadLaws.{are_read, are_stored, do_fit, failed}
 use Rattle.image_tables.proofs.TestLaws.{right_on}
 use Rattle.image_tables.proofs.tables.load_tables.Goals as goal
 
 pub returns-in_err-test_tables-clause-read : goal.returns-in_err-test_tables-clause-read
-returns-in_err-test_tables-clause-read g c told = let h = c.in_err-test_tables in let k = c.from_residual-in_err-test_tables in ?
+returns-in_err-test_tables-clause-read g c told =
+    let view = g.D.Device.view in
+    let h = c.args.header.now in
+    let x = (view c.args.dev.now).reads in
+    let p = c.in_ok-pointers.pointers in
+    let m = c.in_ok-live.live in
+    let n = c.in_ok-counts.counts in
+    let table = c.in_ok-pointers.ensures.table in
+    let one = (c.in_ok-pointers.ensures.rests told).reads in
+    let two = (c.in_ok-live.ensures.rests told).reads ∙ one in
+    let read = are_read h.geometry p m n x (view c.load.new.dev).reads (view c.load-2.new.dev).reads table.0 c.in_ok-counts.ensures.geometry (c.in_ok-pointers.ensures.read told) one two (c.in_ok-live.ensures.stored told) (c.in_ok-counts.ensures.stored told) in
+    let is = err_from_is_err_and c.from_residual-in_err-test_tables.result c.from_residual-in_err-test_tables.ensures.1 in
+    rw (is.1, is.2) (failed h p m n x c.in_err-test_tables.field-0.0 table.0 read c.in_err-test_tables.ensures)
 
 pub returns-in_err-test_tables-clause-rests : goal.returns-in_err-test_tables-clause-rests
 returns-in_err-test_tables-clause-rests g c told =
