@@ -1,30 +1,30 @@
 -- Worked examples: which fault the damaged images have, by computing.
-use Rattle.std.proofs.Common.{◌≡◌, ◌≢◌, ℕ, zero, suc, ◌<◌, ◌==◌, ◌&&◌, ◌||◌, ◌⊎◌, not, Bool, true, false, inl, inr, List, [], ◌∷◌, ◌++◌, refl, sym, ◌∙◌, ap, subst, arith}
+use Rattle.std.proofs.Common.{◌≡◌, ℕ, zero, suc, ◌<◌, ◌==◌, ◌&&◌, ◌||◌, ◌⊎◌, not, Bool, true, false, inl, inr, List, [], ◌∷◌, ◌++◌, refl, sym, ◌∙◌, ap, subst, arith}
 use Rattle.std.proofs.Common.{Option, Some, None}
 use Rattle.std.specs.Prelude.{slice_index}
 use Rattle.std.specs.List.{list_all, list_any}
-use Rattle.std.proofs.lemmas.Bool.{cases_eq, and_parts, both_ways}
+use Rattle.std.proofs.lemmas.Bool.{cases_eq, and_parts}
 use Rattle.std.proofs.lemmas.Bool.Decides.{nat_tests}
 use Rattle.tsd_model.specs.declared.geometry.Geometry.{Geometry}
 use Rattle.tsd_model.specs.Geometry.{IsLawful}
-use Rattle.tsd_model.specs.Pairs.{holds, pair_lt}
+use Rattle.tsd_model.specs.Pairs.{pair_lt}
 use Rattle.tsd_model.proofs.PairLaws.{all_of_held}
 use Rattle.image_device.specs.Image.{put_at}
 use Rattle.image_layout.specs.declared.fault.HeaderFault.TheVariants as why
 use Rattle.image_layout.specs.declared.fault.ImageFault.TheVariants as fault
-use Rattle.image_layout.specs.Header.{header_bytes, HasMagic, IsVersion}
-use Rattle.image_layout.specs.Image.{Image, gate_bytes, is_marked, stored_count}
+use Rattle.image_layout.specs.Header.{header_bytes}
+use Rattle.image_layout.specs.Image.{Image, is_marked, stored_count}
 use Rattle.intent_journal.specs.Descriptor.{descriptor_bytes}
 use Rattle.intent_journal.specs.Home.{home}
 use Rattle.intent_journal.specs.Records.{open_records, has_valid_records}
-use Rattle.pointer_table.specs.Loading.{is_bad_at, HasNoBad, IsRepeatedOn, IsLeastRepeated}
+use Rattle.pointer_table.specs.Loading.{is_bad_at, HasNoBad}
 use Rattle.pointer_table.specs.Scanning.{is_at}
 use Rattle.pointer_table.specs.Slots.{slot_at, pairs_in}
 use Rattle.pointer_table.proofs.SlotLaws.{holds-pairs_in, holds_from_slot}
-use Rattle.image_world.specs.Faults.{HasNoRepeated, HasPrimaries, HasEnds, HasCounts, are_marked, found_count, AreRight, IsGood, IsDamaged, IsTableFault, IsFirstFault}
-use Rattle.image_world.specs.Tables.{header_on, slots_on}
+use Rattle.image_world.specs.Faults.{HasNoRepeated, HasPrimaries, HasEnds, are_marked, found_count, IsGood, IsFirstFault}
+use Rattle.image_world.specs.Tables.{slots_on}
 use Rattle.image_world.proofs.AreaLaws.{slots_stored}
-use Rattle.image_world.proofs.Examples.{size, begins, count, slot, fresh, allocated, committed, ring, poked}
+use Rattle.image_world.proofs.Examples.{size, slot, allocated, poked}
 
 -- ---- tests by computing
 abbrev all_below : (ℕ → Bool) → ℕ → Bool

@@ -1,36 +1,21 @@
 -- Worked examples: what images of a small disk stand for, and which fault the damaged ones have, by computing.
-use Rattle.std.proofs.Common.{◌≡◌, ℕ, zero, suc, ◌+◌, ◌-◌, ◌*◌, ◌<◌, ◌==◌, ◌&&◌, not, if◌then◌else◌, Bool, true, false, inl, inr, List, [], ◌∷◌, ◌++◌, length, refl, sym, ◌∙◌, ap, subst, arith}
-use Rattle.std.proofs.Common.{Option, Some, None, Ok, Err}
-use Rattle.std.specs.Prelude.{replicate, slice_index}
-use Rattle.std.specs.List.{list_all, list_any, range_with_len}
-use Rattle.std.proofs.lemmas.Bool.{cases_eq, and_parts, or_parts, both_ways}
-use Rattle.std.proofs.lemmas.Bool.Decides.{nat_tests}
-use Rattle.tsd_model.specs.declared.caps.Cap.{Cap}
+use Rattle.std.proofs.Common.{◌≡◌, ℕ, ◌-◌, ◌==◌, if◌then◌else◌, true, List, [], ◌∷◌, ◌++◌, length, refl}
+use Rattle.std.proofs.Common.{Some, None}
+use Rattle.std.specs.Prelude.{replicate}
 use Rattle.tsd_model.specs.declared.caps.CapPair.{CapPair}
 use Rattle.tsd_model.specs.declared.geometry.Geometry.{Geometry}
-use Rattle.tsd_model.specs.Geometry.{IsLawful}
-use Rattle.tsd_model.specs.Pairs.{pair_lt}
 use Rattle.tsd_model.specs.Run.{fresh_world}
 use Rattle.tsd_model.specs.Step.{with_new_blocks, with_contents}
 use Rattle.tsd_model.specs.World.{World}
-use Rattle.tsd_model.proofs.PairLaws.{all_of_held}
 use Rattle.image_device.specs.Image.{zeros, put_at}
-use Rattle.image_layout.specs.declared.fault.HeaderFault.TheVariants as why
-use Rattle.image_layout.specs.declared.fault.ImageFault.TheVariants as fault
 use Rattle.image_layout.specs.Header.{header_bytes}
-use Rattle.image_layout.specs.Image.{Image, gate_bytes, is_marked, stored_count}
+use Rattle.image_layout.specs.Image.{Image, gate_bytes}
 use Rattle.intent_journal.specs.Descriptor.{descriptor_bytes}
-use Rattle.intent_journal.specs.Home.{home}
-use Rattle.intent_journal.specs.Records.{open_records, has_valid_records}
-use Rattle.pointer_table.specs.Loading.{is_bad_at, HasNoBad, IsRepeatedOn, IsLeastRepeated}
-use Rattle.pointer_table.specs.Scanning.{is_at}
-use Rattle.pointer_table.specs.Sectors.{slot_bytes}
-use Rattle.pointer_table.specs.Slots.{slot_at, pairs_in}
+use Rattle.intent_journal.specs.Records.{open_records}
 use Rattle.image_world.specs.Debt.{debt}
-use Rattle.image_world.specs.Faults.{HasNoRepeated, HasPrimaries, HasEnds, HasCounts, are_marked, found_count, AreRight, IsGood, IsFirstFault}
-use Rattle.image_world.specs.Tables.{slots_on, tables_of}
+use Rattle.image_world.specs.Tables.{tables_of}
 use Rattle.image_world.specs.Raw.{world_with, left_of}
-use Rattle.image_world.specs.Stands.{world_of, Stands}
+use Rattle.image_world.specs.Stands.{world_of}
 
 -- ---- images
 
@@ -123,6 +108,11 @@ a_ring_is_swept_where_the_flag_is_open = refl
 pub what_is_lost_does_not_stand : (world_of (poked 135 (31 ∷ [])) ≡ three) × (debt (poked 135 (31 ∷ [])) ≡ 1)
 unfolding world_of tables_of world_with left_of open_records
 what_is_lost_does_not_stand = (refl, refl)
+
+-- a block and the pair from it are lost
+pub a_pair_from_a_lost_block_is_owed : debt (put_at 134 (begins (count 0 ++ count 2 ++ count 1 ++ count 1)) (put_at 136 (begins (slot 1 1 ++ slot 1 2 ++ slot 1 3 ++ slot 5 1)) (poked 135 (31 ∷ [])))) ≡ 2
+unfolding tables_of world_with open_records
+a_pair_from_a_lost_block_is_owed = refl
 
 pub an_open_flag_changes_nothing_where_all_is_reached : world_of (poked 131 (1 ∷ [])) ≡ three
 unfolding world_of tables_of world_with left_of open_records
