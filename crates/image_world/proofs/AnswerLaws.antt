@@ -1,9 +1,7 @@
 -- Each image has an answer of the tests.
-use Rattle.std.proofs.Common.{◌≡◌, ◌≢◌, ℕ, ◌<◌, ◌≤◌, true, false, inl, inr, Bool, ◌⊎◌, ◌&&◌, ◌==◌, not, List, [], ◌∷◌, take, refl, sym, ◌∙◌, ap, subst, arith, Ok, Err}
-use Rattle.std.proofs.Common.{Some, None}
+use Rattle.std.proofs.Common.{◌≡◌, ◌≢◌, ℕ, ◌≤◌, true, false, inl, inr, Bool, ◌⊎◌, ◌==◌, not, List, [], ◌∷◌, take, refl, sym, ◌∙◌, arith, Ok, Err}
 use Rattle.std.proofs.lemmas.Bool.{cases_Bool, cases_eq, cases_lt, both_ways}
 use Rattle.std.proofs.lemmas.Bool.Decides.{nat_tests}
-use Rattle.std.proofs.lemmas.List.FromFn.{length-map-range_with_len}
 use Rattle.tsd_model.specs.declared.geometry.Geometry.{Geometry}
 use Rattle.tsd_model.specs.Geometry.{IsLawful}
 use Rattle.tsd_model.specs.Pairs.{holds}
@@ -13,15 +11,15 @@ use Rattle.image_layout.specs.declared.fault.ImageFault.TheVariants as fault
 use Rattle.image_layout.specs.declared.fault.HeaderFault.{HeaderFault}
 use Rattle.image_layout.specs.declared.fault.HeaderFault.TheVariants.{Magic, Version, Field}
 use Rattle.image_layout.specs.Areas.{header_sector, format_gate}
-use Rattle.image_layout.specs.Header.{magic, header_of, HasMagic, IsVersion, IsSectors, IsBlocks, IsPrimaries, IsSlots, IsFirstBad, IsReading}
+use Rattle.image_layout.specs.Header.{magic, header_of, IsVersion, IsSectors, IsPrimaries, IsFirstBad, IsReading}
 use Rattle.image_layout.specs.Image.{Image, is_open, is_marked, stored_count, source_field, target_field}
 use Rattle.intent_journal.specs.Home.{home}
 use Rattle.intent_journal.specs.Records.{has_valid_records}
 use Rattle.pointer_table.specs.Slots.{pairs_in}
 use Rattle.pointer_table.specs.Sectors.{stored_slot}
-use Rattle.pointer_table.specs.Loading.{is_bad_at, HasNoBad, IsRepeatedOn, IsLeastRepeated}
+use Rattle.pointer_table.specs.Loading.{is_bad_at, HasNoBad, IsRepeatedOn}
 use Rattle.pointer_table.proofs.SlotLaws.{rising-pairs_in, holds_from_slot}
-use Rattle.image_world.specs.Faults.{HasHeader, HasNoRepeated, HasPrimaries, HasEnds, HasCounts, are_marked, found_count, AreRight, IsTableFault, IsGood, IsFirstFault}
+use Rattle.image_world.specs.Faults.{HasHeader, HasNoRepeated, HasPrimaries, HasEnds, are_marked, found_count, AreRight, IsTableFault, IsGood, IsFirstFault}
 use Rattle.image_world.specs.Stands.{world_of, Stands}
 use Rattle.image_world.specs.Tables.{header_on, slots_on}
 use Rattle.image_world.proofs.AreaLaws.{slots_stored}
@@ -120,13 +118,22 @@ module _ (x : Image) (g : Geometry) where
   counts_or_fault : HasNoBad x g → HasNoRepeated x g → HasPrimaries x g → HasEnds x g → AreRight x g ⊎ Fails
   counts_or_fault good apart primaries ends = elim (least_below (λ b. not (stored_count x g b == found_count x g b)) g.blocks) [
     | inl none ↦ inl (record { no_bad = good; none_repeated = apart; primaries = primaries; ends = ends; counts = λ b h. equal (stored_count x g b) (found_count x g b) (none b h) })
-    | inr bad ↦ inr (fault.Count bad.number (stored_count x g bad.number) (found_count x g bad.number), (good, apart, primaries, ends, record {
-        inside = bad.inside;
-        stored_is = refl;
-        found_is = refl;
-        wrong = unlike (stored_count x g bad.number) (found_count x g bad.number) bad.passes;
-        least = λ a h. equal (stored_count x g a) (found_count x g a) (bad.least a h);
-      }))
+    | inr bad ↦ inr (
+      fault.Count bad.number (stored_count x g bad.number) (found_count x g bad.number),
+      (
+        good,
+        apart,
+        primaries,
+        ends,
+        record {
+          inside = bad.inside;
+          stored_is = refl;
+          found_is = refl;
+          wrong = unlike (stored_count x g bad.number) (found_count x g bad.number) bad.passes;
+          least = λ a h. equal (stored_count x g a) (found_count x g a) (bad.least a h);
+        },
+      ),
+    )
   ]
     where
       equal : (m n : ℕ) → not (m == n) ≡ false → m ≡ n
@@ -174,13 +181,16 @@ module _ (x : Image) (g : Geometry) where
   pub right_or_fault : AreRight x g ⊎ Fails
   right_or_fault = elim (least_below (is_bad_at x g) g.slots) [
     | inl none ↦ repeats_or_fault none
-    | inr bad ↦ inr (fault.Slot bad.number (source_field x g bad.number) (target_field x g bad.number), record {
+    | inr bad ↦ inr (
+      fault.Slot bad.number (source_field x g bad.number) (target_field x g bad.number),
+      record {
         inside = bad.inside;
         source_is = refl;
         target_is = refl;
         bad = bad.passes;
         least = bad.least;
-      })
+      },
+    )
   ]
 
 -- ---- all of them

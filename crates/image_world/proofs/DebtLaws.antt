@@ -1,10 +1,7 @@
 -- What tables tell of the debt of an image.
-use Rattle.std.proofs.Common.{◌≡◌, ℕ, ◌+◌, List, length, refl, sym, ◌∙◌, ap}
+use Rattle.std.proofs.Common.{◌≡◌, ℕ, ◌+◌, List, length, ap}
 use Rattle.tsd_model.specs.World.{World}
-use Rattle.tsd_model.specs.Doomed.{doomed}
 use Rattle.tsd_model.specs.declared.records.Record.{Record}
-use Rattle.disk_laws.specs.Bytes.{AreLike}
-use Rattle.graph_laws.specs.Counts.{doomed_pairs}
 use Rattle.graph_laws.specs.Graph.{HasGraphOf}
 use Rattle.graph_laws.proofs.SameGraphLaws.{doomed_by_graph, doomed_pairs_by_graph, alike_have_graph, graph-of_records}
 use Rattle.image_layout.specs.Image.{Image}

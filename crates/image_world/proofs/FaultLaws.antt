@@ -1,12 +1,10 @@
 -- No two answers of the tests hold together.
-use Rattle.std.proofs.Common.{◌≡◌, ℕ, true, inl, inr, List, refl, sym, ◌∙◌, ap, subst, Ok, Err}
+use Rattle.std.proofs.Common.{◌≡◌, ℕ, true, inl, inr, refl, sym, ◌∙◌, ap}
 use Rattle.std.proofs.lemmas.Bool.{cases_order, both_ways}
 use Rattle.tsd_model.specs.declared.geometry.Geometry.{Geometry}
 use Rattle.tsd_model.proofs.PlaceLaws.{same_pair}
 use Rattle.image_layout.specs.declared.fault.ImageFault.{ImageFault}
 use Rattle.image_layout.specs.declared.fault.ImageFault.TheVariants as fault
-use Rattle.image_layout.specs.declared.fault.HeaderFault.{HeaderFault}
-use Rattle.image_layout.specs.declared.header.Header.{Header}
 use Rattle.image_layout.specs.Areas.{header_sector, format_gate}
 use Rattle.image_layout.proofs.ReadingLaws.{none_wrong}
 use Rattle.image_layout.proofs.ReadingLaws.{one_fault as one_why}

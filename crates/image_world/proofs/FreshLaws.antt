@@ -1,5 +1,5 @@
 -- A disk that was formatted stands for a fresh world.
-use Rattle.std.proofs.Common.{◌⊎◌, ◌≡◌, ℕ, zero, suc, ◌+◌, ◌-◌, ◌*◌, ◌/◌, ◌%◌, ◌<◌, ◌≤◌, true, false, inl, inr, Bool, cond, not, ◌&&◌, ◌==◌, nat_lt, List, [], ◌∷◌, ◌++◌, length, length-append, replicate, refl, sym, ◌∙◌, ap, subst, arith}
+use Rattle.std.proofs.Common.{◌⊎◌, ◌≡◌, ℕ, zero, suc, ◌+◌, ◌-◌, ◌*◌, ◌<◌, ◌≤◌, true, false, inl, inr, Bool, cond, not, ◌&&◌, nat_lt, List, [], ◌∷◌, ◌++◌, length, length-append, replicate, refl, sym, ◌∙◌, ap, subst, arith}
 use Rattle.std.proofs.Common.{Option, Some, None}
 use Rattle.std.specs.Prelude.{map, filter, is_some, slice_index_or}
 use Rattle.std.specs.List.{range_with_len}
@@ -17,19 +17,14 @@ use Rattle.tsd_model.specs.World.{World, contents, is_live, is_primary, all_bloc
 use Rattle.tsd_model.specs.Reach.{blocks_that, restricted}
 use Rattle.tsd_model.specs.Doomed.{is_led_only_from, hangs_on, doomed_round, doomed_rounds, settle}
 use Rattle.image_device.specs.Image.{zeros}
-use Rattle.image_layout.specs.Image.{Image, is_open, sector_bytes, data_bytes, source_field, target_field}
+use Rattle.image_layout.specs.Image.{Image, is_open, sector_bytes, data_bytes}
 use Rattle.image_layout.specs.Places.{data_sector}
 use Rattle.intent_journal.specs.Home.{home}
 use Rattle.intent_journal.specs.Records.{open_records}
 use Rattle.intent_journal.proofs.Opened.{opened_none, home_of_empty}
-use Rattle.pointer_table.specs.Slots.{pairs_in}
 use Rattle.block_alloc.specs.LiveMap.{is_live as is_marked_in}
 use Rattle.image_world.specs.Faults.{IsFormatted, HasJournal}
-use Rattle.byteorder.specs.Endian.{little_from}
-use Rattle.std.specs.Int.{div_ceil}
-use Rattle.std.proofs.lemmas.Grind.{div_ceil_times}
-use Rattle.image_layout.specs.Areas.{bitmap_start, slots_start, data_start}
-use Rattle.pointer_table.specs.Sectors.{slot_of, stored_slot}
+use Rattle.image_layout.specs.Areas.{slots_start}
 use Rattle.pointer_table.specs.Fresh.{fresh_slots}
 use Rattle.pointer_table.proofs.FreshLaws.{no_pairs, empty_sector}
 use Rattle.pointer_table.proofs.FreshLaws.{fresh_table as empty_table, written_stored as written_slots}
@@ -38,9 +33,8 @@ use Rattle.block_alloc.specs.Fresh.{fresh_live}
 use Rattle.block_alloc.proofs.FreshLaws.{fresh_at}
 use Rattle.block_alloc.proofs.FreshLaws.{fresh_table as fresh_map, written_stored as written_bits}
 use Rattle.image_world.specs.Fresh.{fresh_tables, IsWrittenFresh, AreFreshSectors}
-use Rattle.image_world.proofs.AreaLaws.{live_stored}
 use Rattle.image_world.specs.Sound.{HasTables, AreSound}
-use Rattle.image_world.specs.Tables.{Tables, live_on, tables_of}
+use Rattle.image_world.specs.Tables.{Tables, tables_of}
 use Rattle.image_world.specs.Raw.{world_with, left_of}
 use Rattle.image_world.specs.Stands.{world_of, Stands}
 use Rattle.image_world.proofs.AlikeLaws.{same_contents}

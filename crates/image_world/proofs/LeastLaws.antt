@@ -1,7 +1,7 @@
 -- The least of what passes a test, or that nothing does.
 use Rattle.std.proofs.Common.{◌≡◌, ℕ, zero, suc, ◌<◌, true, false, inl, inr, Bool, ◌⊎◌, ◌&&◌, ◌||◌, nat_lt, List, [], ◌∷◌, refl, sym, ◌∙◌, ap, subst, arith}
-use Rattle.std.proofs.Common.{Option, Some}
-use Rattle.std.proofs.lemmas.Bool.{cases_Bool, cases_eq, cases_lt, and_parts, and_from, or_parts, both_ways, false_from_ne_true}
+use Rattle.std.proofs.Common.{Option}
+use Rattle.std.proofs.lemmas.Bool.{cases_Bool, cases_eq, cases_lt, and_parts, and_from, both_ways, false_from_ne_true}
 use Rattle.std.proofs.lemmas.Bool.Decides.{nat_tests}
 use Rattle.tsd_model.specs.Pairs.{is_pair, holds, pair_lt, is_below_first, is_rising}
 use Rattle.tsd_model.proofs.PairLaws.{is_pair_ext, lt_trans, lt_itself, above_first, holds_first}
@@ -41,28 +41,28 @@ pub least_pair : (P : (ℕ × ℕ) → Type 0) → ((e : ℕ × ℕ) → P e ⊎
 least_pair P decides [] rising = inl (λ e held. absurd (cc))
 least_pair P decides (e ∷ es) rising = elim (decides e) [
   | inl does ↦ inr (record {
-      pair = e;
-      held = holds_first e es;
-      has = does;
-      least = λ f held bad. elim (cases_Bool (is_pair f.0 f.1 e)) [
-        | inl same ↦ let is : e ≡ f = is_pair_ext f.0 f.1 e same in subst (λ (g : ℕ × ℕ). pair_lt f g ≡ false) (sym is) (false_from_ne_true (pair_lt f f) (lt_itself f))
-        | inr other ↦ not_below e f (above_first e es f.0 f.1 first.0 first.1 (later f held other))
-      ];
-    })
+    pair = e;
+    held = holds_first e es;
+    has = does;
+    least = λ f held bad. elim (cases_Bool (is_pair f.0 f.1 e)) [
+      | inl same ↦ let is : e ≡ f = is_pair_ext f.0 f.1 e same in subst (λ (g : ℕ × ℕ). pair_lt f g ≡ false) (sym is) (false_from_ne_true (pair_lt f f) (lt_itself f))
+      | inr other ↦ not_below e f (above_first e es f.0 f.1 first.0 first.1 (later f held other))
+    ];
+  })
   | inr fails ↦ elim (least_pair P decides es first.1) [
     | inl none ↦ inl (λ f held bad. elim (cases_Bool (is_pair f.0 f.1 e)) [
       | inl same ↦ fails (subst P (sym (is_pair_ext f.0 f.1 e same)) bad)
       | inr other ↦ none f (later f held other) bad
     ])
     | inr found ↦ inr (record {
-        pair = found.pair;
-        held = rw found.held (either (is_pair found.pair.0 found.pair.1 e));
-        has = found.has;
-        least = λ f held bad. elim (cases_Bool (is_pair f.0 f.1 e)) [
-          | inl same ↦ absurd (fails (subst P (sym (is_pair_ext f.0 f.1 e same)) bad))
-          | inr other ↦ found.least f (later f held other) bad
-        ];
-      })
+      pair = found.pair;
+      held = rw found.held (either (is_pair found.pair.0 found.pair.1 e));
+      has = found.has;
+      least = λ f held bad. elim (cases_Bool (is_pair f.0 f.1 e)) [
+        | inl same ↦ absurd (fails (subst P (sym (is_pair_ext f.0 f.1 e same)) bad))
+        | inr other ↦ found.least f (later f held other) bad
+      ];
+    })
   ]
 ]
   where

@@ -16,3 +16,5 @@ pub mod LeastLaws
 pub mod AnswerLaws
 pub mod FreshLaws
 pub mod GrowLaws
+pub mod Examples
+pub mod DamageExamples

@@ -1,5 +1,5 @@
 -- Batches that turn tables into others.
-use Rattle.std.proofs.Common.{◌≡◌, ◌≢◌, ℕ, ◌<◌, ◌≤◌, ◌==◌, Bool, true, false, List, [], ◌∷◌, length, refl, sym, ◌∙◌, ap, subst, arith}
+use Rattle.std.proofs.Common.{◌≡◌, ℕ, ◌<◌, ◌≤◌, ◌==◌, Bool, true, false, List, [], ◌∷◌, refl, sym, ◌∙◌, ap, subst, arith}
 use Rattle.std.proofs.Common.{Ok}
 use Rattle.std.proofs.lemmas.Bool.Decides.{nat_tests}
 use Rattle.tsd_model.specs.declared.geometry.Geometry.{Geometry}
@@ -9,16 +9,14 @@ use Rattle.image_layout.specs.Areas.{header_sector, format_gate, sweep_flag, dat
 use Rattle.image_layout.specs.Header.{IsReading}
 use Rattle.image_layout.specs.Places.{data_sector}
 use Rattle.image_layout.specs.Image.{Image, is_open, data_bytes, gate_bytes}
-use Rattle.image_layout.specs.declared.header.Header.{Header}
 use Rattle.image_layout.specs.declared.place.Patch.{Patch}
-use Rattle.intent_journal.specs.Batch.{has_home}
 use Rattle.intent_journal.specs.Crash.{IsAfter}
 use Rattle.intent_journal.specs.Home.{home, overlaid, is_journal, AgreeBut}
 use Rattle.intent_journal.proofs.Overlays.{put_here, put_elsewhere}
 use Rattle.image_world.specs.Faults.{HasJournal, IsGood}
 use Rattle.image_world.specs.Raw.{world_with, left_of, data_on, raw_of}
 use Rattle.image_world.specs.Sound.{HasTables, AreSound}
-use Rattle.image_world.specs.Stands.{world_of, Stands}
+use Rattle.image_world.specs.Stands.{world_of}
 use Rattle.image_world.specs.Tables.{Tables, tables_of}
 use Rattle.image_world.specs.Turns.{Turns, IsTurned}
 use Rattle.image_world.proofs.AgreeLaws.{formatted_by}

@@ -1,5 +1,5 @@
 -- The world for which an image stands.
-use Rattle.std.proofs.Common.{◌≡◌, ℕ, ◌<◌, ◌==◌, true, false, inl, inr, Bool, cond, List, [], ◌∷◌, ◌++◌, zero, suc, length, refl, sym, ◌∙◌, ap, subst, arith}
+use Rattle.std.proofs.Common.{◌≡◌, ℕ, ◌==◌, true, false, inl, inr, cond, List, [], ◌∷◌, suc, refl, sym, ◌∙◌, subst, arith}
 use Rattle.std.proofs.Common.{Some}
 use Rattle.std.specs.Prelude.{Contains, slice_get}
 use Rattle.std.proofs.lemmas.Bool.{cases_Bool}
@@ -14,7 +14,6 @@ use Rattle.image_layout.specs.declared.place.Patch.{Patch}
 use Rattle.intent_journal.specs.Batch.{IsBatch}
 use Rattle.intent_journal.specs.Home.{home, overlaid}
 use Rattle.intent_journal.specs.Records.{Record, patches_of, open_records}
-use Rattle.intent_journal.specs.Ring.{IsRing}
 use Rattle.intent_journal.proofs.OpenedRing.{opened_ring}
 use Rattle.intent_journal.proofs.Overlays.{overlaid_append, put_here, put_elsewhere}
 use Rattle.image_world.specs.Raw.{world_with, left_of, blank_of, zeros_of, data_on, raw_of}
