@@ -9,10 +9,7 @@ use ref_counts::RefCounts;
 use std::alloc::{AllocError, Global};
 
 /// The number of pairs to each block. It looks at each slot once.
-pub(crate) fn pairs_to_each(
-    alloc: Global,
-    pointers: &PointerTable,
-) -> Result<Vec<u32>, AllocError>
+pub(crate) fn pairs_to_each(alloc: Global, pointers: &PointerTable) -> Result<Vec<u32>, AllocError>
     requires { IsTable pointers.now }
     ensures each { IfOk result (λ found. length found.items ≡ pointers.now.geometry.blocks) }
     ensures found { IfOk result (λ found. AreFound found.items pointers.now) }

@@ -44,7 +44,7 @@ returns-in-Some-least_wrong_count c =
       primaries_on p m n x c.requires.table c.requires.live read c.in_default.ensures,
       ends_on p m n x c.requires.table read (ends_live p m c.requires.table c.in_default-least_loose_pair.ensures),
       least_count p m n x found b c.count.result c.index.result.now read c.in_ok-found.ensures.found least c.count.ensures.value
-      (c.index.ensures ∙ get_or_default_zero found b c.index.result.now (omega (arith, least.inside, c.in_ok-found.ensures.each))),
+          (c.index.ensures ∙ get_or_default_zero found b c.index.result.now (omega (arith, least.inside, c.in_ok-found.ensures.each))),
     )
 
 pub returns : goal.returns
