@@ -1,0 +1,5 @@
+pub mod Held
+pub mod Tables
+pub mod Stepping
+pub mod Ahead
+pub mod Counting

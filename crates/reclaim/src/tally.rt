@@ -1,0 +1,102 @@
+//! Which blocks are doomed, found with a work list.
+
+ghost use Rattle.std.specs.Prelude.{◌≡◌, ℕ, ◌+◌, ◌-◌, ◌<◌, ◌≤◌, ◌||◌, ◌&&◌, ◌==◌, [], false, not, cond, length, slice_index, slice_set, IsTrue};
+ghost use Rattle.tsd_model.specs.World.{World, has_number};
+ghost use Rattle.tsd_model.specs.Step.{without_pointer};
+ghost use Rattle.reclaim.specs.Ahead.{is_gone, IsAheadOf, IsDeleting, kept};
+ghost use Rattle.reclaim.specs.Counting.{left_at, IsCounting};
+ghost use Rattle.reclaim.specs.Tables.{graph_of, AreTables};
+
+use crate::work::Work;
+use block_alloc::LiveMap;
+use pointer_table::PointerTable;
+
+/// Of each block the number of pairs to it from blocks that aren't doomed, and which blocks are doomed; and the doomed
+/// blocks whose pairs aren't counted off yet.
+#[derive(Drop)]
+pub(crate) struct Tally {
+    pub(crate) counts: Vec<u32>,
+    pub(crate) gone: Vec<bool>,
+    pub(crate) waiting: Work,
+    /// How many blocks are doomed.
+    pub(crate) doomed: u32,
+    /// How many pairs come from them.
+    pub(crate) pairs: u32,
+}
+
+impl Tally {
+    /// A pointer to a block was deleted. Tells how many blocks became doomed by that.
+    pub(crate) fn lower(&mut self, pointers: &PointerTable, live: &LiveMap, target: u32) -> u32
+        requires tables { AreTables pointers.now live.now }
+        requires room { self.old.waiting.room ≡ pointers.now.geometry.blocks }
+        requires none { self.old.waiting.blocks ≡ [] }
+        requires deleted { (w : World) × (a : ℕ) × IsDeleting w a target (kept self.old.counts.items self.old.gone.items self.old.doomed self.old.pairs) × (graph_of pointers.now live.now ≡ without_pointer w a target) }
+        ensures ahead { IsAheadOf (graph_of pointers.now live.now) (kept self.new.counts.items self.new.gone.items self.new.doomed self.new.pairs) }
+        ensures more { self.new.doomed ≡ self.old.doomed + result }
+        ensures counts { length self.new.counts.items ≡ length self.old.counts.items }
+        ensures gone { length self.new.gone.items ≡ length self.old.gone.items }
+        ensures room { self.new.waiting.room ≡ self.old.waiting.room }
+        ensures none { self.new.waiting.blocks ≡ [] }
+    {
+        let before = self.doomed;
+        self.lower_one(target);
+        while let Some(block) = self.waiting.pop() {
+            self.lower_targets(pointers, live, block);
+        }
+        self.doomed - before
+    }
+
+    /// Counts off the pairs from a doomed block.
+    fn lower_targets(&mut self, pointers: &PointerTable, live: &LiveMap, block: u32)
+        requires tables { AreTables pointers.now live.now }
+        requires counts { length self.old.counts.items ≡ pointers.now.geometry.blocks }
+        requires gone { length self.old.gone.items ≡ pointers.now.geometry.blocks }
+        requires room { self.old.waiting.room ≡ pointers.now.geometry.blocks }
+        requires marked { IsTrue (is_gone self.old.gone.items block) }
+        requires out { has_number self.old.waiting.blocks block ≡ false }
+        requires counting { IsCounting (graph_of pointers.now live.now) self.old.counts.items self.old.gone.items self.old.waiting.blocks self.old.doomed self.old.pairs (left_at self.old.gone.items self.old.waiting.blocks block 0) }
+        ensures counting { IsCounting (graph_of pointers.now live.now) self.new.counts.items self.new.gone.items self.new.waiting.blocks self.new.doomed self.new.pairs (left_at self.new.gone.items self.new.waiting.blocks pointers.now.geometry.blocks 0) }
+        ensures counts { length self.new.counts.items ≡ length self.old.counts.items }
+        ensures gone { length self.new.gone.items ≡ length self.old.gone.items }
+        ensures room { self.new.waiting.room ≡ self.old.waiting.room }
+        ensures balance { self.new.doomed + length self.old.waiting.blocks ≡ self.old.doomed + length self.new.waiting.blocks }
+        ensures more { self.old.doomed ≤ self.new.doomed }
+
+        // A block that is doomed now waits, if it wasn't doomed before.
+        ensures done { (b : ℕ) → (is_gone self.new.gone.items b && not (has_number self.new.waiting.blocks b)) ≡ (is_gone self.old.gone.items b && not (has_number self.old.waiting.blocks b)) }
+    {
+        let mut from = 0;
+        while let Some(target) = pointers.next_target(block, from) {
+            self.lower_one(target);
+            self.pairs += 1;
+            from = target + 1;
+        }
+    }
+
+    /// Lowers the count of a block, which is doomed if it comes to 0.
+    fn lower_one(&mut self, target: u32)
+        requires within { target < length self.old.counts.items }
+        requires gone { length self.old.gone.items ≡ length self.old.counts.items }
+        requires room { self.old.waiting.room ≡ length self.old.counts.items }
+        requires some { 0 < slice_index self.old.counts.items target }
+        requires fresh { is_gone self.old.gone.items target ≡ false }
+        requires waits { (b : ℕ) → IsTrue (has_number self.old.waiting.blocks b) → IsTrue (is_gone self.old.gone.items b) }
+        requires fits { self.old.doomed < 4294967295 }
+        ensures counts { self.new.counts.items ≡ slice_set self.old.counts.items target (slice_index self.old.counts.items target - 1) }
+        ensures gone { (b : ℕ) → is_gone self.new.gone.items b ≡ (is_gone self.old.gone.items b || ((b == target) && (slice_index self.old.counts.items target == 1))) }
+        ensures waiting { (b : ℕ) → has_number self.new.waiting.blocks b ≡ (has_number self.old.waiting.blocks b || ((b == target) && (slice_index self.old.counts.items target == 1))) }
+        ensures doomed { self.new.doomed ≡ self.old.doomed + cond (slice_index self.old.counts.items target == 1) 1 0 }
+        ensures balance { self.new.doomed + length self.old.waiting.blocks ≡ self.old.doomed + length self.new.waiting.blocks }
+        ensures pairs { self.new.pairs ≡ self.old.pairs }
+        ensures long { length self.new.gone.items ≡ length self.old.gone.items }
+        ensures room { self.new.waiting.room ≡ self.old.waiting.room }
+    {
+        let count = self.counts[target as usize] - 1;
+        self.counts[target as usize] = count;
+        if count == 0 {
+            self.gone[target as usize] = true;
+            self.waiting.push(target);
+            self.doomed += 1;
+        }
+    }
+}
