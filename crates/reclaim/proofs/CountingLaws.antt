@@ -7,13 +7,14 @@ use Rattle.std.specs.Prelude.{filter, slice_set, slice_index}
 use Rattle.std.specs.List.{range_with_len}
 use Rattle.tsd_model.specs.Pairs.{holds}
 use Rattle.tsd_model.specs.World.{World, is_live, is_primary, has_number}
-use Rattle.tsd_model.specs.Valid.{IsRaw}
 use Rattle.disk_laws.proofs.DoomLaws.{live_below}
 use Rattle.graph_laws.specs.Counts.{count_where}
 use Rattle.graph_laws.specs.Marking.{IsMarking, IsMarkingBut}
-use Rattle.graph_laws.proofs.CountLaws.{filter_held}
+use Rattle.graph_laws.specs.RawGraph.{IsRawGraph}
+use Rattle.tsd_model.proofs.CountLaws.{filter_held}
 use Rattle.graph_laws.proofs.MarkingLaws.{marking_still_led, marking_found, marking_as, count_zero, some_left, marked_more}
-use Rattle.reclaim.specs.Counting.{is_gone, IsCounting}
+use Rattle.reclaim.specs.Ahead.{is_gone}
+use Rattle.reclaim.specs.Counting.{IsCounting}
 
 -- ---- another account of the same
 
@@ -46,7 +47,7 @@ pub record IsLowered (old_counts new_counts : List ℕ) (old_gone new_gone : Lis
   pub waiting : (b : ℕ) → has_number after b ≡ (has_number before b || ((b == t) && (slice_index old_counts t == 1)))
   pub number : new_number ≡ old_number + cond (slice_index old_counts t == 1) 1 0
 
-module _ (w : World) (raw : IsRaw w) (counts new_counts : List ℕ) (gone new_gone : List Bool) (before after : List ℕ) (number new_number t : ℕ)
+module _ (w : World) (raw : IsRawGraph w) (counts new_counts : List ℕ) (gone new_gone : List Bool) (before after : List ℕ) (number new_number t : ℕ)
     (lowered : IsLowered counts new_counts gone new_gone before after number new_number t)
     (long : length counts ≡ w.geometry.blocks) (live : is_live w t ≡ true) (apart : is_primary w t ≡ false) (fresh : is_gone gone t ≡ false)
     (waits : (b : ℕ) → has_number before b ≡ true → is_gone gone b ≡ true) (numbered : number ≡ length (filter (is_gone gone) (range_with_len 0 w.geometry.blocks)))

@@ -115,3 +115,23 @@ popped items len x some fits held is =
     let last = view_popped items len x some fits is in
     let parts = held_pop (first_held items len) x (take (len - 1) items) held last in
     (parts.0, record { room = refl; last = last; within = parts.1.0; once = parts.1.1 })
+
+-- ---- numbers by their places
+
+pub has-at : (xs : List ℕ) (i : ℕ) → i < length xs → has_number xs (get_or xs i 0) ≡ true
+has-at [] i h = absurd (omega arith)
+has-at (x ∷ xs) zero h = or_left (x == x) (has_number xs x) (eq-eqb x x refl)
+has-at (x ∷ xs) (suc i) h = or_right (x == get_or xs i 0) (has_number xs (get_or xs i 0)) (has-at xs i (omega arith))
+
+-- none twice: the one at a place isn't among those before it
+pub not_before : (xs : List ℕ) (i : ℕ) → all_apart xs ≡ true → i < length xs → has_number (take i xs) (get_or xs i 0) ≡ false
+not_before [] i once h = absurd (omega arith)
+not_before (x ∷ xs) zero once h = refl
+not_before (x ∷ xs) (suc i) once h = let parts = and_parts (not (has_number xs x)) (all_apart xs) once in
+    or_from (x == get_or xs i 0) (has_number (take i xs) (get_or xs i 0))
+    (ne_eqb x (get_or xs i 0) (λ e. both_ways (has_number xs x) (not-true (has_number xs x) parts.0) (subst (λ k. has_number xs k ≡ true) (sym e) (has-at xs i (omega arith)))))
+    (not_before xs i parts.1 (omega arith))
+
+-- one place more
+pub has-take_more : (xs : List ℕ) (i b : ℕ) → i < length xs → has_number (take (i + 1) xs) b ≡ (has_number (take i xs) b || (get_or xs i 0 == b))
+has-take_more xs i b h = ap (λ ys. has_number ys b) (take_more xs i 0 h) ∙ has-push (take i xs) (get_or xs i 0) b

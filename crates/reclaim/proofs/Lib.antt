@@ -4,4 +4,5 @@ pub mod StepLaws
 pub mod CollectLaws
 pub mod CountingLaws
 pub mod TallyLaws
+pub mod RaiseLaws
 pub mod ToldLaws

@@ -6,27 +6,26 @@ use Rattle.std.proofs.lemmas.List.Elements.{filter_agree}
 use Rattle.std.specs.Prelude.{filter, slice_index}
 use Rattle.std.specs.List.{range_with_len}
 use Rattle.tsd_model.specs.Pairs.{is_pair, holds, with_pair, without_pair}
-use Rattle.tsd_model.specs.World.{World, has_number}
+use Rattle.tsd_model.specs.World.{World, is_live, is_primary, has_number}
 use Rattle.tsd_model.specs.Doomed.{doomed}
-use Rattle.tsd_model.specs.Step.{with_pointer, without_pointer}
-use Rattle.tsd_model.specs.Valid.{IsRaw}
+use Rattle.tsd_model.specs.Step.{without_pointer}
 use Rattle.tsd_model.proofs.SizeLaws.{length-filter_le}
 use Rattle.disk_laws.proofs.GraphLaws.{length-range}
 use Rattle.disk_laws.proofs.DoomLaws.{live_below, not_primary}
-use Rattle.disk_laws.proofs.PairLaws.{holds-filter, holds-with_pair, is_rising-filter, is_rising-with_pair}
 use Rattle.graph_laws.specs.Counts.{count_where}
 use Rattle.graph_laws.specs.Marking.{IsMarkingBut}
+use Rattle.graph_laws.specs.RawGraph.{IsLaidOut, IsRawGraph}
 use Rattle.graph_laws.proofs.AheadLaws.{kept_deleted}
-use Rattle.graph_laws.proofs.CountLaws.{count-with_pair}
+use Rattle.tsd_model.proofs.CountLaws.{count-without_pair}
 use Rattle.graph_laws.proofs.MarkingLaws.{marking_of_deleted, marking_lowered, marking_ends, count_ends, off_ends, count_lowered, off_lowered}
-use Rattle.graph_laws.proofs.SameLaws.{rising_same, is_pair_same}
 use Rattle.graph_laws.proofs.WeightLaws.{doomed_listed}
-use Rattle.reclaim.specs.Counting.{is_gone, IsAheadOf, left_at, IsCounting, IsDeleted}
+use Rattle.reclaim.specs.Ahead.{Kept, is_gone, IsAheadOf, IsDeleting, kept}
+use Rattle.reclaim.specs.Counting.{left_at, IsCounting}
 use Rattle.reclaim.proofs.CountingLaws.{IsLowered, counting_as, counted_off}
 use Rattle.reclaim.proofs.HeldLaws.{has-push}
 
 -- no pair comes from past the last block
-past : (w : World) → IsRaw w → (a b : ℕ) → holds w.pairs a b ≡ true → (a == w.geometry.blocks) ≡ false
+past : (w : World) → IsRawGraph w → (a b : ℕ) → holds w.pairs a b ≡ true → (a == w.geometry.blocks) ≡ false
 past w raw a b held = let below : a < length w.blocks = live_below w.blocks a (raw.sources a b held) in ne_eqb a w.geometry.blocks (λ e. absurd (omega (arith, raw.laid_out.each_block)))
 
 -- the same, of a block that is lowered
@@ -46,7 +45,7 @@ same_left false v false f = refl
 
 -- ---- the next target of the open block
 
-module _ (w : World) (raw : IsRaw w) (counts : List ℕ) (gone : List Bool) (before : List ℕ) (number pairs o from t : ℕ) (held : holds w.pairs o t ≡ true) (above : from ≤ t)
+module _ (w : World) (raw : IsRawGraph w) (counts : List ℕ) (gone : List Bool) (before : List ℕ) (number pairs o from t : ℕ) (held : holds w.pairs o t ≡ true) (above : from ≤ t)
     (counting : IsCounting w counts gone before number pairs (left_at gone before o from)) where
   is_left : left_at gone before o from (o, t) ≡ true
   is_left = or_right (not (is_gone gone o) || has_number before o) ((o == o) && nat_le from t) (and_from (o == o) (nat_le from t) (eq-eqb o o refl) (le-leb from t above))
@@ -58,7 +57,7 @@ module _ (w : World) (raw : IsRaw w) (counts : List ℕ) (gone : List Bool) (bef
   target_counted = counting.counted t (subst (λ n. t < n) raw.laid_out.each_block (live_below w.blocks t (raw.targets o t held)))
       ∙ (count_lowered (left_at gone before o from) w.pairs o t t raw.laid_out.rising held is_left ∙ ap (λ s. cond s 1 0 + count_where (λ e. left_at gone before o from e && not (is_pair o t e)) w.pairs t) (eq-eqb t t refl))
 
-module _ (w : World) (raw : IsRaw w) (counts new_counts : List ℕ) (gone new_gone : List Bool) (before after : List ℕ) (number new_number pairs o from t : ℕ)
+module _ (w : World) (raw : IsRawGraph w) (counts new_counts : List ℕ) (gone new_gone : List Bool) (before after : List ℕ) (number new_number pairs o from t : ℕ)
     (lowered : IsLowered counts new_counts gone new_gone before after number new_number t)
     (long : length counts ≡ w.geometry.blocks) (open_gone : is_gone gone o ≡ true) (open_out : has_number before o ≡ false)
     (held : holds w.pairs o t ≡ true) (above : from ≤ t) (least : (c : ℕ) → holds w.pairs o c ≡ true → from ≤ c → t ≤ c)
@@ -125,7 +124,7 @@ module _ (w : World) (raw : IsRaw w) (counts new_counts : List ℕ) (gone new_go
 
 -- ---- a block is opened and closed
 
-pub counting_opened : (w : World) (counts : List ℕ) (gone : List Bool) (old new : List ℕ) (number pairs o : ℕ) → IsRaw w → old ≡ new ++ o ∷ []
+pub counting_opened : (w : World) (counts : List ℕ) (gone : List Bool) (old new : List ℕ) (number pairs o : ℕ) → IsRawGraph w → old ≡ new ++ o ∷ []
     → IsCounting w counts gone old number pairs (left_at gone old w.geometry.blocks 0) → IsCounting w counts gone new number pairs (left_at gone new o 0)
 counting_opened w counts gone old new number pairs o raw last counting = counting_as w counts gone old new number pairs (left_at gone old w.geometry.blocks 0) (left_at gone new o 0)
     (λ b h. ap (λ xs. has_number xs b) last ∙ (has-push new o b ∙ or_left (has_number new b) (o == b) h)) same counting
@@ -153,7 +152,7 @@ counting_opened w counts gone old new number pairs o raw last counting = countin
         ∙ (joined (is_gone gone a) (has_number new a) (o == a) (a == w.geometry.blocks) (nat_le 0 b) (past w raw a b held) (le-leb 0 b (omega arith))
         ∙ ap (λ s. (not (is_gone gone a) || has_number new a) || (s && nat_le 0 b)) (flip o a)))
 
-pub counting_closed : (w : World) (counts : List ℕ) (gone : List Bool) (waiting : List ℕ) (number pairs o from : ℕ) → IsRaw w → ((b : ℕ) → holds w.pairs o b ≡ true → b < from)
+pub counting_closed : (w : World) (counts : List ℕ) (gone : List Bool) (waiting : List ℕ) (number pairs o from : ℕ) → IsRawGraph w → ((b : ℕ) → holds w.pairs o b ≡ true → b < from)
     → IsCounting w counts gone waiting number pairs (left_at gone waiting o from) → IsCounting w counts gone waiting number pairs (left_at gone waiting w.geometry.blocks 0)
 counting_closed w counts gone waiting number pairs o from raw all counting = counting_as w counts gone waiting waiting number pairs (left_at gone waiting o from) (left_at gone waiting w.geometry.blocks 0)
     (λ b h. h) same counting
@@ -173,9 +172,11 @@ counting_closed w counts gone waiting number pairs o from raw all counting = cou
 
 -- ---- the end
 
-pub counting_ended : (w : World) (counts : List ℕ) (gone : List Bool) (waiting : List ℕ) (number pairs : ℕ) → IsRaw w → waiting ≡ []
-    → IsCounting w counts gone waiting number pairs (left_at gone waiting w.geometry.blocks 0) → IsAheadOf w counts gone number pairs
-counting_ended w counts gone waiting number pairs raw none counting = record {
+pub counting_ended : (w : World) (counts : List ℕ) (gone : List Bool) (waiting : List ℕ) (number pairs : ℕ) → IsRawGraph w → length counts ≡ w.geometry.blocks → length gone ≡ w.geometry.blocks → waiting ≡ []
+    → IsCounting w counts gone waiting number pairs (left_at gone waiting w.geometry.blocks 0) → IsAheadOf w (kept counts gone number pairs)
+counting_ended w counts gone waiting number pairs raw long marks none counting = record {
+  counts_each = long;
+  marks_each = marks;
   counted = λ b below. counting.counted b below ∙ count_ends w (is_gone gone) left counting.marking off b;
   told = marking_ends w (is_gone gone) left counting.marking off;
   number = counting.number ∙ (ap length (filter_agree (is_gone gone) (has_number (doomed w)) (marking_ends w (is_gone gone) left counting.marking off) (range_with_len 0 w.geometry.blocks))
@@ -190,113 +191,115 @@ counting_ended w counts gone waiting number pairs raw none counting = record {
     off a b held is = ap (λ g. (not g || has_number waiting a) || ((a == w.geometry.blocks) && nat_le 0 b)) is
         ∙ (ap (λ xs. has_number xs a || ((a == w.geometry.blocks) && nat_le 0 b)) none ∙ ap (λ s. s && nat_le 0 b) (past w raw a b held))
 
--- ---- the start: a pointer was deleted
+-- ---- the start: a pair was deleted
 
-deleted_again : (w : World) (a t : ℕ) → IsRaw w → holds w.pairs a t ≡ false → without_pointer (with_pointer w a t) a t ≡ w
-deleted_again w a t raw new = let back : without_pair a t (with_pair (a, t) w.pairs) ≡ w.pairs = rising_same (without_pair a t (with_pair (a, t) w.pairs)) w.pairs
-    (is_rising-filter (λ e. not (is_pair a t e)) (with_pair (a, t) w.pairs) (is_rising-with_pair (a, t) w.pairs raw.laid_out.rising)) raw.laid_out.rising
-    (λ x y. holds-filter (λ e. not (is_pair a t e)) (with_pair (a, t) w.pairs) x y ∙ (ap (λ h. h && not (is_pair a t (x, y))) (holds-with_pair (a, t) w.pairs x y) ∙ each x y)) in
-    λ i. record w { pairs = back i }
-  where
-    flip : (m n : ℕ) → (m == n) ≡ (n == m)
-    flip m n = grind (arith, nat_tests)
+module _ (w v : World) (a t : ℕ) (counts new_counts : List ℕ) (gone new_gone : List Bool) (after : List ℕ) (number new_number pairs : ℕ)
+    (raw : IsRawGraph w) (deleting : IsDeleting v a t (kept counts gone number pairs)) (is : w ≡ without_pointer v a t)
+    (lowered : IsLowered counts new_counts gone new_gone [] after number new_number t) where
+  off_source : has_number (doomed v) a ≡ false
+  off_source = sym (deleting.ahead.told a) ∙ deleting.source
 
-    none : (p h : Bool) → (p ≡ true → h ≡ false) → ((p || h) && not p) ≡ h
-    none true h f = sym (f refl)
-    none false true f = refl
-    none false false f = refl
+  same_size : w.geometry.blocks ≡ v.geometry.blocks
+  same_size = ap (λ (x : World). x.geometry.blocks) is
 
-    each : (x y : ℕ) → ((is_pair x y (a, t) || holds w.pairs x y) && not (is_pair a t (x, y))) ≡ holds w.pairs x y
-    each x y =
-        ap (λ s. (is_pair x y (a, t) || holds w.pairs x y) && not s) (ap (λ s. s && (y == t)) (flip x a) ∙ ap (λ s. (a == x) && s) (flip y t))
-        ∙ none (is_pair x y (a, t)) (holds w.pairs x y) (λ is. let parts = and_parts (a == x) (t == y) is in
-        subst (λ k. holds w.pairs k y ≡ false) (eqb-true a x parts.0) (subst (λ k. holds w.pairs a k ≡ false) (eqb-true t y parts.1) new))
+  told : has_number (doomed v) ≡ is_gone gone
+  told i b = sym (deleting.ahead.told b) i
 
--- What was ahead before the pointer was deleted, and then its count lowered, is the middle of bringing it up to date.
-pub counting_begun : (w : World) (a t : ℕ) (counts new_counts : List ℕ) (gone new_gone : List Bool) (after : List ℕ) (number new_number pairs : ℕ)
-    → IsRaw w → IsRaw (with_pointer w a t) → holds w.pairs a t ≡ false → length counts ≡ w.geometry.blocks
-    → IsAheadOf (with_pointer w a t) counts gone number pairs → is_gone gone a ≡ false → is_gone gone t ≡ false
-    → IsLowered counts new_counts gone new_gone [] after number new_number t
-    → IsCounting w new_counts new_gone after new_number pairs (left_at new_gone after w.geometry.blocks 0)
-counting_begun w a t counts new_counts gone new_gone after number new_number pairs raw before_raw new long ahead from to lowered =
-    counted_off w raw counts new_counts gone new_gone [] after number new_number t lowered long
-    (before_raw.targets a t held) (not_primary w t (before_raw.apart a t held)) to (λ b h. absurd (nothing h))
-    (ahead.number ∙ (ap length (doomed_listed (with_pointer w a t)) ∙ (ap (λ n. length (filter (has_number (doomed (with_pointer w a t))) (range_with_len 0 n))) raw.laid_out.each_block
-    ∙ ap length (filter_agree (has_number (doomed (with_pointer w a t))) (is_gone gone) (λ b. sym (ahead.told b)) (range_with_len 0 w.geometry.blocks)))))
-    (λ e. not (has_number (doomed (with_pointer w a t)) e.0)) marking
-    (λ b below. ahead.counted b below ∙ (kept_deleted (with_pointer w a t) a t b before_raw held from_doomed ∙ ap (λ es. cond (t == b) 1 0 + count_where (λ e. not (has_number (doomed (with_pointer w a t)) e.0)) es b) (ap (λ (v : World). v.pairs) again)))
-    pairs (left_at new_gone after w.geometry.blocks 0) off same
-  where
-    nothing : false ≡ true → ⊥
-    nothing e = cc
+  marking : IsMarkingBut w t (is_gone gone) (λ e. not (has_number (doomed v) e.0))
+  marking = subst (λ g. IsMarkingBut w t g (λ e. not (has_number (doomed v) e.0))) told
+      (subst (λ x. IsMarkingBut x t (has_number (doomed v)) (λ e. not (has_number (doomed v) e.0))) (sym is) (marking_of_deleted v a t deleting.raw.laid_out))
 
-    held : holds (with_pointer w a t).pairs a t ≡ true
-    held = holds-with_pair (a, t) w.pairs a t ∙ or_left (is_pair a t (a, t)) (holds w.pairs a t) (is_pair_same (a, t))
+  target_live : is_live w t ≡ true
+  target_live = subst (λ (x : World). is_live x t ≡ true) (sym is) (deleting.raw.targets a t deleting.held)
 
-    again : without_pointer (with_pointer w a t) a t ≡ w
-    again = deleted_again w a t raw new
+  target_apart : is_primary w t ≡ false
+  target_apart = subst (λ (x : World). is_primary x t ≡ false) (sym is) (not_primary v t (deleting.raw.apart a t deleting.held))
 
-    from_doomed : has_number (doomed (with_pointer w a t)) a ≡ false
-    from_doomed = sym (ahead.told a) ∙ from
+  -- the pairs from doomed blocks are those that are left too, as the deleted one isn't from one
+  off : pairs ≡ length (filter (λ e. not (not (has_number (doomed v) e.0))) w.pairs)
+  off = deleting.ahead.off ∙ (count-without_pair (λ e. has_number (doomed v) e.0) v.pairs a t deleting.raw.laid_out.rising deleting.held
+      ∙ (ap (λ s. cond s 1 0 + length (filter (λ e. has_number (doomed v) e.0) (without_pair a t v.pairs))) off_source
+      ∙ (zero_more (length (filter (λ e. has_number (doomed v) e.0) (without_pair a t v.pairs)))
+      ∙ (ap (λ (x : World). length (filter (λ e. has_number (doomed v) e.0) x.pairs)) (sym is)
+      ∙ ap length (filter_agree (λ e. has_number (doomed v) e.0) (λ e. not (not (has_number (doomed v) e.0))) (λ e. twice (has_number (doomed v) e.0)) w.pairs)))))
+    where
+      zero_more : (n : ℕ) → 0 + n ≡ n
+      zero_more n = omega arith
 
-    told : has_number (doomed (with_pointer w a t)) ≡ is_gone gone
-    told i b = sym (ahead.told b) i
+      twice : (s : Bool) → s ≡ not (not s)
+      twice true = refl
+      twice false = refl
 
-    marking : IsMarkingBut w t (is_gone gone) (λ e. not (has_number (doomed (with_pointer w a t)) e.0))
-    marking = subst (λ g. IsMarkingBut w t g (λ e. not (has_number (doomed (with_pointer w a t)) e.0))) told
-        (subst (λ v. IsMarkingBut v t (has_number (doomed (with_pointer w a t))) (λ e. not (has_number (doomed (with_pointer w a t)) e.0))) again (marking_of_deleted (with_pointer w a t) a t before_raw))
+  same : (x y : ℕ) → holds w.pairs x y ≡ true → not (has_number (doomed v) x) ≡ left_at new_gone after w.geometry.blocks 0 (x, y)
+  same x y held =
+      ap not (sym (deleting.ahead.told x))
+      ∙ (sym (or_none (not (is_gone gone x)))
+      ∙ (same_left (is_gone gone x) false ((x == t) && (slice_index counts t == 1)) (λ h. subst (λ k. is_gone gone k ≡ false) (sym (eqb-true x t (and_parts (x == t) (slice_index counts t == 1) h).0)) deleting.target)
+      ∙ (ap (λ g. not g || ((x == t) && (slice_index counts t == 1))) (sym (lowered.gone x))
+      ∙ (ap (λ s. not (is_gone new_gone x) || s) (sym (lowered.waiting x))
+      ∙ (sym (or_none (not (is_gone new_gone x) || has_number after x))
+      ∙ ap (λ s. (not (is_gone new_gone x) || has_number after x) || (s && nat_le 0 y)) (sym (past w raw x y held)))))))
+    where
+      or_none : (s : Bool) → (s || false) ≡ s
+      or_none true = refl
+      or_none false = refl
 
-    -- the deleted pair didn't come from a doomed block
-    off : pairs ≡ length (filter (λ e. not (not (has_number (doomed (with_pointer w a t)) e.0))) w.pairs)
-    off = ahead.off ∙ (count-with_pair (λ e. has_number (doomed (with_pointer w a t)) e.0) (a, t) w.pairs new
-        ∙ (ap (λ s. cond s 1 0 + length (filter (λ e. has_number (doomed (with_pointer w a t)) e.0) w.pairs)) from_doomed
-        ∙ (zero_more (length (filter (λ e. has_number (doomed (with_pointer w a t)) e.0) w.pairs))
-        ∙ ap length (filter_agree (λ e. has_number (doomed (with_pointer w a t)) e.0) (λ e. not (not (has_number (doomed (with_pointer w a t)) e.0))) (λ e. twice (has_number (doomed (with_pointer w a t)) e.0)) w.pairs))))
-      where
-        zero_more : (n : ℕ) → 0 + n ≡ n
-        zero_more n = omega arith
-
-        twice : (s : Bool) → s ≡ not (not s)
-        twice true = refl
-        twice false = refl
-
-    same : (x y : ℕ) → holds w.pairs x y ≡ true → not (has_number (doomed (with_pointer w a t)) x) ≡ left_at new_gone after w.geometry.blocks 0 (x, y)
-    same x y held_ =
-        ap not (sym (ahead.told x))
-        ∙ (sym (or_none (not (is_gone gone x)))
-        ∙ (same_left (is_gone gone x) false ((x == t) && (slice_index counts t == 1)) (λ h. subst (λ k. is_gone gone k ≡ false) (sym (eqb-true x t (and_parts (x == t) (slice_index counts t == 1) h).0)) to)
-        ∙ (ap (λ g. not g || ((x == t) && (slice_index counts t == 1))) (sym (lowered.gone x))
-        ∙ (ap (λ v. not (is_gone new_gone x) || v) (sym (lowered.waiting x))
-        ∙ (sym (or_none (not (is_gone new_gone x) || has_number after x))
-        ∙ ap (λ s. (not (is_gone new_gone x) || has_number after x) || (s && nat_le 0 y)) (sym (past w raw x y held_)))))))
-      where
-        or_none : (s : Bool) → (s || false) ≡ s
-        or_none true = refl
-        or_none false = refl
+  -- What was right before the pair was deleted, and then the count of its target lowered, is the middle of bringing it up to date.
+  pub counting_begun : IsCounting w new_counts new_gone after new_number pairs (left_at new_gone after w.geometry.blocks 0)
+  counting_begun =
+      counted_off w raw counts new_counts gone new_gone [] after number new_number t lowered (deleting.ahead.counts_each ∙ sym same_size)
+      target_live target_apart deleting.target (λ b h. absurd (nothing h))
+      (deleting.ahead.number ∙ (ap length (doomed_listed v) ∙ (ap (λ n. length (filter (has_number (doomed v)) (range_with_len 0 n))) (deleting.raw.laid_out.each_block ∙ sym same_size)
+      ∙ ap length (filter_agree (has_number (doomed v)) (is_gone gone) (λ b. sym (deleting.ahead.told b)) (range_with_len 0 w.geometry.blocks)))))
+      (λ e. not (has_number (doomed v) e.0)) marking
+      (λ b below. deleting.ahead.counted b (subst (λ n. b < n) same_size below) ∙ (kept_deleted v a t b deleting.raw.laid_out deleting.held off_source
+      ∙ ap (λ (x : World). cond (t == b) 1 0 + count_where (λ e. not (has_number (doomed v) e.0)) x.pairs b) (sym is)))
+      pairs (left_at new_gone after w.geometry.blocks 0) off same
+    where
+      nothing : false ≡ true → ⊥
+      nothing e = cc
 
 -- ---- sizes
 
-pub number_fits : (w : World) (counts : List ℕ) (gone : List Bool) (waiting : List ℕ) (number pairs : ℕ) (left : (ℕ × ℕ) → Bool) → IsRaw w → IsCounting w counts gone waiting number pairs left → (number ≤ w.geometry.blocks) × (pairs ≤ length w.pairs)
-number_fits w counts gone waiting number pairs left raw counting = (
+pub number_fits : (w : World) (counts : List ℕ) (gone : List Bool) (waiting : List ℕ) (number pairs : ℕ) (left : (ℕ × ℕ) → Bool) → IsCounting w counts gone waiting number pairs left → (number ≤ w.geometry.blocks) × (pairs ≤ length w.pairs)
+number_fits w counts gone waiting number pairs left counting = (
   omega (arith, counting.number, length-filter_le (is_gone gone) (range_with_len 0 w.geometry.blocks), length-range 0 w.geometry.blocks),
   omega (arith, counting.off, length-filter_le (λ e. not (left e)) w.pairs),
 )
 
-pub ahead_fits : (w : World) (counts : List ℕ) (gone : List Bool) (number pairs : ℕ) → IsRaw w → IsAheadOf w counts gone number pairs → number ≤ w.geometry.blocks
-ahead_fits w counts gone number pairs raw ahead = omega (arith, ahead.number, ap length (doomed_listed w), length-filter_le (has_number (doomed w)) (range_with_len 0 (length w.blocks)), length-range 0 (length w.blocks), raw.laid_out.each_block)
+pub ahead_fits : (w : World) (k : Kept) → IsLaidOut w → IsAheadOf w k → k.doomed ≤ w.geometry.blocks
+ahead_fits w k laid_out ahead = omega (arith, ahead.number, ap length (doomed_listed w), length-filter_le (has_number (doomed w)) (range_with_len 0 (length w.blocks)), length-range 0 (length w.blocks), laid_out.each_block)
 
 -- a block to which a pair was deleted has a count
-pub deleted_counted : (w : World) (a t : ℕ) (counts : List ℕ) (gone : List Bool) (number pairs : ℕ) → IsRaw w → IsDeleted w a t counts gone number pairs → (t < w.geometry.blocks) × (0 < slice_index counts t)
-deleted_counted w a t counts gone number pairs raw deleted =
-    let held : holds (with_pointer w a t).pairs a t ≡ true = holds-with_pair (a, t) w.pairs a t ∙ or_left (is_pair a t (a, t)) (holds w.pairs a t) (is_pair_same (a, t)) in
-    let within : t < w.geometry.blocks = subst (λ n. t < n) raw.laid_out.each_block (live_below w.blocks t (deleted.raw.targets a t held)) in (
+pub deleting_counted : (v : World) (a t : ℕ) (k : Kept) → IsDeleting v a t k → (t < v.geometry.blocks) × (0 < slice_index k.counts t)
+deleting_counted v a t k deleting =
+    let within : t < v.geometry.blocks = subst (λ n. t < n) deleting.raw.laid_out.each_block (live_below v.blocks t (deleting.raw.targets a t deleting.held)) in (
       within,
       omega (
         arith,
-        deleted.ahead.counted t within ∙ (kept_deleted (with_pointer w a t) a t t deleted.raw held (sym (deleted.ahead.told a) ∙ deleted.source)
-            ∙ ap (λ s. cond s 1 0 + count_where (λ e. not (has_number (doomed (with_pointer w a t)) e.0)) (without_pointer (with_pointer w a t) a t).pairs t) (eq-eqb t t refl)),
+        deleting.ahead.counted t within ∙ (kept_deleted v a t t deleting.raw.laid_out deleting.held (sym (deleting.ahead.told a) ∙ deleting.source)
+            ∙ ap (λ s. cond s 1 0 + count_where (λ e. not (has_number (doomed v) e.0)) (without_pointer v a t).pairs t) (eq-eqb t t refl)),
       ),
     )
 
 pub popped_gone : (gone : List Bool) (old new : List ℕ) (o : ℕ) → old ≡ new ++ o ∷ [] → ((b : ℕ) → has_number old b ≡ true → is_gone gone b ≡ true) → is_gone gone o ≡ true
 popped_gone gone old new o last waits = waits o (ap (λ xs. has_number xs o) last ∙ (has-push new o o ∙ or_right (has_number new o) (o == o) (eq-eqb o o refl)))
+
+-- marking a block that waits then leaves as it was which marked blocks don't wait
+pub done_same : (g v s : Bool) → (s ≡ true → g ≡ false) → ((g || s) && not (v || s)) ≡ (g && not v)
+done_same true v true f = let never = f refl in absurd (cc)
+done_same true v false f = ap not (or_none v)
+  where
+    or_none : (t : Bool) → (t || false) ≡ t
+    or_none true = refl
+    or_none false = refl
+done_same false v true f = ap not (or_true v)
+  where
+    or_true : (t : Bool) → (t || true) ≡ true
+    or_true true = refl
+    or_true false = refl
+done_same false v false f = refl
+
+-- a block that isn't marked yet
+pub fresh_one : (gone : List Bool) (t b : ℕ) (s : Bool) → ((b == t) && s) ≡ true → is_gone gone t ≡ false → is_gone gone b ≡ false
+fresh_one gone t b s h fresh = subst (λ k. is_gone gone k ≡ false) (sym (eqb-true b t (and_parts (b == t) s h).0)) fresh

@@ -11,9 +11,9 @@ abbrev pub left_at : List Bool → List ℕ → ℕ → ℕ → (ℕ × ℕ) →
 left_at gone waiting open_ from e = (not (is_gone gone e.0) || has_number waiting e.0) || ((e.0 == open_) && nat_le from e.1)
 
 -- In the middle of it: some blocks are marked, of which some still wait, and the counts are those of the pairs that are left.
-pub record IsCounting (w : World) (counts : List ℕ) (gone : List Bool) (waiting : List ℕ) (number pairs : ℕ) (left : (ℕ × ℕ) → Bool) : Type 0 where
+pub record IsCounting (w : World) (counts : List ℕ) (gone : List Bool) (waiting : List ℕ) (doomed_count pairs : ℕ) (left : (ℕ × ℕ) → Bool) : Type 0 where
   pub marking : IsMarking w (is_gone gone) left
   pub counted : (b : ℕ) → b < w.geometry.blocks → slice_index counts b ≡ count_where left w.pairs b
   pub waits : (b : ℕ) → IsTrue (has_number waiting b) → IsTrue (is_gone gone b)
-  pub number : number ≡ length (filter (is_gone gone) (range_with_len 0 w.geometry.blocks))
+  pub number : doomed_count ≡ length (filter (is_gone gone) (range_with_len 0 w.geometry.blocks))
   pub off : pairs ≡ length (filter (λ e. not (left e)) w.pairs)

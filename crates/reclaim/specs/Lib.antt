@@ -3,3 +3,4 @@ pub mod Tables
 pub mod Stepping
 pub mod Ahead
 pub mod Counting
+pub mod Tallies

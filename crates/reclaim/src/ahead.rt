@@ -93,13 +93,7 @@ impl Ahead {
         requires sizes { length self.old.counts ≡ counts.now.geometry.blocks }
         ensures ahead { (w : World) → w.geometry.blocks ≡ counts.now.geometry.blocks → doomed w ≡ [] → AreCounts counts.now.counts w → IsAheadOf w self.new }
     {
-        let blocks = counts.geometry().blocks;
-        for block in 0..blocks {
-            self.tally.counts[block as usize] = counts.count(block);
-            self.tally.gone[block as usize] = false;
-        }
-        self.tally.doomed = 0;
-        self.tally.pairs = 0;
+        self.tally.reset(counts);
     }
 
     /// A pair to a block was added.
@@ -107,7 +101,7 @@ impl Ahead {
         requires told { (w : World) × (a : ℕ) × IsAdding w a target self.old }
         ensures ahead { (w : World) (a : ℕ) → IsAdding w a target self.old → IsAheadOf (with_pointer w a target) self.new }
     {
-        self.tally.counts[target as usize] += 1;
+        self.tally.raise(target);
     }
 
     /// Blocks were allocated: each of these, which were free, is live, and a pair to it was added.
@@ -115,9 +109,7 @@ impl Ahead {
         requires told { (w : World) × IsGrowing w targets.now self.old }
         ensures ahead { (w : World) (a : ℕ) → IsGrowing w targets.now self.old → IsAheadOf (with_new_blocks w a targets.now) self.new }
     {
-        for target in targets {
-            self.tally.counts[*target as usize] += 1;
-        }
+        self.tally.raise_all(targets);
     }
 
     /// A pair to a block was deleted. Hides the blocks that became doomed by that, and tells how many they are.
@@ -135,10 +127,7 @@ impl Ahead {
         requires told { (w : World) × IsStepping w step.now self.old }
         ensures ahead { (w : World) → IsStepping w step.now self.old → IsAheadOf (after_step w step.now) self.new }
     {
-        self.tally.pairs -= step.targets.len() as u32;
-        if step.freed {
-            self.tally.doomed -= 1;
-            self.tally.gone[step.block as usize] = false;
-        }
+        let taken = step.targets.len() as u32;
+        self.tally.take(step.block, taken, step.freed);
     }
 }

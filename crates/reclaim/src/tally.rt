@@ -4,12 +4,15 @@ ghost use Rattle.std.specs.Prelude.{◌≡◌, ℕ, ◌+◌, ◌-◌, ◌<◌, �
 ghost use Rattle.tsd_model.specs.World.{World, has_number};
 ghost use Rattle.tsd_model.specs.Step.{without_pointer};
 ghost use Rattle.reclaim.specs.Ahead.{is_gone, IsAheadOf, IsDeleting, kept};
+ghost use Rattle.disk_laws.specs.Reclaiming.{all_apart};
 ghost use Rattle.reclaim.specs.Counting.{left_at, IsCounting};
+ghost use Rattle.reclaim.specs.Tallies.{HasSameMarks};
 ghost use Rattle.reclaim.specs.Tables.{graph_of, AreTables};
 
 use crate::work::Work;
 use block_alloc::LiveMap;
 use pointer_table::PointerTable;
+use ref_counts::RefCounts;
 
 /// Of each block the number of pairs to it from blocks that aren't doomed, and which blocks are doomed; and the doomed
 /// blocks whose pairs aren't counted off yet.
@@ -25,6 +28,69 @@ pub(crate) struct Tally {
 }
 
 impl Tally {
+    /// Takes the counts of a disk on which nothing is doomed.
+    pub(crate) fn reset(&mut self, counts: &RefCounts)
+        requires counts { length self.old.counts.items ≡ counts.now.geometry.blocks }
+        requires gone { length self.old.gone.items ≡ counts.now.geometry.blocks }
+        ensures counts { (b : ℕ) → b < counts.now.geometry.blocks → slice_index self.new.counts.items b ≡ slice_index counts.now.counts b }
+        ensures gone { (b : ℕ) → is_gone self.new.gone.items b ≡ false }
+        ensures doomed { self.new.doomed ≡ 0 }
+        ensures pairs { self.new.pairs ≡ 0 }
+        ensures long { (length self.new.counts.items ≡ length self.old.counts.items) × (length self.new.gone.items ≡ length self.old.gone.items) }
+        ensures waiting { self.new.waiting ≡ self.old.waiting }
+    {
+        let blocks = counts.geometry().blocks;
+        for block in 0..blocks {
+            self.counts[block as usize] = counts.count(block);
+            self.gone[block as usize] = false;
+        }
+        self.doomed = 0;
+        self.pairs = 0;
+    }
+
+    /// One pair more leads to a block.
+    pub(crate) fn raise(&mut self, target: u32)
+        requires within { target < length self.old.counts.items }
+        requires fits { slice_index self.old.counts.items target < 4294967295 }
+        ensures counts { self.new.counts.items ≡ slice_set self.old.counts.items target (slice_index self.old.counts.items target + 1) }
+        ensures others { HasSameMarks self.old self.new }
+    {
+        self.counts[target as usize] += 1;
+    }
+
+    /// One pair more leads to each of these blocks.
+    pub(crate) fn raise_all(&mut self, targets: &[u32])
+        requires once { IsTrue (all_apart targets.now) }
+        requires within { (b : ℕ) → IsTrue (has_number targets.now b) → b < length self.old.counts.items }
+        requires fits { (b : ℕ) → IsTrue (has_number targets.now b) → slice_index self.old.counts.items b < 4294967295 }
+        ensures counts { (b : ℕ) → slice_index self.new.counts.items b ≡ cond (has_number targets.now b) 1 0 + slice_index self.old.counts.items b }
+        ensures long { length self.new.counts.items ≡ length self.old.counts.items }
+        ensures others { HasSameMarks self.old self.new }
+    {
+        for target in targets {
+            self.raise(*target);
+        }
+    }
+
+    /// So many pairs of a doomed block are taken away, and the block if `freed`.
+    pub(crate) fn take(&mut self, block: u32, pairs: u32, freed: bool)
+        requires within { block < length self.old.gone.items }
+        requires some { cond freed 1 0 ≤ self.old.doomed }
+        requires pairs { pairs ≤ self.old.pairs }
+        ensures gone { (b : ℕ) → is_gone self.new.gone.items b ≡ (is_gone self.old.gone.items b && not (freed && (b == block))) }
+        ensures long { length self.new.gone.items ≡ length self.old.gone.items }
+        ensures doomed { self.old.doomed ≡ cond freed 1 0 + self.new.doomed }
+        ensures taken { self.old.pairs ≡ pairs + self.new.pairs }
+        ensures counts { self.new.counts.items ≡ self.old.counts.items }
+        ensures waiting { self.new.waiting ≡ self.old.waiting }
+    {
+        self.pairs -= pairs;
+        if freed {
+            self.doomed -= 1;
+            self.gone[block as usize] = false;
+        }
+    }
+
     /// A pointer to a block was deleted. Tells how many blocks became doomed by that.
     pub(crate) fn lower(&mut self, pointers: &PointerTable, live: &LiveMap, target: u32) -> u32
         requires tables { AreTables pointers.now live.now }

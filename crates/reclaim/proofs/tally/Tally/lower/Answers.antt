@@ -1,39 +1,49 @@
 use Rattle.std.proofs.Common.{◌≡◌, ◌+◌, ◌-◌, ◌||◌, ◌&&◌, ◌==◌, ◌∷◌, [], length, length-append, refl, sym, ◌∙◌, ap, subst, arith}
 use Rattle.std.proofs.lemmas.List.{length-set}
 use Rattle.std.specs.Prelude.{slice_index}
-use Rattle.tsd_model.specs.World.{has_number}
-use Rattle.tsd_model.specs.Step.{with_pointer}
+use Rattle.tsd_model.specs.World.{World, has_number}
+use Rattle.tsd_model.specs.declared.geometry.Geometry.{Geometry}
+use Rattle.reclaim.specs.Ahead.{Kept, kept}
 use Rattle.reclaim.specs.Counting.{left_at, IsCounting}
 use Rattle.reclaim.specs.Tables.{graph_of}
-use Rattle.reclaim.proofs.AheadSteps.{counting_begun, counting_opened, counting_ended, number_fits, ahead_fits, deleted_counted, popped_gone}
-use Rattle.reclaim.proofs.ahead.Ahead.lower.Goals as goal
+use Rattle.reclaim.proofs.TallyLaws.{counting_begun, counting_opened, counting_ended, number_fits, ahead_fits, deleting_counted, popped_gone}
+use Rattle.reclaim.proofs.tally.Tally.lower.Goals as goal
 
 pub lower_one-requires-clause-within : goal.lower_one-requires-clause-within
 lower_one-requires-clause-within c =
-    let w = graph_of c.args.pointers.now c.args.live.now in let s = c.args.self.now in
-    let at = deleted_counted w c.requires.deleted.0 c.args.target s.counts.items s.gone.items s.doomed s.pairs c.requires.tables.raw c.requires.deleted.1 in
-    omega (arith, at.0, c.requires.counts)
+    let s = c.args.self.now in let d = c.requires.deleted in
+    let at = deleting_counted d.0 d.1 c.args.target (kept s.counts.items s.gone.items s.doomed s.pairs) d.2 in
+    omega (arith, at.0, d.2.ahead.counts_each)
+
+pub lower_one-requires-clause-gone : goal.lower_one-requires-clause-gone
+lower_one-requires-clause-gone c = let d = c.requires.deleted in d.2.ahead.marks_each ∙ sym d.2.ahead.counts_each
+
+pub lower_one-requires-clause-room : goal.lower_one-requires-clause-room
+lower_one-requires-clause-room c = let d = c.requires.deleted in c.requires.room ∙ (ap (λ (x : World). x.geometry.blocks) d.3 ∙ sym d.2.ahead.counts_each)
 
 pub lower_one-requires-clause-some : goal.lower_one-requires-clause-some
 lower_one-requires-clause-some c =
-    let w = graph_of c.args.pointers.now c.args.live.now in let s = c.args.self.now in
-    (deleted_counted w c.requires.deleted.0 c.args.target s.counts.items s.gone.items s.doomed s.pairs c.requires.tables.raw c.requires.deleted.1).1
+    let s = c.args.self.now in let d = c.requires.deleted in
+    (deleting_counted d.0 d.1 c.args.target (kept s.counts.items s.gone.items s.doomed s.pairs) d.2).1
+
+pub lower_one-requires-clause-fresh : goal.lower_one-requires-clause-fresh
+lower_one-requires-clause-fresh c = c.requires.deleted.2.target
 
 pub lower_one-requires-clause-fits : goal.lower_one-requires-clause-fits
 lower_one-requires-clause-fits c =
-    let w = graph_of c.args.pointers.now c.args.live.now in let s = c.args.self.now in
-    let fits = ahead_fits (with_pointer w c.requires.deleted.0 c.args.target) s.counts.items s.gone.items s.doomed s.pairs c.requires.deleted.1.raw c.requires.deleted.1.ahead in
-    omega (arith, fits, c.requires.tables.raw.lawful.blocks.1)
+    let s = c.args.self.now in let d = c.requires.deleted in
+    let fits = ahead_fits d.0 (kept s.counts.items s.gone.items s.doomed s.pairs) d.2.raw.laid_out d.2.ahead in
+    omega (arith, fits, d.2.raw.lawful.blocks.1)
 
 pub loop-block-init : goal.loop-block-init
 loop-block-init c =
     let w = graph_of c.args.pointers.now c.args.live.now in let s = c.args.self.now in let n = c.lower_one.new.self in let one = c.lower_one.ensures in
-    let deleted = c.requires.deleted.1 in record {
+    let d = c.requires.deleted in record {
       counts = ap length one.counts ∙ length-set s.counts.items c.args.target (slice_index s.counts.items c.args.target - 1);
       gone = one.long;
       room = one.room;
       counting = subst (λ k. IsCounting w n.counts.items n.gone.items n.waiting.blocks n.doomed k (left_at n.gone.items n.waiting.blocks w.geometry.blocks 0)) (sym one.pairs)
-          (counting_begun w c.requires.deleted.0 c.args.target s.counts.items n.counts.items s.gone.items n.gone.items n.waiting.blocks s.doomed n.doomed s.pairs c.requires.tables.raw deleted.raw deleted.absent c.requires.counts deleted.ahead deleted.source deleted.target
+          (counting_begun w d.0 d.1 c.args.target s.counts.items n.counts.items s.gone.items n.gone.items n.waiting.blocks s.doomed n.doomed s.pairs c.requires.tables.raw d.2 d.3
           (record { counts = one.counts; gone = one.gone; waiting = λ b. one.waiting b ∙ ap (λ xs. has_number xs b || ((b == c.args.target) && (slice_index s.counts.items c.args.target == 1))) c.requires.none; number = one.doomed }));
       more = let e = one.doomed in omega (arith, e);
     }
@@ -51,10 +61,14 @@ loop-block-smaller c =
     let w = graph_of c.args.pointers.now c.args.live.now in let n = c.lower_targets.new.self in
     let fewer : length c.loop-block.self.waiting.blocks ≡ length c.pop.new.self.blocks + 1 = ap length c.in-Some.ensures.some.last ∙ length-append c.pop.new.self.blocks (c.in-Some.block ∷ []) in
     let balance = c.lower_targets.ensures.balance in
-    let fits = number_fits w n.counts.items n.gone.items n.waiting.blocks n.doomed n.pairs (left_at n.gone.items n.waiting.blocks w.geometry.blocks 0) c.requires.tables.raw c.lower_targets.ensures.counting in
+    let fits = number_fits w n.counts.items n.gone.items n.waiting.blocks n.doomed n.pairs (left_at n.gone.items n.waiting.blocks w.geometry.blocks 0) c.lower_targets.ensures.counting in
     omega (arith, balance, fewer, fits.0)
 
 pub returns-clause-ahead : goal.returns-clause-ahead
 returns-clause-ahead c =
     let w = graph_of c.args.pointers.now c.args.live.now in let s = c.loop-block.self in
-    counting_ended w s.counts.items s.gone.items s.waiting.blocks s.doomed s.pairs c.requires.tables.raw (c.in_default.ensures.none.0 refl) c.loop-block.invariant.counting
+    let d = c.requires.deleted in
+    let size = ap (λ (x : World). x.geometry.blocks) d.3 in
+    counting_ended w s.counts.items s.gone.items s.waiting.blocks s.doomed s.pairs c.requires.tables.raw
+    (c.loop-block.invariant.counts ∙ (d.2.ahead.counts_each ∙ sym size)) (c.loop-block.invariant.gone ∙ (d.2.ahead.marks_each ∙ sym size))
+    (c.in_default.ensures.none.0 refl) c.loop-block.invariant.counting
