@@ -56,7 +56,7 @@ collected_same xs i p held is b = held b ∙ elim (cases_eq b i) as (λ _. (nat_
     none false = refl
 
 -- a block of the disk is live in the graph exactly where its bit says so
-live_told : (t : Table) (live : LiveMap) (b : ℕ) → b < t.geometry.blocks → is_live (graph_of t live) b ≡ is_live_in live.live b
+pub live_told : (t : Table) (live : LiveMap) (b : ℕ) → b < t.geometry.blocks → is_live (graph_of t live) b ≡ is_live_in live.live b
 live_told t live b within = live-world_with t.geometry live.live (pairs t) (zeros_in t.geometry) 2 (replicate t.geometry.primaries no_record) b
     ∙ ap (λ s. s && slice_index_or live.live b false) (lt-ltb b t.geometry.blocks within)
 

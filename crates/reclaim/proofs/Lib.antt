@@ -4,5 +4,6 @@ pub mod StepLaws
 pub mod CollectLaws
 pub mod CountingLaws
 pub mod TallyLaws
+pub mod HidingLaws
 pub mod RaiseLaws
 pub mod ToldLaws

@@ -1,10 +1,11 @@
 -- What is kept ahead of reclamation, and when it is right.
-use Rattle.std.specs.Prelude.{◌≡◌, ℕ, ◌<◌, Bool, false, List, [], length, slice_index, slice_index_or, IsTrue}
+use Rattle.std.specs.Prelude.{◌≡◌, ℕ, ◌<◌, ◌&&◌, not, Bool, false, List, [], length, slice_index, slice_index_or, IsTrue}
 use Rattle.tsd_model.specs.Pairs.{holds}
 use Rattle.tsd_model.specs.World.{World, is_free, has_number}
 use Rattle.tsd_model.specs.Doomed.{doomed}
 use Rattle.disk_laws.specs.Reclaiming.{all_apart}
 use Rattle.pointer_table.specs.declared.out_step.OutStep.{OutStep}
+use Rattle.block_alloc.specs.LiveMap.{LiveMap, is_live}
 use Rattle.graph_laws.specs.Counts.{kept_count, doomed_pairs}
 use Rattle.graph_laws.specs.RawGraph.{IsLaidOut, IsRawGraph}
 use Rattle.graph_laws.specs.Steps.{IsStep, IsLost}
@@ -32,6 +33,10 @@ pub record IsAheadOf (w : World) (k : Kept) : Type 0 where
   pub told : (b : ℕ) → is_gone k.gone b ≡ has_number (doomed w) b
   pub number : k.doomed ≡ length (doomed w)
   pub off : k.pairs ≡ length (doomed_pairs w)
+
+-- Of the blocks that are live in the bitmap exactly these are hidden.
+abbrev pub Hides : LiveMap → (ℕ → Bool) → Type 0
+Hides live hidden = (b : ℕ) → is_live live.unhidden b ≡ (is_live live.live b && not (hidden b))
 
 -- ---- what it may be told of
 

@@ -5,7 +5,7 @@ ghost use Rattle.tsd_model.specs.World.{World, has_number};
 ghost use Rattle.tsd_model.specs.Doomed.{doomed};
 ghost use Rattle.tsd_model.specs.Step.{with_pointer, without_pointer, with_new_blocks};
 ghost use Rattle.graph_laws.specs.Counts.{AreCounts, doomed_pairs};
-ghost use Rattle.reclaim.specs.Ahead.{is_gone, IsAheadOf, IsAdding, IsGrowing, IsDeleting, IsStepping};
+ghost use Rattle.reclaim.specs.Ahead.{is_gone, Hides, IsAheadOf, IsAdding, IsGrowing, IsDeleting, IsStepping};
 ghost use Rattle.reclaim.specs.Stepping.{after_step};
 ghost use Rattle.reclaim.specs.Tables.{graph_of, AreTables};
 
@@ -113,10 +113,15 @@ impl Ahead {
     }
 
     /// A pair to a block was deleted. Hides the blocks that became doomed by that, and tells how many they are.
-    pub fn lower(&mut self, pointers: &PointerTable, live: &LiveMap, target: u32) -> u32
-        requires tables { AreTables pointers.now live.now }
-        requires deleted { (w : World) × (a : ℕ) × IsDeleting w a target self.old × (graph_of pointers.now live.now ≡ without_pointer w a target) }
-        ensures ahead { IsAheadOf (graph_of pointers.now live.now) self.new }
+    pub fn lower(&mut self, pointers: &PointerTable, live: &mut LiveMap, target: u32) -> u32
+        requires tables { AreTables pointers.now live.old }
+        requires hidden { Hides live.old (is_gone self.old.gone) }
+        requires deleted { (w : World) × (a : ℕ) × IsDeleting w a target self.old × (graph_of pointers.now live.old ≡ without_pointer w a target) }
+        ensures ahead { IsAheadOf (graph_of pointers.now live.new) self.new }
+        ensures hidden { Hides live.new (is_gone self.new.gone) }
+
+        // The bitmap stays.
+        ensures raw { live.new ≡ record live.old { unhidden = live.new.unhidden } }
         ensures more { self.new.doomed ≡ self.old.doomed + result }
     {
         self.tally.lower(pointers, live, target)

@@ -3,7 +3,7 @@
 ghost use Rattle.std.specs.Prelude.{◌≡◌, ℕ, ◌+◌, ◌-◌, ◌<◌, ◌≤◌, ◌||◌, ◌&&◌, ◌==◌, [], false, not, cond, length, slice_index, slice_set, IsTrue};
 ghost use Rattle.tsd_model.specs.World.{World, has_number};
 ghost use Rattle.tsd_model.specs.Step.{without_pointer};
-ghost use Rattle.reclaim.specs.Ahead.{is_gone, IsAheadOf, IsDeleting, kept};
+ghost use Rattle.reclaim.specs.Ahead.{is_gone, Hides, IsAheadOf, IsDeleting, kept};
 ghost use Rattle.disk_laws.specs.Reclaiming.{all_apart};
 ghost use Rattle.reclaim.specs.Counting.{left_at, IsCounting};
 ghost use Rattle.reclaim.specs.Tallies.{HasSameMarks};
@@ -91,13 +91,16 @@ impl Tally {
         }
     }
 
-    /// A pointer to a block was deleted. Tells how many blocks became doomed by that.
-    pub(crate) fn lower(&mut self, pointers: &PointerTable, live: &LiveMap, target: u32) -> u32
-        requires tables { AreTables pointers.now live.now }
+    /// A pair to a block was deleted. Hides the blocks that became doomed by that, and tells how many they are.
+    pub(crate) fn lower(&mut self, pointers: &PointerTable, live: &mut LiveMap, target: u32) -> u32
+        requires tables { AreTables pointers.now live.old }
         requires room { self.old.waiting.room ≡ pointers.now.geometry.blocks }
         requires none { self.old.waiting.blocks ≡ [] }
-        requires deleted { (w : World) × (a : ℕ) × IsDeleting w a target (kept self.old.counts.items self.old.gone.items self.old.doomed self.old.pairs) × (graph_of pointers.now live.now ≡ without_pointer w a target) }
-        ensures ahead { IsAheadOf (graph_of pointers.now live.now) (kept self.new.counts.items self.new.gone.items self.new.doomed self.new.pairs) }
+        requires hidden { Hides live.old (is_gone self.old.gone.items) }
+        requires deleted { (w : World) × (a : ℕ) × IsDeleting w a target (kept self.old.counts.items self.old.gone.items self.old.doomed self.old.pairs) × (graph_of pointers.now live.old ≡ without_pointer w a target) }
+        ensures ahead { IsAheadOf (graph_of pointers.now live.new) (kept self.new.counts.items self.new.gone.items self.new.doomed self.new.pairs) }
+        ensures hidden { Hides live.new (is_gone self.new.gone.items) }
+        ensures raw { live.new ≡ record live.old { unhidden = live.new.unhidden } }
         ensures more { self.new.doomed ≡ self.old.doomed + result }
         ensures counts { length self.new.counts.items ≡ length self.old.counts.items }
         ensures gone { length self.new.gone.items ≡ length self.old.gone.items }
@@ -107,6 +110,7 @@ impl Tally {
         let before = self.doomed;
         self.lower_one(target);
         while let Some(block) = self.waiting.pop() {
+            live.hide(block);
             self.lower_targets(pointers, live, block);
         }
         self.doomed - before

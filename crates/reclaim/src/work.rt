@@ -102,7 +102,7 @@ fn is_uncounted(counts: &RefCounts, live: &LiveMap, primaries: u32, block: u32) 
     requires sizes { live.now.geometry ≡ counts.now.geometry }
     ensures { result ≡ is_uncounted live.now.live counts.now.counts primaries block }
 {
-    primaries <= block && live.is_live(block) && counts.count(block) == 0
+    primaries <= block && live.raw_live(block) && counts.count(block) == 0
 }
 
 /// So many zeros.
