@@ -33,6 +33,7 @@ impl Volume {
         ensures ready { OnOk result (IsReady self.new) }
         ensures unspent { OnOk result (self.new.is_spent ≡ false) }
         ensures spent { OnErr result (self.new.is_spent ≡ true) }
+        ensures size { (self.new.tables.geometry ≡ self.old.tables.geometry) × (self.new.tables.version ≡ self.old.tables.version) }
         ensures sent { D.told → (D.view dev.new).sent ≡ (D.view dev.old).sent }
         ensures any_moment { D.told → LeavesEither (D.view dev.old) (D.view dev.new) (with_caps (world_on (D.view dev.old)) block (kept self.old.tables.version caps.now)) }
         ensures paid { OnOk result (IsPaid (batch_cost 1) self.old (D.view dev.old) self.new (D.view dev.new)) }
@@ -62,6 +63,7 @@ impl Volume {
         ensures ready { OnOk result (IsReady self.new) }
         ensures unspent { OnOk result (self.new.is_spent ≡ false) }
         ensures spent { OnErr result (self.new.is_spent ≡ true) }
+        ensures size { self.new.tables.geometry ≡ self.old.tables.geometry }
         ensures sent { D.told → (D.view dev.new).sent ≡ (D.view dev.old).sent }
         ensures any_moment { D.told → LeavesEither (D.view dev.old) (D.view dev.new) (upgraded (world_on (D.view dev.old))) }
         ensures uses { Uses (checkpoint_writes self.old.ring + batch_cost 3 + 113) (D.view dev.old) (D.view dev.new) }

@@ -20,6 +20,7 @@ impl Volume {
         ensures done { D.told → OnOk result (world_on (D.view dev.new) ≡ world_on (D.view dev.old)) }
         ensures same { OnOk result (self.new ≡ record self.old { ring = [] }) }
         ensures spent { OnErr result (self.new.is_spent ≡ true) }
+        ensures size { (self.new.tables.geometry ≡ self.old.tables.geometry) × (self.new.tables.version ≡ self.old.tables.version) }
         ensures sent { D.told → (D.view dev.new).sent ≡ (D.view dev.old).sent }
         ensures any_moment { D.told → LeavesWorld (D.view dev.old) (D.view dev.new) }
         ensures paid { OnOk result (IsPaid 0 self.old (D.view dev.old) self.new (D.view dev.new)) }

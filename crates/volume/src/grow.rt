@@ -43,6 +43,7 @@ impl Volume {
         ensures ready { OnOk result (IsReady self.new) }
         ensures unspent { OnOk result (self.new.is_spent ≡ false) }
         ensures spent { OnErr result (self.new.is_spent ≡ true) }
+        ensures size { (self.new.tables.geometry ≡ self.old.tables.geometry) × (self.new.tables.version ≡ self.old.tables.version) }
         ensures sent { D.told → (D.view dev.new).sent ≡ (D.view dev.old).sent }
         ensures any_moment { D.told → LeavesEither (D.view dev.old) (D.view dev.new) (with_new_blocks (world_on (D.view dev.old)) source blocks.now) }
         ensures paid { OnOk result (IsPaid (self.old.tables.geometry.sectors * length blocks.now + batch_cost (3 * length blocks.now)) self.old (D.view dev.old) self.new (D.view dev.new)) }
@@ -77,6 +78,7 @@ impl Volume {
         ensures ready { OnOk result (IsReady self.new) }
         ensures unspent { OnOk result (self.new.is_spent ≡ false) }
         ensures spent { OnErr result (self.new.is_spent ≡ true) }
+        ensures size { (self.new.tables.geometry ≡ self.old.tables.geometry) × (self.new.tables.version ≡ self.old.tables.version) }
         ensures sent { D.told → (D.view dev.new).sent ≡ (D.view dev.old).sent }
         ensures any_moment { D.told → LeavesEither (D.view dev.old) (D.view dev.new) (with_new_blocks (world_on (D.view dev.old)) source blocks.now) }
         ensures paid { OnOk result (IsPaid (batch_cost (3 * length blocks.now)) self.old (D.view dev.old) self.new (D.view dev.new)) }
@@ -93,6 +95,7 @@ impl Volume {
             source,
             blocks,
         );
+        self.ahead.raise_all(blocks);
         let outcome = self.ring.commit(dev, &self.batch);
         self.is_spent = outcome.is_err();
         outcome
@@ -110,6 +113,7 @@ impl Volume {
         ensures same { OnOk result (self.new ≡ record self.old { ring = self.new.ring }) }
         ensures missed { OnOk result (AreMissed self.old.tables.geometry (patches_of self.new.ring) blocks.now) }
         ensures spent { OnErr result (self.new.is_spent ≡ true) }
+        ensures size { (self.new.tables.geometry ≡ self.old.tables.geometry) × (self.new.tables.version ≡ self.old.tables.version) }
         ensures sent { D.told → (D.view dev.new).sent ≡ (D.view dev.old).sent }
         ensures any_moment { D.told → LeavesWorld (D.view dev.old) (D.view dev.new) }
         ensures paid { OnOk result (IsPaid 0 self.old (D.view dev.old) self.new (D.view dev.new)) }
@@ -134,6 +138,7 @@ impl Volume {
         ensures done { D.told → OnOk result (world_on (D.view dev.new) ≡ world_on (D.view dev.old)) }
         ensures same { OnOk result (self.new ≡ self.old) }
         ensures spent { OnErr result (self.new.is_spent ≡ true) }
+        ensures size { (self.new.tables.geometry ≡ self.old.tables.geometry) × (self.new.tables.version ≡ self.old.tables.version) }
         ensures sent { D.told → (D.view dev.new).sent ≡ (D.view dev.old).sent }
         ensures any_moment { D.told → LeavesWorld (D.view dev.old) (D.view dev.new) }
         ensures uses { Uses (self.old.tables.geometry.sectors * length blocks.now) (D.view dev.old) (D.view dev.new) }
@@ -162,6 +167,7 @@ impl Volume {
         ensures ready { OnOk result (IsReady self.new) }
         ensures unspent { OnOk result (self.new.is_spent ≡ false) }
         ensures spent { OnErr result (self.new.is_spent ≡ true) }
+        ensures size { (self.new.tables.geometry ≡ self.old.tables.geometry) × (self.new.tables.version ≡ self.old.tables.version) }
         ensures sent { D.told → (D.view dev.new).sent ≡ (D.view dev.old).sent }
         ensures any_moment { D.told → LeavesEither (D.view dev.old) (D.view dev.new) (with_new_blocks (world_on (D.view dev.old)) source blocks.now) }
         ensures paid { OnOk result (IsPaid (self.old.tables.geometry.sectors * length blocks.now + batch_cost (3 * length blocks.now)) self.old (D.view dev.old) self.new (D.view dev.new)) }

@@ -8,7 +8,7 @@ ghost use Rattle.intent_journal.specs.Home.{overlaid};
 ghost use Rattle.intent_journal.specs.Homes.{is_lawful_home};
 ghost use Rattle.pointer_table.specs.Table.{pairs};
 ghost use Rattle.block_alloc.specs.LiveMap.{is_live};
-ghost use Rattle.volume_laws.specs.Growing.{parts_of, DoFit, HasRoom, IsGrown};
+ghost use Rattle.volume_laws.specs.Growing.{parts_of, DoFit, HasRoom, HidesNone, IsGrown};
 
 use block_alloc::LiveMap;
 use image_layout::Patch;
@@ -44,9 +44,12 @@ fn put_one(
     requires room { length (pairs pointers.old) < live.old.geometry.slots }
     requires few { length batch.old + 3 ≤ bodies }
     ensures grown { IsGrown live.old.geometry source (block ∷ []) (parts_of pointers.old counts.old live.old) (parts_of pointers.new counts.new live.new) batch.old batch.new }
-    ensures live { live.new ≡ record live.old { live = slice_set live.old.live block true } }
+    ensures live { live.new ≡ record live.old { live = slice_set live.old.live block true; unhidden = slice_set live.old.unhidden block true } }
     ensures pairs { length (pairs pointers.new) ≡ length (pairs pointers.old) + 1 }
+    ensures shown { HidesNone live.old → HidesNone live.new }
 {
+    // Both maps have a place for each block.
+    let _size = live.geometry();
     let slot = pointers.add(source, block).unwrap();
     put_patch(batch, &slot);
     counts.raise(block);
@@ -69,6 +72,9 @@ pub(crate) fn put_new(
     requires room { HasRoom live.old.geometry (parts_of pointers.old counts.old live.old) source blocks.now }
     requires most { length blocks.now ≤ 32 }
     ensures grown { IsGrown live.old.geometry source blocks.now (parts_of pointers.old counts.old live.old) (parts_of pointers.new counts.new live.new) [] batch.new }
+
+    // Where no block is hidden, none is then.
+    ensures shown { HidesNone live.old → HidesNone live.new }
 {
     for index in 0..blocks.len() {
         put_one(batch, pointers, counts, live, source, blocks[index]);

@@ -42,6 +42,7 @@ impl Volume {
         ensures ready { OnOk result (IsReady self.new) }
         ensures unspent { OnOk result (self.new.is_spent ≡ false) }
         ensures spent { OnErr result (self.new.is_spent ≡ true) }
+        ensures size { (self.new.tables.geometry ≡ self.old.tables.geometry) × (self.new.tables.version ≡ self.old.tables.version) }
         ensures sent { D.told → (D.view dev.new).sent ≡ (D.view dev.old).sent }
         ensures any_moment { D.told → LeavesEither (D.view dev.old) (D.view dev.new) (with_pointer (world_on (D.view dev.old)) source target) }
         ensures paid { OnOk result (IsPaid (batch_cost 2) self.old (D.view dev.old) self.new (D.view dev.new)) }
@@ -75,6 +76,7 @@ impl Volume {
         ensures ready { OnOk result (IsReady self.new) }
         ensures unspent { OnOk result (self.new.is_spent ≡ false) }
         ensures spent { OnErr result (self.new.is_spent ≡ true) }
+        ensures size { (self.new.tables.geometry ≡ self.old.tables.geometry) × (self.new.tables.version ≡ self.old.tables.version) }
         ensures sent { D.told → (D.view dev.new).sent ≡ (D.view dev.old).sent }
         ensures any_moment { D.told → LeavesEither (D.view dev.old) (D.view dev.new) (settle (without_pointer (world_on (D.view dev.old)) source target)) }
         ensures any_owed { D.told → LeavesOwed (D.view dev.old) (D.view dev.new) (owed self.old.tables + made (told_by self.old) source target) }
@@ -91,10 +93,10 @@ impl Volume {
 
     /// How many blocks are doomed.
     fn doomed_count(&self) -> u32
+        requires { IsReady self.now }
         ensures { result ≡ length (doomed (graph_in self.now.tables)) }
     {
-        // A stub: `Ahead` keeps this number.
-        0
+        self.ahead.doomed()
     }
 }
 
@@ -114,6 +116,7 @@ impl Volume {
         ensures ready { OnOk result (IsReady self.new) }
         ensures unspent { OnOk result (self.new.is_spent ≡ false) }
         ensures spent { OnErr result (self.new.is_spent ≡ true) }
+        ensures size { (self.new.tables.geometry ≡ self.old.tables.geometry) × (self.new.tables.version ≡ self.old.tables.version) }
         ensures sent { D.told → (D.view dev.new).sent ≡ (D.view dev.old).sent }
         ensures any_moment { D.told → LeavesEither (D.view dev.old) (D.view dev.new) (with_pointer (world_on (D.view dev.old)) source target) }
         ensures paid { OnOk result (IsPaid (batch_cost 2) self.old (D.view dev.old) self.new (D.view dev.new)) }
@@ -127,6 +130,7 @@ impl Volume {
         self.counts.raise(target);
         let count = self.counts.patch(target);
         let _ = self.batch.put(count.sector, &count.bytes);
+        self.ahead.raise(target);
         let outcome = self.ring.commit(dev, &self.batch);
         self.is_spent = outcome.is_err();
         outcome
@@ -134,7 +138,7 @@ impl Volume {
 }
 
 impl Volume {
-    /// Takes a pointer away, in one batch. What is lost by it stays on the disk.
+    /// Takes a pointer away, in one batch. What is lost by it stays on the disk, and is hidden.
     fn drop_pair<D: Device>(&mut self, dev: &mut D, source: u32, target: u32) -> Result<(), Failed>
         requires held { holds (told_by self.old).pairs source target ≡ true }
         requires ready { IsReady self.old }
@@ -145,6 +149,7 @@ impl Volume {
         ensures ready { OnOk result (IsReady self.new) }
         ensures unspent { OnOk result (self.new.is_spent ≡ false) }
         ensures spent { OnErr result (self.new.is_spent ≡ true) }
+        ensures size { (self.new.tables.geometry ≡ self.old.tables.geometry) × (self.new.tables.version ≡ self.old.tables.version) }
         ensures sent { D.told → (D.view dev.new).sent ≡ (D.view dev.old).sent }
         ensures any_moment { D.told → LeavesEither (D.view dev.old) (D.view dev.new) (settle (without_pointer (world_on (D.view dev.old)) source target)) }
         ensures counted { OnOk result ((length (doomed (graph_in self.new.tables)) + free_count (told_by self.old) ≡ length (doomed (graph_in self.old.tables)) + free_count (told_by self.new)) × (length (doomed (graph_in self.old.tables)) ≤ length (doomed (graph_in self.new.tables)))) }
@@ -161,6 +166,9 @@ impl Volume {
         self.counts.lower(target);
         let count = self.counts.patch(target);
         let _ = self.batch.put(count.sector, &count.bytes);
+        let _lost = self
+            .ahead
+            .lower(&self.pointers, &mut self.live, target);
         let outcome = self.ring.commit(dev, &self.batch);
         self.is_spent = outcome.is_err();
         outcome

@@ -13,7 +13,7 @@ ghost use Rattle.volume_laws.specs.Moments.{LeavesEither, LeavesWorld, LeavesOwe
 
 ghost use Rattle.volume_laws.specs.Graphs.{IsNext};
 
-use crate::steps::put_step;
+use crate::steps::{note_step, put_step};
 use crate::volume::Volume;
 use image_device::{Device, Failed};
 use pointer_table::OutStep;
@@ -35,6 +35,7 @@ impl Volume {
         ensures ready { OnOk result (IsReady self.new) }
         ensures unspent { OnOk result (self.new.is_spent ≡ false) }
         ensures spent { OnErr result (self.new.is_spent ≡ true) }
+        ensures size { (self.new.tables.geometry ≡ self.old.tables.geometry) × (self.new.tables.version ≡ self.old.tables.version) }
         ensures sent { D.told → (D.view dev.new).sent ≡ (D.view dev.old).sent }
         ensures any_moment { D.told → LeavesWorld (D.view dev.old) (D.view dev.new) }
         ensures paid { self.old.tables.is_sweeping ≡ false → OnOk result (IsPaid 0 self.old (D.view dev.old) self.new (D.view dev.new)) }
@@ -57,6 +58,7 @@ impl Volume {
         ensures ready { OnOk result (IsReady self.new) }
         ensures unspent { OnOk result (self.new.is_spent ≡ false) }
         ensures spent { OnErr result (self.new.is_spent ≡ true) }
+        ensures size { (self.new.tables.geometry ≡ self.old.tables.geometry) × (self.new.tables.version ≡ self.old.tables.version) }
         ensures sent { D.told → (D.view dev.new).sent ≡ (D.view dev.old).sent }
         ensures any_moment { D.told → LeavesWorld (D.view dev.old) (D.view dev.new) }
         ensures any_owed { D.told → LeavesOwed (D.view dev.old) (D.view dev.new) (owed self.old.tables) }
@@ -82,10 +84,10 @@ impl Volume {
         ensures done { D.told → OnOk result (world_on (D.view dev.new) ≡ world_on (D.view dev.old)) }
         ensures told { OnOk result (told_by self.new ≡ told_by self.old) }
         ensures settled { OnOk result (owed self.new.tables ≡ 0) }
-        ensures size { OnOk result (self.new.tables.geometry ≡ self.old.tables.geometry) }
         ensures ready { OnOk result (IsReady self.new) }
         ensures unspent { OnOk result (self.new.is_spent ≡ false) }
         ensures spent { OnErr result (self.new.is_spent ≡ true) }
+        ensures size { (self.new.tables.geometry ≡ self.old.tables.geometry) × (self.new.tables.version ≡ self.old.tables.version) }
         ensures sent { D.told → (D.view dev.new).sent ≡ (D.view dev.old).sent }
         ensures any_moment { D.told → LeavesWorld (D.view dev.old) (D.view dev.new) }
         ensures any_owed { D.told → LeavesOwed (D.view dev.old) (D.view dev.new) (owed self.old.tables) }
@@ -94,8 +96,7 @@ impl Volume {
         ensures faultless { OnOk result ((D.view dev.new).faults ≡ (D.view dev.old).faults) }
         ensures cause { OnErr result (Rose (D.view dev.old).faults (D.view dev.new).faults) }
     {
-        while self.settle_step(dev)? {}
-        Ok(())
+        self.settle_lost(dev)
     }
 
     /// Reclaims what no primary block leads to, and tells how many blocks became free. What is lost is reclaimed first.
@@ -111,6 +112,7 @@ impl Volume {
         ensures ready { OnOk result (IsReady self.new) }
         ensures unspent { OnOk result (self.new.is_spent ≡ false) }
         ensures spent { OnErr result (self.new.is_spent ≡ true) }
+        ensures size { (self.new.tables.geometry ≡ self.old.tables.geometry) × (self.new.tables.version ≡ self.old.tables.version) }
         ensures sent { D.told → (D.view dev.new).sent ≡ (D.view dev.old).sent }
         ensures any_moment { D.told → LeavesEither (D.view dev.old) (D.view dev.new) (swept (world_on (D.view dev.old))) }
         ensures faultless { OnOk result ((D.view dev.new).faults ≡ (D.view dev.old).faults) }
@@ -124,16 +126,17 @@ impl Volume {
     /// Makes a step of reclamation, in one batch.
     fn make_step<D: Device>(&mut self, dev: &mut D, step: &OutStep) -> Result<(), Failed>
         requires next { IsNext self.old.tables step.now }
-        requires ready { IsReady self.old }
+        requires still { self.old.tables.is_sweeping ≡ false }
         requires at { D.told → IsAt self.old (D.view dev.old) }
         ensures at { D.told → OnOk result (IsAt self.new (D.view dev.new)) }
         ensures done { D.told → OnOk result (world_on (D.view dev.new) ≡ world_on (D.view dev.old)) }
         ensures told { OnOk result (told_by self.new ≡ told_by self.old) }
         ensures lowered { OnOk result (owed self.new.tables < owed self.old.tables) }
-        ensures size { OnOk result (self.new.tables.geometry ≡ self.old.tables.geometry) }
-        ensures ready { OnOk result (IsReady self.new) }
+        ensures still { OnOk result (self.new.tables.is_sweeping ≡ false) }
+        ensures same_ready { self.new.is_ready ≡ self.old.is_ready }
         ensures unspent { OnOk result (self.new.is_spent ≡ false) }
         ensures spent { OnErr result (self.new.is_spent ≡ true) }
+        ensures size { (self.new.tables.geometry ≡ self.old.tables.geometry) × (self.new.tables.version ≡ self.old.tables.version) }
         ensures sent { D.told → (D.view dev.new).sent ≡ (D.view dev.old).sent }
         ensures any_moment { D.told → LeavesWorld (D.view dev.old) (D.view dev.new) }
         ensures any_owed { D.told → LeavesOwed (D.view dev.old) (D.view dev.new) (owed self.old.tables) }
@@ -152,6 +155,7 @@ impl Volume {
             &mut self.live,
             step,
         );
+        note_step(&mut self.ahead, self.is_ready, step);
         let outcome = self.ring.commit(dev, &self.batch);
         self.is_spent = outcome.is_err();
         outcome
@@ -161,7 +165,7 @@ impl Volume {
 impl Volume {
     /// Makes a step of reclamation, if one is left. Answers whether there was one.
     fn settle_step<D: Device>(&mut self, dev: &mut D) -> Result<bool, Failed>
-        requires ready { IsReady self.old }
+        requires still { self.old.tables.is_sweeping ≡ false }
         requires unspent { self.old.is_spent ≡ false }
         requires at { D.told → IsAt self.old (D.view dev.old) }
         ensures at { D.told → OnOk result (IsAt self.new (D.view dev.new)) }
@@ -169,10 +173,11 @@ impl Volume {
         ensures told { OnOk result (told_by self.new ≡ told_by self.old) }
         ensures lowered { IfOk result (λ some. some ≡ true → owed self.new.tables < owed self.old.tables) }
         ensures none { IfOk result (λ some. some ≡ false → owed self.new.tables ≡ 0) }
-        ensures size { OnOk result (self.new.tables.geometry ≡ self.old.tables.geometry) }
-        ensures ready { OnOk result (IsReady self.new) }
+        ensures still { OnOk result (self.new.tables.is_sweeping ≡ false) }
+        ensures same_ready { self.new.is_ready ≡ self.old.is_ready }
         ensures unspent { OnOk result (self.new.is_spent ≡ false) }
         ensures spent { OnErr result (self.new.is_spent ≡ true) }
+        ensures size { (self.new.tables.geometry ≡ self.old.tables.geometry) × (self.new.tables.version ≡ self.old.tables.version) }
         ensures sent { D.told → (D.view dev.new).sent ≡ (D.view dev.old).sent }
         ensures any_moment { D.told → LeavesWorld (D.view dev.old) (D.view dev.new) }
         ensures any_owed { D.told → LeavesOwed (D.view dev.old) (D.view dev.new) (owed self.old.tables) }
@@ -190,6 +195,32 @@ impl Volume {
             }
             None => Ok(false),
         }
+    }
+
+    /// Makes all steps of reclamation that are left, whether the volume is ready or not.
+    pub(crate) fn settle_lost<D: Device>(&mut self, dev: &mut D) -> Result<(), Failed>
+        requires still { self.old.tables.is_sweeping ≡ false }
+        requires unspent { self.old.is_spent ≡ false }
+        requires at { D.told → IsAt self.old (D.view dev.old) }
+        ensures at { D.told → OnOk result (IsAt self.new (D.view dev.new)) }
+        ensures done { D.told → OnOk result (world_on (D.view dev.new) ≡ world_on (D.view dev.old)) }
+        ensures told { OnOk result (told_by self.new ≡ told_by self.old) }
+        ensures settled { OnOk result (owed self.new.tables ≡ 0) }
+        ensures still { OnOk result (self.new.tables.is_sweeping ≡ false) }
+        ensures same_ready { self.new.is_ready ≡ self.old.is_ready }
+        ensures unspent { OnOk result (self.new.is_spent ≡ false) }
+        ensures spent { OnErr result (self.new.is_spent ≡ true) }
+        ensures size { (self.new.tables.geometry ≡ self.old.tables.geometry) × (self.new.tables.version ≡ self.old.tables.version) }
+        ensures sent { D.told → (D.view dev.new).sent ≡ (D.view dev.old).sent }
+        ensures any_moment { D.told → LeavesWorld (D.view dev.old) (D.view dev.new) }
+        ensures any_owed { D.told → LeavesOwed (D.view dev.old) (D.view dev.new) (owed self.old.tables) }
+        ensures paid { OnOk result (IsPaid 0 self.old (D.view dev.old) self.new (D.view dev.new)) }
+        ensures uses { Uses (due self.old) (D.view dev.old) (D.view dev.new) }
+        ensures faultless { OnOk result ((D.view dev.new).faults ≡ (D.view dev.old).faults) }
+        ensures cause { OnErr result (Rose (D.view dev.old).faults (D.view dev.new).faults) }
+    {
+        while self.settle_step(dev)? {}
+        Ok(())
     }
 
     /// The next step, if one is left.

@@ -8,7 +8,7 @@ use image_layout::Header;
 use intent_journal::{Batch, Ring};
 use pointer_table::PointerTable;
 use ref_counts::RefCounts;
-use reclaim::Work;
+use reclaim::{Ahead, Work};
 use std::marker::Model;
 
 /// A world on a device. Contracts see the tables of its image, the records of its journal, and whether it is ready and spent.
@@ -31,10 +31,13 @@ pub struct Volume {
     /// Room for the blocks that are lost. Between calls they don't matter.
     pub(crate) work: Work,
 
+    /// What is lost on the disk and not reclaimed yet. It is right once the volume is ready.
+    pub(crate) ahead: Ahead,
+
     /// A sweep has begun and not ended.
     pub(crate) is_sweeping: bool,
 
-    /// What the image held of a sweep and a cascade was ended.
+    /// What the image held of a sweep and a cascade was ended, so that `ahead` is right.
     pub(crate) is_ready: bool,
 
     /// A call on the device failed.
@@ -48,7 +51,7 @@ impl Model for Volume {
 
     ghost view = { λ v. record { tables = tables_in v.header v.pointers v.counts v.live v.caps v.is_sweeping; ring = v.ring; is_ready = v.is_ready; is_spent = v.is_spent } };
 
-    ghost invariant = { λ v. AreParts v.header v.pointers v.counts v.live v.caps v.is_sweeping v.work.room };
+    ghost invariant = { λ v. AreParts v.header v.pointers v.counts v.live v.caps v.is_sweeping v.work.room v.ahead v.is_ready };
 }
 
 impl Volume {

@@ -34,6 +34,7 @@ impl Volume {
         ensures done { D.told → OnOk result (world_on (D.view dev.new) ≡ written_world (world_on (D.view dev.old)) block bytes.now) }
         ensures same { OnOk result (self.new ≡ record self.old { ring = self.new.ring }) }
         ensures spent { OnErr result (self.new.is_spent ≡ true) }
+        ensures size { (self.new.tables.geometry ≡ self.old.tables.geometry) × (self.new.tables.version ≡ self.old.tables.version) }
         ensures sent { D.told → (D.view dev.new).sent ≡ (D.view dev.old).sent }
 
         // A crash at any moment leaves the world before or the world with these bytes.

@@ -70,7 +70,7 @@ pub one_grown : (g : Geometry) (a b : ℕ) (op np : Pointers) (oc nc : Counts) (
     → pairs np ≡ with_pair (a, b) (pairs op) → IsTable np → np.geometry ≡ op.geometry → (slots_start op.geometry ≤ p.sector) × (p.sector < data_start op.geometry) → KeepsStored op np p
     → nc ≡ record oc { counts = slice_set oc.counts b (slice_index oc.counts b + 1) }
     → (counts_start ≤ q.sector) × (q.sector < bitmap_start nc.geometry) → KeepsCounts oc nc q
-    → nl ≡ record ol { live = slice_set ol.live b true }
+    → nl ≡ record ol { live = slice_set ol.live b true; unhidden = slice_set ol.unhidden b true }
     → r.sector ≡ sector_of nl.geometry b → (bitmap_start nl.geometry ≤ r.sector) × (r.sector < slots_start nl.geometry)
     → ((x : Image) → ((k : ℕ) → k < nl.geometry.blocks → sector_of nl.geometry k ≢ r.sector → IsStoredAt nl.live nl.geometry x k) → AreBits nl.live nl.geometry (put_at r.sector r.bytes x))
     → length qs ≤ length ps + 3
@@ -243,7 +243,7 @@ still_free live n b (x ∷ xs) out free =
     apart : (m k : ℕ) → (m == k) ≡ false → m ≢ k
     apart m k e same = grind (arith, nat_tests)
 
-pub room_more : (g : Geometry) (a b : ℕ) (bs : List ℕ) (p q : Parts) → HasRoom g p a (b ∷ bs) → length p.live.live ≡ g.blocks → q.live ≡ record p.live { live = slice_set p.live.live b true } → length (pairs q.pointers) ≡ length (pairs p.pointers) + 1 → HasRoom g q a bs
+pub room_more : (g : Geometry) (a b : ℕ) (bs : List ℕ) (p q : Parts) → HasRoom g p a (b ∷ bs) → length p.live.live ≡ g.blocks → q.live ≡ record p.live { live = slice_set p.live.live b true; unhidden = slice_set p.live.unhidden b true } → length (pairs q.pointers) ≡ length (pairs p.pointers) + 1 → HasRoom g q a bs
 room_more g a b bs p q has long live pairs_more =
     let same : q.live.live ≡ slice_set p.live.live b true = ap (λ (m : LiveMap). m.live) live in
     let free = has.free in

@@ -13,6 +13,7 @@ pub mod Taken
 pub mod TableWorlds
 pub mod StepWorlds
 pub mod Freed
+pub mod AheadKept
 pub mod StepOps
 pub mod NextLaws
 pub mod Idle

@@ -10,6 +10,7 @@ use Rattle.ref_counts.specs.Table.{Table as Counts}
 use Rattle.block_alloc.specs.LiveMap.{LiveMap}
 use Rattle.cap_store.specs.Store.{Store}
 use Rattle.image_layout.specs.declared.header.Header.{Header}
+use Rattle.reclaim.specs.Ahead.{Kept}
 use Rattle.reclaim.specs.Tables.{graph_of, AreTables, HaveCounts}
 use Rattle.image_world.specs.Sound.{AreSound}
 use Rattle.image_world.specs.Tables.{Tables, pairs_of}
@@ -17,7 +18,7 @@ use Rattle.volume_laws.specs.Graphs.{graph_in}
 use Rattle.volume_laws.specs.Volume.{AreParts, tables_in}
 use Rattle.volume_laws.proofs.TableWorlds.{graph_raw}
 
-module _ (h : Header) (p : Pointers) (k : Counts) (l : LiveMap) (s : Store) (is : Bool) (room : ℕ) (parts : AreParts h p k l s is room) where
+module _ (h : Header) (p : Pointers) (k : Counts) (l : LiveMap) (s : Store) (is : Bool) (room : ℕ) (a : Kept) (ready : Bool) (parts : AreParts h p k l s is room a ready) where
   pub same_graph : graph_in (tables_in h p k l s is) ≡ graph_of p l
   same_graph i = graph (sym parts.pointers i) l.live (pairs p)
 

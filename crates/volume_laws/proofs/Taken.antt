@@ -112,5 +112,5 @@ taken_more t old new oc nc a b bs i p q ps grown now held within is taken batch 
     here = ap (λ es. holds es a b) taken.pairs ∙ next_pair t a b bs i held within is
 
     next : IsDropped mid a b (with_parts t new nc) (with_patch q (with_patch p []))
-    next = dropped mid h old new oc nc (record { geometry = t.geometry; live = t.live }) (record { version = t.version; geometry = t.geometry; records = t.records }) t.is_sweeping a b p q (with_patch q (with_patch p []))
+    next = dropped mid h old new oc nc (record { geometry = t.geometry; live = t.live; unhidden = t.live }) (record { version = t.version; geometry = t.geometry; records = t.records }) t.is_sweeping a b p q (with_patch q (with_patch p []))
         taken.turns.sound here refl og cg less table ng sector keeps lowered inside counted refl

@@ -54,6 +54,10 @@ pub record HasRoom (g : Geometry) (p : Parts) (a : ℕ) (bs : List ℕ) : Type 0
   pub free : AreFree p.live.live g.blocks bs
   pub room : length (pairs p.pointers) + length bs ≤ g.slots
 
+-- each block that is live in the bitmap is shown
+abbrev pub HidesNone : LiveMap → Type 0
+HidesNone live = (b : ℕ) → is_live live.unhidden b ≡ is_live live.live b
+
 -- each live block but a primary one has a pair to it
 abbrev pub HasNoLost : Geometry → Parts → Type 0
 HasNoLost g p = (b : ℕ) → b < g.blocks → is_live p.live.live b ≡ true → g.primaries ≤ b → 1 ≤ slice_index p.counts.counts b

@@ -25,6 +25,7 @@ loop-index-preserved c =
       fit = subst (λ (k : Geometry). DoFit k new) (sym size) one.fit;
       room = subst (λ (k : Geometry). HasRoom k new a (drop (i + 1) bs)) (sym size)
           (room_more c.loop-index.live.geometry a b (drop (i + 1) bs) old new (subst (λ (xs : List ℕ). HasRoom c.loop-index.live.geometry old a xs) here inv.room) inv.fit.each_block c.put_one.ensures.live c.put_one.ensures.pairs);
+      shown = λ none. c.put_one.ensures.shown (inv.shown none);
       few = omega (arith, one.few, inv.few);
       goes = λ q qs more. inv.goes q qs (subst (λ (xs : List ℕ). IsGrown g a xs old q c.loop-index.batch qs) (sym here)
           (grown_more g a b (drop (i + 1) bs) old new q c.loop-index.batch c.put_one.new.batch qs
@@ -42,4 +43,5 @@ returns c =
     record {
       grown = inv.goes cur c.loop-index.batch (subst (λ (xs : List ℕ). IsGrown g c.args.source xs cur cur c.loop-index.batch c.loop-index.batch) (sym none)
           (grown_none g c.args.source cur c.loop-index.batch (subst (λ (k : Geometry). DoFit k cur) inv.size inv.fit)));
+      shown = inv.shown;
     }

@@ -10,6 +10,7 @@ use Rattle.image_device.specs.Image.{Image, put_at}
 use Rattle.intent_journal.specs.Home.{overlaid}
 use Rattle.volume_laws.specs.Growing.{parts_of}
 use Rattle.volume_laws.proofs.Grown.{free_count, free_absent, one_grown, one_pair_more}
+use Rattle.volume_laws.proofs.AheadKept.{shown_more}
 use Rattle.volume.proofs.growing.put_one.Goals as goal
 
 ok_here : {T E : Type 0} (r : Result T E) (P : Type 0) (v : T) → r ≡ Ok v → OnOk r P → P
@@ -50,3 +51,8 @@ returns-clause-grown c =
         let one : overlaid b1 x ≡ put_at p.sector p.bytes (overlaid b0 x) = λ i m. c.put_patch.ensures.laid x m i in
         let two : overlaid b2 x ≡ put_at q.sector q.bytes (overlaid b1 x) = λ i m. c.put_patch-2.ensures.laid x m i in
         c.put_patch-3.ensures.laid x n ∙ (ap (λ (y : Image). put_at r.sector r.bytes y n) two ∙ ap (λ (y : Image). put_at r.sector r.bytes (put_at q.sector q.bytes y) n) one))
+
+pub returns-clause-shown : goal.returns-clause-shown
+returns-clause-shown c =
+    let table = c.geometry-_size.ensures.table in
+    shown_more c.args.live.now c.set_live.new.self c.args.block table.each_block table.each_unhidden c.requires.inside c.set_live.ensures

@@ -37,7 +37,7 @@ returns-then-step-clause-put c = λ t may.
         (let f = taken.few in let few = may.next.may.few in omega (arith, f, few)) in
     let stored : (x : Image) → ((b : ℕ) → b < t.geometry.blocks → sector_of t.geometry b ≢ r.sector → IsStoredAt (slice_set t.live s.block false) t.geometry x b) → IsStored (slice_set t.live s.block false) t.geometry (put_at r.sector r.bytes x) =
         subst (λ (q : LiveMap). (x : Image) → ((b : ℕ) → b < q.geometry.blocks → sector_of q.geometry b ≢ r.sector → IsStoredAt q.live q.geometry x b) → IsStored q.live q.geometry (put_at r.sector r.bytes x))
-        (λ i. record { geometry = size i; live = bits i }) c.patch-bits.ensures.stored in
+        (λ i. record { geometry = size i; live = bits i; unhidden = m.unhidden }) c.patch-bits.ensures.stored in
     let turn : Turns mid (record mid { live = slice_set t.live s.block false }) (r ∷ []) =
         freed_turn t mid s may.next refl refl taken.pairs c.if-step.true taken.turns.sound r (c.patch-bits.ensures.sector ∙ ap (λ g. sector_of g s.block) size)
         (subst (λ g. (bitmap_start g ≤ r.sector) × (r.sector < slots_start g)) size c.patch-bits.ensures.inside) stored in

@@ -12,9 +12,12 @@ use Rattle.ref_counts.specs.Table.{Table as Counts}
 use Rattle.block_alloc.specs.LiveMap.{LiveMap}
 use Rattle.image_layout.specs.declared.header.Header.{Header}
 use Rattle.cap_store.specs.Store.{Store}
-use Rattle.volume_laws.specs.Graphs.{IsNext}
+use Rattle.volume_laws.specs.Graphs.{graph_in, IsNext}
+use Rattle.reclaim.specs.Ahead.{Kept, is_gone}
+use Rattle.volume_laws.proofs.AheadKept.{hides_stepped, ahead_then, gone_then, counted_then}
+use Rattle.volume_laws.proofs.TableWorlds.{graph_laid_out}
 use Rattle.volume_laws.specs.Moments.{owed}
-use Rattle.volume_laws.specs.Steps.{MayPut, IsPut, with_all, AreFor}
+use Rattle.volume_laws.specs.Steps.{MayPut, IsPut, IsStepped, with_all, AreFor}
 use Rattle.volume_laws.specs.Volume.{Volume, tables_in, told_by}
 use Rattle.volume_laws.proofs.Ops.{any_bytes, IsOp, op_at, op_done, op_told, op_moments}
 use Rattle.volume_laws.proofs.StepOps.{IsStepOf, step_of, step_paid, step_used, step_uses, step_most, either_same, owed_moments}
@@ -46,6 +49,10 @@ may g c =
 abbrev now : (g : Given.Over) → goal.After-self-1 g → Volume
 now g c = let i = c.self.inside in record { tables = tables_in i.header c.put_step.new.pointers c.put_step.new.counts c.put_step.new.live i.caps i.is_sweeping; ring = c.commit-outcome.new.self; is_ready = i.is_ready; is_spent = c.is_err-self-inside.result }
 
+-- the tables as they were
+abbrev was : (g : Given.Over) → goal.After-self-1 g → Tables
+was g c = let i = c.self.inside in tables_in i.header i.pointers i.counts i.live i.caps i.is_sweeping
+
 put : (g : Given.Over) (c : goal.After-self-1 g) → IsPut c.args.self.now.tables c.args.step.now (now g c).tables c.put_step.new.batch
 put g c =
     let is = ap (λ (w : Volume). w.tables) c.self.view_is in
@@ -53,18 +60,39 @@ put g c =
     (c.put_step.ensures.put c.args.self.now.tables (may g c))
 
 this : (g : Given.Over) (c : goal.After-self-1 g) → IsStepOf c.args.self.now c.args.step.now (now g c).tables c.put_step.new.batch
-this g c = step_of c.args.self.now c.args.step.now (now g c).tables c.put_step.new.batch c.requires.ready.1 c.requires.next (put g c)
+this g c = step_of c.args.self.now c.args.step.now (now g c).tables c.put_step.new.batch c.requires.still c.requires.next (put g c)
+
+stepped : (g : Given.Over) (c : goal.After-self-1 g) → IsStepped (was g c) (now g c).tables c.args.step.now.block c.args.step.now.targets c.args.step.now.freed
+stepped g c = subst (λ (t : Tables). IsStepped t (now g c).tables c.args.step.now.block c.args.step.now.targets c.args.step.now.freed) (sym (ap (λ (w : Volume). w.tables) c.self.view_is)) (put g c).stepped
 
 pub invariant_of-self : goal.invariant_of-self
-invariant_of-self g c = record {
-  pointers = c.put_step.ensures.slots ∙ c.self.invariant.pointers;
-  counts = c.put_step.ensures.counts ∙ c.self.invariant.counts;
-  live = c.put_step.ensures.live ∙ c.self.invariant.live;
-  kept_version = c.self.invariant.kept_version;
-  kept = c.self.invariant.kept;
-  waits = c.self.invariant.waits;
-  sound = (put g c).turns.sound;
-}
+invariant_of-self g c =
+    let i = c.self.inside in
+    let v = c.self.invariant in
+    let s = c.args.step.now in
+    let n = c.note_step.ensures in
+    let next : IsNext (was g c) s = subst (λ (t : Tables). IsNext t s) (sym (ap (λ (w : Volume). w.tables) c.self.view_is)) c.requires.next in
+    let gone = gone_then (was g c) (now g c).tables s i.ahead c.note_step.new.ahead i.is_ready next (stepped g c) v.ahead n.ahead n.same in
+    record {
+      pointers = c.put_step.ensures.slots ∙ v.pointers;
+      counts = c.put_step.ensures.counts ∙ v.counts;
+      live = c.put_step.ensures.live ∙ v.live;
+      kept_version = v.kept_version;
+      kept = v.kept;
+      waits = v.waits;
+      sound = (put g c).turns.sound;
+      counted = counted_then (was g c) (now g c).tables s i.ahead c.note_step.new.ahead i.is_ready next (stepped g c) v.ahead n.ahead n.same i.header.geometry.blocks v.counted refl;
+      hidden = hides_stepped i.live c.put_step.new.live s.block s.freed (is_gone i.ahead.gone) (is_gone c.note_step.new.ahead.gone) (stepped g c).live c.put_step.ensures.shown v.hidden gone;
+      ahead = ahead_then (was g c) (now g c).tables s i.ahead c.note_step.new.ahead i.is_ready next (stepped g c) v.ahead n.ahead n.same;
+      begun = λ e b. ap (λ (m : Kept). is_gone m.gone b) (n.same e) ∙ v.begun e b;
+    }
+
+pub note_step-requires : goal.note_step-requires
+note_step-requires g c =
+    let i = c.self.inside in
+    let t = tables_in i.header i.pointers i.counts i.live i.caps i.is_sweeping in
+    let next : IsNext t c.args.step.now = subst (λ (u : Tables). IsNext u c.args.step.now) (sym (ap (λ (w : Volume). w.tables) c.self.view_is)) c.requires.next in
+    record { told = λ e. (graph_in t, record { laid_out = graph_laid_out t; lost = next.may.lost; step = next.may.step; ahead = c.self.invariant.ahead e }) }
 
 pub returns-clause-at : goal.returns-clause-at
 returns-clause-at g c told =
