@@ -1,0 +1,19 @@
+//! A world on a device: every operation is whole or absent in every image that a crash may leave.
+#![tactic(auto)]
+
+mod blocks;
+mod caps;
+mod emptying;
+mod fault;
+mod grow;
+mod growing;
+mod load;
+mod pointers;
+mod settling;
+mod steps;
+mod volume;
+mod write;
+mod zeroing;
+
+pub use fault::VolumeFault;
+pub use volume::Volume;
