@@ -1,0 +1,14 @@
+use Rattle.std.proofs.Common.{ℕ, ◌≡◌, ◌+◌, length, ◌∙◌, ap, subst, sym}
+use Rattle.tsd_model.specs.World.{World}
+use Rattle.tsd_model.specs.Step.{without_pointer}
+use Rattle.reclaim.specs.Ahead.{Kept, IsDeleting, kept}
+use Rattle.reclaim.specs.Tables.{graph_of}
+use Rattle.reclaim.proofs.ahead.Ahead.lower.Goals as goal
+
+pub lower-requires-clause-room : goal.lower-requires-clause-room
+lower-requires-clause-room c = let d = c.requires.deleted in
+    c.self.invariant.1 ∙ (ap (λ (k : Kept). length k.counts) c.self.view_is ∙ (d.2.ahead.counts_each ∙ ap (λ (x : World). x.geometry.blocks) (sym d.3)))
+
+pub lower-requires-clause-deleted : goal.lower-requires-clause-deleted
+lower-requires-clause-deleted c = let d = c.requires.deleted in
+    (d.0, d.1, subst (λ (k : Kept). IsDeleting d.0 d.1 c.args.target k) (sym c.self.view_is) d.2, d.3)
