@@ -149,5 +149,5 @@ step_ahead w s k gone number pairs stepping long marks fewer taken =
 -- ---- counts that were raised
 
 -- with the marks that stayed
-pub marks_same : (w : World) (old new : Tally) → HasSameMarks old new → IsAheadOf w (kept new.counts.items old.gone.items old.doomed old.pairs) → IsAheadOf w (kept new.counts.items new.gone.items new.doomed new.pairs)
+pub marks_same : (w : World) (old new : Tally) → HasSameMarks old new → IsAheadOf w (kept new.counts.items old.gone old.doomed old.pairs) → IsAheadOf w (kept new.counts.items new.gone new.doomed new.pairs)
 marks_same w old new same ahead = subst (IsAheadOf w) (λ i. kept new.counts.items (sym same.gone i) (sym same.doomed i) (sym same.pairs i)) ahead
