@@ -3,13 +3,11 @@ use Rattle.std.proofs.Common.{◌≡◌, ℕ, zero, suc, ◌<◌, Bool, true, fa
 use Rattle.std.proofs.lemmas.Bool.{eq-eqb, ne_eqb, and_from, or_right, cases_eq}
 use Rattle.std.proofs.lemmas.List.{get_or-set_other}
 use Rattle.std.specs.Prelude.{slice_index_or, slice_set}
-use Rattle.tsd_model.specs.World.{World, has_number}
+use Rattle.tsd_model.specs.World.{has_number}
 use Rattle.tsd_model.specs.World.{is_live as is_live_in}
-use Rattle.disk_laws.proofs.ReclaimLaws.{doomed_is_live}
 use Rattle.disk_laws.proofs.DoomLaws.{live_below}
 use Rattle.pointer_table.specs.Table.{Table}
 use Rattle.block_alloc.specs.LiveMap.{LiveMap, is_live}
-use Rattle.graph_laws.specs.RawGraph.{IsRawGraph}
 use Rattle.tsd_model.specs.Doomed.{doomed, settle}
 use Rattle.graph_laws.proofs.SettleLaws.{live-settle}
 use Rattle.reclaim.specs.Ahead.{Kept, is_gone, IsAheadOf, Hides}

@@ -1,5 +1,5 @@
 -- Counts that are raised at some places, and marks that are cleared.
-use Rattle.std.proofs.Common.{◌≡◌, ℕ, zero, suc, ◌+◌, ◌<◌, Bool, true, false, cond, ◌||◌, ◌==◌, List, length, get_or, sym, ◌∙◌, ap, subst, arith, take, inl, inr, refl}
+use Rattle.std.proofs.Common.{◌≡◌, ℕ, zero, suc, ◌+◌, ◌<◌, Bool, true, false, cond, ◌||◌, List, length, get_or, sym, ◌∙◌, ap, arith, take, inl, inr, refl}
 use Rattle.std.proofs.lemmas.Bool.{eq-eqb, ne_eqb, cases_eq}
 use Rattle.std.proofs.lemmas.List.{get_or-set_same, get_or-set_other}
 use Rattle.std.specs.Prelude.{slice_index, slice_set, replicate}

@@ -1,4 +1,4 @@
-use Rattle.std.proofs.Common.{ℕ, ◌≡◌, ◌+◌, ◌<◌, ◌≤◌, cond, List, Bool, length, ◌∙◌, ap, subst, sym, arith}
+use Rattle.std.proofs.Common.{ℕ, ◌+◌, ◌<◌, ◌≤◌, cond, List, length, ◌∙◌, ap, subst, sym, arith}
 use Rattle.reclaim.specs.Ahead.{Kept, IsStepping, IsAheadOf, kept}
 use Rattle.reclaim.specs.Stepping.{after_step}
 use Rattle.reclaim.proofs.ToldLaws.{step_within, step_fits, step_ahead}

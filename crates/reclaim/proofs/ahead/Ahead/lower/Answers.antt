@@ -1,8 +1,6 @@
-use Rattle.std.proofs.Common.{ℕ, ◌≡◌, ◌+◌, length, ◌∙◌, ap, subst, sym}
+use Rattle.std.proofs.Common.{length, ◌∙◌, ap, subst, sym}
 use Rattle.tsd_model.specs.World.{World}
-use Rattle.tsd_model.specs.Step.{without_pointer}
 use Rattle.reclaim.specs.Ahead.{Kept, IsDeleting, kept}
-use Rattle.reclaim.specs.Tables.{graph_of}
 use Rattle.reclaim.proofs.HidingLaws.{unhidden_settled}
 use Rattle.reclaim.proofs.ahead.Ahead.lower.Goals as goal
 

@@ -1,7 +1,7 @@
-use Rattle.std.proofs.Common.{ℕ, ◌≡◌, ◌+◌, ◌<◌, List, Bool, length, ◌∙◌, ap, subst, sym}
-use Rattle.std.specs.Prelude.{slice_index, slice_set}
+use Rattle.std.proofs.Common.{◌<◌, length, subst, sym}
+use Rattle.std.specs.Prelude.{slice_index}
 use Rattle.tsd_model.specs.Step.{with_pointer}
-use Rattle.reclaim.specs.Ahead.{Kept, IsAheadOf, IsAdding, kept}
+use Rattle.reclaim.specs.Ahead.{Kept, IsAdding, kept}
 use Rattle.reclaim.proofs.ToldLaws.{count_fits, raise_ahead, marks_same}
 use Rattle.reclaim.proofs.ahead.Ahead.raise.Goals as goal
 

@@ -1,4 +1,4 @@
-use Rattle.std.proofs.Common.{ℕ, ◌≡◌, ◌+◌, ◌<◌, List, Bool, length, ◌∙◌, ap, subst, sym}
+use Rattle.std.proofs.Common.{◌<◌, length, subst, sym}
 use Rattle.std.specs.Prelude.{slice_index}
 use Rattle.tsd_model.specs.Step.{with_new_blocks}
 use Rattle.reclaim.specs.Ahead.{Kept, IsGrowing, kept}

@@ -2,9 +2,8 @@ use Rattle.std.proofs.Common.{◌≡◌, ◌+◌, ◌-◌, ◌||◌, ◌&&◌, �
 use Rattle.std.proofs.lemmas.List.{length-set}
 use Rattle.std.specs.Prelude.{slice_index, slice_set}
 use Rattle.tsd_model.specs.World.{World, has_number}
-use Rattle.tsd_model.specs.declared.geometry.Geometry.{Geometry}
 use Rattle.disk_laws.proofs.ReclaimLaws.{doomed_is_live}
-use Rattle.reclaim.specs.Ahead.{Kept, is_gone, kept}
+use Rattle.reclaim.specs.Ahead.{is_gone, kept}
 use Rattle.reclaim.specs.Counting.{left_at, IsCounting}
 use Rattle.reclaim.specs.Tables.{graph_of}
 use Rattle.reclaim.proofs.HidingLaws.{tables_with, graph_with, raw_twice, popped_unhidden, hidden_one, hides_as, none_waits}

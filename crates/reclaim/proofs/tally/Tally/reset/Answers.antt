@@ -1,6 +1,4 @@
 use Rattle.std.proofs.Common.{length, ◌∙◌, ap}
-use Rattle.std.proofs.lemmas.List.{length-replicate}
-use Rattle.std.specs.Prelude.{false}
 use Rattle.reclaim.specs.Ahead.{is_gone}
 use Rattle.reclaim.proofs.PlaceLaws.{none_marked}
 use Rattle.reclaim.proofs.tally.Tally.reset.Goals as goal
