@@ -93,6 +93,15 @@ impl PointerTable {
         self.held
     }
 
+    /// The pair that a slot holds.
+    pub fn pair_in(&self, slot: u32) -> Option<(u32, u32)>
+        requires { slot < self.now.geometry.slots }
+        ensures value { result ≡ slot_at self.now.slots slot }
+        ensures table { IsTable self.now }
+    {
+        self.slots[slot as usize].pair()
+    }
+
     /// Whether a pair is held.
     pub fn has(&self, source: u32, target: u32) -> bool
         ensures { result ≡ holds (pairs self.now) source target }
