@@ -60,7 +60,7 @@ none_doomed t p c fit full =
     ])
 
 pub left_whole : (t : Tables) (p : Parts) (c : ℕ → List ℕ) → t.is_sweeping ≡ false → DoFit t.geometry p → HasNoLost t.geometry p → left_of (with_parts t p) (world_with (with_parts t p) c) ≡ world_with (with_parts t p) c
-unfolding left_of
+unfolding left_of world_with
 left_whole t p c still fit full = rw still (settle_none (world_with (with_parts t p) c) (laid_out (with_parts t p) c) (none_doomed t p c fit full))
 
 pub owed_none : (t : Tables) (p : Parts) → DoFit t.geometry p → HasNoLost t.geometry p → owed (with_parts t p) ≡ 0
