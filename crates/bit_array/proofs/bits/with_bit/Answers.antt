@@ -1,6 +1,6 @@
 use Rattle.std.proofs.Common.{w64}
 use Rattle.std.proofs.lemmas.Nat.Bits.{bit_at_set_same, bit_at_set_other, bit_at_clear_same, bit_at_clear_other}
-use Rattle.grant_table.proofs.bits.with_bit.Goals as goal
+use Rattle.bit_array.proofs.bits.with_bit.Goals as goal
 
 pub returns-then-bit-clause-same : goal.returns-then-bit-clause-same
 returns-then-bit-clause-same c = rw c.if-bit.true (bit_at_set_same w64 c.args.word c.args.place c.requires)

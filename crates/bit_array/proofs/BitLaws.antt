@@ -6,7 +6,7 @@ use Rattle.std.proofs.lemmas.Bool.{cases_eq, cases_lt}
 use Rattle.std.proofs.lemmas.List.{get_or_past, get_or-set_same, get_or-set_other, length-set, length-replicate, get_or-replicate}
 use Rattle.std.proofs.lemmas.List.FromFn.{length-map-range_with_len, get_or-map-range_with_len, fill_by_all}
 use Rattle.std.proofs.lemmas.Nat.Bits.{bit_at-zero}
-use Rattle.grant_table.specs.Levels.{bit_of, bits_of}
+use Rattle.bit_array.specs.Bits.{bit_of, bits_of}
 
 pub length-bits_of : (words : List ℕ) (len : ℕ) → length (bits_of words len) ≡ len
 length-bits_of words len = length-map-range_with_len (bit_of words) 0 len

@@ -3,8 +3,8 @@ use Rattle.std.specs.Prelude.{slice_index_or}
 use Rattle.std.specs.Int.{bit_at}
 use Rattle.std.proofs.lemmas.Bool.{le-ltb}
 use Rattle.std.proofs.lemmas.List.{get_or_default}
-use Rattle.grant_table.proofs.BitLaws.{get-bits_of, past-bits_of}
-use Rattle.grant_table.proofs.bits.BitArray.get.Goals as goal
+use Rattle.bit_array.proofs.BitLaws.{get-bits_of, past-bits_of}
+use Rattle.bit_array.proofs.bits.BitArray.get.Goals as goal
 
 pub returns-then-i-self : goal.returns-then-i-self
 returns-then-i-self c =

@@ -1,7 +1,7 @@
 use Rattle.std.proofs.Common.{sym, ◌∙◌, ap, replicate, false, length}
-use Rattle.grant_table.specs.Levels.{bits_of}
-use Rattle.grant_table.proofs.BitLaws.{no-bits, length-bits_of}
-use Rattle.grant_table.proofs.bits.BitArray.clear.Goals as goal
+use Rattle.bit_array.specs.Bits.{bits_of}
+use Rattle.bit_array.proofs.BitLaws.{no-bits, length-bits_of}
+use Rattle.bit_array.proofs.bits.BitArray.clear.Goals as goal
 
 pub returns : goal.returns
 returns c =

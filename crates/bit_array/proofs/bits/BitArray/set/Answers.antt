@@ -1,10 +1,10 @@
 use Rattle.std.proofs.Common.{sym, ◌∙◌, ap, arith, ◌≡◌, ◌/◌}
-use Rattle.grant_table.specs.Levels.{bits_of}
+use Rattle.bit_array.specs.Bits.{bits_of}
 use Rattle.std.specs.Prelude.{slice_set, slice_index_or}
 use Rattle.std.specs.Int.{bit_at}
 use Rattle.std.proofs.lemmas.List.{set_past, get_or_default}
-use Rattle.grant_table.proofs.BitLaws.{bits-changed, length-bits_of}
-use Rattle.grant_table.proofs.bits.BitArray.set.Goals as goal
+use Rattle.bit_array.proofs.BitLaws.{bits-changed, length-bits_of}
+use Rattle.bit_array.proofs.bits.BitArray.set.Goals as goal
 
 pub returns-then-i-self : goal.returns-then-i-self
 returns-then-i-self c =

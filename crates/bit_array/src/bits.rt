@@ -2,10 +2,10 @@
 
 ghost use Rattle.std.specs.Prelude.{◌≡◌, ℕ, ◌<◌, ◌≢◌, ◌==◌, cond, false, length, replicate, slice_index_or, slice_set, IfOk};
 ghost use Rattle.std.specs.Int.{bit_at};
-ghost use Rattle.grant_table.specs.Levels.{bit_of};
 
-use std::alloc::{AllocError, Global};
+use std::alloc::Global;
 use std::marker::Model;
+use tsd_model::NoMemory;
 
 /// How many bits a word has.
 const WORD_BITS: u32 = 64;
@@ -19,7 +19,7 @@ pub struct BitArray {
 
 impl Model for BitArray {
     ghost use Rattle.std.specs.Prelude.{List, Bool, ◌≤◌, ◌*◌, length};
-    ghost use Rattle.grant_table.specs.Levels.{bits_of};
+    ghost use Rattle.bit_array.specs.Bits.{bits_of};
 
     ghost Value = { List Bool };
 
@@ -30,7 +30,7 @@ impl Model for BitArray {
 
 impl BitArray {
     /// So many bits that are all false.
-    pub fn new(alloc: Global, len: u32) -> Result<BitArray, AllocError>
+    pub fn new(alloc: Global, len: u32) -> Result<BitArray, NoMemory>
         ensures { IfOk result (λ a. a ≡ replicate len false) }
     {
         let words = vec![in alloc; 0u64; len.div_ceil(WORD_BITS) as usize]?;
