@@ -1,0 +1,7 @@
+//! Formatting a disk.
+#![tactic(auto)]
+
+mod areas;
+mod formatting;
+
+pub use formatting::format;
