@@ -1,5 +1,5 @@
 -- What the sectors that formatting writes say.
-use Rattle.std.proofs.Common.{◌≡◌, ◌≢◌, ℕ, ◌+◌, ◌-◌, ◌*◌, ◌<◌, ◌≤◌, ◌==◌, ◌&&◌, nat_le, nat_lt, true, false, not, if◌then◌else◌, Bool, List, length, refl, sym, ◌∙◌, ap, subst, arith, inl, inr}
+use Rattle.std.proofs.Common.{◌≡◌, ℕ, ◌+◌, ◌-◌, ◌*◌, ◌<◌, ◌≤◌, ◌&&◌, nat_le, nat_lt, true, false, if◌then◌else◌, Bool, List, length, refl, sym, ◌∙◌, ap, subst, arith, inl, inr}
 use Rattle.std.proofs.lemmas.Bool.{cases_Bool}
 use Rattle.std.proofs.lemmas.Bool.Decides.{nat_tests}
 use Rattle.std.proofs.lemmas.List.{length-map}
@@ -9,7 +9,7 @@ use Rattle.tsd_model.specs.declared.geometry.Geometry.{Geometry}
 use Rattle.tsd_model.specs.Geometry.{IsLawful}
 use Rattle.tsd_model.specs.Records.{kept}
 use Rattle.image_device.specs.Image.{Image, zeros}
-use Rattle.image_layout.specs.Areas.{sweep_flag, bitmap_start, slots_start, data_start}
+use Rattle.image_layout.specs.Areas.{sweep_flag, bitmap_start, slots_start}
 use Rattle.image_layout.specs.Image.{is_open}
 use Rattle.image_layout.specs.Places.{data_sector}
 use Rattle.block_alloc.specs.Bytes.{bitmap_sector_bytes}
@@ -18,7 +18,7 @@ use Rattle.cap_store.specs.Fresh.{fresh_records}
 use Rattle.cap_store.specs.Store.{AreRecords}
 use Rattle.cap_store.specs.Stored.{caps_sector_bytes}
 use Rattle.cap_store.proofs.Written.{written as written_records}
-use Rattle.image_world.specs.Fresh.{IsWrittenFresh, AreFreshSectors}
+use Rattle.image_world.specs.Fresh.{IsWrittenFresh}
 use Rattle.image_world.proofs.FreshLaws.{fresh_sectors}
 use Rattle.recovery.specs.Areas.{fresh_end, fresh_bytes, HasAreas}
 

@@ -10,15 +10,15 @@ use Rattle.image_device.specs.Calls.{Settles, Touches}
 use Rattle.image_device.specs.Image.{Image}
 use Rattle.image_device.specs.Runs.{IsConfined}
 use Rattle.image_device.specs.View.{View, IsSound}
-use Rattle.image_device.proofs.Confined.{confined_start, confined_write, confined_joined, confined_wider, confined_sync}
+use Rattle.image_device.proofs.Confined.{confined_start, confined_write, confined_joined, confined_wider}
 use Rattle.image_layout.specs.Areas.{header_sector, format_gate, sweep_flag}
 use Rattle.image_layout.specs.Header.{IsReading}
 use Rattle.image_layout.specs.Image.{is_open}
 use Rattle.image_layout.specs.Ring.{gate_sector}
-use Rattle.image_world.specs.Fresh.{IsWrittenFresh}
+use Rattle.image_world.specs.Fresh.{IsWrittenFresh, AreClosed}
 use Rattle.intent_journal.specs.Home.{is_journal}
 use Rattle.intent_journal.proofs.Places.{gate_in}
-use Rattle.recovery.specs.Areas.{fresh_end, fresh_bytes, AreClosed}
+use Rattle.recovery.specs.Areas.{fresh_end, fresh_bytes}
 use Rattle.recovery.proofs.AreaLaws.{has_written}
 
 abbrev pub but_gate : ℕ → Bool

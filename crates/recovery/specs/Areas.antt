@@ -1,16 +1,15 @@
 -- What formatting writes, but for the format gate.
-use Rattle.std.specs.Prelude.{◌≡◌, ℕ, ◌+◌, ◌-◌, ◌*◌, ◌<◌, ◌≤◌, ◌&&◌, nat_le, nat_lt, if◌then◌else◌, false, List, Ok}
+use Rattle.std.specs.Prelude.{◌≡◌, ℕ, ◌+◌, ◌-◌, ◌*◌, ◌<◌, ◌≤◌, ◌&&◌, nat_le, nat_lt, if◌then◌else◌, List, Ok}
 use Rattle.tsd_model.specs.declared.caps.CapPair.{CapPair}
 use Rattle.tsd_model.specs.declared.geometry.Geometry.{Geometry}
 use Rattle.image_device.specs.Image.{Image, zeros}
 use Rattle.image_layout.specs.Areas.{header_sector, sweep_flag, caps_start, counts_start, bitmap_start, slots_start, data_start}
 use Rattle.image_layout.specs.Header.{IsReading}
-use Rattle.image_layout.specs.Ring.{records}
 use Rattle.block_alloc.specs.Bytes.{bitmap_sector_bytes}
 use Rattle.block_alloc.specs.Fresh.{fresh_live}
 use Rattle.cap_store.specs.Fresh.{fresh_records}
 use Rattle.cap_store.specs.Stored.{caps_sector_bytes}
-use Rattle.intent_journal.specs.Records.{is_open_gate}
+use Rattle.image_world.specs.Fresh.{AreClosed}
 
 -- behind the data of the last primary block
 abbrev pub fresh_end : Geometry → ℕ
@@ -23,10 +22,6 @@ fresh_bytes g caps n =
     if nat_le caps_start n && nat_lt n counts_start then caps_sector_bytes 1 (fresh_records caps) (n - caps_start)
     else if nat_le (bitmap_start g) n && nat_lt n (slots_start g) then bitmap_sector_bytes (fresh_live g) (n - bitmap_start g)
     else zeros
-
--- every gate of the journal reads closed
-abbrev pub AreClosed : Image → Type 0
-AreClosed x = (index : ℕ) → index < records → is_open_gate x index ≡ false
 
 -- an image has those sectors, a header of version 1, and closed gates of the journal
 pub record HasAreas (g : Geometry) (caps : List CapPair) (x : Image) : Type 0 where

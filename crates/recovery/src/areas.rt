@@ -9,16 +9,16 @@ ghost use Rattle.image_device.specs.Counts.{Rose};
 ghost use Rattle.image_device.specs.Image.{Image};
 ghost use Rattle.image_device.specs.Runs.{IsConfined, IsFirm};
 ghost use Rattle.image_layout.specs.Areas.{format_gate, sweep_flag};
-ghost use Rattle.image_world.specs.Fresh.{IsWrittenFresh};
+ghost use Rattle.image_world.specs.Fresh.{IsWrittenFresh, AreClosed};
 ghost use Rattle.intent_journal.specs.Home.{is_journal};
-ghost use Rattle.recovery.specs.Areas.{fresh_end, fresh_bytes, AreClosed, HasAreas};
+ghost use Rattle.recovery.specs.Areas.{fresh_end, fresh_bytes};
 
 use image_device::{Device, Failed};
+use image_layout::Layout;
 use image_layout::gate::gate_bytes;
 use image_layout::header::{Header, PLAIN_VERSION, write_header};
 use image_layout::ring::{RECORDS, gate_sector};
 use image_layout::sectors::{CAPS_START, COUNTS_START, HEADER_SECTOR, SECTOR_BYTES, SWEEP_FLAG};
-use image_layout::Layout;
 use tsd_model::{CapList, Geometry};
 
 /// The 512 bytes of a sector of a fresh disk, from the sweep flag to the data of the primary blocks.
@@ -69,7 +69,11 @@ fn write_tables<D: Device>(dev: &mut D, layout: &Layout, caps: &CapList) -> Resu
 }
 
 /// Writes all of a fresh disk but the format gate, and waits until it is on the disk.
-pub(crate) fn write_areas<D: Device>(dev: &mut D, geometry: &Geometry, caps: &CapList) -> Result<(), Failed>
+pub(crate) fn write_areas<D: Device>(
+    dev: &mut D,
+    geometry: &Geometry,
+    caps: &CapList,
+) -> Result<(), Failed>
     requires lawful { IsLawful geometry.now }
     requires each { length caps.now ≡ geometry.now.primaries }
     ensures written { D.told → OnOk result ((x : Image) → ((n : ℕ) → (n == format_gate) ≡ false → x n ≡ (D.view dev.new).reads n) → IsWrittenFresh geometry.now caps.now x) }

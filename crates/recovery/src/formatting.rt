@@ -6,8 +6,9 @@ ghost use Rattle.tsd_model.specs.Run.{fresh_world};
 ghost use Rattle.image_device.specs.Calls.{Uses};
 ghost use Rattle.image_device.specs.Counts.{Rose};
 ghost use Rattle.image_device.specs.Runs.{IsFirm, LeavesOnly};
+ghost use Rattle.image_world.specs.Fresh.{AreClosed};
 ghost use Rattle.image_world.specs.Stands.{Stands};
-ghost use Rattle.recovery.specs.Areas.{fresh_end, AreClosed};
+ghost use Rattle.recovery.specs.Areas.{fresh_end};
 ghost use Rattle.recovery.specs.Formatting.{IsFormatting};
 
 use crate::areas::write_areas;

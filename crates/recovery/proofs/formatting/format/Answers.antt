@@ -1,4 +1,4 @@
-use Rattle.std.proofs.Common.{◌≡◌, ℕ, ◌==◌, false, not, ◌∙◌, ap, refl, arith, Result, Ok, Err}
+use Rattle.std.proofs.Common.{◌∙◌, ap, Result, Ok, Err}
 use Rattle.std.specs.Prelude.{OnOk}
 use Rattle.image_layout.specs.Image.{is_open}
 use Rattle.image_device.proofs.Outcomes.{on_ok}
