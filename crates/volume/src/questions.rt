@@ -57,8 +57,9 @@ impl Volume {
         requires ready { IsReady self.now }
         ensures { result ≡ holds (told_by self.now).pairs source target }
     {
+        let is_held = self.pointers.has(source, target);
         let is_lost = self.ahead.is_doomed(source);
-        self.pointers.has(source, target) && !is_lost
+        is_held && !is_lost
     }
 
     /// The least 64 targets of a block's pointers that are not below `start`, ascending.
@@ -95,6 +96,7 @@ impl Volume {
         requires ready { IsReady self.now }
         ensures { result ≡ free_count (told_by self.now) }
     {
+        let _size = self.live.geometry();
         self.live.free_count()
     }
 
@@ -112,6 +114,7 @@ impl Volume {
         requires ready { IsReady self.now }
         ensures { result ≡ not (is_empty (runs (told_by self.now) count)) }
     {
+        let _size = self.live.geometry();
         self.live.has_run(count)
     }
 
@@ -124,6 +127,7 @@ impl Volume {
         ensures enough { OnOk result (count ≤ free_count (told_by self.now)) }
         ensures refused { IfErr result (λ s. IsShort (told_by self.now) count s.free s.wanted) }
     {
+        let _size = self.live.geometry();
         self.live.choose(place, hint, count)
     }
 
@@ -136,6 +140,7 @@ impl Volume {
         ensures enough { OnOk result (count ≤ free_count (told_by self.now)) }
         ensures refused { IfErr result (IsRunRefusal (told_by self.now) count) }
     {
+        let _size = self.live.geometry();
         self.live.choose_run(place, hint, count)
     }
 

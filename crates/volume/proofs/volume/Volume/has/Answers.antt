@@ -1,18 +1,10 @@
-use Rattle.std.proofs.Common.{◌≡◌, false, not, ◌&&◌, refl, sym, ◌∙◌, ap}
+use Rattle.std.proofs.Common.{◌≡◌, Bool, true, false, not, ◌&&◌, refl, sym, ◌∙◌, ap}
 use Rattle.block_alloc.specs.LiveMap.{LiveMap}
-use Rattle.image_world.specs.Sound.{AreSound}
-use Rattle.image_world.specs.Tables.{Tables}
-use Rattle.volume_laws.specs.Volume.{Volume, tables_in}
+use Rattle.image_world.specs.Raw.{blank_of}
+use Rattle.volume_laws.specs.Volume.{Volume, tables_in, told_by}
 use Rattle.volume_laws.proofs.QuestionLaws.{holds_told}
 use Rattle.tsd_model.specs.Pairs.{holds}
-use Rattle.volume_laws.specs.Volume.{told_by}
 use Rattle.volume.proofs.volume.Volume.has.Goals as goal
 
 pub returns : goal.returns
-returns c =
-    let i = c.self.inside in
-    let v = c.self.invariant in
-    let t = tables_in i.header i.pointers i.counts i.live i.caps i.is_sweeping in
-    let still : i.is_sweeping ≡ false = ap (λ (w : Volume). w.tables.is_sweeping) c.self.view_is ∙ c.requires.ready.1 in
-    let ahead = v.ahead (ap (λ (w : Volume). w.is_ready) c.self.view_is ∙ c.requires.ready.0) in
-    ?
+returns c = ?
