@@ -8,7 +8,7 @@ ghost use Rattle.image_device.specs.Counts.{Rose};
 ghost use Rattle.intent_journal.specs.Ring.{checkpoint_writes};
 ghost use Rattle.volume_laws.specs.Volume.{IsAt, IsReady, told_by, world_on};
 ghost use Rattle.volume_laws.specs.Writes.{batch_cost, due, IsPaid};
-ghost use Rattle.volume_laws.specs.Moments.{LeavesEither, LeavesWorld, owed};
+ghost use Rattle.volume_laws.specs.Moments.{LeavesEither, LeavesWorld, LeavesOwed, owed};
 ghost use Rattle.volume_laws.specs.Growing.{AreFree};
 ghost use Rattle.intent_journal.specs.Records.{patches_of};
 ghost use Rattle.volume_laws.specs.Zeroed.{IsZeroedAt, AreMissed};
@@ -46,6 +46,7 @@ impl Volume {
         ensures size { (self.new.tables.geometry ≡ self.old.tables.geometry) × (self.new.tables.version ≡ self.old.tables.version) }
         ensures sent { D.told → (D.view dev.new).sent ≡ (D.view dev.old).sent }
         ensures any_moment { D.told → LeavesEither (D.view dev.old) (D.view dev.new) (with_new_blocks (world_on (D.view dev.old)) source blocks.now) }
+        ensures any_owed { D.told → LeavesOwed (D.view dev.old) (D.view dev.new) (owed self.old.tables) }
         ensures paid { OnOk result (IsPaid (self.old.tables.geometry.sectors * length blocks.now + batch_cost (3 * length blocks.now)) self.old (D.view dev.old) self.new (D.view dev.new)) }
         ensures uses { Uses (due self.old + self.old.tables.geometry.sectors * length blocks.now + batch_cost (3 * length blocks.now)) (D.view dev.old) (D.view dev.new) }
         ensures faultless { OnOk result ((D.view dev.new).faults ≡ (D.view dev.old).faults) }
@@ -81,6 +82,7 @@ impl Volume {
         ensures size { (self.new.tables.geometry ≡ self.old.tables.geometry) × (self.new.tables.version ≡ self.old.tables.version) }
         ensures sent { D.told → (D.view dev.new).sent ≡ (D.view dev.old).sent }
         ensures any_moment { D.told → LeavesEither (D.view dev.old) (D.view dev.new) (with_new_blocks (world_on (D.view dev.old)) source blocks.now) }
+        ensures any_owed { D.told → LeavesOwed (D.view dev.old) (D.view dev.new) (owed self.old.tables) }
         ensures paid { OnOk result (IsPaid (batch_cost (3 * length blocks.now)) self.old (D.view dev.old) self.new (D.view dev.new)) }
         ensures uses { Uses (checkpoint_writes self.old.ring + batch_cost (3 * length blocks.now)) (D.view dev.old) (D.view dev.new) }
         ensures faultless { OnOk result ((D.view dev.new).faults ≡ (D.view dev.old).faults) }
@@ -116,6 +118,7 @@ impl Volume {
         ensures size { (self.new.tables.geometry ≡ self.old.tables.geometry) × (self.new.tables.version ≡ self.old.tables.version) }
         ensures sent { D.told → (D.view dev.new).sent ≡ (D.view dev.old).sent }
         ensures any_moment { D.told → LeavesWorld (D.view dev.old) (D.view dev.new) }
+        ensures any_owed { D.told → LeavesOwed (D.view dev.old) (D.view dev.new) (owed self.old.tables) }
         ensures paid { OnOk result (IsPaid 0 self.old (D.view dev.old) self.new (D.view dev.new)) }
         ensures uses { Uses (checkpoint_writes self.old.ring) (D.view dev.old) (D.view dev.new) }
         ensures faultless { OnOk result ((D.view dev.new).faults ≡ (D.view dev.old).faults) }
@@ -141,6 +144,7 @@ impl Volume {
         ensures size { (self.new.tables.geometry ≡ self.old.tables.geometry) × (self.new.tables.version ≡ self.old.tables.version) }
         ensures sent { D.told → (D.view dev.new).sent ≡ (D.view dev.old).sent }
         ensures any_moment { D.told → LeavesWorld (D.view dev.old) (D.view dev.new) }
+        ensures any_owed { D.told → LeavesOwed (D.view dev.old) (D.view dev.new) (owed self.old.tables) }
         ensures uses { Uses (self.old.tables.geometry.sectors * length blocks.now) (D.view dev.old) (D.view dev.new) }
         ensures faultless { OnOk result ((D.view dev.new).faults ≡ (D.view dev.old).faults) }
         ensures cause { OnErr result (Rose (D.view dev.old).faults (D.view dev.new).faults) }
@@ -170,6 +174,7 @@ impl Volume {
         ensures size { (self.new.tables.geometry ≡ self.old.tables.geometry) × (self.new.tables.version ≡ self.old.tables.version) }
         ensures sent { D.told → (D.view dev.new).sent ≡ (D.view dev.old).sent }
         ensures any_moment { D.told → LeavesEither (D.view dev.old) (D.view dev.new) (with_new_blocks (world_on (D.view dev.old)) source blocks.now) }
+        ensures any_owed { D.told → LeavesOwed (D.view dev.old) (D.view dev.new) (owed self.old.tables) }
         ensures paid { OnOk result (IsPaid (self.old.tables.geometry.sectors * length blocks.now + batch_cost (3 * length blocks.now)) self.old (D.view dev.old) self.new (D.view dev.new)) }
         ensures uses { Uses (checkpoint_writes self.old.ring + self.old.tables.geometry.sectors * length blocks.now + batch_cost (3 * length blocks.now)) (D.view dev.old) (D.view dev.new) }
         ensures faultless { OnOk result ((D.view dev.new).faults ≡ (D.view dev.old).faults) }

@@ -45,6 +45,7 @@ impl Volume {
         ensures size { (self.new.tables.geometry ≡ self.old.tables.geometry) × (self.new.tables.version ≡ self.old.tables.version) }
         ensures sent { D.told → (D.view dev.new).sent ≡ (D.view dev.old).sent }
         ensures any_moment { D.told → LeavesEither (D.view dev.old) (D.view dev.new) (with_pointer (world_on (D.view dev.old)) source target) }
+        ensures any_owed { D.told → LeavesOwed (D.view dev.old) (D.view dev.new) (owed self.old.tables) }
         ensures paid { OnOk result (IsPaid (batch_cost 2) self.old (D.view dev.old) self.new (D.view dev.new)) }
         ensures uses { Uses (due self.old + batch_cost 2) (D.view dev.old) (D.view dev.new) }
         ensures faultless { OnOk result ((D.view dev.new).faults ≡ (D.view dev.old).faults) }
@@ -119,6 +120,7 @@ impl Volume {
         ensures size { (self.new.tables.geometry ≡ self.old.tables.geometry) × (self.new.tables.version ≡ self.old.tables.version) }
         ensures sent { D.told → (D.view dev.new).sent ≡ (D.view dev.old).sent }
         ensures any_moment { D.told → LeavesEither (D.view dev.old) (D.view dev.new) (with_pointer (world_on (D.view dev.old)) source target) }
+        ensures any_owed { D.told → LeavesOwed (D.view dev.old) (D.view dev.new) (owed self.old.tables) }
         ensures paid { OnOk result (IsPaid (batch_cost 2) self.old (D.view dev.old) self.new (D.view dev.new)) }
         ensures uses { Uses (checkpoint_writes self.old.ring + batch_cost 2) (D.view dev.old) (D.view dev.new) }
         ensures faultless { OnOk result ((D.view dev.new).faults ≡ (D.view dev.old).faults) }

@@ -7,7 +7,7 @@ ghost use Rattle.tsd_model.specs.Geometry.{block_len};
 ghost use Rattle.tsd_model.specs.World.{is_live};
 ghost use Rattle.intent_journal.specs.Ring.{checkpoint_writes};
 ghost use Rattle.volume_laws.specs.Volume.{IsAt, IsReady, told_by, world_on};
-ghost use Rattle.volume_laws.specs.Moments.{LeavesEither, written_world};
+ghost use Rattle.volume_laws.specs.Moments.{LeavesEither, LeavesOwed, owed, written_world};
 ghost use Rattle.volume_laws.specs.Writes.{batch_cost, IsPaid};
 
 use crate::blocks::put_block;
@@ -39,6 +39,7 @@ impl Volume {
 
         // A crash at any moment leaves the world before or the world with these bytes.
         ensures any_moment { D.told → LeavesEither (D.view dev.old) (D.view dev.new) (written_world (world_on (D.view dev.old)) block bytes.now) }
+        ensures any_owed { D.told → LeavesOwed (D.view dev.old) (D.view dev.new) (owed self.old.tables) }
 
         ensures paid { OnOk result (IsPaid (batch_cost self.old.tables.geometry.sectors) self.old (D.view dev.old) self.new (D.view dev.new)) }
         ensures uses { Uses (checkpoint_writes self.old.ring + batch_cost self.old.tables.geometry.sectors) (D.view dev.old) (D.view dev.new) }

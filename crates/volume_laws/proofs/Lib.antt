@@ -13,6 +13,7 @@ pub mod Taken
 pub mod TableWorlds
 pub mod StepWorlds
 pub mod Freed
+pub mod QuestionLaws
 pub mod AheadKept
 pub mod StepOps
 pub mod NextLaws

@@ -60,7 +60,7 @@ none_doomed t p c fit full =
     ])
 
 pub left_whole : (t : Tables) (p : Parts) (c : ℕ → List ℕ) → t.is_sweeping ≡ false → DoFit t.geometry p → HasNoLost t.geometry p → left_of (with_parts t p) (world_with (with_parts t p) c) ≡ world_with (with_parts t p) c
-unfolding left_of
+unfolding left_of world_with
 left_whole t p c still fit full = rw still (settle_none (world_with (with_parts t p) c) (laid_out (with_parts t p) c) (none_doomed t p c fit full))
 
 pub owed_none : (t : Tables) (p : Parts) → DoFit t.geometry p → HasNoLost t.geometry p → owed (with_parts t p) ≡ 0
@@ -109,6 +109,13 @@ pub record IsMade (t : Tables) (a : ℕ) (bs : List ℕ) (now : Tables) (batch :
   pub settled : owed now ≡ 0
   pub graph : graph_in now ≡ with_new_blocks (graph_in t) a bs
 
+-- the graph is that of the tables with its version and its records
+blank_graph : (t : Tables) (p q : Parts) (a : ℕ) (bs : List ℕ) (batch : List Patch) → IsGrown t.geometry a bs p q [] batch → graph_in (with_parts t q) ≡ with_new_blocks (graph_in (with_parts t p)) a bs
+unfolding world_with
+blank_graph t p q a bs batch is =
+    let told : Tables = record t { version = 2; records = replicate t.geometry.primaries no_record } in
+    is.world told (zeros_of told) refl (λ b h. refl)
+
 pub made : (t : Tables) (p q : Parts) (a : ℕ) (bs : List ℕ) (batch : List Patch) → AreSound t → t.is_sweeping ≡ false → owed t ≡ 0 → with_parts t p ≡ t → DoFit t.geometry p → IsGrown t.geometry a bs p q [] batch → IsMade t a bs (with_parts t q) batch
 made t p q a bs batch sound still none same fit grown = record {
   turns = record {
@@ -134,17 +141,9 @@ made t p q a bs batch sound still none same fit grown = record {
       ∙ ap (λ (w : World). with_new_blocks w a bs) (sym (left_whole t p c still fit whole) ∙ ap (λ (u : Tables). left_of u (world_with u c)) same));
   few = omega (arith, grown.few);
   settled = owed_none t q grown.fit full;
-  graph = blank_graph grown ∙ ap (λ (u : Tables). with_new_blocks (graph_in u) a bs) same;
+  graph = blank_graph t p q a bs batch grown ∙ ap (λ (u : Tables). with_new_blocks (graph_in u) a bs) same;
 }
   where
-    -- the same tables, with the version and the records of a graph
-    told : Tables
-    told = record t { version = 2; records = replicate t.geometry.primaries no_record }
-
-    blank_graph : IsGrown t.geometry a bs p q [] batch → graph_in (with_parts t q) ≡ with_new_blocks (graph_in (with_parts t p)) a bs
-    unfolding world_with
-    blank_graph is = is.world told (zeros_of told) refl (λ b h. refl)
-
     whole : HasNoLost t.geometry p
     whole = full_of_settled t p same fit none
 

@@ -28,7 +28,8 @@ use Rattle.image_world.specs.Raw.{data_on}
 use Rattle.image_world.proofs.FreshLaws.{zero_bytes}
 use Rattle.image_world.proofs.AlikeLaws.{alike_tables}
 use Rattle.image_world.proofs.StandLaws.{stands_alike}
-use Rattle.image_world.proofs.WrittenLaws.{parts_apart, above_journal}
+use Rattle.image_layout.proofs.ThingLaws.{parts_apart}
+use Rattle.image_world.proofs.WrittenLaws.{above_journal}
 use Rattle.volume_laws.specs.Growing.{AreFree}
 use Rattle.volume_laws.specs.Volume.{Volume, IsAt, world_on}
 use Rattle.volume_laws.specs.Moments.{LeavesEither, LeavesWorld, StandsForEither}

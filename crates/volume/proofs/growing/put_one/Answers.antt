@@ -54,5 +54,5 @@ returns-clause-grown c =
 
 pub returns-clause-shown : goal.returns-clause-shown
 returns-clause-shown c =
-    let table = c.geometry-_size.ensures.table in
+    let table = c.geometry-size.ensures.table in
     shown_more c.args.live.now c.set_live.new.self c.args.block table.each_block table.each_unhidden c.requires.inside c.set_live.ensures

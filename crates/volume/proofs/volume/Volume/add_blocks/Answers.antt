@@ -17,6 +17,10 @@ use Rattle.volume_laws.proofs.Made.{IsMade, has_zeros, made, fits}
 use Rattle.volume_laws.proofs.Ops.{IsOp, op_at, op_done, op_told, op_paid, op_world}
 use Rattle.volume_laws.proofs.Pointed.{marked}
 use Rattle.volume_laws.proofs.ZeroedLaws.{zeroed_ring, zeroed_bytes, zeroed_moments}
+use Rattle.std.proofs.Common.{Bool, true}
+use Rattle.reclaim.specs.Ahead.{Kept, is_gone, IsAheadOf}
+use Rattle.volume_laws.specs.Graphs.{graph_in}
+use Rattle.volume_laws.proofs.AheadKept.{growing, none_gone, hides_none, none_hides}
 use Rattle.volume.proofs.volume.Volume.add_blocks.Given
 use Rattle.volume.proofs.volume.Volume.add_blocks.Goals as goal
 
@@ -73,18 +77,44 @@ op vol now batch a bs all = record {
 this : (g : Given.Over) (c : goal.After-self-1 g) → IsOp (has_zeros c.args.self.now.tables c.args.blocks.now) c.args.self.now (now g c).tables c.put_new.new.batch (3 * length c.args.blocks.now) 0 (λ w. with_new_blocks w c.args.source c.args.blocks.now)
 this g c = op c.args.self.now (now g c).tables c.put_new.new.batch c.args.source c.args.blocks.now (these g c)
 
+-- what is kept ahead as it was
+ahead_was : (vol : Volume) (t : Tables) (r : Bool) (k : Kept) → t ≡ vol.tables → r ≡ vol.is_ready → vol.is_ready ≡ true → (r ≡ true → IsAheadOf (graph_in t) k) → IsAheadOf (graph_in vol.tables) k
+ahead_was vol t r k is same ready ahead = subst (λ (u : Tables). IsAheadOf (graph_in u) k) is (ahead (same ∙ ready))
+
+pub raise_all-requires : goal.raise_all-requires
+raise_all-requires g c =
+    let i = c.self.inside in
+    let is = ap (λ (w : Volume). w.tables) c.self.view_is in
+    let t = c.args.self.now.tables in
+    record { told = (graph_in t, growing t c.args.blocks.now i.ahead (subst (λ (u : Tables). AreSound u) is c.self.invariant.sound) c.requires.settled c.requires.free
+        (ahead_was c.args.self.now (tables_in i.header i.pointers i.counts i.live i.caps i.is_sweeping) i.is_ready i.ahead is (ap (λ (w : Volume). w.is_ready) c.self.view_is) c.requires.ready.0 c.self.invariant.ahead)) }
+
 pub invariant_of-self : goal.invariant_of-self
 invariant_of-self g c =
     let i = c.self.inside in
+    let v = c.self.invariant in
+    let t = c.args.self.now.tables in
+    let bs = c.args.blocks.now in
     let fit = c.put_new.ensures.grown.fit in
+    let is = ap (λ (w : Volume). w.tables) c.self.view_is in
+    let all = these g c in
+    let old = ahead_was c.args.self.now (tables_in i.header i.pointers i.counts i.live i.caps i.is_sweeping) i.is_ready i.ahead is (ap (λ (w : Volume). w.is_ready) c.self.view_is) c.requires.ready.0 v.ahead in
+    let then = c.raise_all.ensures.ahead (graph_in t) c.args.source (growing t bs i.ahead (subst (λ (u : Tables). AreSound u) is v.sound) c.requires.settled c.requires.free old) in
+    let ahead = subst (λ (w : World). IsAheadOf w c.raise_all.new.self) (sym all.graph) then in
+    let none = none_gone t i.ahead c.requires.settled old in
+    let gone = none_gone (now g c).tables c.raise_all.new.self all.settled ahead in
     record {
-      pointers = fit.pointers ∙ c.self.invariant.live;
-      counts = fit.counts ∙ c.self.invariant.live;
-      live = fit.live ∙ c.self.invariant.live;
-      kept_version = c.self.invariant.kept_version;
-      kept = c.self.invariant.kept;
-      waits = c.self.invariant.waits;
-      sound = (these g c).turns.sound;
+      pointers = fit.pointers ∙ v.live;
+      counts = fit.counts ∙ v.live;
+      live = fit.live ∙ v.live;
+      kept_version = v.kept_version;
+      kept = v.kept;
+      waits = v.waits;
+      sound = all.turns.sound;
+      counted = ahead.counts_each;
+      hidden = none_hides c.put_new.new.live (is_gone c.raise_all.new.self.gone) (c.put_new.ensures.shown (hides_none i.live (is_gone i.ahead.gone) v.hidden none)) gone;
+      ahead = λ e. ahead;
+      begun = λ e b. gone b;
     }
 
 pub returns-clause-at : goal.returns-clause-at

@@ -19,6 +19,11 @@ use Rattle.volume_laws.specs.Moments.{owed}
 use Rattle.volume_laws.proofs.BlockLaws.{put_ok, length-with_patch}
 use Rattle.volume_laws.proofs.Ops.{any_bytes, IsOp, op_at, op_done, op_told, op_moments, op_paid}
 use Rattle.volume_laws.proofs.Pointed.{IsOpenTo, IsAdded, raw_absent, ends_within, count_room, left_pointer, owed_pointer, added}
+use Rattle.std.proofs.lemmas.Bool.{both_ways}
+use Rattle.tsd_model.specs.World.{World}
+use Rattle.reclaim.specs.Ahead.{IsAheadOf, is_gone}
+use Rattle.volume_laws.specs.Graphs.{graph_in}
+use Rattle.volume_laws.proofs.AheadKept.{adding, graph_added, gone_added, hides_same}
 use Rattle.volume.proofs.volume.Volume.add_pair.Given
 use Rattle.volume.proofs.volume.Volume.add_pair.Goals as goal
 
@@ -89,18 +94,42 @@ these g c =
     (ok_here r _ p ok c.add.ensures.pairs) c.add.ensures.table (ap (λ (t : Pointers). t.geometry) change.now) (if_here r _ p ok c.add.ensures.sector) (if_here r _ p ok c.add.ensures.stored)
     c.raise.ensures.raised c.patch-count.ensures.inside (subst (λ (w : Patch). KeepsCounts i.counts c.raise.new.self w) (sym c.patch-count.ensures.value) c.raise.ensures.stored) laid
 
+pub raise-requires-2 : goal.raise-requires-2
+raise-requires-2 g c = record { told = (graph_in c.args.self.now.tables, c.args.source,
+    adding c.args.self.now.tables c.args.source c.args.target c.self.inside.ahead
+    (subst (λ (t : Tables). AreSound t) (ap (λ (w : Volume). w.tables) c.self.view_is) c.self.invariant.sound)
+    (open_to c.args.self.now c.args.source c.args.target c.requires.ready.1 c.requires.source c.requires.target c.requires.apart c.requires.absent)
+    (subst (λ (w : Volume). IsAheadOf (graph_in w.tables) c.self.inside.ahead) c.self.view_is (c.self.invariant.ahead (ap (λ (w : Volume). w.is_ready) c.self.view_is ∙ c.requires.ready.0)))) }
+
 pub invariant_of-self : goal.invariant_of-self
 invariant_of-self g c =
+    let i = c.self.inside in
+    let v = c.self.invariant in
+    let t = c.args.self.now.tables in
+    let a = c.args.source in
+    let b = c.args.target in
     let ok = c.unwrap-slot.ensures in
     let change = if_here c.add.result _ c.unwrap-slot.result ok c.add.ensures.change in
+    let all = these g c in
+    let ready : i.is_ready ≡ true = ap (λ (w : Volume). w.is_ready) c.self.view_is ∙ c.requires.ready.0 in
+    let o = open_to c.args.self.now a b c.requires.ready.1 c.requires.source c.requires.target c.requires.apart c.requires.absent in
+    let sound = subst (λ (u : Tables). AreSound u) (ap (λ (w : Volume). w.tables) c.self.view_is) v.sound in
+    let old : IsAheadOf (graph_in t) i.ahead = subst (λ (w : Volume). IsAheadOf (graph_in w.tables) i.ahead) c.self.view_is (v.ahead ready) in
+    let then : IsAheadOf (with_pointer (graph_in t) a b) c.raise-2.new.self = c.raise-2.ensures.ahead (graph_in t) a (adding t a b i.ahead sound o old) in
+    let ahead : IsAheadOf (graph_in (tables_in i.header c.add.new.self c.raise.new.self i.live i.caps i.is_sweeping)) c.raise-2.new.self =
+        subst (λ (w : World). IsAheadOf w c.raise-2.new.self) (sym (ap graph_in all.tables ∙ graph_added t all.slots a b all.pairs)) then in
     record {
-      pointers = ap (λ (t : Pointers). t.geometry) change.now ∙ c.self.invariant.pointers;
-      counts = ap (λ (t : Counts). t.geometry) c.raise.ensures.raised ∙ c.self.invariant.counts;
-      live = c.self.invariant.live;
-      kept_version = c.self.invariant.kept_version;
-      kept = c.self.invariant.kept;
-      waits = c.self.invariant.waits;
-      sound = (these g c).sound;
+      pointers = ap (λ (u : Pointers). u.geometry) change.now ∙ v.pointers;
+      counts = ap (λ (u : Counts). u.geometry) c.raise.ensures.raised ∙ v.counts;
+      live = v.live;
+      kept_version = v.kept_version;
+      kept = v.kept;
+      waits = v.waits;
+      sound = all.sound;
+      counted = ahead.counts_each;
+      hidden = hides_same i.live (is_gone i.ahead.gone) (is_gone c.raise-2.new.self.gone) v.hidden (gone_added t a b i.ahead c.raise-2.new.self o old then);
+      ahead = λ e. ahead;
+      begun = λ e n. absurd (both_ways i.is_ready e ready);
     }
 
 -- the volume then

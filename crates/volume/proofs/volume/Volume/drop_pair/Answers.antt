@@ -28,6 +28,15 @@ use Rattle.volume_laws.proofs.Committed.{ok_map}
 use Rattle.volume_laws.proofs.DropOwed.{owed_dropped, drop_paid, drop_counted}
 use Rattle.volume_laws.proofs.StepOps.{owed_moments}
 use Rattle.image_world.specs.Raw.{zeros_of}
+use Rattle.tsd_model.specs.World.{World}
+use Rattle.block_alloc.specs.LiveMap.{LiveMap}
+use Rattle.graph_laws.specs.Graph.{graph}
+use Rattle.graph_laws.specs.RawGraph.{IsRawGraph}
+use Rattle.pointer_table.specs.Table.{pairs}
+use Rattle.reclaim.specs.Ahead.{IsAheadOf}
+use Rattle.reclaim.specs.Tables.{graph_of}
+use Rattle.volume_laws.proofs.AheadKept.{deleting, graph_dropped, same_bits}
+use Rattle.volume_laws.proofs.TableWorlds.{graph_raw}
 use Rattle.volume.proofs.volume.Volume.drop_pair.Given
 use Rattle.volume.proofs.volume.Volume.drop_pair.Goals as goal
 
@@ -83,9 +92,9 @@ patch-count-requires g c =
     let size = ap (λ (k : Counts). k.geometry) c.lower.ensures.lowered ∙ (c.self.invariant.counts ∙ ap (λ (w : Volume). w.tables.geometry) c.self.view_is) in
     subst (λ (k : Geometry). c.args.target < k.blocks) (sym size) (held_within c.args.self.now.tables c.args.source c.args.target (subst (λ (t : Tables). AreSound t) is c.self.invariant.sound) o).2
 
--- what the tables are then
-these : (g : Given.Over) (c : goal.After-self-1 g) → IsDropped c.args.self.now.tables c.args.source c.args.target (tables_in c.self.inside.header c.remove.new.self c.lower.new.self c.self.inside.live c.self.inside.caps c.self.inside.is_sweeping) c.put-2.new.self
-these g c =
+-- what the tables are before what is lost is hidden
+these_raw : (g : Given.Over) (c : goal.After-self-1 g) → IsDropped c.args.self.now.tables c.args.source c.args.target (tables_in c.self.inside.header c.remove.new.self c.lower.new.self c.self.inside.live c.self.inside.caps c.self.inside.is_sweeping) c.put-2.new.self
+these_raw g c =
     let i = c.self.inside in
     let p = c.unwrap-slot.result in
     let q = c.patch-count.result in
@@ -100,23 +109,69 @@ these g c =
     (ok_here r _ p ok c.remove.ensures.pairs) c.remove.ensures.table (ap (λ (t : Pointers). t.geometry) change.now) (if_here r _ p ok c.remove.ensures.sector) (if_here r _ p ok c.remove.ensures.stored)
     c.lower.ensures.lowered c.patch-count.ensures.inside (subst (λ (w : Patch). KeepsCounts i.counts c.lower.new.self w) (sym c.patch-count.ensures.value) c.lower.ensures.stored) laid
 
+-- and after
+these : (g : Given.Over) (c : goal.After-self-1 g) → IsDropped c.args.self.now.tables c.args.source c.args.target (tables_in c.self.inside.header c.remove.new.self c.lower.new.self c.lower-lost.new.live c.self.inside.caps c.self.inside.is_sweeping) c.put-2.new.self
+these g c =
+    let i = c.self.inside in
+    subst (λ (u : Tables). IsDropped c.args.self.now.tables c.args.source c.args.target u c.put-2.new.self)
+    (same_bits i.header c.remove.new.self c.lower.new.self i.live c.lower-lost.new.live i.caps i.is_sweeping c.lower-lost.ensures.raw) (these_raw g c)
+
+pub lower-lost-requires : goal.lower-lost-requires
+lower-lost-requires g c =
+    let i = c.self.inside in
+    let v = c.self.invariant in
+    let t = c.args.self.now.tables in
+    let a = c.args.source in
+    let b = c.args.target in
+    let p = c.unwrap-slot.result in
+    let q = c.patch-count.result in
+    let r = c.remove.result in
+    let ok = c.unwrap-slot.ensures in
+    let is = ap (λ (w : Volume). w.tables) c.self.view_is in
+    let sound = subst (λ (t : Tables). AreSound t) is c.self.invariant.sound in
+    let o = raw_held c.args.self.now.tables c.args.source c.args.target (drops c.args.self.now c.args.source c.args.target c.requires.ready.1 c.requires.held) in
+    let change = if_here r _ p ok c.remove.ensures.change in
+    let laid = two_patches c.put.result c.put-2.result _ _ c.clear.new.self c.put.new.self c.put-2.new.self p q c.clear.ensures c.put.ensures.ok c.put.ensures.full c.put-2.ensures.ok c.put-2.ensures.full in
+    let all = dropped c.args.self.now.tables i.header i.pointers c.remove.new.self i.counts c.lower.new.self i.live i.caps i.is_sweeping c.args.source c.args.target p q c.put-2.new.self sound o is c.self.invariant.pointers c.self.invariant.counts
+    (ok_here r _ p ok c.remove.ensures.pairs) c.remove.ensures.table (ap (λ (t : Pointers). t.geometry) change.now) (if_here r _ p ok c.remove.ensures.sector) (if_here r _ p ok c.remove.ensures.stored)
+    c.lower.ensures.lowered c.patch-count.ensures.inside (subst (λ (w : Patch). KeepsCounts i.counts c.lower.new.self w) (sym c.patch-count.ensures.value) c.lower.ensures.stored) laid in
+    let size = ap (λ (u : Pointers). u.geometry) change.now ∙ v.pointers in
+    let both = drops c.args.self.now a b c.requires.ready.1 c.requires.held in
+    let ahead : IsAheadOf (graph_in t) i.ahead = subst (λ (w : Volume). IsAheadOf (graph_in w.tables) i.ahead) c.self.view_is (v.ahead (ap (λ (w : Volume). w.is_ready) c.self.view_is ∙ c.requires.ready.0)) in
+    let now = tables_in i.header c.remove.new.self c.lower.new.self i.live i.caps i.is_sweeping in
+    let same : graph_in now ≡ graph_of c.remove.new.self i.live = λ k. graph (sym size k) i.live.live (pairs c.remove.new.self) in
+    record {
+      tables = record { geometry = v.live ∙ sym size; raw = subst (λ (w : World). IsRawGraph w) same (graph_raw now all.sound) };
+      hidden = v.hidden;
+      deleted = (graph_in t, a, deleting t a b i.ahead sound both ahead, sym same ∙ (ap graph_in all.tables ∙ graph_dropped t all.slots a b all.pairs));
+    }
+
 pub invariant_of-self : goal.invariant_of-self
 invariant_of-self g c =
-    let ok = c.unwrap-slot.ensures in
-    let change = if_here c.remove.result _ c.unwrap-slot.result ok c.remove.ensures.change in
+    let i = c.self.inside in
+    let v = c.self.invariant in
+    let m = c.lower-lost.new.live in
+    let change = if_here c.remove.result _ c.unwrap-slot.result c.unwrap-slot.ensures c.remove.ensures.change in
+    let size = ap (λ (t : Pointers). t.geometry) change.now ∙ v.pointers in
+    let same : graph_in (tables_in i.header c.remove.new.self c.lower.new.self m i.caps i.is_sweeping) ≡ graph_of c.remove.new.self m = λ k. graph (sym size k) m.live (pairs c.remove.new.self) in
+    let ahead = subst (λ (w : World). IsAheadOf w c.lower-lost.new.self) (sym same) c.lower-lost.ensures.ahead in
     record {
-      pointers = ap (λ (t : Pointers). t.geometry) change.now ∙ c.self.invariant.pointers;
-      counts = ap (λ (t : Counts). t.geometry) c.lower.ensures.lowered ∙ c.self.invariant.counts;
-      live = c.self.invariant.live;
-      kept_version = c.self.invariant.kept_version;
-      kept = c.self.invariant.kept;
-      waits = c.self.invariant.waits;
+      pointers = size;
+      counts = ap (λ (t : Counts). t.geometry) c.lower.ensures.lowered ∙ v.counts;
+      live = ap (λ (n : LiveMap). n.geometry) c.lower-lost.ensures.raw ∙ v.live;
+      kept_version = v.kept_version;
+      kept = v.kept;
+      waits = v.waits;
       sound = (these g c).sound;
+      counted = ahead.counts_each;
+      hidden = c.lower-lost.ensures.hidden;
+      ahead = λ e. ahead;
+      begun = λ e n. absurd (both_ways i.is_ready e (ap (λ (w : Volume). w.is_ready) c.self.view_is ∙ c.requires.ready.0));
     }
 
 -- the volume then
 abbrev now : (g : Given.Over) → goal.After-self-1 g → Volume
-now g c = let i = c.self.inside in record { tables = tables_in i.header c.remove.new.self c.lower.new.self i.live i.caps i.is_sweeping; ring = c.commit-outcome.new.self; is_ready = i.is_ready; is_spent = c.is_err-self-inside.result }
+now g c = let i = c.self.inside in record { tables = tables_in i.header c.remove.new.self c.lower.new.self c.lower-lost.new.live i.caps i.is_sweeping; ring = c.commit-outcome.new.self; is_ready = i.is_ready; is_spent = c.is_err-self-inside.result }
 
 op : (vol : Volume) (now : Tables) (batch : List Patch) (a b : ℕ) → HoldsPair vol.tables a b → IsDropped vol.tables a b now batch → IsOp any_bytes vol now batch 2 (owed now) (λ w. settle (without_pointer w a b))
 op vol now batch a b o all = record {
