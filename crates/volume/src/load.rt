@@ -9,7 +9,8 @@ ghost use Rattle.image_layout.specs.Header.{IsReading, IsVersion};
 ghost use Rattle.image_layout.specs.Image.{is_open};
 ghost use Rattle.tsd_model.specs.Geometry.{IsLawful};
 ghost use Rattle.image_world.specs.Faults.{IsFormatted};
-ghost use Rattle.volume.specs.Loading.{IsLoading, AreClosed};
+ghost use Rattle.image_world.specs.Fresh.{AreClosed};
+ghost use Rattle.volume.specs.Loading.{IsLoading};
 ghost use Rattle.volume_laws.specs.Volume.{IsAt};
 
 use crate::fault::VolumeFault;
