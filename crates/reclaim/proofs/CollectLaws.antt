@@ -1,5 +1,5 @@
 -- The blocks that are collected.
-use Rattle.std.proofs.Common.{◌≡◌, ℕ, ◌+◌, ◌<◌, Bool, true, false, ◌&&◌, ◌||◌, ◌==◌, nat_le, nat_lt, List, [], ◌∷◌, ◌++◌, length, refl, sym, ◌∙◌, ap, subst, arith, inl, inr}
+use Rattle.std.proofs.Common.{◌≡◌, ℕ, ◌+◌, ◌<◌, Bool, true, false, ◌&&◌, ◌||◌, ◌==◌, nat_le, nat_lt, List, [], ◌∷◌, ◌++◌, refl, sym, ◌∙◌, ap, subst, arith, inl, inr}
 use Rattle.std.proofs.lemmas.Bool.{eq-eqb, eqb-true, ne_eqb, and_parts, and_from, cases_eq, leb-true, le-leb, lt-ltb, ltb-true}
 use Rattle.std.proofs.lemmas.Bool.Decides.{nat_tests}
 use Rattle.std.specs.Prelude.{slice_index, replicate, slice_index_or}
@@ -10,7 +10,7 @@ use Rattle.ref_counts.specs.Table.{Table as Counts}
 use Rattle.block_alloc.specs.LiveMap.{LiveMap}
 use Rattle.block_alloc.specs.LiveMap.{is_live as is_live_in}
 use Rattle.disk_laws.proofs.DoomLaws.{live_below}
-use Rattle.graph_laws.proofs.ToldLaws.{blocks-world_with, live-world_with}
+use Rattle.graph_laws.proofs.ToldLaws.{live-world_with}
 use Rattle.graph_laws.specs.Graph.{zeros_in, no_record}
 use Rattle.graph_laws.proofs.LostLaws.{alone_count, count_alone}
 use Rattle.reclaim.specs.Held.{Held}

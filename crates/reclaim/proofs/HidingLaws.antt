@@ -3,14 +3,14 @@ use Rattle.std.proofs.Common.{◌≡◌, ℕ, zero, suc, ◌<◌, Bool, true, fa
 use Rattle.std.proofs.lemmas.Bool.{eq-eqb, ne_eqb, and_from, or_right, cases_eq}
 use Rattle.std.proofs.lemmas.List.{get_or-set_other}
 use Rattle.std.specs.Prelude.{slice_index_or, slice_set}
-use Rattle.tsd_model.specs.World.{World, has_number}
+use Rattle.tsd_model.specs.World.{has_number}
 use Rattle.tsd_model.specs.World.{is_live as is_live_in}
-use Rattle.disk_laws.proofs.ReclaimLaws.{doomed_is_live}
 use Rattle.disk_laws.proofs.DoomLaws.{live_below}
 use Rattle.pointer_table.specs.Table.{Table}
 use Rattle.block_alloc.specs.LiveMap.{LiveMap, is_live}
-use Rattle.graph_laws.specs.RawGraph.{IsRawGraph}
-use Rattle.reclaim.specs.Ahead.{is_gone, Hides}
+use Rattle.tsd_model.specs.Doomed.{doomed, settle}
+use Rattle.graph_laws.proofs.SettleLaws.{live-settle}
+use Rattle.reclaim.specs.Ahead.{Kept, is_gone, IsAheadOf, Hides}
 use Rattle.reclaim.specs.Tables.{graph_of, AreTables}
 use Rattle.reclaim.proofs.CollectLaws.{live_told}
 use Rattle.reclaim.proofs.HeldLaws.{has-push}
@@ -82,3 +82,19 @@ hides_as live p q same hides b = hides b ∙ ap (λ s. is_live live.live b && no
 -- where none waits, the marked ones
 pub none_waits : (gone : List Bool) (waiting : List ℕ) (b : ℕ) → waiting ≡ [] → (is_gone gone b && not (has_number waiting b)) ≡ is_gone gone b
 none_waits gone waiting b none = ap (λ xs. is_gone gone b && not (has_number xs b)) none ∙ and_true (is_gone gone b)
+
+-- ---- the settled disk
+
+-- where exactly the doomed blocks are hidden, the map has the live blocks of what the disk settles to
+pub unhidden_settled : (t : Table) (live : LiveMap) (k : Kept) → IsAheadOf (graph_of t live) k → Hides live (is_gone k.gone)
+    → (b : ℕ) → b < t.geometry.blocks → is_live live.unhidden b ≡ is_live_in (settle (graph_of t live)) b
+unhidden_settled t live k ahead hides b within =
+    let w = graph_of t live in
+    hides b ∙ (ap (λ s. s && not (is_gone k.gone b)) (sym (live_told t live b within)) ∙ (ap (λ s. is_live_in w b && not s) (ahead.told b)
+    ∙ (flip (is_live_in w b) (not (has_number (doomed w) b)) ∙ sym (live-settle w b))))
+  where
+    flip : (s t : Bool) → (s && t) ≡ (t && s)
+    flip true true = refl
+    flip true false = refl
+    flip false true = refl
+    flip false false = refl

@@ -5,5 +5,5 @@ pub mod CollectLaws
 pub mod CountingLaws
 pub mod TallyLaws
 pub mod HidingLaws
-pub mod RaiseLaws
+pub mod PlaceLaws
 pub mod ToldLaws

@@ -1,5 +1,5 @@
 -- The step at a block that waits.
-use Rattle.std.proofs.Common.{◌≡◌, ℕ, ◌+◌, ◌<◌, ◌≤◌, Bool, true, false, cond, ◌==◌, nat_le, List, [], length, refl, sym, ◌∙◌, ap, subst, arith, take, min, ◌⊎◌, ◌↔◌, inl, inr}
+use Rattle.std.proofs.Common.{◌≡◌, ℕ, ◌+◌, ◌<◌, Bool, true, false, cond, ◌==◌, nat_le, List, [], length, refl, sym, ◌∙◌, ap, arith, take, ◌⊎◌, ◌↔◌, inl, inr}
 use Rattle.std.proofs.lemmas.Bool.{eq-eqb, or_right, cases_Bool}
 use Rattle.std.proofs.lemmas.Bool.Decides.{nat_tests}
 use Rattle.std.proofs.lemmas.List.{length-take}
@@ -9,14 +9,13 @@ use Rattle.tsd_model.specs.Doomed.{doomed}
 use Rattle.tsd_model.specs.Step.{targets_from}
 use Rattle.pointer_table.specs.declared.out_step.OutStep.{OutStep}
 use Rattle.graph_laws.specs.Counts.{doomed_pairs}
-use Rattle.graph_laws.specs.Graph.{HasGraphOf}
 use Rattle.graph_laws.specs.RawGraph.{IsLaidOut}
-use Rattle.graph_laws.specs.Steps.{stepped, IsStep, IsLost}
+use Rattle.graph_laws.specs.Steps.{IsLost}
 use Rattle.graph_laws.proofs.SameGraphLaws.{lost_by_graph, step_by_graph, laid_out_by_graph}
 use Rattle.graph_laws.proofs.StepLaws.{none_lost, lost_none, settle-stepped, raw-stepped}
 use Rattle.graph_laws.proofs.WeightLaws.{step_lowers}
 use Rattle.reclaim.specs.Held.{Held, IsPopped}
-use Rattle.reclaim.specs.Stepping.{MayStep, TakesAll, IsKeptBy, AreKeptBy, after_step}
+use Rattle.reclaim.specs.Stepping.{MayStep, TakesAll, AreKeptBy, after_step}
 use Rattle.reclaim.specs.Tables.{HoldsLost}
 use Rattle.reclaim.proofs.HeldLaws.{has-push}
 use Rattle.reclaim.proofs.TargetLaws.{takes_all, takes_all_only, first_targets_step, first_targets_some}

@@ -5,7 +5,7 @@ use Rattle.std.proofs.lemmas.Bool.Decides.{nat_tests}
 use Rattle.std.proofs.lemmas.List.Elements.{filter_agree}
 use Rattle.std.specs.Prelude.{filter, slice_index}
 use Rattle.std.specs.List.{range_with_len}
-use Rattle.tsd_model.specs.Pairs.{is_pair, holds, with_pair, without_pair}
+use Rattle.tsd_model.specs.Pairs.{is_pair, holds, without_pair}
 use Rattle.tsd_model.specs.World.{World, is_live, is_primary, has_number}
 use Rattle.tsd_model.specs.Doomed.{doomed}
 use Rattle.tsd_model.specs.Step.{without_pointer}

@@ -2,8 +2,7 @@
 use Rattle.std.proofs.Common.{◌≡◌, ℕ, ◌+◌, ◌<◌, ◌≤◌, Bool, true, false, not, cond, ◌&&◌, ◌==◌, List, [], ◌∷◌, length, nat_lt, is_none, refl, sym, ◌∙◌, ap, subst, arith, inl, inr}
 use Rattle.std.proofs.lemmas.Bool.{eq-eqb, ne_eqb, cases_eq, and_parts, ltb-true}
 use Rattle.std.proofs.lemmas.List.{get_or-set_same, get_or-set_other, length-set}
-use Rattle.std.specs.Prelude.{slice_index, slice_set, IsTrue}
-use Rattle.tsd_model.specs.Pairs.{holds}
+use Rattle.std.specs.Prelude.{slice_index, slice_set}
 use Rattle.tsd_model.specs.World.{World, contents, has_number}
 use Rattle.tsd_model.specs.Doomed.{doomed}
 use Rattle.tsd_model.specs.Step.{with_contents, with_pointer, zeros, with_new_blocks}
@@ -12,9 +11,9 @@ use Rattle.tsd_model.proofs.CountLaws.{none_pass}
 use Rattle.tsd_model.proofs.SizeLaws.{length-filter_le}
 use Rattle.pointer_table.specs.declared.out_step.OutStep.{OutStep}
 use Rattle.disk_laws.proofs.DoomLaws.{live_below}
-use Rattle.graph_laws.specs.Counts.{AreCounts, kept_count, doomed_pairs}
+use Rattle.graph_laws.specs.Counts.{AreCounts, kept_count}
 use Rattle.graph_laws.specs.Graph.{HasGraphOf}
-use Rattle.graph_laws.specs.RawGraph.{IsLaidOut, IsRawGraph}
+use Rattle.graph_laws.specs.RawGraph.{IsRawGraph}
 use Rattle.graph_laws.specs.Steps.{stepped}
 use Rattle.graph_laws.proofs.AheadLaws.{kept_of_none, kept-with_pointer, doomed_list-with_pointer, doomed_pairs-with_pointer, kept-new_blocks}
 use Rattle.graph_laws.proofs.CommuteLaws.{doomed-with_pointer}
@@ -149,5 +148,5 @@ step_ahead w s k gone number pairs stepping long marks fewer taken =
 -- ---- counts that were raised
 
 -- with the marks that stayed
-pub marks_same : (w : World) (old new : Tally) → HasSameMarks old new → IsAheadOf w (kept new.counts.items old.gone.items old.doomed old.pairs) → IsAheadOf w (kept new.counts.items new.gone.items new.doomed new.pairs)
+pub marks_same : (w : World) (old new : Tally) → HasSameMarks old new → IsAheadOf w (kept new.counts.items old.gone old.doomed old.pairs) → IsAheadOf w (kept new.counts.items new.gone new.doomed new.pairs)
 marks_same w old new same ahead = subst (IsAheadOf w) (λ i. kept new.counts.items (sym same.gone i) (sym same.doomed i) (sym same.pairs i)) ahead

@@ -1,8 +1,10 @@
 //! What is doomed, told before it is taken away.
 
-ghost use Rattle.std.specs.Prelude.{◌≡◌, ℕ, ◌+◌, ◌<◌, [], false, length, replicate, IfOk};
+ghost use Rattle.std.specs.Prelude.{◌≡◌, ℕ, ◌+◌, ◌<◌, ◌&&◌, ◌==◌, not, [], false, length, replicate, IfOk};
 ghost use Rattle.tsd_model.specs.World.{World, has_number};
-ghost use Rattle.tsd_model.specs.Doomed.{doomed};
+ghost use Rattle.tsd_model.specs.World.{is_live as is_live_in};
+ghost use Rattle.tsd_model.specs.Doomed.{doomed, settle};
+ghost use Rattle.block_alloc.specs.LiveMap.{is_live};
 ghost use Rattle.tsd_model.specs.Step.{with_pointer, without_pointer, with_new_blocks};
 ghost use Rattle.graph_laws.specs.Counts.{AreCounts, doomed_pairs};
 ghost use Rattle.reclaim.specs.Ahead.{is_gone, Hides, IsAheadOf, IsAdding, IsGrowing, IsDeleting, IsStepping};
@@ -11,6 +13,7 @@ ghost use Rattle.reclaim.specs.Tables.{graph_of, AreTables};
 
 use crate::tally::Tally;
 use crate::work::{Work, zeros};
+use bit_array::BitArray;
 use block_alloc::LiveMap;
 use pointer_table::{OutStep, PointerTable};
 use ref_counts::RefCounts;
@@ -35,11 +38,11 @@ impl Model for Ahead {
 
     ghost Value = { Kept };
 
-    ghost view = { λ a. kept a.tally.counts.items a.tally.gone.items a.tally.doomed a.tally.pairs };
+    ghost view = { λ a. kept a.tally.counts.items a.tally.gone a.tally.doomed a.tally.pairs };
 
     // no block waits between calls
     ghost invariant = { λ a.
-        (length a.tally.gone.items ≡ length a.tally.counts.items)
+        (length a.tally.gone ≡ length a.tally.counts.items)
         × (a.tally.waiting.room ≡ length a.tally.counts.items)
         × (a.tally.waiting.blocks ≡ []) };
 }
@@ -50,7 +53,7 @@ impl Ahead {
         ensures { IfOk result (λ a. a ≡ record { counts = replicate blocks 0; gone = replicate blocks false; doomed = 0; pairs = 0 }) }
     {
         let counts = vec![in alloc; 0u32; blocks as usize]?;
-        let gone = vec![in alloc; false; blocks as usize]?;
+        let gone = BitArray::new(alloc, blocks)?;
         let waiting = Work::new(alloc, blocks)?;
         Ok(Ahead {
             tally: Tally {
@@ -63,13 +66,12 @@ impl Ahead {
         })
     }
 
-    /// Whether a block is doomed.
+    /// Whether a block is doomed. No number past the last block is.
     pub fn is_doomed(&self, block: u32) -> bool
-        requires { block < length self.now.gone }
         ensures value { result ≡ is_gone self.now.gone block }
         ensures told { (w : World) → IsAheadOf w self.now → result ≡ has_number (doomed w) block }
     {
-        self.tally.gone[block as usize]
+        self.tally.gone.get(block)
     }
 
     /// How many blocks are doomed.
@@ -92,6 +94,7 @@ impl Ahead {
     pub fn reset(&mut self, counts: &RefCounts)
         requires sizes { length self.old.counts ≡ counts.now.geometry.blocks }
         ensures ahead { (w : World) → w.geometry.blocks ≡ counts.now.geometry.blocks → doomed w ≡ [] → AreCounts counts.now.counts w → IsAheadOf w self.new }
+        ensures gone { (b : ℕ) → is_gone self.new.gone b ≡ false }
     {
         self.tally.reset(counts);
     }
@@ -100,6 +103,7 @@ impl Ahead {
     pub fn raise(&mut self, target: u32)
         requires told { (w : World) × (a : ℕ) × IsAdding w a target self.old }
         ensures ahead { (w : World) (a : ℕ) → IsAdding w a target self.old → IsAheadOf (with_pointer w a target) self.new }
+        ensures gone { self.new.gone ≡ self.old.gone }
     {
         self.tally.raise(target);
     }
@@ -108,6 +112,7 @@ impl Ahead {
     pub fn raise_all(&mut self, targets: &[u32])
         requires told { (w : World) × IsGrowing w targets.now self.old }
         ensures ahead { (w : World) (a : ℕ) → IsGrowing w targets.now self.old → IsAheadOf (with_new_blocks w a targets.now) self.new }
+        ensures gone { self.new.gone ≡ self.old.gone }
     {
         self.tally.raise_all(targets);
     }
@@ -120,6 +125,9 @@ impl Ahead {
         ensures ahead { IsAheadOf (graph_of pointers.now live.new) self.new }
         ensures hidden { Hides live.new (is_gone self.new.gone) }
 
+        // So the map answers by the settled disk.
+        ensures settled { (b : ℕ) → b < pointers.now.geometry.blocks → is_live live.new.unhidden b ≡ is_live_in (settle (graph_of pointers.now live.new)) b }
+
         // The bitmap stays.
         ensures raw { live.new ≡ record live.old { unhidden = live.new.unhidden } }
         ensures more { self.new.doomed ≡ self.old.doomed + result }
@@ -131,6 +139,7 @@ impl Ahead {
     pub fn done(&mut self, step: &OutStep)
         requires told { (w : World) × IsStepping w step.now self.old }
         ensures ahead { (w : World) → IsStepping w step.now self.old → IsAheadOf (after_step w step.now) self.new }
+        ensures gone { (b : ℕ) → is_gone self.new.gone b ≡ (is_gone self.old.gone b && not (step.now.freed && (b == step.now.block))) }
     {
         let taken = step.targets.len() as u32;
         self.tally.take(step.block, taken, step.freed);

@@ -10,6 +10,7 @@ ghost use Rattle.reclaim.specs.Tallies.{HasSameMarks};
 ghost use Rattle.reclaim.specs.Tables.{graph_of, AreTables};
 
 use crate::work::Work;
+use bit_array::BitArray;
 use block_alloc::LiveMap;
 use pointer_table::PointerTable;
 use ref_counts::RefCounts;
@@ -19,7 +20,7 @@ use ref_counts::RefCounts;
 #[derive(Drop)]
 pub(crate) struct Tally {
     pub(crate) counts: Vec<u32>,
-    pub(crate) gone: Vec<bool>,
+    pub(crate) gone: BitArray,
     pub(crate) waiting: Work,
     /// How many blocks are doomed.
     pub(crate) doomed: u32,
@@ -31,19 +32,19 @@ impl Tally {
     /// Takes the counts of a disk on which nothing is doomed.
     pub(crate) fn reset(&mut self, counts: &RefCounts)
         requires counts { length self.old.counts.items ≡ counts.now.geometry.blocks }
-        requires gone { length self.old.gone.items ≡ counts.now.geometry.blocks }
+        requires gone { length self.old.gone ≡ counts.now.geometry.blocks }
         ensures counts { (b : ℕ) → b < counts.now.geometry.blocks → slice_index self.new.counts.items b ≡ slice_index counts.now.counts b }
-        ensures gone { (b : ℕ) → is_gone self.new.gone.items b ≡ false }
+        ensures gone { (b : ℕ) → is_gone self.new.gone b ≡ false }
         ensures doomed { self.new.doomed ≡ 0 }
         ensures pairs { self.new.pairs ≡ 0 }
-        ensures long { (length self.new.counts.items ≡ length self.old.counts.items) × (length self.new.gone.items ≡ length self.old.gone.items) }
+        ensures long { (length self.new.counts.items ≡ length self.old.counts.items) × (length self.new.gone ≡ length self.old.gone) }
         ensures waiting { self.new.waiting ≡ self.old.waiting }
     {
         let blocks = counts.geometry().blocks;
         for block in 0..blocks {
             self.counts[block as usize] = counts.count(block);
-            self.gone[block as usize] = false;
         }
+        self.gone.clear();
         self.doomed = 0;
         self.pairs = 0;
     }
@@ -74,11 +75,11 @@ impl Tally {
 
     /// So many pairs of a doomed block are taken away, and the block if `freed`.
     pub(crate) fn take(&mut self, block: u32, pairs: u32, freed: bool)
-        requires within { block < length self.old.gone.items }
+        requires within { block < length self.old.gone }
         requires some { cond freed 1 0 ≤ self.old.doomed }
         requires pairs { pairs ≤ self.old.pairs }
-        ensures gone { (b : ℕ) → is_gone self.new.gone.items b ≡ (is_gone self.old.gone.items b && not (freed && (b == block))) }
-        ensures long { length self.new.gone.items ≡ length self.old.gone.items }
+        ensures gone { (b : ℕ) → is_gone self.new.gone b ≡ (is_gone self.old.gone b && not (freed && (b == block))) }
+        ensures long { length self.new.gone ≡ length self.old.gone }
         ensures doomed { self.old.doomed ≡ cond freed 1 0 + self.new.doomed }
         ensures taken { self.old.pairs ≡ pairs + self.new.pairs }
         ensures counts { self.new.counts.items ≡ self.old.counts.items }
@@ -87,7 +88,7 @@ impl Tally {
         self.pairs -= pairs;
         if freed {
             self.doomed -= 1;
-            self.gone[block as usize] = false;
+            self.gone.set(block, false);
         }
     }
 
@@ -96,14 +97,14 @@ impl Tally {
         requires tables { AreTables pointers.now live.old }
         requires room { self.old.waiting.room ≡ pointers.now.geometry.blocks }
         requires none { self.old.waiting.blocks ≡ [] }
-        requires hidden { Hides live.old (is_gone self.old.gone.items) }
-        requires deleted { (w : World) × (a : ℕ) × IsDeleting w a target (kept self.old.counts.items self.old.gone.items self.old.doomed self.old.pairs) × (graph_of pointers.now live.old ≡ without_pointer w a target) }
-        ensures ahead { IsAheadOf (graph_of pointers.now live.new) (kept self.new.counts.items self.new.gone.items self.new.doomed self.new.pairs) }
-        ensures hidden { Hides live.new (is_gone self.new.gone.items) }
+        requires hidden { Hides live.old (is_gone self.old.gone) }
+        requires deleted { (w : World) × (a : ℕ) × IsDeleting w a target (kept self.old.counts.items self.old.gone self.old.doomed self.old.pairs) × (graph_of pointers.now live.old ≡ without_pointer w a target) }
+        ensures ahead { IsAheadOf (graph_of pointers.now live.new) (kept self.new.counts.items self.new.gone self.new.doomed self.new.pairs) }
+        ensures hidden { Hides live.new (is_gone self.new.gone) }
         ensures raw { live.new ≡ record live.old { unhidden = live.new.unhidden } }
         ensures more { self.new.doomed ≡ self.old.doomed + result }
         ensures counts { length self.new.counts.items ≡ length self.old.counts.items }
-        ensures gone { length self.new.gone.items ≡ length self.old.gone.items }
+        ensures gone { length self.new.gone ≡ length self.old.gone }
         ensures room { self.new.waiting.room ≡ self.old.waiting.room }
         ensures none { self.new.waiting.blocks ≡ [] }
     {
@@ -120,20 +121,20 @@ impl Tally {
     fn lower_targets(&mut self, pointers: &PointerTable, live: &LiveMap, block: u32)
         requires tables { AreTables pointers.now live.now }
         requires counts { length self.old.counts.items ≡ pointers.now.geometry.blocks }
-        requires gone { length self.old.gone.items ≡ pointers.now.geometry.blocks }
+        requires gone { length self.old.gone ≡ pointers.now.geometry.blocks }
         requires room { self.old.waiting.room ≡ pointers.now.geometry.blocks }
-        requires marked { IsTrue (is_gone self.old.gone.items block) }
+        requires marked { IsTrue (is_gone self.old.gone block) }
         requires out { has_number self.old.waiting.blocks block ≡ false }
-        requires counting { IsCounting (graph_of pointers.now live.now) self.old.counts.items self.old.gone.items self.old.waiting.blocks self.old.doomed self.old.pairs (left_at self.old.gone.items self.old.waiting.blocks block 0) }
-        ensures counting { IsCounting (graph_of pointers.now live.now) self.new.counts.items self.new.gone.items self.new.waiting.blocks self.new.doomed self.new.pairs (left_at self.new.gone.items self.new.waiting.blocks pointers.now.geometry.blocks 0) }
+        requires counting { IsCounting (graph_of pointers.now live.now) self.old.counts.items self.old.gone self.old.waiting.blocks self.old.doomed self.old.pairs (left_at self.old.gone self.old.waiting.blocks block 0) }
+        ensures counting { IsCounting (graph_of pointers.now live.now) self.new.counts.items self.new.gone self.new.waiting.blocks self.new.doomed self.new.pairs (left_at self.new.gone self.new.waiting.blocks pointers.now.geometry.blocks 0) }
         ensures counts { length self.new.counts.items ≡ length self.old.counts.items }
-        ensures gone { length self.new.gone.items ≡ length self.old.gone.items }
+        ensures gone { length self.new.gone ≡ length self.old.gone }
         ensures room { self.new.waiting.room ≡ self.old.waiting.room }
         ensures balance { self.new.doomed + length self.old.waiting.blocks ≡ self.old.doomed + length self.new.waiting.blocks }
         ensures more { self.old.doomed ≤ self.new.doomed }
 
         // A block that is doomed now waits, if it wasn't doomed before.
-        ensures done { (b : ℕ) → (is_gone self.new.gone.items b && not (has_number self.new.waiting.blocks b)) ≡ (is_gone self.old.gone.items b && not (has_number self.old.waiting.blocks b)) }
+        ensures done { (b : ℕ) → (is_gone self.new.gone b && not (has_number self.new.waiting.blocks b)) ≡ (is_gone self.old.gone b && not (has_number self.old.waiting.blocks b)) }
     {
         let mut from = 0;
         while let Some(target) = pointers.next_target(block, from) {
@@ -146,25 +147,25 @@ impl Tally {
     /// Lowers the count of a block, which is doomed if it comes to 0.
     fn lower_one(&mut self, target: u32)
         requires within { target < length self.old.counts.items }
-        requires gone { length self.old.gone.items ≡ length self.old.counts.items }
+        requires gone { length self.old.gone ≡ length self.old.counts.items }
         requires room { self.old.waiting.room ≡ length self.old.counts.items }
         requires some { 0 < slice_index self.old.counts.items target }
-        requires fresh { is_gone self.old.gone.items target ≡ false }
-        requires waits { (b : ℕ) → IsTrue (has_number self.old.waiting.blocks b) → IsTrue (is_gone self.old.gone.items b) }
+        requires fresh { is_gone self.old.gone target ≡ false }
+        requires waits { (b : ℕ) → IsTrue (has_number self.old.waiting.blocks b) → IsTrue (is_gone self.old.gone b) }
         requires fits { self.old.doomed < 4294967295 }
         ensures counts { self.new.counts.items ≡ slice_set self.old.counts.items target (slice_index self.old.counts.items target - 1) }
-        ensures gone { (b : ℕ) → is_gone self.new.gone.items b ≡ (is_gone self.old.gone.items b || ((b == target) && (slice_index self.old.counts.items target == 1))) }
+        ensures gone { (b : ℕ) → is_gone self.new.gone b ≡ (is_gone self.old.gone b || ((b == target) && (slice_index self.old.counts.items target == 1))) }
         ensures waiting { (b : ℕ) → has_number self.new.waiting.blocks b ≡ (has_number self.old.waiting.blocks b || ((b == target) && (slice_index self.old.counts.items target == 1))) }
         ensures doomed { self.new.doomed ≡ self.old.doomed + cond (slice_index self.old.counts.items target == 1) 1 0 }
         ensures balance { self.new.doomed + length self.old.waiting.blocks ≡ self.old.doomed + length self.new.waiting.blocks }
         ensures pairs { self.new.pairs ≡ self.old.pairs }
-        ensures long { length self.new.gone.items ≡ length self.old.gone.items }
+        ensures long { length self.new.gone ≡ length self.old.gone }
         ensures room { self.new.waiting.room ≡ self.old.waiting.room }
     {
         let count = self.counts[target as usize] - 1;
         self.counts[target as usize] = count;
         if count == 0 {
-            self.gone[target as usize] = true;
+            self.gone.set(target, true);
             self.waiting.push(target);
             self.doomed += 1;
         }

@@ -1,9 +1,9 @@
-use Rattle.std.proofs.Common.{◌≡◌, ◌⊎◌, ℕ, true, nat_le, length, is_some, refl, ap, subst}
+use Rattle.std.proofs.Common.{◌≡◌, ◌⊎◌, true, nat_le, length, is_some, refl, ap, subst}
 use Rattle.std.specs.Prelude.{IsTrue, ◌↔◌}
 use Rattle.pointer_table.specs.declared.out_step.OutStep.{OutStep}
 use Rattle.reclaim.specs.Tables.{graph_of}
-use Rattle.reclaim.specs.Stepping.{MayStep, TakesAll, AreKeptBy}
-use Rattle.reclaim.proofs.StepLaws.{empty_none, some_doomed, popped_lost, step_keeps, first_step, this_step, first_may_step, first_frees, first_wide}
+use Rattle.reclaim.specs.Stepping.{MayStep, TakesAll}
+use Rattle.reclaim.proofs.StepLaws.{empty_none, some_doomed, popped_lost, step_keeps, this_step, first_may_step, first_frees, first_wide}
 use Rattle.reclaim.proofs.step.next_step.Goals as goal
 
 pub returns-in_err-block-clause-none : goal.returns-in_err-block-clause-none

@@ -1,4 +1,4 @@
-use Rattle.std.proofs.Common.{ℕ, ◌≡◌, ◌+◌, ◌<◌, ◌≤◌, cond, List, Bool, length, ◌∙◌, ap, subst, sym, arith}
+use Rattle.std.proofs.Common.{ℕ, ◌+◌, ◌<◌, ◌≤◌, cond, List, length, ◌∙◌, ap, subst, sym, arith}
 use Rattle.reclaim.specs.Ahead.{Kept, IsStepping, IsAheadOf, kept}
 use Rattle.reclaim.specs.Stepping.{after_step}
 use Rattle.reclaim.proofs.ToldLaws.{step_within, step_fits, step_ahead}
@@ -16,11 +16,9 @@ pub take-requires-clause-pairs : goal.take-requires-clause-pairs
 take-requires-clause-pairs c = let told = c.requires.told in
     subst (λ (k : Kept). c.len-taken.result ≤ k.pairs) (sym c.self.view_is) (let fits = (step_fits told.0 c.args.step.now c.args.self.now told.1).1 in omega (arith, fits, c.len-taken.ensures.value))
 
-pub returns : goal.returns
-returns c = record {
-  ahead = λ w stepping.
-      let t = c.self.inside.tally in let n = c.take.new.self in let one = c.take.ensures in let s = c.args.step.now in
-      subst (λ (xs : List ℕ). IsAheadOf (after_step w s) (kept xs n.gone.items n.doomed n.pairs)) (sym one.counts)
-      (step_ahead w s (kept t.counts.items t.gone.items t.doomed t.pairs) n.gone.items n.doomed n.pairs (subst (λ (k : Kept). IsStepping w s k) (sym c.self.view_is) stepping)
-      one.long one.gone one.doomed (one.taken ∙ ap (λ m. m + n.pairs) c.len-taken.ensures.value));
-}
+pub returns-clause-ahead : goal.returns-clause-ahead
+returns-clause-ahead c = λ w stepping.
+    let t = c.self.inside.tally in let n = c.take.new.self in let one = c.take.ensures in let s = c.args.step.now in
+    subst (λ (xs : List ℕ). IsAheadOf (after_step w s) (kept xs n.gone n.doomed n.pairs)) (sym one.counts)
+    (step_ahead w s (kept t.counts.items t.gone t.doomed t.pairs) n.gone n.doomed n.pairs (subst (λ (k : Kept). IsStepping w s k) (sym c.self.view_is) stepping)
+    one.long one.gone one.doomed (one.taken ∙ ap (λ m. m + n.pairs) c.len-taken.ensures.value))

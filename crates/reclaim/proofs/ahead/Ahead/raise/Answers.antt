@@ -1,7 +1,7 @@
-use Rattle.std.proofs.Common.{ℕ, ◌≡◌, ◌+◌, ◌<◌, List, Bool, length, ◌∙◌, ap, subst, sym}
-use Rattle.std.specs.Prelude.{slice_index, slice_set}
+use Rattle.std.proofs.Common.{◌<◌, length, subst, sym}
+use Rattle.std.specs.Prelude.{slice_index}
 use Rattle.tsd_model.specs.Step.{with_pointer}
-use Rattle.reclaim.specs.Ahead.{Kept, IsAheadOf, IsAdding, kept}
+use Rattle.reclaim.specs.Ahead.{Kept, IsAdding, kept}
 use Rattle.reclaim.proofs.ToldLaws.{count_fits, raise_ahead, marks_same}
 use Rattle.reclaim.proofs.ahead.Ahead.raise.Goals as goal
 
@@ -13,10 +13,8 @@ pub raise-requires-clause-fits : goal.raise-requires-clause-fits
 raise-requires-clause-fits c = let told = c.requires.told in
     subst (λ (k : Kept). slice_index k.counts c.args.target < 4294967295) (sym c.self.view_is) (count_fits told.0 c.args.self.now c.args.target told.2.raw told.2.ahead told.2.within)
 
-pub returns : goal.returns
-returns c = record {
-  ahead = λ w a adding.
-      let t = c.self.inside.tally in let one = c.raise.ensures in
-      marks_same (with_pointer w a c.args.target) t c.raise.new.self one.others
-      (raise_ahead w a c.args.target (kept t.counts.items t.gone.items t.doomed t.pairs) c.raise.new.self.counts.items (subst (λ (k : Kept). IsAdding w a c.args.target k) (sym c.self.view_is) adding) one.counts);
-}
+pub returns-clause-ahead : goal.returns-clause-ahead
+returns-clause-ahead c = λ w a adding.
+    let t = c.self.inside.tally in let one = c.raise.ensures in
+    marks_same (with_pointer w a c.args.target) t c.raise.new.self one.others
+    (raise_ahead w a c.args.target (kept t.counts.items t.gone t.doomed t.pairs) c.raise.new.self.counts.items (subst (λ (k : Kept). IsAdding w a c.args.target k) (sym c.self.view_is) adding) one.counts)

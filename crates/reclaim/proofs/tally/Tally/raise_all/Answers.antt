@@ -1,9 +1,9 @@
-use Rattle.std.proofs.Common.{◌≡◌, ◌+◌, ◌<◌, cond, length, take, sym, ◌∙◌, ap, subst, arith, get_or}
+use Rattle.std.proofs.Common.{◌≡◌, ◌+◌, ◌<◌, cond, length, sym, ◌∙◌, ap, subst, arith, get_or}
 use Rattle.std.proofs.lemmas.List.{length-set}
 use Rattle.std.specs.Prelude.{slice_index}
 use Rattle.tsd_model.specs.World.{has_number}
 use Rattle.reclaim.proofs.HeldLaws.{has-at, not_before, take-whole}
-use Rattle.reclaim.proofs.RaiseLaws.{raised_next}
+use Rattle.reclaim.proofs.PlaceLaws.{raised_next}
 use Rattle.reclaim.proofs.tally.Tally.raise_all.Goals as goal
 
 pub raise-requires-clause-within : goal.raise-requires-clause-within

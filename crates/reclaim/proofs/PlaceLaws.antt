@@ -1,10 +1,11 @@
--- Counts that are raised at some places.
-use Rattle.std.proofs.Common.{◌≡◌, ℕ, ◌+◌, ◌<◌, Bool, true, false, cond, ◌||◌, ◌==◌, List, length, get_or, sym, ◌∙◌, ap, subst, arith, take, inl, inr, refl}
+-- Counts that are raised at some places, and marks that are cleared.
+use Rattle.std.proofs.Common.{◌≡◌, ℕ, zero, suc, ◌+◌, ◌<◌, Bool, true, false, cond, ◌||◌, List, length, get_or, sym, ◌∙◌, ap, arith, take, inl, inr, refl}
 use Rattle.std.proofs.lemmas.Bool.{eq-eqb, ne_eqb, cases_eq}
 use Rattle.std.proofs.lemmas.List.{get_or-set_same, get_or-set_other}
-use Rattle.std.specs.Prelude.{slice_index, slice_set}
+use Rattle.std.specs.Prelude.{slice_index, slice_set, replicate}
 use Rattle.tsd_model.specs.World.{has_number}
 use Rattle.disk_laws.specs.Reclaiming.{all_apart}
+use Rattle.reclaim.specs.Ahead.{is_gone}
 use Rattle.reclaim.proofs.HeldLaws.{not_before, has-take_more}
 
 or_true : (s : Bool) → (s || true) ≡ true
@@ -36,3 +37,10 @@ raised_next xs i old now new once h within before is b = ap (λ ys. slice_index 
 
     held : has_number (take (i + 1) xs) t ≡ true
     held = has-take_more xs i t h ∙ (ap (λ s. has_number (take i xs) t || s) (eq-eqb t t refl) ∙ or_true (has_number (take i xs) t))
+
+-- ---- no mark
+
+pub none_marked : (n b : ℕ) → is_gone (replicate n false) b ≡ false
+none_marked zero b = refl
+none_marked (suc n) zero = refl
+none_marked (suc n) (suc b) = none_marked n b
