@@ -111,8 +111,11 @@ closed w marked waiting first o from all marking = record {
 
 -- no block waits any longer
 pub all_marked : (w : World) (marked : List Bool) (waiting : List ℕ) → IsRawGraph w → waiting ≡ [] → AreMarks w marked waiting w.geometry.primaries → (b : ℕ) → is_marked marked b ≡ has_number (reach w) b
-all_marked w marked waiting raw none marking = marks_are_reach w (is_marked marked) marking.sound (record { first = marking.primaries; on =
-    (λ a b held is. marking.done a b held is (ap (λ xs. has_number xs a) none) (λ e. absurd (past a b held e))) })
+all_marked w marked waiting raw none marking = marks_are_reach w (is_marked marked) marking.sound (record {
+  first = marking.primaries;
+  on =
+      (λ a b held is. marking.done a b held is (ap (λ xs. has_number xs a) none) (λ e. absurd (past a b held e)));
+})
   where
     past : (a b : ℕ) → holds w.pairs a b ≡ true → a ≡ w.geometry.blocks → ⊥
     past a b held e = let below : a < length w.blocks = live_below w.blocks a (raw.sources a b held) in omega (arith, raw.laid_out.each_block)

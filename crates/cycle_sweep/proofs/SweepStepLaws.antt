@@ -1,8 +1,8 @@
 -- The step of a sweep at a block.
-use Rattle.std.proofs.Common.{◌≡◌, ℕ, ◌+◌, ◌≤◌, Bool, true, false, not, cond, ◌&&◌, ◌==◌, nat_le, List, [], ◌∷◌, length, refl, sym, ◌∙◌, ap, subst, arith, take, ◌⊎◌, ◌↔◌, inl, inr}
+use Rattle.std.proofs.Common.{◌≡◌, ℕ, ◌+◌, ◌≤◌, Bool, true, false, not, cond, ◌&&◌, ◌==◌, nat_le, List, [], ◌∷◌, length, refl, sym, ◌∙◌, ap, subst, arith, take, ◌⊎◌, ◌↔◌, inl, inr, Option, Some, None}
 use Rattle.std.proofs.lemmas.Bool.{eq-eqb, eqb-true, ne_eqb, and_parts, and_from, both_ways, cases_eq, cases_Bool, false_from_ne_true}
 use Rattle.std.proofs.lemmas.List.{length-take}
-use Rattle.std.specs.Prelude.{filter}
+use Rattle.std.specs.Prelude.{filter, IfSome}
 use Rattle.tsd_model.specs.Pairs.{is_pair, holds, count_to}
 use Rattle.tsd_model.specs.Step.{targets_from}
 use Rattle.tsd_model.specs.World.{World, is_live, has_number}
@@ -69,10 +69,10 @@ module _ (w : World) (b : ℕ) (raw : IsRawGraph w) (ts : List ℕ) (all : Bool)
       record {
         out = nothing_out w b ts (takes parts.0);
         into = λ a. next a b ∙ elim (cases_Bool ((a == b) && has_number ts b)) [
-            | inl gone ↦ ap (λ s. holds w.pairs a b && not s) gone ∙ and_none (holds w.pairs a b)
-            | inr left ↦ ap (λ h. h && not ((a == b) && has_number ts b)) (last_alone w b raw (has_number ts b) own_held parts.1 a
-                (λ own same. both_ways ((a == b) && has_number ts b) left (and_from (a == b) (has_number ts b) (eq-eqb a b same) own)))
-          ];
+          | inl gone ↦ ap (λ s. holds w.pairs a b && not s) gone ∙ and_none (holds w.pairs a b)
+          | inr left ↦ ap (λ h. h && not ((a == b) && has_number ts b)) (last_alone w b raw (has_number ts b) own_held parts.1 a
+              (λ own same. both_ways ((a == b) && has_number ts b) left (and_from (a == b) (has_number ts b) (eq-eqb a b same) own)))
+        ];
       }
 
   pub alone_freed : IsAlone (without_pointers w b ts) b → (all && is_last (count_to w.pairs b) (has_number ts b)) ≡ true
@@ -174,6 +174,10 @@ step_sweeps w s raw may r same =
       pairs = takes.0;
       free = takes.1;
     }
+
+pub if_step_sweeps : (w : World) (o : Option OutStep) → IsRawGraph w → IfSome o (MaySweep w) → IfSome o (AreSweptBy w)
+if_step_sweeps w None raw may = tt
+if_step_sweeps w (Some s) raw may = step_sweeps w s raw may
 
 -- where each live block is reached, each world of this graph is swept
 pub all_swept : (w : World) → IsRawGraph w → ((b : ℕ) → is_live w b ≡ true → has_number (reach w) b ≡ true) → (r : World) → HasGraphOf w r → swept r ≡ r
