@@ -17,7 +17,9 @@ const SMALL: Geometry = Geometry {
 
 /// Its counts, its bitmap and its slots, each in one sector.
 const COUNTS_AT: u32 = 134;
+
 const BITS_AT: u32 = 135;
+
 const SLOTS_AT: u32 = 136;
 
 /// What the sectors of such a disk say.
