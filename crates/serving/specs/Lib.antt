@@ -1,2 +1,10 @@
 pub mod Work
 pub mod Handling
+pub mod Service
+pub mod Voice
+pub mod Input
+pub mod Runs
+pub mod Costs
+pub mod Debts
+pub mod Ran
+pub mod Goes

@@ -4,7 +4,7 @@ use Rattle.tsd_model.specs.declared.geometry.Geometry.{Geometry}
 use Rattle.tsd_model.specs.declared.requests.PlaceKind.{PlaceKind}
 use Rattle.tsd_model.specs.declared.requests.PlaceKind.TheVariants.{Low, Near, Spread, Zone}
 use Rattle.script_text.specs.Reading.{num_of, new_of, ◌>>=◌}
-use Rattle.tsd_serve.specs.declared.words.Fresh.{Fresh}
+use Rattle.tsd_words.specs.declared.words.Fresh.{Fresh}
 
 -- the four kinds of placement by name
 abbrev pub kinds : List (List ℕ × PlaceKind)

@@ -2,7 +2,7 @@
 
 ghost use Rattle.std.specs.Prelude.{◌≡◌, map, string_bytes, IfSome};
 ghost use Rattle.tsd_model.specs.Geometry.{IsLawful};
-ghost use Rattle.tsd_serve.specs.Words.{command_of, fresh_of, is_size, kind_of, size_of};
+ghost use Rattle.tsd_words.specs.Words.{command_of, fresh_of, is_size, kind_of, size_of};
 
 use script_text::fields::{parse_cap, parse_number};
 use tsd_model::geometry::{MAX_BLOCKS, MIN_BLOCKS};

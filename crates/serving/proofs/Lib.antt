@@ -1,0 +1,5 @@
+pub mod Inputs
+pub mod Runs
+pub mod Costs
+pub mod Debts
+pub mod Steps
