@@ -1,5 +1,6 @@
 -- What one request more costs.
-use Rattle.std.proofs.Common.{◌≡◌, ℕ, ◌+◌, ◌≤◌, List, [], ◌∷◌, ◌++◌, All, refl, sym, ◌∙◌, ap, subst, arith, append_assoc, append-nil}
+use Rattle.std.proofs.Common.{◌≡◌, ℕ, ◌+◌, ◌≤◌, List, [], ◌∷◌, ◌++◌, All, length, get_or, length-append, refl, sym, ◌∙◌, ap, subst, arith, append_assoc, append-nil}
+use Rattle.std.proofs.lemmas.List.{get_or_append_left}
 use Rattle.serving.specs.Service.{Service}
 use Rattle.serving.specs.Work.{Work}
 use Rattle.serving.specs.Runs.{Run}
@@ -8,13 +9,15 @@ use Rattle.serving.proofs.Runs.{run_next}
 
 -- each of the first
 pub front_all : {Q : Type 0} (P : Q → Type 0) (xs ys : List Q) → All P (xs ++ ys) → All P xs
-front_all P [] ys all = tt
-front_all P (x ∷ xs) ys all = (all.0, front_all P xs ys all.1)
+front_all P xs ys all i d h = subst P (get_or_append_left xs ys d i h) (all i d (omega (arith, h, length-append xs ys)))
+
+get_or_last : {Q : Type 0} (xs : List Q) (y : Q) → get_or (xs ++ y ∷ []) (length xs) y ≡ y
+get_or_last [] y = refl
+get_or_last (x ∷ xs) y = get_or_last xs y
 
 -- the one behind them
 pub next_all : {Q : Type 0} (P : Q → Type 0) (xs : List Q) (y : Q) → All P (xs ++ y ∷ []) → P y
-next_all P [] y all = all.0
-next_all P (x ∷ xs) y all = next_all P xs y all.1
+next_all P xs y all = subst P (get_or_last xs y) (all (length xs) y (omega (arith, length-append xs (y ∷ []))))
 
 module _ {Q : Type 0} (k : Service Q) (cost : k.States → Q → ℕ) where
   pub costs_next : (s m t : k.States) (qs : List Q) (xs : List (List ℕ)) (q : Q) (a : List ℕ) (run : Run k s qs xs m) (given : k.gives m q a t)

@@ -3,6 +3,7 @@ use Rattle.std.proofs.Common.{◌≡◌, ◌≢◌, ◌↔◌, ◌⊎◌, inl, i
 use Rattle.std.specs.Prelude.{Option, Some, None}
 use Rattle.std.proofs.lemmas.List.{length-take, take_all, drop-take, drop-drop, take-append-drop}
 use Rattle.std.proofs.Math.Seq.{take-add}
+use Rattle.tsd_words.specs.declared.status.Status.{Status}
 use Rattle.tsd_words.specs.declared.status.Status.TheVariants as status
 use Rattle.serving.specs.declared.protocol.Ending.{Ending}
 use Rattle.serving.specs.declared.protocol.Ending.TheVariants as ending
@@ -10,7 +11,7 @@ use Rattle.serving.specs.declared.intake.Intake.{Intake}
 use Rattle.serving.specs.declared.intake.Next.{Next}
 use Rattle.serving.specs.declared.intake.Next.TheVariants as next
 use Rattle.serving.specs.Goes.{held, left_in, Reads, Handed, Found, IsNextAtEnd}
-use Rattle.serving.specs.Input.{Spelling, last, all_requests, asked}
+use Rattle.serving.specs.Input.{Spelling, IsSpelling, last, all_requests, asked}
 use Rattle.serving.specs.Ran.{AskedBy, Came, IsAtEnd}
 
 -- ---- bytes up to a limit
@@ -53,6 +54,10 @@ came_more tells taken now new left rest less x p came e f = record {
   taken = λ t. e t ∙ ap (λ xs. xs ++ p) (came.taken t) ∙ append_assoc taken x p;
   left = λ t. came.left t ∙ ap (λ xs. x ++ xs) (f t) ∙ sym (append_assoc x p less);
 }
+
+-- two runs of takes
+pub came_then : (tells : Type 0) (taken now new left rest less x y : List ℕ) → Came tells taken now left rest x → Came tells now new rest less y → Came tells taken new left less (x ++ y)
+came_then tells taken now new left rest less x y came then = came_more tells taken now new left rest less x y came then.taken then.left
 
 -- a take that found the end
 pub came_none : (tells : Type 0) (taken now new left rest less room x : List ℕ) (n : ℕ) → n ≡ 0 → (tells → new ≡ now ++ take n room) → (tells → rest ≡ take n room ++ less)
@@ -192,3 +197,24 @@ module _ {Q : Type 0} (p : Spelling Q) where
       → (more : List ℕ) × Came tells taken taken left left more × Reads p fed i (bytes ++ more) qs
   reads_first tells taken left fed ended i bytes qs over was =
       ([], came_first tells taken left, subst (λ b. Reads p fed i b qs) (sym (append-nil bytes)) (reading fed ended i bytes qs over was))
+
+  -- before the first take
+  pub handed_first : (fed : List ℕ → Type 0) (ended : Type 0) (i : Intake) → fed [] → p.requests [] ≡ [] → i.taken ≡ 0 → held i ≡ [] → i.over ≡ false → Handed p fed ended i [] []
+  handed_first fed ended i fresh none taken nothing over =
+      handed_on fed ended i [] [] over (record { long = sym taken; x = []; was_fed = fresh; parts = nothing ∙ sym (take_nil i.limit); these = sym none })
+
+  asked_some : IsSpelling p → (fed : List ℕ → Type 0) (ended : Type 0) (i : Intake) (bytes : List ℕ) (qs : List Q) (b : Bool) → i.over ≡ b → Handed p fed ended i bytes qs
+      → (more : List Q) × ((qs ++ more ≡ p.requests (take i.limit bytes)) ⊎ ((length bytes ≤ i.limit) × ended × (qs ++ more ≡ all_requests p bytes)))
+  asked_some lawful fed ended i bytes qs true over was = let done = done_of fed ended i bytes qs over was in ([], inr (done.0, done.1, append-nil qs ∙ done.3))
+  asked_some lawful fed ended i bytes qs false over was =
+      let reads = reading fed ended i bytes qs over was in
+      let more = lawful.more reads.x (held i) in
+      (more.0, inl (ap (λ l. l ++ more.0) reads.these ∙ sym more.1 ∙ ap p.requests reads.parts))
+
+  -- where a request stopped the run
+  pub asked_stopped : IsSpelling p → (why : Status) (fed : List ℕ → Type 0) (ended : Type 0) (i : Intake) (bytes : List ℕ) (qs : List Q) → (why ≡ status.DeviceFault) ⊎ (why ≡ status.PutFault) → Handed p fed ended i bytes qs
+      → (more : List Q) × AskedBy why p i.limit bytes ended (qs ++ more)
+  asked_stopped lawful why fed ended i bytes qs stops was = elim stops [
+    | inl e ↦ subst (λ r. (more : List Q) × AskedBy r p i.limit bytes ended (qs ++ more)) (sym e) (asked_some lawful fed ended i bytes qs i.over refl was)
+    | inr e ↦ subst (λ r. (more : List Q) × AskedBy r p i.limit bytes ended (qs ++ more)) (sym e) (asked_some lawful fed ended i bytes qs i.over refl was)
+  ]

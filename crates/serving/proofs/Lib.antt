@@ -3,3 +3,4 @@ pub mod Runs
 pub mod Costs
 pub mod Debts
 pub mod Steps
+pub mod Answering

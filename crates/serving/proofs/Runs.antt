@@ -145,7 +145,7 @@ module _ {Q : Type 0} (k : Service Q) (s : k.States) (before : List ℕ) (qs mor
     count = b.count;
   }
 
-  pub cut_off_longer : (now : List ℕ) → IsCutOff k s before qs now → IsCutOff k s before (qs ++ more) now
+  unfoldable pub cut_off_longer : (now : List ℕ) → IsCutOff k s before qs now → IsCutOff k s before (qs ++ more) now
   cut_off_longer now c = record {
     answered = c.answered;
     request = c.request;

@@ -11,7 +11,8 @@ use Rattle.serving.specs.Work.{Work, used}
 use Rattle.serving.specs.Costs.{costs, first_cost, IsPaidFor}
 use Rattle.serving.specs.Debts.{Debt, HasDebt, debt_after, debt_of}
 use Rattle.serving.specs.Runs.{Run, texts, Served, IsBroken, IsCutOff, IsAcknowledged}
-use Rattle.serving.specs.Ran.{ByStatus, Ends}
+use Rattle.serving.specs.Input.{Spelling}
+use Rattle.serving.specs.Ran.{AskedBy, ByStatus, Ends, Ran}
 use Rattle.serving.specs.Goes.{Goes}
 use Rattle.serving.proofs.Runs.{run_next, sent_next, broken, cut_off, served_next, at_rest, in_answer, longer, broken_longer, cut_off_longer, all_sent, some_or_none}
 use Rattle.serving.proofs.Costs.{front_all, next_all, costs_next, paid_longer}
@@ -162,3 +163,8 @@ module _ {Q : Type 0} (k : Service Q) (w : Work Q k.States) (s final : k.States)
     debt = λ all. weakened v0 v (HasDebt k w s v0.sent (w.debt v0.reads) qs) (HasDebt k w s v0.sent (w.debt v0.reads) (qs ++ more)) (ends.debt (front_all w.bounded qs more all))
         (λ x f left. owing_longer k w.made s v0.sent (w.debt v0.reads) qs more (w.debt x) f left);
   }
+
+-- a run as a whole
+pub ran_of : {Q : Type 0} (r : Status) (k : Service Q) (w : Work Q k.States) (p : Spelling Q) (s final : k.States) (limit counted : ℕ) (came : List ℕ → Type 0) (ended tells : Type 0) (owed : ℕ) (v0 v : View) (bytes : List ℕ) (qs : List Q)
+    → counted ≡ limit → came bytes → AskedBy r p counted bytes ended qs → (tells → Ends r k w s final owed v0 v qs) → Ran r k w p s final limit came ended tells owed v0 v
+ran_of r k w p s final limit counted came ended tells owed v0 v bytes qs same c asked ends = record { bytes = bytes; came_in = c; asked = qs; these = subst (λ n. AskedBy r p n bytes ended qs) same asked; ends = ends }

@@ -8,3 +8,7 @@ pub mod Costs
 pub mod Debts
 pub mod Ran
 pub mod Goes
+pub mod LineSpelling
+pub mod LineLaws
+pub mod FrameSpelling
+pub mod FrameLaws

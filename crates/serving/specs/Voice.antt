@@ -25,16 +25,16 @@ pub record IsVoice (v : Voice) : Type 0 where
 abbrev pub spoken : DiskRules → Voice → Service Request
 spoken k v = record {
   States = k.States;
-  gives = λ s q answer t. (r : Reply) × HasForm r × (answer ≡ v.text r) × k.gives s q r t;
+  gives = λ s q answer t. (r : Reply) × (answer ≡ v.text r) × k.gives s q r t;
   stands = k.stands;
   acked = v.acked;
   in_parts = λ q answer. ⊥;
 }
 
-pub spoken_counted : (k : DiskRules) (v : Voice) → IsVoice v → IsCounted (spoken k v)
-spoken_counted k v voice = record {
+pub spoken_counted : (k : DiskRules) (v : Voice) → ((s : k.States) (q : Request) (r : Reply) (t : k.States) → k.gives s q r t → HasForm r) → IsVoice v → IsCounted (spoken k v)
+spoken_counted k v form voice = record {
   nothing = voice.nothing;
-  whole = λ s q answer t behind given. ap (λ l. v.acked (l ++ behind)) given.2 ∙ voice.whole given.0 behind given.1;
-  part = λ s q answer t front back given parts some. voice.part given.0 front back given.1 (sym given.2 ∙ parts) some;
-  some = λ s q answer t given. subst (λ l. 0 < length l) (sym given.2) (voice.some given.0);
+  whole = λ s q answer t behind given. ap (λ l. v.acked (l ++ behind)) given.1 ∙ voice.whole given.0 behind (form s q given.0 t given.2);
+  part = λ s q answer t front back given parts some. voice.part given.0 front back (form s q given.0 t given.2) (sym given.1 ∙ parts) some;
+  some = λ s q answer t given. subst (λ l. 0 < length l) (sym given.1) (voice.some given.0);
 }

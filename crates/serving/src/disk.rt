@@ -28,7 +28,7 @@ impl<R: Protocol<Request = Request> + Replies, H: Handler> Server<R> for H {
 
     ghost stands_now = { H.stands_now };
 
-    ghost counted = { spoken_counted H.rules R.voice R.apart };
+    ghost counted = { spoken_counted H.rules R.voice H.given_form R.apart };
 
     fn answer<P: Port>(&mut self, port: &mut P, request: &Request) -> Result<(), Status> {
         let reply = match self.apply(port, request) {

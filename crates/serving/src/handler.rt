@@ -93,4 +93,7 @@ pub trait Handler {
 
     /// A disk stands for the state that it is in.
     ghost stands_now: { (h : Self) (x : Image) → holds h x → rules.stands (state h x) x };
+
+    /// Only replies of a form that can be sent are given.
+    ghost given_form: { (s : rules.States) (q : Asked) (r : Answered) (t : rules.States) → rules.gives s q r t → HasForm r };
 }

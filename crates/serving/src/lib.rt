@@ -2,8 +2,10 @@
 #![tactic(auto)]
 
 mod disk;
+mod frames;
 pub mod handler;
 pub mod intake;
+mod lines;
 mod next;
 pub mod protocol;
 pub mod replies;
