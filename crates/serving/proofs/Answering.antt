@@ -1,5 +1,5 @@
 -- What a crash leaves while a disk carries out one request, its reply is sent, and some work is done behind it.
-use Rattle.std.proofs.Common.{◌≡◌, inl, inr, ℕ, ◌+◌, ◌-◌, ◌≤◌, ◌<◌, false, List, [], ◌++◌, length, take, drop, refl, sym, ◌∙◌, ap, subst, arith, append-nil, take-append-drop, length-drop}
+use Rattle.std.proofs.Common.{◌≡◌, inl, inr, ℕ, ◌≤◌, ◌<◌, false, List, [], ◌++◌, length, take, drop, refl, sym, ◌∙◌, ap, subst, arith, append-nil, take-append-drop, length-drop}
 use Rattle.image_device.specs.Image.{Image}
 use Rattle.image_device.specs.View.{View, IsLeftInPut, IsSound}
 use Rattle.image_device.specs.Runs.{LeavesOnly}

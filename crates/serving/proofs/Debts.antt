@@ -1,7 +1,7 @@
 -- How much is left to be done while one request is answered.
-use Rattle.std.proofs.Common.{◌≡◌, ◌⊎◌, inl, inr, ℕ, ◌+◌, ◌-◌, ◌≤◌, ◌<◌, List, [], ◌∷◌, ◌++◌, length, refl, sym, ◌∙◌, ap, subst, arith, append_assoc, append-nil}
+use Rattle.std.proofs.Common.{◌≡◌, inl, inr, ℕ, ◌+◌, ◌≤◌, List, [], ◌∷◌, ◌++◌, refl, sym, ◌∙◌, ap, subst, arith, append_assoc, append-nil}
 use Rattle.image_device.specs.Image.{Image}
-use Rattle.serving.specs.Service.{Service, IsCounted, IsAnswering, IsInAnswer}
+use Rattle.serving.specs.Service.{Service, IsCounted, IsInAnswer}
 use Rattle.serving.specs.Runs.{Run, texts}
 use Rattle.serving.specs.Debts.{Debt, more_debt, debt_after, debt_of, first_made, IsOwing}
 use Rattle.serving.proofs.Runs.{run_next, acked_run, sent_next, sent_front, some_or_none, all_sent}

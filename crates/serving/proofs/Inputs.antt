@@ -1,7 +1,7 @@
 -- Bytes that come in, and the requests that are handed out of them.
-use Rattle.std.proofs.Common.{◌≡◌, ◌≢◌, ◌↔◌, ◌⊎◌, inl, inr, ℕ, zero, suc, ◌+◌, ◌-◌, ◌≤◌, ◌<◌, Bool, true, false, cond, MatchBool, List, [], ◌∷◌, ◌++◌, length, take, drop, min, slice_range, refl, sym, ◌∙◌, ap, subst, arith, append_assoc, append-nil, length-append}
-use Rattle.std.specs.Prelude.{Option, Some, None}
-use Rattle.std.proofs.lemmas.List.{length-take, take_all, drop-take, drop-drop, take-append-drop}
+use Rattle.std.proofs.Common.{◌≡◌, ◌↔◌, ◌⊎◌, inl, inr, ℕ, zero, suc, ◌+◌, ◌-◌, ◌≤◌, ◌<◌, Bool, true, false, cond, MatchBool, List, [], ◌∷◌, ◌++◌, length, take, drop, min, slice_range, refl, sym, ◌∙◌, ap, subst, arith, append_assoc, append-nil, length-append}
+use Rattle.std.specs.Prelude.{Option}
+use Rattle.std.proofs.lemmas.List.{length-take, take_all, drop-drop}
 use Rattle.std.proofs.Math.Seq.{take-add}
 use Rattle.tsd_words.specs.declared.status.Status.{Status}
 use Rattle.tsd_words.specs.declared.status.Status.TheVariants as status
@@ -9,7 +9,6 @@ use Rattle.serving.specs.declared.protocol.Ending.{Ending}
 use Rattle.serving.specs.declared.protocol.Ending.TheVariants as ending
 use Rattle.serving.specs.declared.intake.Intake.{Intake}
 use Rattle.serving.specs.declared.intake.Next.{Next}
-use Rattle.serving.specs.declared.intake.Next.TheVariants as next
 use Rattle.serving.specs.Goes.{held, left_in, Reads, Handed, Found, IsNextAtEnd}
 use Rattle.serving.specs.Input.{Spelling, IsSpelling, last, all_requests, asked}
 use Rattle.serving.specs.Ran.{AskedBy, Came, IsAtEnd}
@@ -88,8 +87,8 @@ held_on room from to used fits ordered =
     let few : used ≤ to - from = omega (arith, fits, length-take (to - from) (drop from room)) in
     let n : to - from ≡ used + (to - (from + used)) = omega (arith, few, ordered) in
     let front : take used (slice_range room from to) ≡ take used (drop from room) =
-        let e : min (to - from) used ≡ used = omega (arith, few) in
-        take_take used (to - from) (drop from room) ∙ ap (λ k. take k (drop from room)) e in
+    let e : min (to - from) used ≡ used = omega (arith, few) in
+    take_take used (to - from) (drop from room) ∙ ap (λ k. take k (drop from room)) e in
     ap (λ k. take k (drop from room)) n ∙ take-add used (to - (from + used)) (drop from room)
     ∙ ap (λ l. take used (drop from room) ++ take (to - (from + used)) l) (drop-drop used from room)
     ∙ ap (λ l. l ++ slice_range room (from + used) to) (sym front)
@@ -132,7 +131,7 @@ module _ {Q : Type 0} (p : Spelling Q) where
   reads_more fed i i2 bytes room qs count was none few fits limit taken from to same =
       let x = all_came fed i bytes qs was none few in
       let rest : held i2 ≡ take (min count (i.limit - i.taken)) room =
-          (λ j. slice_range (same j) (from j) (to j)) ∙ (let e : min count (i.limit - i.taken) - 0 ≡ min count (i.limit - i.taken) = omega arith in ap (λ k. take k room) e) in
+      (λ j. slice_range (same j) (from j) (to j)) ∙ (let e : min count (i.limit - i.taken) - 0 ≡ min count (i.limit - i.taken) = omega arith in ap (λ k. take k room) e) in
       record {
         long = length-append bytes (take count room) ∙ (let e = length-take count room in omega (arith, e, fits, was.long, taken));
         x = was.x;

@@ -4,3 +4,4 @@ pub mod Costs
 pub mod Debts
 pub mod Steps
 pub mod Answering
+pub mod ModelRuns

@@ -1,7 +1,7 @@
 -- One request more is answered, and its answer sent in full or in part.
 use Rattle.std.proofs.Common.{◌≡◌, ◌⊎◌, inl, inr, ℕ, ◌+◌, ◌<◌, List, [], ◌∷◌, ◌++◌, length, refl, sym, ◌∙◌, ap, subst, arith, append_assoc, append-nil}
 use Rattle.image_device.specs.Image.{Image}
-use Rattle.serving.specs.Service.{Service, IsCounted, IsAnswering, IsInAnswer, LeftBy}
+use Rattle.serving.specs.Service.{Service, IsCounted, IsAnswering, IsInAnswer}
 use Rattle.serving.specs.Runs.{Run, texts, Served, IsBroken, IsCutOff, IsAcknowledged}
 
 module _ {Q : Type 0} (k : Service Q) where

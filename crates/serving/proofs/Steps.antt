@@ -1,6 +1,5 @@
 -- A run that goes on by one request, or ends.
-use Rattle.std.proofs.Common.{◌≡◌, ◌⊎◌, inl, inr, ℕ, ◌+◌, ◌-◌, ◌≤◌, ◌<◌, false, All, List, [], ◌∷◌, ◌++◌, length, refl, sym, ◌∙◌, ap, subst, arith, append_assoc, append-nil}
-use Rattle.image_device.specs.Image.{Image}
+use Rattle.std.proofs.Common.{◌≡◌, ◌⊎◌, inl, inr, ℕ, ◌+◌, ◌-◌, ◌≤◌, false, All, List, [], ◌∷◌, ◌++◌, length, refl, sym, ◌∙◌, ap, subst, arith, append-nil}
 use Rattle.image_device.specs.View.{View, IsSound}
 use Rattle.image_device.specs.Runs.{LeavesOnly}
 use Rattle.image_device.proofs.Moments.{started, joined, weakened, leaves_both, firm_image}
@@ -8,9 +7,8 @@ use Rattle.tsd_words.specs.declared.status.Status.{Status}
 use Rattle.tsd_words.specs.declared.status.Status.TheVariants as status
 use Rattle.serving.specs.Service.{Service, IsCounted, IsAnswering, IsInAnswer, LeftBy}
 use Rattle.serving.specs.Work.{Work, used}
-use Rattle.serving.specs.Costs.{costs, first_cost, IsPaidFor}
-use Rattle.serving.specs.Debts.{Debt, HasDebt, debt_after, debt_of}
-use Rattle.serving.specs.Runs.{Run, texts, Served, IsBroken, IsCutOff, IsAcknowledged}
+use Rattle.serving.specs.Debts.{Debt, HasDebt, debt_of}
+use Rattle.serving.specs.Runs.{Run, Served, IsBroken, IsAcknowledged}
 use Rattle.serving.specs.Input.{Spelling}
 use Rattle.serving.specs.Ran.{AskedBy, ByStatus, Ends, Ran}
 use Rattle.serving.specs.Goes.{Goes}

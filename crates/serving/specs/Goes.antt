@@ -1,5 +1,5 @@
 -- A run that goes on.
-use Rattle.std.specs.Prelude.{◌≡◌, ◌≢◌, ℕ, ◌+◌, ◌-◌, ◌≤◌, Bool, true, cond, List, [], ◌∷◌, ◌++◌, length, take, All, MatchBool, slice_range}
+use Rattle.std.specs.Prelude.{◌≡◌, ℕ, ◌+◌, ◌-◌, ◌≤◌, Bool, true, cond, List, [], ◌∷◌, ◌++◌, length, take, All, MatchBool, slice_range}
 use Rattle.image_device.specs.View.{View}
 use Rattle.image_device.specs.Runs.{LeavesOnly}
 use Rattle.tsd_words.specs.declared.status.Status.TheVariants as status
@@ -10,7 +10,7 @@ use Rattle.serving.specs.declared.intake.Next.{Next}
 use Rattle.serving.specs.declared.intake.Next.TheVariants as next
 use Rattle.serving.specs.Costs.{costs}
 use Rattle.serving.specs.Debts.{HasDebt, debt_after, debt_of}
-use Rattle.serving.specs.Input.{Spelling, all_requests}
+use Rattle.serving.specs.Input.{Spelling}
 use Rattle.serving.specs.Ran.{AskedBy}
 use Rattle.serving.specs.Runs.{Run, texts, IsAcknowledged}
 use Rattle.serving.specs.Service.{Service}

@@ -12,3 +12,4 @@ pub mod LineSpelling
 pub mod LineLaws
 pub mod FrameSpelling
 pub mod FrameLaws
+pub mod ModelRules

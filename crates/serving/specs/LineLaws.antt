@@ -1,5 +1,5 @@
 -- Lines part in one way.
-use Rattle.std.proofs.Common.{◌≡◌, ℕ, ◌<◌, List, [], ◌∷◌, ◌++◌, length, map, refl, ◌∙◌, ap, arith, length-append}
+use Rattle.std.proofs.Common.{[], ◌∷◌, map, refl, ◌∙◌, ap, arith, length-append}
 use Rattle.std.proofs.lemmas.List.{map-append}
 use Rattle.script_text.specs.Pieces.{lines, pieces, front, unended}
 use Rattle.script_text.specs.Reading.{request_of}

@@ -30,11 +30,15 @@ impl Intake {
     }
 
     /// What comes next. A request is handed out before more bytes are taken.
-    pub fn next<S: Source, R: Protocol>(&mut self, protocol: &mut R, source: &mut S) -> Next<R::Request>
+    pub fn next<S: Source, R: Protocol>(
+        &mut self,
+        protocol: &mut R,
+        source: &mut S,
+    ) -> Next<R::Request>
         ensures limit { self.new.limit ≡ self.old.limit }
         ensures found { (bytes : List ℕ) (qs : List R.Request) → Handed R.spelling (λ x. R.was_fed x protocol.old) (IsAtEnd S.told (S.ended source.old) (S.left_bytes source.old)) self.old bytes qs →
             (more : List ℕ) × Came S.told (S.taken source.old) (S.taken source.new) (S.left_bytes source.old) (S.left_bytes source.new) more
-                × Found R.spelling (λ x. R.was_fed x protocol.new) (IsAtEnd S.told (S.ended source.new) (S.left_bytes source.new)) self.new (bytes ++ more) qs result }
+            × Found R.spelling (λ x. R.was_fed x protocol.new) (IsAtEnd S.told (S.ended source.new) (S.left_bytes source.new)) self.new (bytes ++ more) qs result }
         ensures less { (q : R.Request) → result ≡ Next.Request q → left_in self.new < left_in self.old }
         ensures source_fault { result ≡ Next.Fault → Rose (S.faults source.old) (S.faults source.new) }
         ensures no_source_fault { result ≢ Next.Fault → S.faults source.new ≡ S.faults source.old }

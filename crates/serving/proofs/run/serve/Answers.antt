@@ -17,8 +17,8 @@ loop-request-init g c = record {
     came_first g.S.Source.told _ _,
     handed_first g.R.Protocol.spelling _ _ c.new-intake.result c.requires.fresh g.met.R.Protocol.lawful.none c.new-intake.ensures.taken c.new-intake.ensures.held c.new-intake.ensures.over,
     λ told.
-      let at = c.requires.at told in
-      goes_first g.H.Server.service g.met.H.Server.counted g.H.Server.work _ _ (g.P.Device.view c.args.port.now) (g.met.P.Device.sound c.args.port.now told) at.0 (g.met.H.Server.stands_now c.args.server.now _ at.1),
+        let at = c.requires.at told in
+        goes_first g.H.Server.service g.met.H.Server.counted g.H.Server.work _ _ (g.P.Device.view c.args.port.now) (g.met.P.Device.sound c.args.port.now told) at.0 (g.met.H.Server.stands_now c.args.server.now _ at.1),
   );
 }
 
@@ -40,9 +40,9 @@ loop-request-preserved g c =
         came_then g.S.Source.told _ _ _ _ _ _ was.0 found.0 was.2 found.1,
         found.2,
         λ told.
-          let a = c.in-Ok.ensures.answered told in
-          goes_next g.H.Server.service g.met.H.Server.counted g.H.Server.work _ _ (g.P.Device.view c.args.port.now) was.1 _ _ (g.P.Device.view c.loop-request.port) (was.4 told) _ (g.P.Device.view c.answer.new.port) (c.answer.ensures.any_moment told) (c.answer.ensures.debt told)
-          _ _ a.0 a.1 a.2 (c.in-Ok.ensures.less told) (c.in-Ok.ensures.paid told),
+            let a = c.in-Ok.ensures.answered told in
+            goes_next g.H.Server.service g.met.H.Server.counted g.H.Server.work _ _ (g.P.Device.view c.args.port.now) was.1 _ _ (g.P.Device.view c.loop-request.port) (was.4 told) _ (g.P.Device.view c.answer.new.port) (c.answer.ensures.any_moment told) (c.answer.ensures.debt told)
+            _ _ a.0 a.1 a.2 (c.in-Ok.ensures.less told) (c.in-Ok.ensures.paid told),
       );
     }
 

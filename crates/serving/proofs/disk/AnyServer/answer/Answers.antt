@@ -1,6 +1,5 @@
-use Rattle.std.proofs.Common.{◌≡◌, ◌≤◌, ◌+◌, ◌++◌, take, inl, inr, sym, ◌∙◌, ap, subst, arith}
+use Rattle.std.proofs.Common.{◌≡◌, ◌+◌, ◌++◌, take, inl, inr, ◌∙◌, ap, subst, arith}
 use Rattle.image_device.specs.Runs.{LeavesOnly}
-
 use Rattle.image_device.proofs.Outcomes.{where_err, unless_err}
 use Rattle.serving.proofs.Answering.{any_applied, any_replied, any_settled, put_failed, all_put, debt_now, debt_replied, debt_settled}
 use Rattle.serving.proofs.disk.AnyServer.answer.Goals as goal

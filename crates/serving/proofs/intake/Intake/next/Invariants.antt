@@ -14,7 +14,7 @@ invariant-loop-request g l =
       reads : (bytes : List ℕ) (qs : List g.row.R-Request.Denot)
           → Handed g.R.Protocol.spelling (λ x. g.R.Protocol.was_fed x l.initial.protocol) (IsAtEnd g.S.Source.told (g.S.Source.ended before) (g.S.Source.left_bytes before)) l.initial.self bytes qs
           → (more : List ℕ) × Came g.S.Source.told (g.S.Source.taken before) (g.S.Source.taken l.source) (g.S.Source.left_bytes before) (g.S.Source.left_bytes l.source) more
-              × Reads g.R.Protocol.spelling (λ x. g.R.Protocol.was_fed x l.protocol) l.self (bytes ++ more) qs;
+          × Reads g.R.Protocol.spelling (λ x. g.R.Protocol.was_fed x l.protocol) l.self (bytes ++ more) qs;
     }
 
 abbrev pub decreases-loop-request : goal.decreases-loop-request
