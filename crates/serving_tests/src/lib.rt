@@ -4,8 +4,8 @@
 //! proves no other crate again. Nothing stands on it, and it promises nothing.
 #![tactic(auto)]
 
-mod steady;
 #[cfg(test)]
 mod runs;
+mod steady;
 
 pub use steady::Steady;

@@ -19,6 +19,7 @@ const LINES: &[u8] = b"free\nwhat\nfree";
 const FRAMES: &[u8] = b"\x01\x00\x07\x01\x00\x07";
 
 /// What is done to a run, and how it ends.
+#[derive(Clone, Copy)]
 struct Case {
     limit: u64,
     call: u64,
@@ -30,15 +31,69 @@ struct Case {
 /// Each request costs three calls: the sync that carries it out, the put of its reply, and the sync that settles. The end
 /// costs one. Three bytes come at a time.
 const LINE_CASES: [Case; 9] = [
-    Case { limit: 14, call: NEVER, take: NEVER, status: Status::Done, sent: b"ok\nok\nok\n" },
-    Case { limit: 13, call: NEVER, take: NEVER, status: Status::TooLong, sent: b"ok\nok\n" },
-    Case { limit: 4, call: NEVER, take: NEVER, status: Status::TooLong, sent: b"" },
-    Case { limit: 14, call: 0, take: NEVER, status: Status::DeviceFault, sent: b"" },
-    Case { limit: 14, call: 1, take: NEVER, status: Status::PutFault, sent: b"" },
-    Case { limit: 14, call: 2, take: NEVER, status: Status::DeviceFault, sent: b"ok\n" },
-    Case { limit: 14, call: 9, take: NEVER, status: Status::DeviceFault, sent: b"ok\nok\nok\n" },
-    Case { limit: 14, call: NEVER, take: 0, status: Status::SourceFault, sent: b"" },
-    Case { limit: 14, call: NEVER, take: 4, status: Status::SourceFault, sent: b"ok\nok\n" },
+    Case {
+        limit: 14,
+        call: NEVER,
+        take: NEVER,
+        status: Status::Done,
+        sent: b"ok\nok\nok\n",
+    },
+    Case {
+        limit: 13,
+        call: NEVER,
+        take: NEVER,
+        status: Status::TooLong,
+        sent: b"ok\nok\n",
+    },
+    Case {
+        limit: 4,
+        call: NEVER,
+        take: NEVER,
+        status: Status::TooLong,
+        sent: b"",
+    },
+    Case {
+        limit: 14,
+        call: 0,
+        take: NEVER,
+        status: Status::DeviceFault,
+        sent: b"",
+    },
+    Case {
+        limit: 14,
+        call: 1,
+        take: NEVER,
+        status: Status::PutFault,
+        sent: b"",
+    },
+    Case {
+        limit: 14,
+        call: 2,
+        take: NEVER,
+        status: Status::DeviceFault,
+        sent: b"ok\n",
+    },
+    Case {
+        limit: 14,
+        call: 9,
+        take: NEVER,
+        status: Status::DeviceFault,
+        sent: b"ok\nok\nok\n",
+    },
+    Case {
+        limit: 14,
+        call: NEVER,
+        take: 0,
+        status: Status::SourceFault,
+        sent: b"",
+    },
+    Case {
+        limit: 14,
+        call: NEVER,
+        take: 4,
+        status: Status::SourceFault,
+        sent: b"ok\nok\n",
+    },
 ];
 
 /// One number, where it is one.
@@ -83,7 +138,11 @@ fn it_settles_after_each_reply_and_closes_once(rt: HostRuntime) -> Result<(), Fa
 #[test]
 fn frames_are_served(rt: HostRuntime) -> Result<(), Fail> {
     let alloc = rt.alloc();
-    for (len, want) in [(6, Status::Done), (5, Status::Truncated), (4, Status::Truncated)] {
+    for (len, want) in [
+        (6, Status::Done),
+        (5, Status::Truncated),
+        (4, Status::Truncated),
+    ] {
         let mut bytes = Vec::new(alloc);
         bytes.extend_from_slice(&FRAMES[..len])?;
         let mut source = MemSource::new(bytes, 1, Vec::new(alloc));
@@ -91,7 +150,11 @@ fn frames_are_served(rt: HostRuntime) -> Result<(), Fail> {
         let mut cutter = FrameCutter::new(alloc)?;
         let status = serve(&mut Steady, &mut cutter, &mut source, &mut port, 100);
         assert_eq!(rt; status, want);
-        let sent: &[u8] = if want == Status::Done { b"\x01\x00\x01\x01\x00\x01" } else { b"\x01\x00\x01" };
+        let sent: &[u8] = if want == Status::Done {
+            b"\x01\x00\x01\x01\x00\x01"
+        } else {
+            b"\x01\x00\x01"
+        };
         assert_eq!(rt; port.sent(), sent);
     }
     Ok(())

@@ -9,10 +9,12 @@
 //! (`specs/StatusText.antt`).
 #![tactic(auto)]
 
+mod commands;
 mod image_text;
 mod status;
 mod words;
 
+pub use commands::{Command, Format, Fresh, LOAD_MAX, Load, SEED_BYTES};
 pub use image_text::image_line;
 pub use status::{Status, status_line};
-pub use words::{Fresh, command};
+pub use words::command;
