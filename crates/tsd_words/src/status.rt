@@ -1,7 +1,7 @@
 //! How a run ends.
 
 ghost use Rattle.std.specs.Prelude.{◌≡◌, ◌≢◌, ◌<◌, ◌∷◌, ◌++◌, [], length};
-ghost use Rattle.tsd_serve.specs.StatusText.{status_code, status_text};
+ghost use Rattle.tsd_words.specs.StatusText.{status_code, status_text};
 
 use crate::image_text::put_fault;
 use image_layout::ImageFault;

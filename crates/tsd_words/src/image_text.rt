@@ -2,7 +2,7 @@
 
 ghost use Rattle.std.specs.Prelude.{◌≡◌, ◌+◌, ◌≤◌, ◌∷◌, ◌++◌, [], length, decimal};
 ghost use Rattle.std.specs.List.{join_with_byte};
-ghost use Rattle.tsd_serve.specs.StatusText.{fault_text, header_words};
+ghost use Rattle.tsd_words.specs.StatusText.{fault_text, header_words};
 
 use image_layout::{HeaderFault, ImageFault};
 use script_text::OutBuf;

@@ -6,8 +6,8 @@ use Rattle.image_layout.specs.declared.fault.HeaderFault.TheVariants as header
 use Rattle.image_layout.specs.declared.fault.ImageFault.{ImageFault}
 use Rattle.image_layout.specs.declared.fault.ImageFault.TheVariants as fault
 use Rattle.script_text.specs.Texts.{level_text}
-use Rattle.tsd_serve.specs.declared.status.Status.{Status}
-use Rattle.tsd_serve.specs.declared.status.Status.TheVariants as status
+use Rattle.tsd_words.specs.declared.status.Status.{Status}
+use Rattle.tsd_words.specs.declared.status.Status.TheVariants as status
 
 abbrev pub header_words : HeaderFault → List (List ℕ)
 header_words header.Magic = codes "magic" ∷ []
