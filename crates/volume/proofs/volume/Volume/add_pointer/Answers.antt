@@ -21,7 +21,7 @@ pub add_pair-requires-clause-room : goal.add_pair-requires-clause-room
 add_pair-requires-clause-room g c = elim c.if-len-self.branch [
   | then-len-self+in_ok-settle_all w ↦
       subst (λ (v : Volume). length (pairs_of v.tables) < v.tables.geometry.slots) (sym w.self-is)
-      (room_settled c.args.self.now w.settle_all.new.self w.in_ok-settle_all.ensures.ready w.in_ok-settle_all.ensures.settled w.in_ok-settle_all.ensures.told w.in_ok-settle_all.ensures.size c.requires.room)
+      (room_settled c.args.self.now w.settle_all.new.self w.in_ok-settle_all.ensures.ready w.in_ok-settle_all.ensures.settled w.in_ok-settle_all.ensures.told w.settle_all.ensures.size.0 c.requires.room)
   | else-len-self w ↦
       let here = w.self-is in
       subst (λ (v : Volume). length (pairs_of v.tables) < v.tables.geometry.slots) (sym here)
