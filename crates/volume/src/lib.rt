@@ -6,6 +6,7 @@ mod caps;
 mod emptying;
 mod fault;
 mod grow;
+mod finishing;
 mod growing;
 mod load;
 mod parts;
