@@ -185,15 +185,25 @@ impl Volume {
         ensures next { IfSome result (λ s. IsNext self.old.tables s) }
         ensures none { IsNone result ↔ (owed self.old.tables ≡ 0) }
     {
+        if self.is_settled() {
+            return None;
+        }
         self.work.collect(&self.counts, &self.live, self.header.geometry.primaries);
         next_step(&self.pointers, &self.counts, &self.live, &mut self.work)
     }
 
     /// Whether a step is left.
-    fn is_owed(&mut self) -> bool
-        ensures same { self.new ≡ self.old }
-        ensures value { IsTrue result ↔ (0 < owed self.old.tables) }
+    fn is_owed(&self) -> bool
+        requires { IsReady self.now }
+        ensures { IsTrue result ↔ (0 < owed self.now.tables) }
     {
-        self.next().is_some()
+        self.doomed_count() > 0
+    }
+
+    /// Whether it is known that no step is left.
+    fn is_settled(&self) -> bool
+        ensures { result ≡ true → owed self.now.tables ≡ 0 }
+    {
+        self.is_ready && self.ahead.doomed() == 0
     }
 }

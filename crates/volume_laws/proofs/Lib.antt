@@ -26,3 +26,4 @@ pub mod ZeroedLaws
 pub mod ZeroLaws
 pub mod Allocated
 pub mod OwedLaws
+pub mod ReadLaws

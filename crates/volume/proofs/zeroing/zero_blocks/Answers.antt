@@ -6,7 +6,7 @@ use Rattle.image_device.proofs.Confined.{confined_joined, confined_wider}
 use Rattle.image_layout.specs.Places.{data_sector}
 use Rattle.volume_laws.specs.Zeroed.{is_part, is_data}
 use Rattle.volume_laws.proofs.ZeroLaws.{at_number, number_at, data_wider, uses_more}
-use Rattle.image_world.proofs.WrittenLaws.{parts_apart}
+use Rattle.image_layout.proofs.ThingLaws.{parts_apart}
 use Rattle.volume_laws.proofs.ZeroedLaws.{part_inside}
 use Rattle.volume.proofs.zeroing.zero_blocks.Goals as goal
 
