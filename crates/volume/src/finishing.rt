@@ -78,11 +78,15 @@ impl Volume {
         ensures faultless { OnOk result ((D.view dev.new).faults ≡ (D.view dev.old).faults) }
         ensures cause { OnErr result (Rose (D.view dev.old).faults (D.view dev.new).faults) }
     {
-        Err(Failed)
+        if self.is_sweeping {
+            self.end_open_sweep(dev)
+        } else {
+            Ok(())
+        }
     }
 
     /// Where nothing is lost, what is kept ahead of reclamation is right from now on.
-    fn make_ready(&mut self)
+    pub(crate) fn make_ready(&mut self)
         requires { owed self.old.tables ≡ 0 }
         ensures { self.new ≡ record self.old { is_ready = true } }
     {
@@ -91,7 +95,7 @@ impl Volume {
     }
 
     /// How many blocks are free on the disk as it is: what is lost and not reclaimed yet counts as live.
-    fn raw_free_count(&self) -> u32
+    pub(crate) fn raw_free_count(&self) -> u32
         ensures { result ≡ free_count (world_with self.now.tables (zeros_of self.now.tables)) }
     {
         count_free(&self.live)

@@ -15,6 +15,7 @@ mod questions;
 mod read;
 mod settling;
 mod steps;
+mod sweeping;
 mod volume;
 mod write;
 mod zeroing;
