@@ -99,3 +99,9 @@ then_moments v0 v1 v2 change one w1 s1 two =
     joined v0 v1 v2 (λ x f. StandsForEither (world_on v0) (change (world_on v0)) x × (f ≡ v0.sent)) (λ x f. StandsForEither (world_on v1) (change (world_on v1)) x × (f ≡ v1.sent))
     (weakened v0 v1 (λ x f. Stands x (world_on v0) × (f ≡ v0.sent)) (λ x f. StandsForEither (world_on v0) (change (world_on v0)) x × (f ≡ v0.sent)) one (λ x f left. (inl left.0, left.1)))
     two (λ x f left. (subst (λ w. StandsForEither w (change w) x) w1 left.0, left.1 ∙ s1))
+
+-- two runs, of which the first changes the world
+pub change_first : (v0 v1 v2 : View) (change : World → World) → LeavesEither v0 v1 (change (world_on v0)) → world_on v1 ≡ change (world_on v0) → v1.sent ≡ v0.sent → LeavesWorld v1 v2 → LeavesEither v0 v2 (change (world_on v0))
+change_first v0 v1 v2 change one w1 s1 two =
+    joined v0 v1 v2 (λ x f. StandsForEither (world_on v0) (change (world_on v0)) x × (f ≡ v0.sent)) (λ x f. Stands x (world_on v1) × (f ≡ v1.sent)) one two
+    (λ x f left. (inr (subst (Stands x) w1 left.0), left.1 ∙ s1))

@@ -27,3 +27,5 @@ pub mod ZeroLaws
 pub mod Allocated
 pub mod OwedLaws
 pub mod ReadLaws
+pub mod ErasedLaws
+pub mod UpgradeLaws
