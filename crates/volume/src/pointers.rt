@@ -93,7 +93,7 @@ impl Volume {
     }
 
     /// How many blocks are doomed.
-    fn doomed_count(&self) -> u32
+    pub(crate) fn doomed_count(&self) -> u32
         requires { IsReady self.now }
         ensures { result ≡ length (doomed (graph_in self.now.tables)) }
     {

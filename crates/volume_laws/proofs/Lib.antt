@@ -25,3 +25,5 @@ pub mod Made
 pub mod ZeroedLaws
 pub mod ZeroLaws
 pub mod Allocated
+pub mod OwedLaws
+pub mod ReadLaws

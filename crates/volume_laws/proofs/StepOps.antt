@@ -131,10 +131,10 @@ step_most vol now s rs old new batch this is uses = record {
 pub either_same : (old new : View) → LeavesEither old new (world_on old) → LeavesWorld old new
 either_same old new leaves = weakened old new _ (λ x f. Stands x (world_on old) × (f ≡ old.sent)) leaves (λ x f left. (⊎_elim (λ s. s) (λ s. s) left.0, left.1))
 
-before_tables : (vol : Volume) (old : View) (x : Image) → IsAt vol old → IsBefore old x → tables_of (home x) ≡ vol.tables
+pub before_tables : (vol : Volume) (old : View) (x : Image) → IsAt vol old → IsBefore old x → tables_of (home x) ≡ vol.tables
 before_tables vol old x at before = alike_tables (home old.reads) (home x) at.good.header (alike_outside (home old.reads) (home x) (λ n out. before.stands n (rw (out, at.firm n) refl))) ∙ at.tables
 
-after_tables : (vol : Volume) (old : View) (x : Image) (batch : List Patch) (now : Tables) → IsAt vol old → Turns vol.tables now batch → IsAfter batch old x → tables_of (home x) ≡ now
+pub after_tables : (vol : Volume) (old : View) (x : Image) (batch : List Patch) (now : Tables) → IsAt vol old → Turns vol.tables now batch → IsAfter batch old x → tables_of (home x) ≡ now
 after_tables vol old x batch now at turns after = has_one now (home x) turns.sound (turned_had vol old x batch now at turns after.stands)
 
 -- what is owed in the images that a commit leaves
@@ -144,3 +144,8 @@ owed_moments vol old new batch now most at turns here then leaves =
     weakened old new _ (λ x f. owed (tables_of (home x)) ≤ most) leaves (λ x f left. ⊎_elim
     (λ before. subst (λ (t : Tables). owed t ≤ most) (sym (before_tables vol old x at before)) here)
     (λ after. subst (λ (t : Tables). owed t ≤ most) (sym (after_tables vol old x batch now at turns after)) then) left.0)
+
+-- by an operation that owes no more
+pub op_owed : (fit : (ℕ → List ℕ) → Type 0) (vol : Volume) (old new : View) (now : Tables) (batch : List Patch) (homes : ℕ) (change : World → World) → IsOp fit vol now batch homes 0 change → IsAt vol old
+    → LeavesOnly old new (λ x f. IsBeforeOrAfter batch old x × (f ≡ old.sent)) → LeavesOwed old new (owed vol.tables)
+op_owed fit vol old new now batch homes change op at leaves = owed_moments vol old new batch now (owed vol.tables) at op.turns (omega arith) (let e = op.owes in omega (arith, e)) leaves

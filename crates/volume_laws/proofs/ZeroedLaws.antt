@@ -113,11 +113,13 @@ zeroed_bytes vol v bs z = λ b in_.
     ap (λ (g : Geometry). sector_bytes (home v.reads) (data_sector g b 0) g.sectors) size
     ∙ zero_bytes (home v.reads) (data_sector vol.tables.geometry b 0) vol.tables.geometry.sectors (λ i h. ap (home v.reads) (omega arith) ∙ z.zeroed b i in_ h)
 
--- what a crash leaves before the batch counts
-loosely_before : (vol : Volume) (old : View) (bs : List ℕ) (x : Image) → IsZeroedAt vol old bs → AreFree vol.tables.live vol.tables.geometry.blocks bs → IsBefore old x → Stands x (world_on old)
-loosely_before vol old bs x z free before =
-    stands_alike old.reads x (world_on old) alike
-    (formatted_by old.reads x (there format_gate refl (low_data g bs format_gate (omega arith))) z.at.good.formatted) before.valid (record { good = z.at.good; world = refl })
+-- what a crash leaves before the batch counts is alike
+loosely_alike : (vol : Volume) (old : View) (bs : List ℕ) (x : Image) → IsZeroedAt vol old bs → AreFree vol.tables.live vol.tables.geometry.blocks bs → IsBefore old x → AreAlike (home old.reads) (home x)
+loosely_alike vol old bs x z free before = record {
+  header = there header_sector refl (low_data g bs header_sector (omega arith));
+  areas = λ n from to. there n (above_journal n from) (low_data g bs n (subst (λ k. n < data_start k) size to));
+  blocks = λ b part inside within live. there (data_sector (header_on (home old.reads)).geometry b part) (above_journal (data_sector (header_on (home old.reads)).geometry b part) (omega arith)) (unused.apart b part inside within live);
+}
   where
     g : Geometry
     g = vol.tables.geometry
@@ -134,12 +136,24 @@ loosely_before vol old bs x z free before =
     size : (header_on (home old.reads)).geometry ≡ g
     size = image_geometry vol (firmed old) z.at
 
-    alike : AreAlike (home old.reads) (home x)
-    alike = record {
-      header = there header_sector refl (low_data g bs header_sector (omega arith));
-      areas = λ n from to. there n (above_journal n from) (low_data g bs n (subst (λ k. n < data_start k) size to));
-      blocks = λ b part inside within live. there (data_sector (header_on (home old.reads)).geometry b part) (above_journal (data_sector (header_on (home old.reads)).geometry b part) (omega arith)) (unused.apart b part inside within live);
-    }
+-- so its tables are the volume's
+pub loosely_tables : (vol : Volume) (old : View) (bs : List ℕ) (x : Image) → IsZeroedAt vol old bs → AreFree vol.tables.live vol.tables.geometry.blocks bs → IsBefore old x → tables_of (home x) ≡ vol.tables
+loosely_tables vol old bs x z free before = alike_tables (home old.reads) (home x) z.at.good.header (loosely_alike vol old bs x z free before) ∙ z.at.tables
+
+-- and it stands for the same world
+loosely_before : (vol : Volume) (old : View) (bs : List ℕ) (x : Image) → IsZeroedAt vol old bs → AreFree vol.tables.live vol.tables.geometry.blocks bs → IsBefore old x → Stands x (world_on old)
+loosely_before vol old bs x z free before =
+    stands_alike old.reads x (world_on old) (loosely_alike vol old bs x z free before)
+    (formatted_by old.reads x (there format_gate refl (low_data g bs format_gate (omega arith))) z.at.good.formatted) before.valid (record { good = z.at.good; world = refl })
+  where
+    g : Geometry
+    g = vol.tables.geometry
+
+    there : (n : ℕ) → is_journal n ≡ false → is_data g bs n ≡ false → home x n ≡ home old.reads n
+    there n out none = before.stands n (neither n out (z.loose n none))
+      where
+        neither : (m : ℕ) → is_journal m ≡ false → old.loose m ≡ false → (is_journal m || old.loose m) ≡ false
+        neither m one two = rw (one, two) refl
 
 pub zeroed_moments : (vol : Volume) (old new : View) (bs : List ℕ) (batch : List Patch) (t : Tables) (w : World) → IsZeroedAt vol old bs → AreFree vol.tables.live vol.tables.geometry.blocks bs → Turns vol.tables t batch → turned_world t old ≡ w
     → LeavesOnly old new (λ x f. IsBeforeOrAfter batch old x × (f ≡ old.sent)) → LeavesEither old new w

@@ -13,4 +13,5 @@ invariant-loop-part g l =
       zeroed : g.D.Device.told → (part : ℕ) → part < l.part → (view l.dev).reads (data_sector l.layout.geometry l.block part) ≡ zeros;
       confined : g.D.Device.told → IsConfined (is_part l.layout.geometry l.block) (view l.fn.dev) (view l.dev);
       uses : Uses l.part (view l.fn.dev) (view l.dev);
+      faultless : (view l.dev).faults ≡ (view l.fn.dev).faults;
     }

@@ -6,7 +6,7 @@ use Rattle.image_device.proofs.Confined.{confined_joined, confined_wider}
 use Rattle.image_layout.specs.Places.{data_sector}
 use Rattle.volume_laws.specs.Zeroed.{is_part, is_data}
 use Rattle.volume_laws.proofs.ZeroLaws.{at_number, number_at, data_wider, uses_more}
-use Rattle.image_world.proofs.WrittenLaws.{parts_apart}
+use Rattle.image_layout.proofs.ThingLaws.{parts_apart}
 use Rattle.volume_laws.proofs.ZeroedLaws.{part_inside}
 use Rattle.volume.proofs.zeroing.zero_blocks.Goals as goal
 
@@ -47,6 +47,7 @@ loop-index-preserved g c =
       confined = λ told. confined_joined (is_data k bs) (view c.args.dev.now) (view c.loop-index.dev) new (c.loop-index.invariant.confined told)
           (confined_wider (is_part k (slice_index bs i)) (is_data k bs) (view c.loop-index.dev) new (λ n out. data_wider k bs i n c.loop-index-test.true out) (c.zero_block.ensures.confined told));
       uses = uses_more (k.sectors * i) k.sectors (k.sectors * (i + 1)) (view c.args.dev.now) (view c.loop-index.dev) new (omega arith) c.loop-index.invariant.uses c.zero_block.ensures.uses;
+      faultless = c.in_ok-zero_block.ensures.faultless ∙ c.loop-index.invariant.faultless;
     }
 
 pub returns-clause-zeroed : goal.returns-clause-zeroed

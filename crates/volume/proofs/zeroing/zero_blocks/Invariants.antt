@@ -14,4 +14,5 @@ invariant-loop-index g l =
       zeroed : g.D.Device.told → (k part : ℕ) → k < l.index → part < l.layout.geometry.sectors → (view l.dev).reads (data_sector l.layout.geometry (slice_index l.blocks k) part) ≡ zeros;
       confined : g.D.Device.told → IsConfined (is_data l.layout.geometry l.blocks) (view l.fn.dev) (view l.dev);
       uses : Uses (l.layout.geometry.sectors * l.index) (view l.fn.dev) (view l.dev);
+      faultless : (view l.dev).faults ≡ (view l.fn.dev).faults;
     }

@@ -21,6 +21,7 @@ use Rattle.std.proofs.Common.{Bool, true}
 use Rattle.reclaim.specs.Ahead.{Kept, is_gone, IsAheadOf}
 use Rattle.volume_laws.specs.Graphs.{graph_in}
 use Rattle.volume_laws.proofs.AheadKept.{growing, none_gone, hides_none, none_hides}
+use Rattle.volume_laws.proofs.OwedLaws.{zeroed_owed}
 use Rattle.volume.proofs.volume.Volume.add_blocks.Given
 use Rattle.volume.proofs.volume.Volume.add_blocks.Goals as goal
 
@@ -155,3 +156,8 @@ returns-clause-paid g c =
     subst (λ (k : ℕ). OnOk c.commit-outcome.result (IsPaid k c.args.self.now (g.D.Device.view c.args.dev.now) (now g c) (g.D.Device.view c.commit-outcome.new.dev))) none
     (op_paid c.commit-outcome.result (has_zeros c.args.self.now.tables c.args.blocks.now) c.args.self.now (now g c) c.self.inside.ring (g.D.Device.view c.args.dev.now) (g.D.Device.view c.commit-outcome.new.dev) c.put_new.new.batch (3 * length c.args.blocks.now) 0 _ (this g c)
     (ap (λ (w : Volume). w.ring) c.self.view_is) c.commit-outcome.ensures.uses c.commit-outcome.ensures.records)
+
+pub returns-clause-any_owed : goal.returns-clause-any_owed
+returns-clause-any_owed g c told =
+    zeroed_owed c.args.self.now (g.D.Device.view c.args.dev.now) (g.D.Device.view c.commit-outcome.new.dev) c.args.blocks.now c.put_new.new.batch (now g c).tables (c.requires.at told) c.requires.free (these g c).turns
+    (let none = (these g c).settled in omega (arith, none)) (c.commit-outcome.ensures.any_moment told)

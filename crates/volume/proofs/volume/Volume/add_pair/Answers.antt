@@ -24,6 +24,7 @@ use Rattle.tsd_model.specs.World.{World}
 use Rattle.reclaim.specs.Ahead.{IsAheadOf, is_gone}
 use Rattle.volume_laws.specs.Graphs.{graph_in}
 use Rattle.volume_laws.proofs.AheadKept.{adding, graph_added, gone_added, hides_same}
+use Rattle.volume_laws.proofs.StepOps.{op_owed}
 use Rattle.volume.proofs.volume.Volume.add_pair.Given
 use Rattle.volume.proofs.volume.Volume.add_pair.Goals as goal
 
@@ -171,3 +172,6 @@ pub returns-clause-paid : goal.returns-clause-paid
 returns-clause-paid g c =
     op_paid c.commit-outcome.result any_bytes c.args.self.now (now g c) c.self.inside.ring (g.D.Device.view c.args.dev.now) (g.D.Device.view c.commit-outcome.new.dev) c.put-2.new.self 2 0 _ (this g c)
     (ap (λ (w : Volume). w.ring) c.self.view_is) c.commit-outcome.ensures.uses c.commit-outcome.ensures.records
+
+pub returns-clause-any_owed : goal.returns-clause-any_owed
+returns-clause-any_owed g c told = op_owed any_bytes c.args.self.now (g.D.Device.view c.args.dev.now) (g.D.Device.view c.commit-outcome.new.dev) (now g c).tables c.put-2.new.self 2 _ (this g c) (c.requires.at told) (c.commit-outcome.ensures.any_moment told)

@@ -20,7 +20,7 @@ grow-requires-clause-room g c =
     let now = c.settle_all.new.self in
     let ok = c.in_ok-settle_all.ensures in
     subst (λ (bs : List ℕ). length (pairs_of now.tables) + length bs ≤ now.tables.geometry.slots) (sym c.as_slice.ensures.value)
-    (told_room c.args.self.now now c.args.blocks.now ok.ready ok.settled ok.told ok.size c.requires.room)
+    (told_room c.args.self.now now c.args.blocks.now ok.ready ok.settled ok.told c.settle_all.ensures.size.0 c.requires.room)
 
 pub returns-clause-any_moment : goal.returns-clause-any_moment
 returns-clause-any_moment g c told =

@@ -1,6 +1,7 @@
 use Rattle.std.proofs.Common.{refl, ap}
 use Rattle.volume_laws.specs.Volume.{Volume}
 use Rattle.volume_laws.proofs.Committed.{emptied_ok, before_moments, ok_map}
+use Rattle.volume_laws.proofs.OwedLaws.{kept_owed}
 use Rattle.volume.proofs.volume.Volume.empty_ring.Goals as goal
 
 pub returns-clause-at : goal.returns-clause-at
@@ -22,3 +23,7 @@ returns-clause-done g c told =
 pub returns-clause-any_moment : goal.returns-clause-any_moment
 returns-clause-any_moment g c told =
     before_moments c.args.self.now (g.D.Device.view c.args.dev.now) (g.D.Device.view c.checkpoint-outcome.new.dev) (c.requires.at told) (c.checkpoint-outcome.ensures.any_moment told)
+
+pub returns-clause-any_owed : goal.returns-clause-any_owed
+returns-clause-any_owed g c told =
+    kept_owed c.args.self.now (g.D.Device.view c.args.dev.now) (g.D.Device.view c.checkpoint-outcome.new.dev) (c.requires.at told) (c.checkpoint-outcome.ensures.any_moment told)

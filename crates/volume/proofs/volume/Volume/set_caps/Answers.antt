@@ -20,6 +20,7 @@ use Rattle.volume_laws.specs.Turns.{Turns}
 use Rattle.volume_laws.proofs.Ops.{any_bytes, IsOp, op_at, op_done, op_told, op_moments, op_paid}
 use Rattle.volume_laws.proofs.Kept.{caps_set, left_with_caps, owed_kept}
 use Rattle.image_world.specs.Sound.{AreSound}
+use Rattle.volume_laws.proofs.StepOps.{op_owed}
 use Rattle.volume.proofs.volume.Volume.set_caps.Given
 use Rattle.volume.proofs.volume.Volume.set_caps.Goals as goal
 
@@ -86,3 +87,6 @@ pub returns-clause-paid : goal.returns-clause-paid
 returns-clause-paid g c =
     op_paid c.commit-outcome.result any_bytes c.args.self.now (now g c) c.self.inside.ring (g.D.Device.view c.args.dev.now) (g.D.Device.view c.commit-outcome.new.dev) c.put.new.self 1 0 _ (this g c)
     (ap (λ (w : Volume). w.ring) c.self.view_is) c.commit-outcome.ensures.uses c.commit-outcome.ensures.records
+
+pub returns-clause-any_owed : goal.returns-clause-any_owed
+returns-clause-any_owed g c told = op_owed any_bytes c.args.self.now (g.D.Device.view c.args.dev.now) (g.D.Device.view c.commit-outcome.new.dev) (now g c).tables c.put.new.self 1 _ (this g c) (c.requires.at told) (c.commit-outcome.ensures.any_moment told)

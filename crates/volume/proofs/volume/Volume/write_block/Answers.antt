@@ -14,6 +14,7 @@ use Rattle.volume_laws.specs.Moments.{LeavesEither}
 use Rattle.volume_laws.proofs.BlockLaws.{length-filled}
 use Rattle.volume_laws.proofs.Costs.{paid}
 use Rattle.volume_laws.proofs.Committed.{written_ok, written_moments, told_geometry, told_inside, ok_map}
+use Rattle.volume_laws.proofs.OwedLaws.{written_owed}
 use Rattle.volume.proofs.volume.Volume.write_block.Goals as goal
 
 -- the bytes as the body has them are those of the clause
@@ -85,3 +86,8 @@ returns-clause-paid g c =
     subst (λ (t : Tables). OnOk c.commit-outcome.result (IsPaid (batch_cost c.args.self.now.tables.geometry.sectors) c.args.self.now old (record { tables = t; ring = c.commit-outcome.new.self; is_ready = c.self.inside.is_ready; is_spent = c.is_err-self-inside.result }) new))
     (sym (ap (λ (w : Volume). w.tables) c.self.view_is))
     (paid c.commit-outcome.result c.args.self.now (record { tables = c.args.self.now.tables; ring = c.commit-outcome.new.self; is_ready = c.self.inside.is_ready; is_spent = c.is_err-self-inside.result }) c.put_block.new.batch c.args.self.now.tables.geometry.sectors old new few uses records refl)
+
+pub returns-clause-any_owed : goal.returns-clause-any_owed
+returns-clause-any_owed g c told =
+    written_owed c.args.self.now (g.D.Device.view c.args.dev.now) (g.D.Device.view c.commit-outcome.new.dev) c.put_block.new.batch c.of.result.geometry c.args.block (filled (block_len c.of.result.geometry) c.as_slice.result.now)
+    (c.requires.at told) (c.of.ensures ∙ ap (λ (w : Volume). w.tables.geometry) c.self.view_is) c.put_block.ensures.written (c.commit-outcome.ensures.any_moment told)

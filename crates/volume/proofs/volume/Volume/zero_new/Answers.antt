@@ -10,6 +10,7 @@ use Rattle.volume_laws.specs.Zeroed.{is_data}
 use Rattle.volume_laws.proofs.Committed.{ok_map}
 use Rattle.volume_laws.proofs.Loose.{unused_moments}
 use Rattle.volume_laws.proofs.ZeroedLaws.{free_inside, data_unused, zero_done, zeroed_at}
+use Rattle.volume_laws.proofs.OwedLaws.{unused_owed}
 use Rattle.volume.proofs.volume.Volume.zero_new.Given
 use Rattle.volume.proofs.volume.Volume.zero_new.Goals as goal
 
@@ -52,4 +53,13 @@ returns-clause-any_moment g c told =
     let old = view c.args.dev.now in
     let new = view c.zero_blocks-outcome.new.dev in
     unused_moments c.args.self.now old new (is_data c.args.self.now.tables.geometry c.args.blocks.now) (c.requires.at told) (data_unused c.args.self.now old c.args.blocks.now (c.requires.at told) c.requires.free)
+    (subst (λ (k : Geometry). IsConfined (is_data k c.args.blocks.now) old new) size (c.zero_blocks-outcome.ensures.confined told))
+
+pub returns-clause-any_owed : goal.returns-clause-any_owed
+returns-clause-any_owed g c told =
+    let view = g.D.Device.view in
+    let size = c.of.ensures ∙ ap (λ (w : Volume). w.tables.geometry) c.self.view_is in
+    let old = view c.args.dev.now in
+    let new = view c.zero_blocks-outcome.new.dev in
+    unused_owed c.args.self.now old new (is_data c.args.self.now.tables.geometry c.args.blocks.now) (c.requires.at told) (data_unused c.args.self.now old c.args.blocks.now (c.requires.at told) c.requires.free)
     (subst (λ (k : Geometry). IsConfined (is_data k c.args.blocks.now) old new) size (c.zero_blocks-outcome.ensures.confined told))
