@@ -34,42 +34,14 @@ use Rattle.image_world.specs.Stands.{world_of, Stands}
 use Rattle.image_world.proofs.LikeLaws.{left_like, tables_like, left_live, live_inside}
 use Rattle.image_world.proofs.RawLaws.{blocks_with}
 use Rattle.image_world.proofs.AlikeLaws.{alike_tables}
-use Rattle.image_world.proofs.StandLaws.{stands_alike}
+use Rattle.image_world.proofs.AgreeLaws.{alike_outside, formatted_by, old_stands}
 use Rattle.image_world.proofs.WrittenLaws.{above_journal, written_stands, written_tables}
 use Rattle.volume_laws.specs.Volume.{Volume, IsAt, told_by, world_on}
 use Rattle.volume_laws.specs.Moments.{StandsForEither, LeavesEither, LeavesWorld}
 
--- ---- the format gate is no home
-lawful_missed : (ps : List Patch) (n : ℕ) → list_all is_lawful_home (homes_of ps) ≡ true → is_lawful_home n ≡ false → has_home ps n ≡ false
-lawful_missed [] n lawful out = refl
-lawful_missed (p ∷ ps) n lawful out =
-    let parts = and_true_parts (is_lawful_home p.sector) (list_all is_lawful_home (homes_of ps)) lawful in
-    elim (cases_Bool (p.sector == n)) [
-      | inl e ↦ absurd (both p.sector n e parts.0 out)
-      | inr e ↦ rw e (lawful_missed ps n parts.1 out)
-    ]
-  where
-    both : (m k : ℕ) → (m == k) ≡ true → is_lawful_home m ≡ true → is_lawful_home k ≡ false → ⊥
-    both m k e f g = grind (arith, nat_tests)
-
-pub home_gate : (x : Image) → home x format_gate ≡ x format_gate
-home_gate x = home_missed x format_gate (lawful_missed (patches_of (open_records x)) format_gate (opened_lawful x) refl)
-
-pub formatted_by : (x y : Image) → home y format_gate ≡ home x format_gate → IsFormatted x → IsFormatted y
-formatted_by x y same formatted = ap is_open (sym (home_gate y) ∙ (same ∙ home_gate x)) ∙ formatted
-
 -- ---- homes that agree outside the journal
-pub alike_outside : (x y : Image) → ((n : ℕ) → is_journal n ≡ false → y n ≡ x n) → AreAlike x y
-alike_outside x y same = record {
-  header = same header_sector refl;
-  areas = λ n from to. same n (above_journal n from);
-  blocks = λ b part inside within live. same (data_sector (header_on x).geometry b part) (above_journal (data_sector (header_on x).geometry b part) (omega arith));
-}
-
 pub agree_stands : (vol : Volume) (old : View) (x : Image) → IsAt vol old → ((n : ℕ) → is_journal n ≡ false → home x n ≡ home old.reads n) → HasJournal x → Stands x (world_on old)
-agree_stands vol old x at same valid =
-    stands_alike old.reads x (world_on old) (alike_outside (home old.reads) (home x) same)
-    (formatted_by old.reads x (same format_gate refl) at.good.formatted) valid (record { good = at.good; world = refl })
+agree_stands vol old x at same valid = old_stands old.reads x at.good same valid
 
 pub before_stands : (vol : Volume) (old : View) (x : Image) → IsAt vol old → IsBefore old x → Stands x (world_on old)
 before_stands vol old x at before = agree_stands vol old x at (λ n out. before.stands n (neither n out)) before.valid

@@ -34,7 +34,7 @@ use Rattle.image_world.specs.Tables.{Tables, pairs_of}
 use Rattle.image_world.specs.Raw.{left_of, world_with, zeros_of, blank_of}
 use Rattle.volume_laws.specs.Volume.{tables_in}
 use Rattle.volume_laws.proofs.BlockLaws.{length-with_patch}
-use Rattle.volume_laws.specs.Turns.{Turns}
+use Rattle.image_world.specs.Turns.{Turns}
 use Rattle.volume_laws.specs.Graphs.{graph_in}
 use Rattle.volume_laws.proofs.TableWorlds.{laid_out, told_held, settled_held}
 use Rattle.volume_laws.proofs.Pointed.{pointer_turn, one_at, none_at}

@@ -21,7 +21,8 @@ use Rattle.image_world.proofs.AlikeLaws.{alike_tables}
 use Rattle.volume_laws.specs.Erased.{is_body}
 use Rattle.volume_laws.specs.Moments.{LeavesWorld, LeavesOwed, owed}
 use Rattle.volume_laws.specs.Volume.{Volume, IsAt, world_on}
-use Rattle.volume_laws.proofs.Committed.{alike_outside, agree_stands, same_new}
+use Rattle.volume_laws.proofs.Committed.{agree_stands, same_new}
+use Rattle.image_world.proofs.AgreeLaws.{alike_outside}
 
 gate_out : (index : ℕ) → index < 8 → is_body (gate_sector index) ≡ false
 gate_out index less = elim (cases_eq index 0) [

@@ -27,7 +27,7 @@ use Rattle.image_world.specs.Tables.{Tables, pairs_of}
 use Rattle.image_world.specs.Raw.{world_with, zeros_of}
 use Rattle.volume_laws.specs.Graphs.{graph_in, IsNext}
 use Rattle.volume_laws.specs.Steps.{pairs_without, IsAllowed}
-use Rattle.volume_laws.specs.Turns.{Turns}
+use Rattle.image_world.specs.Turns.{Turns}
 use Rattle.volume_laws.proofs.StepWorlds.{without_parts}
 use Rattle.volume_laws.proofs.TableWorlds.{graph_laid_out}
 

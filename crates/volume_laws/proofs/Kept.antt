@@ -29,7 +29,7 @@ use Rattle.image_world.specs.Sound.{AreSound}
 use Rattle.image_world.specs.Tables.{Tables}
 use Rattle.image_world.specs.Raw.{left_of, world_with, zeros_of}
 use Rattle.volume_laws.specs.Moments.{owed}
-use Rattle.volume_laws.specs.Turns.{Turns}
+use Rattle.image_world.specs.Turns.{Turns}
 
 -- ---- worlds
 pub left_kept : (t : Tables) (rs : List Record) (c : ℕ → List ℕ) → left_of (record t { records = rs }) (world_with (record t { records = rs }) c) ≡ record (left_of t (world_with t c)) { records = rs }

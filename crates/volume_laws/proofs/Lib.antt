@@ -6,8 +6,8 @@ pub mod Kept
 pub mod Pointed
 pub mod Loose
 pub mod Ops
-pub mod Replayed
 pub mod Dropped
+pub mod Outcomes
 pub mod NumberLaws
 pub mod Taken
 pub mod TableWorlds

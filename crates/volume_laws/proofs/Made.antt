@@ -33,7 +33,7 @@ use Rattle.volume_laws.proofs.TableWorlds.{laid_out, graph_laid_out, same_doomed
 use Rattle.image_world.proofs.RawLaws.{live_with, blocks_with}
 use Rattle.volume_laws.specs.Growing.{Parts, with_parts, DoFit, HasNoLost, AreStored, IsGrown}
 use Rattle.volume_laws.specs.Moments.{owed}
-use Rattle.volume_laws.specs.Turns.{Turns}
+use Rattle.image_world.specs.Turns.{Turns}
 
 -- ---- nothing is lost
 pub full_of_settled : (t : Tables) (p : Parts) → with_parts t p ≡ t → DoFit t.geometry p → owed t ≡ 0 → HasNoLost t.geometry p

@@ -48,7 +48,7 @@ use Rattle.volume_laws.specs.Graphs.{graph_in}
 use Rattle.volume_laws.specs.Moments.{owed}
 use Rattle.volume_laws.specs.Volume.{tables_in}
 use Rattle.volume_laws.proofs.BlockLaws.{length-with_patch}
-use Rattle.volume_laws.specs.Turns.{Turns}
+use Rattle.image_world.specs.Turns.{Turns}
 use Rattle.volume_laws.proofs.TableWorlds.{laid_out, graph_laid_out, same_doomed, none_owed, blank, told_live, told_absent, left_told}
 
 -- ---- one or none

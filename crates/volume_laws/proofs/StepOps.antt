@@ -27,11 +27,11 @@ use Rattle.image_world.proofs.SoundLaws.{has_one}
 use Rattle.volume_laws.specs.Graphs.{graph_in, IsNext}
 use Rattle.volume_laws.specs.Moments.{LeavesEither, LeavesWorld, LeavesOwed, owed}
 use Rattle.volume_laws.specs.Steps.{IsPut, IsStepped}
-use Rattle.volume_laws.specs.Turns.{Turns}
+use Rattle.image_world.specs.Turns.{Turns}
 use Rattle.volume_laws.specs.Volume.{Volume, IsAt, world_on}
 use Rattle.volume_laws.specs.Writes.{batch_cost, due, IsPaid}
 use Rattle.volume_laws.proofs.Changed.{turned_had}
-use Rattle.volume_laws.proofs.Committed.{alike_outside}
+use Rattle.image_world.proofs.AgreeLaws.{alike_outside}
 use Rattle.volume_laws.proofs.Costs.{commit_pays}
 use Rattle.volume_laws.proofs.Ops.{any_bytes, IsOp}
 use Rattle.volume_laws.proofs.StepWorlds.{world_stepped, graph_stepped}

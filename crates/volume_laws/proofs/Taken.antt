@@ -26,7 +26,7 @@ use Rattle.volume_laws.proofs.NumberLaws.{has-at, not_before}
 use Rattle.image_world.specs.Sound.{HasTables, AreSound}
 use Rattle.image_world.specs.Tables.{Tables, pairs_of}
 use Rattle.image_world.specs.Raw.{world_with, zeros_of}
-use Rattle.volume_laws.specs.Turns.{Turns}
+use Rattle.image_world.specs.Turns.{Turns}
 use Rattle.volume_laws.specs.Steps.{AreFor, AreHeld, MayTake, IsTaken, pairs_without, with_parts}
 use Rattle.volume_laws.proofs.BlockLaws.{length-with_patch}
 use Rattle.volume_laws.proofs.StepWorlds.{without_parts}

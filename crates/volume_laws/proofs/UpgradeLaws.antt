@@ -30,7 +30,7 @@ use Rattle.image_world.specs.Sound.{HasTables, AreSound}
 use Rattle.image_world.specs.Tables.{Tables}
 use Rattle.image_world.proofs.ChangeLaws.{upgrade_change}
 use Rattle.volume_laws.specs.Moments.{owed}
-use Rattle.volume_laws.specs.Turns.{Turns}
+use Rattle.image_world.specs.Turns.{Turns}
 use Rattle.volume_laws.specs.Volume.{Volume, tables_in}
 use Rattle.volume_laws.proofs.Ops.{any_bytes, IsOp}
 

@@ -33,13 +33,14 @@ use Rattle.image_world.proofs.WrittenLaws.{above_journal}
 use Rattle.volume_laws.specs.Growing.{AreFree}
 use Rattle.volume_laws.specs.Volume.{Volume, IsAt, world_on}
 use Rattle.volume_laws.specs.Moments.{LeavesEither, LeavesWorld, StandsForEither}
-use Rattle.volume_laws.specs.Unused.{AreUnused}
+use Rattle.image_world.specs.Alike.{AreUnused}
 use Rattle.volume_laws.specs.Zeroed.{is_part, is_data, firmed, AreMissed, IsZeroedAt}
-use Rattle.volume_laws.specs.Turns.{Turns}
+use Rattle.image_world.specs.Turns.{Turns}
 use Rattle.volume_laws.proofs.Changed.{turned_world, turned_stands, has_its_tables}
-use Rattle.volume_laws.proofs.Committed.{formatted_by, image_geometry}
+use Rattle.volume_laws.proofs.Committed.{image_geometry}
+use Rattle.image_world.proofs.AgreeLaws.{formatted_by}
 use Rattle.volume_laws.proofs.Made.{has_zeros}
-use Rattle.volume_laws.proofs.Loose.{unused_stands, unused_alike}
+use Rattle.image_world.proofs.AgreeLaws.{unused_stands, unused_agree}
 
 -- ---- sectors
 -- below the data none is one of blocks
@@ -187,7 +188,7 @@ zeroed_at vol now old new bs kept same at free missed run written = record {
     firm = λ n. refl;
     ring = subst (λ (rs : List Record). IsRingAt rs (firmed new)) (sym same) ring;
     good = stands.good;
-    tables = alike_tables (home old.reads) (home new.reads) at.good.header (unused_alike old.reads new.reads (is_data g bs) (data_unused vol old bs at free) run.reads) ∙ (at.tables ∙ sym kept);
+    tables = alike_tables (home old.reads) (home new.reads) at.good.header (unused_agree old.reads new.reads (is_data g bs) (data_unused vol old bs at free) run.reads).homes ∙ (at.tables ∙ sym kept);
   };
   loose = subst (λ (t : Tables). (n : ℕ) → is_data t.geometry bs n ≡ false → new.loose n ≡ false) (sym kept) (λ n out. run.loose n out (at.firm n));
   zeroed = subst (λ (t : Tables). (b part : ℕ) → has_number bs b ≡ true → part < t.geometry.sectors → home new.reads (data_sector t.geometry b part) ≡ zeros) (sym kept) (λ b part in_ h.

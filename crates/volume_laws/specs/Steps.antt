@@ -12,7 +12,7 @@ use Rattle.image_world.specs.Tables.{Tables, pairs_of}
 use Rattle.block_alloc.specs.LiveMap.{LiveMap}
 use Rattle.pointer_table.specs.declared.out_step.OutStep.{OutStep}
 use Rattle.volume_laws.specs.Graphs.{graph_in}
-use Rattle.volume_laws.specs.Turns.{Turns}
+use Rattle.image_world.specs.Turns.{Turns}
 
 -- these slots and counts are the tables'
 pub record AreFor (t : Tables) (p : Pointers) (c : Counts) : Type 0 where

@@ -15,7 +15,7 @@ use Rattle.cap_store.specs.Stored.{IsStored as AreKept}
 use Rattle.image_world.specs.Changes.{upgraded_tables}
 use Rattle.image_world.specs.Sound.{AreSound}
 use Rattle.image_world.specs.Tables.{Tables}
-use Rattle.volume_laws.specs.Turns.{Turns}
+use Rattle.image_world.specs.Turns.{Turns}
 use Rattle.volume_laws.specs.Volume.{Volume, tables_in}
 use Rattle.volume_laws.proofs.Ops.{any_bytes, IsOp, op_at, op_done, op_told, op_moments, op_paid}
 use Rattle.volume_laws.proofs.StepOps.{op_owed}
