@@ -1,5 +1,5 @@
 -- What memory tells of free blocks, where nothing is lost.
-use Rattle.std.proofs.Common.{◌≡◌, ℕ, zero, suc, ◌+◌, ◌<◌, ◌≤◌, true, false, ◌&&◌, ◌||◌, ◌==◌, nat_lt, inl, inr, Bool, not, List, [], ◌∷◌, length, refl, sym, ◌∙◌, ap, subst, arith}
+use Rattle.std.proofs.Common.{◌≡◌, ℕ, suc, ◌+◌, ◌<◌, ◌≤◌, true, false, ◌&&◌, ◌||◌, ◌==◌, nat_lt, inl, inr, Bool, not, List, [], ◌∷◌, length, refl, sym, ◌∙◌, ap, subst, arith}
 use Rattle.std.proofs.Common.{Option, Some, None}
 use Rattle.std.specs.Prelude.{slice_get, is_some, is_none}
 use Rattle.std.proofs.lemmas.Bool.{cases_Bool, and_parts, both_ways}
@@ -8,7 +8,6 @@ use Rattle.tsd_model.specs.declared.geometry.Geometry.{Geometry}
 use Rattle.tsd_model.specs.World.{World, contents, is_live, is_free, has_number}
 use Rattle.tsd_model.specs.Doomed.{doomed, settle}
 use Rattle.image_device.specs.View.{View}
-use Rattle.image_device.specs.Runs.{LeavesOnly}
 use Rattle.image_device.proofs.Moments.{weakened, joined}
 use Rattle.block_alloc.specs.LiveMap.{is_live as is_marked_in}
 use Rattle.graph_laws.proofs.SameLaws.{length-restricted}
@@ -32,10 +31,13 @@ below_both m n h = grind (arith, nat_tests)
 
 -- a block that is told free has a bit that is 0
 free_raw : (t : Tables) (b : ℕ) → t.is_sweeping ≡ false → owed t ≡ 0 → is_free (blank_of t) b ≡ true → (b < t.geometry.blocks) × (is_marked_in t.live b ≡ false)
-free_raw t b still none free = (inside, elim (cases_Bool (is_marked_in t.live b)) [
+free_raw t b still none free = (
+  inside,
+  elim (cases_Bool (is_marked_in t.live b)) [
     | inl on ↦ absurd (both_ways (is_live (settle w) b) (none_some (contents (settle w) b) parts.1) (live-restricted w keep b ∙ (kept ∙ (live_with t (zeros_of t) b inside ∙ on))))
     | inr off ↦ off
-  ])
+  ],
+)
   where
     w : World
     w = world_with t (zeros_of t)

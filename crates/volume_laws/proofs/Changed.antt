@@ -1,5 +1,5 @@
 -- What images stand for around a commit that changes tables.
-use Rattle.std.proofs.Common.{◌≡◌, ℕ, ◌≤◌, false, inl, inr, ⊎_elim, List, refl, sym, ◌∙◌, ap, subst, arith, Result, Ok, Err}
+use Rattle.std.proofs.Common.{◌≡◌, inl, inr, ⊎_elim, List, sym, ◌∙◌, ap, subst, Result, Ok, Err}
 use Rattle.std.specs.Prelude.{OnOk}
 use Rattle.tsd_model.specs.World.{World}
 use Rattle.image_device.specs.View.{View}
@@ -11,7 +11,7 @@ use Rattle.intent_journal.specs.Home.{home, overlaid, is_journal, AgreeBut}
 use Rattle.intent_journal.specs.Ring.{IsAt as IsRingAt}
 use Rattle.intent_journal.specs.Crash.{IsAfter, IsBeforeOrAfter}
 use Rattle.intent_journal.proofs.Uses.{at_valid}
-use Rattle.image_world.specs.Sound.{HasTables, AreSound}
+use Rattle.image_world.specs.Sound.{HasTables}
 use Rattle.image_world.specs.Tables.{Tables, tables_of}
 use Rattle.image_world.specs.Raw.{left_of, world_with, data_on}
 use Rattle.image_world.specs.Stands.{world_of, Stands}

@@ -1,9 +1,7 @@
 -- What images stand for around a commit.
-use Rattle.std.proofs.Common.{◌≡◌, ◌≢◌, ℕ, ◌<◌, true, false, ◌||◌, ◌==◌, inl, inr, ⊎_elim, List, [], ◌∷◌, length, refl, sym, ◌∙◌, ap, subst, arith, Result, Ok, Err}
+use Rattle.std.proofs.Common.{◌≡◌, ◌≢◌, ℕ, ◌<◌, true, false, ◌||◌, inl, inr, ⊎_elim, List, [], length, refl, sym, ◌∙◌, ap, subst, arith, Result, Ok, Err}
 use Rattle.std.specs.Prelude.{OnOk}
-use Rattle.std.specs.List.{list_all}
 use Rattle.std.proofs.lemmas.Bool.{cases_Bool}
-use Rattle.std.proofs.lemmas.Bool.Decides.{nat_tests}
 use Rattle.tsd_model.specs.declared.geometry.Geometry.{Geometry}
 use Rattle.tsd_model.specs.Geometry.{block_len}
 use Rattle.tsd_model.specs.World.{is_live}
@@ -11,23 +9,19 @@ use Rattle.tsd_model.specs.Step.{with_contents}
 use Rattle.image_device.specs.View.{View}
 use Rattle.image_device.specs.Runs.{LeavesOnly, IsFirm}
 use Rattle.image_device.proofs.Moments.{weakened}
-use Rattle.image_layout.specs.Areas.{header_sector, format_gate}
+use Rattle.image_layout.specs.Areas.{format_gate}
 use Rattle.image_layout.specs.Places.{data_sector}
-use Rattle.image_layout.specs.Image.{Image, is_open}
+use Rattle.image_layout.specs.Image.{Image}
 use Rattle.image_layout.specs.declared.place.Patch.{Patch}
-use Rattle.intent_journal.specs.Batch.{homes_of, has_home}
-use Rattle.intent_journal.specs.Homes.{is_lawful_home}
 use Rattle.intent_journal.specs.Home.{home, overlaid, is_journal, AgreeBut}
-use Rattle.intent_journal.specs.Records.{Record, patches_of, open_records}
+use Rattle.intent_journal.specs.Records.{Record}
 use Rattle.intent_journal.specs.Ring.{IsAt as IsRingAt}
 use Rattle.intent_journal.specs.Crash.{IsBefore, IsAfter, IsBeforeOrAfter}
-use Rattle.intent_journal.proofs.Bools.{and_true_parts}
-use Rattle.intent_journal.proofs.Opened.{opened_lawful, home_of_empty}
-use Rattle.intent_journal.proofs.Uses.{home_missed, at_valid}
-use Rattle.image_world.specs.Alike.{AreAlike}
+use Rattle.intent_journal.proofs.Opened.{home_of_empty}
+use Rattle.intent_journal.proofs.Uses.{at_valid}
 use Rattle.disk_laws.specs.Bytes.{AreLike}
 use Rattle.image_world.specs.Written.{IsWritten}
-use Rattle.image_world.specs.Faults.{IsFormatted, HasJournal}
+use Rattle.image_world.specs.Faults.{HasJournal}
 use Rattle.image_world.specs.Tables.{Tables, header_on, tables_of}
 use Rattle.image_world.specs.Raw.{left_of, world_with, blank_of, data_on, zeros_of}
 use Rattle.image_world.specs.Stands.{world_of, Stands}

@@ -1,22 +1,21 @@
 -- The journal's bodies are erased once its gates are closed.
-use Rattle.std.proofs.Common.{◌≡◌, ℕ, ◌+◌, ◌*◌, ◌<◌, ◌≤◌, Bool, true, false, ◌&&◌, ◌==◌, nat_le, inl, inr, List, [], refl, sym, ◌∙◌, ap, subst, arith, Result, Ok, Err}
+use Rattle.std.proofs.Common.{◌≡◌, ℕ, ◌+◌, ◌*◌, ◌<◌, ◌≤◌, Bool, false, ◌==◌, inl, inr, List, [], refl, sym, ◌∙◌, ap, subst, arith, Result, Ok, Err}
 use Rattle.std.specs.Prelude.{OnOk}
 use Rattle.std.proofs.lemmas.Bool.{cases_eq}
 use Rattle.std.proofs.lemmas.Bool.Decides.{nat_tests}
 use Rattle.image_device.specs.View.{View, IsLeftWithin}
-use Rattle.image_device.specs.Runs.{LeavesOnly, IsConfined, IsFirm}
+use Rattle.image_device.specs.Runs.{IsConfined, IsFirm}
 use Rattle.image_device.proofs.Moments.{weakened}
 use Rattle.image_device.proofs.Sets.{or_false}
 use Rattle.image_layout.specs.Image.{Image, is_open}
-use Rattle.image_layout.specs.Ring.{records, gate_sector}
-use Rattle.intent_journal.specs.Home.{home, is_journal, AgreeBut}
-use Rattle.intent_journal.specs.Records.{is_open_gate, has_valid_records, Record}
+use Rattle.image_layout.specs.Ring.{gate_sector}
+use Rattle.intent_journal.specs.Home.{home, is_journal}
+use Rattle.intent_journal.specs.Records.{Record}
 use Rattle.intent_journal.specs.Ring.{IsAt as IsRingAt}
 use Rattle.intent_journal.proofs.Opened.{home_of_empty}
 use Rattle.intent_journal.proofs.Uses.{at_closed, at_valid}
-use Rattle.image_world.specs.Faults.{HasJournal}
 use Rattle.image_world.specs.Stands.{Stands}
-use Rattle.image_world.specs.Tables.{Tables, tables_of}
+use Rattle.image_world.specs.Tables.{tables_of}
 use Rattle.image_world.proofs.AlikeLaws.{alike_tables}
 use Rattle.volume_laws.specs.Erased.{is_body}
 use Rattle.volume_laws.specs.Moments.{LeavesWorld, LeavesOwed, owed}

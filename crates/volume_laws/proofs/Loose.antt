@@ -1,5 +1,5 @@
 -- Data sectors of free blocks may hold anything.
-use Rattle.std.proofs.Common.{◌≡◌, ℕ, false, Bool, refl}
+use Rattle.std.proofs.Common.{◌≡◌, ℕ, Bool, refl}
 use Rattle.image_device.specs.View.{View, IsLeftWithin}
 use Rattle.image_device.specs.Runs.{IsConfined}
 use Rattle.image_device.proofs.Moments.{weakened}

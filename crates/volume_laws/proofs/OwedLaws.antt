@@ -1,5 +1,5 @@
 -- What is owed in the images that a run leaves which changes no table, or makes new blocks.
-use Rattle.std.proofs.Common.{◌≡◌, ℕ, ◌≤◌, Bool, true, false, inl, inr, ⊎_elim, List, refl, sym, ◌∙◌, ap, subst, arith}
+use Rattle.std.proofs.Common.{◌≡◌, ℕ, ◌≤◌, Bool, ⊎_elim, List, sym, ◌∙◌, ap, subst, arith}
 use Rattle.image_device.specs.View.{View, IsLeftWithin}
 use Rattle.image_device.specs.Runs.{LeavesOnly, IsConfined}
 use Rattle.image_device.proofs.Moments.{weakened}

@@ -1,7 +1,7 @@
 -- A step of reclamation as an operation: the world stays, and less is owed.
 use Rattle.std.proofs.Common.{◌≡◌, ℕ, ◌+◌, ◌*◌, ◌<◌, ◌≤◌, Bool, true, false, cond, inl, inr, ⊎_elim, List, length, refl, sym, ◌∙◌, ap, subst, arith, Result, Ok, Err}
 use Rattle.std.specs.Prelude.{OnOk}
-use Rattle.tsd_model.specs.Doomed.{doomed, settle}
+use Rattle.tsd_model.specs.Doomed.{settle}
 use Rattle.tsd_model.specs.World.{World}
 use Rattle.image_device.specs.Calls.{Uses}
 use Rattle.image_device.specs.View.{View}
@@ -10,7 +10,7 @@ use Rattle.image_device.proofs.Moments.{weakened}
 use Rattle.image_layout.specs.Image.{Image}
 use Rattle.image_layout.specs.declared.place.Patch.{Patch}
 use Rattle.intent_journal.specs.Crash.{IsBefore, IsAfter, IsBeforeOrAfter}
-use Rattle.intent_journal.specs.Home.{home, is_journal}
+use Rattle.intent_journal.specs.Home.{home}
 use Rattle.intent_journal.specs.Records.{Record}
 use Rattle.intent_journal.specs.Ring.{committed, commit_writes, checkpoint_writes}
 use Rattle.graph_laws.specs.Steps.{stepped}

@@ -1,14 +1,12 @@
 -- Records become those of version 2, with the header.
-use Rattle.std.proofs.Common.{◌≡◌, ◌≢◌, ℕ, ◌+◌, ◌<◌, ◌≤◌, true, false, ◌==◌, inl, inr, Bool, List, [], ◌∷◌, length, refl, sym, ◌∙◌, ap, subst, arith, Ok}
+use Rattle.std.proofs.Common.{◌≡◌, ◌≢◌, ℕ, ◌+◌, ◌≤◌, false, ◌==◌, inr, Bool, List, [], length, refl, sym, ◌∙◌, ap, subst, arith, Ok}
 use Rattle.std.specs.Prelude.{map}
 use Rattle.std.proofs.lemmas.Bool.Decides.{nat_tests}
 use Rattle.std.proofs.lemmas.List.{length-map}
 use Rattle.tsd_model.specs.Records.{upgraded, upgraded_record}
-use Rattle.tsd_model.specs.World.{World}
-use Rattle.tsd_model.specs.declared.records.Record.{Record}
 use Rattle.image_device.specs.Image.{put_at}
 use Rattle.image_layout.specs.Areas.{header_sector, format_gate, caps_start}
-use Rattle.image_layout.specs.Header.{IsReading, header_bytes}
+use Rattle.image_layout.specs.Header.{IsReading}
 use Rattle.image_layout.specs.Image.{Image, is_open}
 use Rattle.image_layout.specs.declared.header.Header.{Header}
 use Rattle.image_layout.specs.declared.place.Patch.{Patch}
@@ -22,7 +20,6 @@ use Rattle.block_alloc.specs.LiveMap.{LiveMap}
 use Rattle.block_alloc.proofs.StoredLaws.{same_sectors as same_bits}
 use Rattle.cap_store.specs.Store.{Store}
 use Rattle.cap_store.specs.Store.{upgraded as upgraded_store}
-use Rattle.cap_store.specs.Stored.{caps_sector_bytes}
 use Rattle.cap_store.specs.Stored.{IsStored as AreKept}
 use Rattle.image_world.specs.Changes.{upgraded_tables}
 use Rattle.image_world.specs.Raw.{left_of, world_with}

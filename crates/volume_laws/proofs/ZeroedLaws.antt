@@ -1,9 +1,8 @@
 -- A device where blocks got zeros before they are live.
-use Rattle.std.proofs.Common.{◌≡◌, ◌≢◌, ℕ, ◌+◌, ◌-◌, ◌*◌, ◌<◌, ◌≤◌, true, false, ◌&&◌, ◌||◌, nat_le, nat_lt, ◌==◌, inl, inr, ⊎_elim, Bool, List, [], ◌∷◌, length, replicate, refl, sym, ◌∙◌, ap, subst, arith}
+use Rattle.std.proofs.Common.{◌≡◌, ◌≢◌, ℕ, ◌+◌, ◌-◌, ◌<◌, ◌≤◌, true, false, ◌&&◌, ◌||◌, nat_le, nat_lt, ◌==◌, inl, inr, ⊎_elim, Bool, List, [], ◌∷◌, refl, sym, ◌∙◌, ap, subst, arith}
 use Rattle.std.proofs.lemmas.Bool.{cases_Bool, cases_lt, or_parts, both_ways}
 use Rattle.std.proofs.lemmas.Bool.Decides.{nat_tests}
 use Rattle.tsd_model.specs.declared.geometry.Geometry.{Geometry}
-use Rattle.tsd_model.specs.Geometry.{block_len}
 use Rattle.tsd_model.specs.World.{World, has_number}
 use Rattle.image_device.specs.Image.{zeros}
 use Rattle.image_device.specs.View.{View}
@@ -11,9 +10,9 @@ use Rattle.image_device.specs.Runs.{LeavesOnly, IsConfined}
 use Rattle.image_device.proofs.Moments.{weakened, joined}
 use Rattle.image_layout.specs.Areas.{header_sector, format_gate, data_start}
 use Rattle.image_layout.specs.Places.{data_sector}
-use Rattle.image_layout.specs.Image.{Image, is_marked, sector_bytes}
+use Rattle.image_layout.specs.Image.{Image, sector_bytes}
 use Rattle.image_layout.specs.declared.place.Patch.{Patch}
-use Rattle.intent_journal.specs.Crash.{IsBefore, IsAfter, IsBeforeOrAfter}
+use Rattle.intent_journal.specs.Crash.{IsBefore, IsBeforeOrAfter}
 use Rattle.intent_journal.specs.Home.{home, is_journal}
 use Rattle.intent_journal.specs.Batch.{has_home}
 use Rattle.intent_journal.specs.Records.{Record, patches_of}
@@ -22,7 +21,6 @@ use Rattle.intent_journal.specs.Ring.{IsAt as IsRingAt}
 use Rattle.block_alloc.specs.LiveMap.{is_live as is_marked_in}
 use Rattle.image_world.specs.Alike.{AreAlike}
 use Rattle.image_world.specs.Stands.{Stands}
-use Rattle.image_world.specs.Sound.{HasTables}
 use Rattle.image_world.specs.Tables.{Tables, header_on, tables_of}
 use Rattle.image_world.specs.Raw.{data_on}
 use Rattle.image_world.proofs.FreshLaws.{zero_bytes}

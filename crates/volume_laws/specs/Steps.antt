@@ -1,5 +1,5 @@
 -- Pairs that a step of reclamation takes away, in memory and in its batch.
-use Rattle.std.specs.Prelude.{◌≡◌, ℕ, ◌≤◌, ◌*◌, ◌+◌, Bool, true, false, cond, List, [], ◌∷◌, length, slice_set, IsTrue}
+use Rattle.std.specs.Prelude.{◌≡◌, ℕ, ◌≤◌, ◌*◌, ◌+◌, Bool, false, cond, List, [], ◌∷◌, length, slice_set, IsTrue}
 use Rattle.tsd_model.specs.Pairs.{holds, without_pair}
 use Rattle.tsd_model.specs.World.{has_number, is_live}
 use Rattle.disk_laws.specs.Reclaiming.{all_apart}
