@@ -31,7 +31,7 @@ use Rattle.disk_laws.proofs.DoomLaws.{live_below, live-restricted}
 use Rattle.disk_laws.proofs.RuleLaws.{NoRule, Passes, granted_passes}
 use Rattle.disk_laws.proofs.ValidLaws.{named_is_live, one_is_live}
 use Rattle.grant_table.specs.Table.{Table, IsTable, IsMadeFor, with_sessions}
-use Rattle.core_laws.specs.Seen.{seen, HasLiveSources, dropped_each, table_after, world_after, reply_to}
+use Rattle.core_laws.specs.Seen.{seen, IsOver, dropped_each, table_after, world_after, reply_to}
 use Rattle.core_laws.proofs.SeenLaws.{same_seen, seen_twice, seen_dropped_each, seen_dropped_from, map-with_held, raised_seen, table_raised}
 use Rattle.core_laws.proofs.VerdictSeen.{ComesFrom, attained_from-fitted, verdict-fitted}
 
@@ -197,14 +197,6 @@ seen_change kind w v (ask.List s a shown start) long pass = fitted_again w w ref
 
 -- ---- the step
 
--- A table over which a disk is told that reads so: like the disk but for the bytes of blocks, and made for it.
-pub record IsOver (g : Table) (t w : World) : Type 0 where
-  pub like : AreLike t w
-  pub table : IsTable g
-  pub made : IsMadeFor t g
-  pub each_block : length t.blocks ≡ t.geometry.blocks
-  pub sources : HasLiveSources t
-
 -- the sessions count for nothing in the world and the reply of a change
 outcome_is : (kind : PlaceKind) (w : World) (u : Sessions) (q : Request) → fitted_outcome (change kind w u q) ≡ gives (world_after kind w q) (fitted (world_after kind w q) (change kind w u q).state.sessions) (reply_to kind w q)
 outcome_is kind w u ask.Bad = refl
@@ -225,6 +217,13 @@ table_like kind t w v q like = sym (go q)
     go (ask.SetCap s b shown caps) = λ i. dropped_from (sym like.geometry i).blocks b (rise (ask.SetCap s b shown caps) i)
     go p = rise p
 
+pub from_live : (g : Table) (t w : World) → IsOver g t w → ComesFrom w t
+from_live g t w over a b h = over.sources a b (ap (λ es. holds es a b) over.like.pairs ∙ h)
+
+-- the verdict by what is told is that at the disk
+pub verdict_over : (g : Table) (t w : World) (q : Request) → IsOver g t w → verdict w (fitted t g.sessions) q ≡ verdict t g.sessions q
+verdict_over g t w q over = verdict-fitted w t (from_live g t w over) g.sessions q ∙ sym (verdict_like t w over.like g.sessions q)
+
 -- A request that is granted by what is told, and the step at the disk: the world and the reply are those of the change, and what is
 -- seen of the sessions is what is seen of the table afterwards.
 pub step_over : (kind : PlaceKind) (g : Table) (t w : World) (q : Request) → IsOver g t w → ◌≡◌ {A = Option Rule} (verdict t g.sessions q) None
@@ -233,11 +232,11 @@ pub step_over : (kind : PlaceKind) (g : Table) (t w : World) (q : Request) → I
 step_over kind g t w q over granted =
     let v = g.sessions in
     let long : length w.blocks ≡ w.geometry.blocks = sym over.like.count ∙ (over.each_block ∙ ap (λ x. x.blocks) over.like.geometry) in
-    let from : ComesFrom w t = λ a b h. over.sources a b (ap (λ es. holds es a b) over.like.pairs ∙ h) in
+    let from : ComesFrom w t = from_live g t w over in
     let pass : Passes t v q = granted_passes t v q granted in
     let alike : verdict w v q ≡ verdict t v q = sym (verdict_like t w over.like v q) in
     let granted_there : ◌≡◌ {A = Option Rule} (verdict w v q) None = alike ∙ granted in
-    let seen_granted : ◌≡◌ {A = Option Rule} (verdict w (fitted t v) q) None = verdict-fitted w t from v q ∙ granted_there in
+    let seen_granted : ◌≡◌ {A = Option Rule} (verdict w (fitted t v) q) None = verdict_over g t w q over ∙ granted in
     let reach_blocks : g.blocks ≡ length t.blocks = over.made.blocks ∙ sym over.each_block in
     let rise : raised_by w (fitted t v) q ≡ fitted w (raised_by w v q) =
       raised_for_fitted w t from g over.table reach_blocks (session_of q) (needs q) (needs_live t v q over.each_block pass) ∙ fitted_like t w over.like (raised_by w v q) in

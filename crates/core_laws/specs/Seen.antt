@@ -1,17 +1,21 @@
 -- A table of grants that may still hold levels at blocks that are free, and what is seen of it.
-use Rattle.std.specs.Prelude.{◌≡◌, ℕ, Bool, true, cond, List, [], ◌∷◌, map, slice_index_or, option_map}
+use Rattle.std.specs.Prelude.{◌≡◌, ℕ, Bool, true, false, cond, List, [], ◌∷◌, length, map, slice_index_or, option_map}
 use Rattle.std.specs.List.{range_with_len}
 use Rattle.tsd_model.specs.Pairs.{holds}
 use Rattle.tsd_model.specs.World.{World, is_live}
-use Rattle.tsd_model.specs.Sessions.{Levels, Sessions, begun, ended, dropped_from, no_sessions}
+use Rattle.tsd_model.specs.Sessions.{Levels, Sessions, begun, ended, dropped_from, fitted, no_sessions}
 use Rattle.tsd_model.specs.Placing.{chosen, chosen_run}
-use Rattle.tsd_model.specs.Step.{change, raised_by, run_at}
+use Rattle.tsd_model.specs.Step.{State, change, raised_by, run_at}
+use Rattle.tsd_model.specs.Run.{answer}
+use Rattle.tsd_model.specs.Verdict.{is_begin}
 use Rattle.tsd_model.specs.declared.requests.Level.TheVariants as level
 use Rattle.tsd_model.specs.declared.requests.PlaceKind.{PlaceKind}
 use Rattle.tsd_model.specs.declared.requests.Request.{Request}
 use Rattle.tsd_model.specs.declared.requests.Request.TheVariants as ask
 use Rattle.tsd_model.specs.declared.replies.Reply.{Reply}
-use Rattle.grant_table.specs.Table.{dropped_at}
+use Rattle.tsd_model.specs.declared.replies.Reply.TheVariants as reply
+use Rattle.disk_laws.specs.Bytes.{AreLike}
+use Rattle.grant_table.specs.Table.{Table, IsTable, IsMadeFor, with_sessions, dropped_at}
 
 -- of levels at n blocks those at the blocks that pass
 abbrev pub levels_seen : (ℕ → Bool) → ℕ → Levels → Levels
@@ -48,3 +52,38 @@ world_after kind w q = (change kind w no_sessions q).state.world
 
 abbrev pub reply_to : PlaceKind → World → Request → Reply
 reply_to kind w q = (change kind w no_sessions q).reply
+
+-- ---- what is told
+
+-- it reads a block, whose bytes tables don't know
+abbrev pub is_read : Request → Bool
+is_read (ask.Read s b shown) = true
+is_read q = false
+
+-- A table of grants over a disk of which all is told but the bytes of blocks: what is told is like the disk, and the table was made
+-- for it.
+pub record IsOver (g : Table) (t w : World) : Type 0 where
+  pub like : AreLike t w
+  pub table : IsTable g
+  pub made : IsMadeFor t g
+  pub each_block : length t.blocks ≡ t.geometry.blocks
+  pub sources : HasLiveSources t
+
+-- the state: what is seen of the table over the disk
+abbrev pub state_over : World → World → Table → State
+state_over t w g = record { world = w; sessions = fitted t g.sessions }
+
+-- By the rules of the disk the request is given this reply, and leads to that state; a begin may find no memory.
+pub record IsAnswer (kind : PlaceKind) (s : State) (q : Request) (r : Reply) (now : State) : Type 0 where
+  pub want : Bool
+  pub reply : r ≡ (answer kind s q want).reply
+  pub state : now ≡ (answer kind s q want).state
+
+-- The request is carried out in memory: the table is that of the change; or no memory was found for a begin, and nothing changed.
+abbrev pub IsKept : PlaceKind → World → Table → Request → Reply → Table → Type 0
+IsKept kind t old q r new = (new ≡ with_sessions old (table_after kind t old.sessions q)) × (is_read q ≡ false → r ≡ reply_to kind t q)
+
+pub record IsStarved (old : Table) (q : Request) (r : Reply) (new : Table) : Type 0 where
+  pub begin : is_begin q ≡ true
+  pub reply : r ≡ reply.NoMemory
+  pub table : new ≡ old
