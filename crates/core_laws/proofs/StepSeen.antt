@@ -165,7 +165,7 @@ fitted-dropped_from : (t x : World) (m o : ℕ) → length x.blocks ≡ length t
 fitted-dropped_from t x m o long fewer v = subst (λ n. seen (is_live x) n (dropped_from m o (fitted t v)) ≡ seen (is_live x) n (dropped_from m o v)) (sym long)
     (seen_dropped_from (is_live x) (is_live t) (length t.blocks) m o (λ c e. live_below t.blocks c e) (λ c. if_then (is_live x c) (is_live t c) (fewer c)) v)
 
-length-restricted : (w : World) (keep : ℕ → Bool) → length (restricted w keep).blocks ≡ length w.blocks
+pub length-restricted : (w : World) (keep : ℕ → Bool) → length (restricted w keep).blocks ≡ length w.blocks
 length-restricted w keep = length-map-range_with_len (λ b. cond (keep b) (contents w b) None) 0 (length w.blocks)
 
 kept_live : (w : World) (keep : ℕ → Bool) (c : ℕ) → is_live (restricted w keep) c ≡ true → is_live w c ≡ true

@@ -36,15 +36,19 @@ abbrev pub dropped_each : List ℕ → Sessions → Sessions
 dropped_each [] v = v
 dropped_each (b ∷ bs) v = dropped_each bs (dropped_at b v)
 
--- What the table holds then: levels rise where one was needed; blocks that are given out again lose the levels that were left at
--- them, and levels at blocks that became free stay until then.
+-- What becomes of the levels, which have risen where one was needed: blocks that are given out again lose the levels that were left
+-- at them, and levels at blocks that become free stay until then.
+abbrev pub table_change : PlaceKind → World → Sessions → Request → Sessions
+table_change kind w v (ask.Begin s) = begun w v s
+table_change kind w v (ask.End s) = ended v s
+table_change kind w v (ask.Alloc s a shown h count) = dropped_each (chosen kind w h count) v
+table_change kind w v (ask.Contig s a shown h count) = dropped_each (run_at (chosen_run kind w h count) count) v
+table_change kind w v (ask.SetCap s b shown caps) = dropped_from w.geometry.blocks b v
+table_change kind w v q = v
+
+-- what the table holds then
 abbrev pub table_after : PlaceKind → World → Sessions → Request → Sessions
-table_after kind w v (ask.Begin s) = begun w v s
-table_after kind w v (ask.End s) = ended v s
-table_after kind w v (ask.Alloc s a shown h count) = dropped_each (chosen kind w h count) (raised_by w v (ask.Alloc s a shown h count))
-table_after kind w v (ask.Contig s a shown h count) = dropped_each (run_at (chosen_run kind w h count) count) (raised_by w v (ask.Contig s a shown h count))
-table_after kind w v (ask.SetCap s b shown caps) = dropped_from w.geometry.blocks b (raised_by w v (ask.SetCap s b shown caps))
-table_after kind w v q = raised_by w v q
+table_after kind w v q = table_change kind w (raised_by w v q) q
 
 -- the world then, and the reply: neither depends on the sessions
 abbrev pub world_after : PlaceKind → World → Request → World
@@ -79,10 +83,7 @@ pub record IsAnswer (kind : PlaceKind) (s : State) (q : Request) (r : Reply) (no
   pub reply : r ≡ (answer kind s q want).reply
   pub state : now ≡ (answer kind s q want).state
 
--- The request is carried out in memory: the table is that of the change; or no memory was found for a begin, and nothing changed.
-abbrev pub IsKept : PlaceKind → World → Table → Request → Reply → Table → Type 0
-IsKept kind t old q r new = (new ≡ with_sessions old (table_after kind t old.sessions q)) × (is_read q ≡ false → r ≡ reply_to kind t q)
-
+-- No memory was found for a begin, and nothing changed.
 pub record IsStarved (old : Table) (q : Request) (r : Reply) (new : Table) : Type 0 where
   pub begin : is_begin q ≡ true
   pub reply : r ≡ reply.NoMemory

@@ -1,0 +1,4 @@
+pub mod Core
+pub mod Work
+pub mod Carrying
+pub mod Growing
