@@ -1,3 +1,5 @@
 pub mod Operations
 pub mod Likes
 pub mod AtLaws
+pub mod Choosing
+pub mod Rising

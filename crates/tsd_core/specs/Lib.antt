@@ -2,3 +2,4 @@ pub mod Core
 pub mod Work
 pub mod Carrying
 pub mod Growing
+pub mod Granted
