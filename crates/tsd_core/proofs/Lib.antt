@@ -3,3 +3,4 @@ pub mod Likes
 pub mod AtLaws
 pub mod Choosing
 pub mod Rising
+pub mod Quiet
