@@ -62,7 +62,7 @@ starved_over kind g h t w q r over granted at =
 
 -- ---- replies read no bytes but those of a read
 
-without_like : (t w : World) (a b : ℕ) → AreLike t w → AreLike (without_pointer t a b) (without_pointer w a b)
+pub without_like : (t w : World) (a b : ℕ) → AreLike t w → AreLike (without_pointer t a b) (without_pointer w a b)
 without_like t w a b like = record { geometry = like.geometry; version = like.version; count = like.count; live = like.live; pairs = ap (without_pair a b) like.pairs; records = like.records }
 
 gone_like : (t w u x : World) → AreLike t w → AreLike u x → free_count u - free_count t ≡ free_count x - free_count w

@@ -4,3 +4,4 @@ pub mod AtLaws
 pub mod Choosing
 pub mod Rising
 pub mod Quiet
+pub mod Applied

@@ -1,9 +1,10 @@
 -- From a call on the volume to the request that it carries out.
-use Rattle.std.proofs.Common.{◌≡◌, ℕ, ◌+◌, ◌≤◌, true, false, refl, sym, ◌∙◌, ap, subst, arith, inl, inr}
+use Rattle.std.proofs.Common.{◌≡◌, ℕ, ◌+◌, ◌≤◌, true, false, List, refl, sym, ◌∙◌, ap, subst, arith, inl, inr}
 use Rattle.std.specs.Prelude.{Result, Ok, Err, OnOk, OnErr, IfOk}
 use Rattle.tsd_model.specs.World.{World}
 use Rattle.tsd_model.specs.ReplyForm.{HasForm}
 use Rattle.tsd_model.specs.declared.replies.Reply.{Reply}
+use Rattle.tsd_model.specs.declared.replies.Reply.TheVariants as reply
 use Rattle.tsd_model.specs.declared.requests.PlaceKind.{PlaceKind}
 use Rattle.tsd_model.specs.declared.requests.Request.{Request}
 use Rattle.image_device.specs.View.{View}
@@ -38,6 +39,18 @@ ok_if P (Err e) p = tt
 pub if_map : {T E : Type 0} {Q R : T → Type 0} (r : Result T E) → ((x : T) → Q x → R x) → IfOk r Q → IfOk r R
 if_map (Ok x) f q = f x q
 if_map (Err e) f q = tt
+
+pub if_kept : {T E P : Type 0} {Q R : T → Type 0} (r : Result T E) → ((x : T) → Q x → P → R x) → IfOk r Q → OnOk r P → IfOk r R
+if_kept (Ok x) f q p = f x q p
+if_kept (Err e) f q p = tt
+
+pub and_ok3 : {T E A B C P : Type 0} {Q : T → Type 0} (r : Result T E) → ((x : T) → Q x → A → B → C → P) → IfOk r Q → OnOk r A → OnOk r B → OnOk r C → OnOk r P
+and_ok3 (Ok x) f q a b c = f x q a b c
+and_ok3 (Err e) f q a b c = tt
+
+pub and_ok : {T E A B : Type 0} {P Q R : T → Type 0} (r : Result T E) → ((x : T) → P x → Q x → A → B → R x) → IfOk r P → IfOk r Q → OnOk r A → OnOk r B → IfOk r R
+and_ok (Ok x) f p q a b = f x p q a b
+and_ok (Err e) f p q a b = tt
 
 -- ---- counts
 
@@ -80,16 +93,17 @@ pub carried_out : {T : Type 0} (told : Type 0) (kind : PlaceKind) (q : Request) 
     → IsOperation told kind q old.volume new.volume v w r
     → new.grants ≡ with_sessions old.grants (table_change kind (told_world old) old.grants.sessions q)
     → IfOk r (λ x. is_read q ≡ false → f x ≡ reply_to kind (told_world old) q)
+    → ((x : T) → is_read q ≡ true → (bytes : List ℕ) × (f x ≡ reply.Bytes bytes))
     → (told → IfOk r (λ x. is_read q ≡ true → f x ≡ reply_to kind (world_on v) q))
     → IfOk r (λ x. HasForm (f x))
     → IsCarriedOut told kind q old new v w (replied r f)
-carried_out told kind q old new v w (Ok x) f op table reply bytes form = record {
-  kept = inl (record { table = table; reply = reply });
+carried_out told kind q old new v w (Ok x) f op table replies read bytes form = record {
+  kept = inl (record { table = table; reply = replies; read = read x });
   bytes = bytes;
   form = form;
   volume = operation_of told kind q old.volume new.volume v w (Ok x) f op (Ok (f x)) (λ P p. p) (λ P p. p);
 }
-carried_out told kind q old new v w (Err e) f op table reply bytes form = record {
+carried_out told kind q old new v w (Err e) f op table replies read bytes form = record {
   kept = tt;
   bytes = λ t. tt;
   form = tt;

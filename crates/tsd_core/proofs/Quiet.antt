@@ -26,7 +26,7 @@ use Rattle.tsd_core.specs.Carrying.{IsOperation, IsChanged, IsCarriedOut}
 use Rattle.tsd_core.proofs.AtLaws.{at_volume, stands_at}
 use Rattle.tsd_core.proofs.Likes.{like_as}
 
-still_stands : (vol : Volume) (v : View) (x : World) → IsSound v → IsVolumeAt vol v → LeavesEither v v x
+pub still_stands : (vol : Volume) (v : View) (x : World) → IsSound v → IsVolumeAt vol v → LeavesEither v v x
 still_stands vol v x sound at = started v (λ y f. StandsForEither (world_on v) x y × (f ≡ v.sent)) sound
     (λ y f left. (inl (subst (λ (z : Image). Stands z (world_on v)) (sym (firm_image v at.firm y f left)) (stands_at vol v at)), left.1))
 

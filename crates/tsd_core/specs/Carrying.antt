@@ -1,10 +1,11 @@
 -- A request that no rule refuses, carried out once the levels have risen.
-use Rattle.std.specs.Prelude.{◌≡◌, ◌⊎◌, ℕ, ◌+◌, ◌≤◌, true, false, Result, Ok, Err, OnOk, OnErr, IfOk}
+use Rattle.std.specs.Prelude.{◌≡◌, ◌⊎◌, ℕ, ◌+◌, ◌≤◌, true, false, List, Result, Ok, Err, OnOk, OnErr, IfOk}
 use Rattle.tsd_model.specs.Pairs.{holds}
 use Rattle.tsd_model.specs.World.{World, is_live}
 use Rattle.tsd_model.specs.Valid.{IsSized}
 use Rattle.tsd_model.specs.ReplyForm.{HasForm}
 use Rattle.tsd_model.specs.declared.replies.Reply.{Reply}
+use Rattle.tsd_model.specs.declared.replies.Reply.TheVariants as answered
 use Rattle.tsd_model.specs.declared.requests.PlaceKind.{PlaceKind}
 use Rattle.tsd_model.specs.declared.requests.Request.{Request}
 use Rattle.image_device.specs.View.{View}
@@ -57,6 +58,7 @@ pub record IsOperation {T : Type 0} (told : Type 0) (kind : PlaceKind) (q : Requ
 pub record IsChanged (kind : PlaceKind) (w : World) (old : Table) (q : Request) (r : Reply) (new : Table) : Type 0 where
   pub table : new ≡ with_sessions old (table_change kind w old.sessions q)
   pub reply : is_read q ≡ false → r ≡ reply_to kind w q
+  pub read : is_read q ≡ true → (bytes : List ℕ) × (r ≡ answered.Bytes bytes)
 
 -- The request is carried out.
 pub record IsCarriedOut (told : Type 0) (kind : PlaceKind) (q : Request) (old new : Core) (v w : View) (result : Result Reply Failed) : Type 0 where

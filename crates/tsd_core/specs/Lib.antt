@@ -3,3 +3,4 @@ pub mod Work
 pub mod Carrying
 pub mod Growing
 pub mod Granted
+pub mod Applying

@@ -1,6 +1,8 @@
 //! A request that no rule refuses.
 
-ghost use Rattle.std.specs.Prelude.{◌≡◌, None};
+ghost use Rattle.std.specs.Prelude.{◌≡◌, true};
+ghost use Rattle.tsd_core.specs.Applying.{asks_nothing};
+ghost use Rattle.grant_table.specs.Table.{IsTable};
 ghost use Rattle.tsd_core.specs.Core.{IsReady, IsAt, told_world};
 ghost use Rattle.tsd_core.specs.Carrying.{IsKnown, IsCarriedOut};
 ghost use Rattle.tsd_core.specs.Granted.{IsRaised};
@@ -21,7 +23,9 @@ impl Core {
         requires granted { IsRaised (told_world self.old) request.now self.old.grants.sessions }
         requires ready { IsReady self.old }
         requires at { D.told → IsAt self.old (D.view dev.old) }
-        ensures { IsCarriedOut D.told place.now.kind request.now self.old self.new (D.view dev.old) (D.view dev.new) result }
+        ensures carried_out { IsCarriedOut D.told place.now.kind request.now self.old self.new (D.view dev.old) (D.view dev.new) result }
+        ensures asks_nothing { asks_nothing request.now ≡ true → dev.new ≡ dev.old }
+        ensures volume { asks_nothing request.now ≡ true → self.new.volume ≡ self.old.volume }
     {
         self.check();
         match request {
@@ -52,9 +56,11 @@ impl Core {
     }
 
     /// What holds of each volume, for the proofs alone.
-    fn check(&self)
-        ensures { IsKnown self.now.volume }
+    pub(crate) fn check(&self)
+        ensures volume { IsKnown self.now.volume }
+        ensures table { IsTable self.now.grants }
     {
         let _geometry = self.volume.geometry();
+        let _blocks = self.grants.blocks();
     }
 }

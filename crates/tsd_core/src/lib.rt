@@ -6,6 +6,8 @@
 //! the world after it.
 #![tactic(auto)]
 
+mod apply;
+mod blocks;
 mod carry;
 mod core;
 mod grow;
@@ -14,6 +16,5 @@ mod pointers;
 mod raise;
 mod sessions;
 mod told;
-mod blocks;
 
 pub use core::Core;

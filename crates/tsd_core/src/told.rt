@@ -8,6 +8,7 @@ use tsd_model::{Geometry, Level, Shown};
 use volume::Volume;
 
 /// A volume that tells its world.
+#[derive(Drop)]
 pub(crate) struct Told<'a> {
     volume: &'a Volume,
     ghost ready: { IsReady volume.now },

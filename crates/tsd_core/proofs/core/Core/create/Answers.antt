@@ -65,4 +65,4 @@ returns g c = λ kind session shown.
     subst (λ (x : Core). IsCarriedOut g.D.Device.told kind q x new v w c.done.result) c.self.view_is
     (subst (IsCarriedOut g.D.Device.told kind q old new v w) (sym c.done.ensures)
       (carried_out g.D.Device.told kind q old new v w c.add_pointer.result (λ x. reply.Done) op refl
-        (if_ok c.add_pointer.result (λ x e. refl)) (λ told. if_ok c.add_pointer.result (λ x e. absurd (cc))) (if_ok c.add_pointer.result (λ x. record { body = tt; numbers = tt }))))
+        (if_ok c.add_pointer.result (λ x e. refl)) (λ x e. absurd (cc)) (λ told. if_ok c.add_pointer.result (λ x e. absurd (cc))) (if_ok c.add_pointer.result (λ x. record { body = tt; numbers = tt }))))

@@ -65,4 +65,4 @@ returns g c = λ kind session shown.
     subst (λ (x : Core). IsCarriedOut g.D.Device.told kind q x new v w c.bytes.result) c.self.view_is
     (subst (IsCarriedOut g.D.Device.told kind q old new v w) (sym c.bytes.ensures)
       (carried_out g.D.Device.told kind q old new v w c.read_block-outcome.result (λ x. reply.Bytes c.read_block-outcome.new.into) op refl
-        (if_ok c.read_block-outcome.result (λ x e. absurd (cc))) (λ told. if_map c.read_block-outcome.result (λ x h e. ap (λ o. reply.Bytes (unwrap_or o [])) (sym h)) (ok_if _ c.read_block-outcome.result (e.bytes told))) (ok_if _ c.read_block-outcome.result (then_ok c.read_block-outcome.result (λ h. record { body = block_size_of old.volume.tables.geometry (length c.read_block-outcome.new.into) (subst IsLawful known.geometry known.sized.lawful) h; numbers = tt }) e.full))))
+        (if_ok c.read_block-outcome.result (λ x e. absurd (cc))) (λ x e. (c.read_block-outcome.new.into, refl)) (λ told. if_map c.read_block-outcome.result (λ x h e. ap (λ o. reply.Bytes (unwrap_or o [])) (sym h)) (ok_if _ c.read_block-outcome.result (e.bytes told))) (ok_if _ c.read_block-outcome.result (then_ok c.read_block-outcome.result (λ h. record { body = block_size_of old.volume.tables.geometry (length c.read_block-outcome.new.into) (subst IsLawful known.geometry known.sized.lawful) h; numbers = tt }) e.full))))

@@ -68,4 +68,4 @@ returns g c = λ kind session shown.
     subst (λ (x : Core). IsCarriedOut g.D.Device.told kind q x new v w c.done.result) c.self.view_is
     (subst (IsCarriedOut g.D.Device.told kind q old new v w) (sym c.done.ensures)
       (carried_out g.D.Device.told kind q old new v w c.write_block.result (λ x. reply.Done) op refl
-        (if_ok c.write_block.result (λ x e. refl)) (λ told. if_ok c.write_block.result (λ x e. absurd (cc))) (if_ok c.write_block.result (λ x. record { body = tt; numbers = tt }))))
+        (if_ok c.write_block.result (λ x e. refl)) (λ x e. absurd (cc)) (λ told. if_ok c.write_block.result (λ x e. absurd (cc))) (if_ok c.write_block.result (λ x. record { body = tt; numbers = tt }))))
