@@ -111,7 +111,14 @@ impl PointerTable {
     pub fn next_out(&self, source: u32) -> Option<u32>
         ensures { IsNextTarget (pairs self.now) source 0 result }
     {
-        next_target(&self.slots, source, 0)
+        self.next_target(source, 0)
+    }
+
+    /// The least target of the pairs from a block that is not below `start`.
+    pub fn next_target(&self, source: u32, start: u32) -> Option<u32>
+        ensures { IsNextTarget (pairs self.now) source start result }
+    {
+        next_target(&self.slots, source, start)
     }
 
     /// The least source of the pairs to a block that is not below `start`.

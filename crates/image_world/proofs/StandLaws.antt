@@ -1,0 +1,83 @@
+-- Which images stand for a world depends on the sectors that matter.
+use Rattle.std.proofs.Common.{◌≡◌, ℕ, ◌<◌, true, ◌&&◌, sym, ◌∙◌, ap, subst, arith}
+use Rattle.std.proofs.Common.{None, Ok}
+use Rattle.std.proofs.lemmas.List.FromFn.{length-map-range_with_len, get_or-map-range_with_len}
+use Rattle.tsd_model.specs.declared.geometry.Geometry.{Geometry}
+use Rattle.tsd_model.specs.Geometry.{IsLawful}
+use Rattle.tsd_model.specs.Pairs.{count_to, holds}
+use Rattle.tsd_model.specs.World.{World}
+use Rattle.image_layout.specs.Header.{IsReading, header_of}
+use Rattle.image_layout.specs.Image.{Image, source_field, target_field}
+use Rattle.intent_journal.specs.Home.{home}
+use Rattle.pointer_table.specs.Slots.{pairs_in}
+use Rattle.pointer_table.specs.Table.{IsWithin}
+use Rattle.pointer_table.specs.Sectors.{stored_slot}
+use Rattle.pointer_table.specs.Loading.{is_bad, HasNoBad}
+use Rattle.pointer_table.proofs.LoadLaws.{good_slot}
+use Rattle.pointer_table.proofs.SlotLaws.{slot_from_holds}
+use Rattle.image_world.specs.Alike.{AreAlike}
+use Rattle.image_world.specs.Faults.{IsFormatted, HasJournal, HasHeader, AreRight, IsGood}
+use Rattle.image_world.specs.Tables.{header_on, slots_on}
+use Rattle.image_world.specs.Raw.{left_of}
+use Rattle.image_world.specs.Stands.{world_of, Stands}
+use Rattle.image_world.proofs.Lists.{same_below}
+use Rattle.image_world.proofs.AreaLaws.{SameAreas, same_marks, same_slots, same_stored_counts, same_sources, same_targets}
+use Rattle.image_world.proofs.AlikeLaws.{alike_header, alike_tables, alike_raw}
+
+-- ---- pairs of slots of which none is bad
+pub pair_within : (x : Image) (g : Geometry) → HasNoBad x g → (a b : ℕ) → holds (pairs_in (slots_on x g)) a b ≡ true → IsWithin g (a, b)
+pair_within x g good a b held =
+    let found = slot_from_holds (slots_on x g) a b held in
+    let long = length-map-range_with_len (stored_slot x g) 0 g.slots in
+    let inside : found.0 < g.slots = let less = found.1 in omega (arith, long, less) in
+    let at = get_or-map-range_with_len (stored_slot x g) 0 g.slots found.0 found.0 None inside (omega arith) in
+    good_slot g (source_field x g found.0) (target_field x g found.0) (a, b) (good found.0 inside) (sym at ∙ found.2)
+
+-- ---- tests 4 to 8
+pub same_pairs : (g : Geometry) (x y : Image) → SameAreas g x y → pairs_in (slots_on y g) ≡ pairs_in (slots_on x g)
+same_pairs g x y same = ap pairs_in (same_below (stored_slot y g) (stored_slot x g) g.slots (same_slots g x y same))
+
+pub right_alike : (g : Geometry) (x y : Image) → IsLawful g → SameAreas g x y → AreRight x g → AreRight y g
+right_alike g x y lawful same right = record {
+  no_bad = λ k h. (λ i. is_bad g (same_sources g x y same k h i) (same_targets g x y same k h i)) ∙ right.no_bad k h;
+  none_repeated = λ e r. right.none_repeated e (record {
+    first = r.first;
+    second = r.second;
+    apart = r.apart;
+    inside = r.inside;
+    one = sym (same_slots g x y same r.first (let a = r.apart in let b = r.inside in omega arith)) ∙ r.one;
+    other = sym (same_slots g x y same r.second r.inside) ∙ r.other;
+  });
+  primaries = λ b h. same_marks g x y same b (let most = lawful.primaries.2 in omega arith) ∙ right.primaries b h;
+  ends = λ e h.
+      let held : holds (pairs_in (slots_on x g)) e.0 e.1 ≡ true = ap (λ es. holds es e.0 e.1) (sym (same_pairs g x y same)) ∙ h in
+      let within = pair_within x g right.no_bad e.0 e.1 held in
+      (λ i. same_marks g x y same e.0 within.0 i && same_marks g x y same e.1 within.2 i) ∙ right.ends e held;
+  counts = λ b h. same_stored_counts g x y same b h ∙ (right.counts b h ∙ ap (λ es. count_to es b) (sym (same_pairs g x y same)));
+}
+
+-- ---- all of them
+pub header_alike : (x y : Image) → HasHeader x → AreAlike x y → HasHeader y
+header_alike x y right alike = subst (λ bytes. IsReading bytes (Ok (header_of bytes))) (sym alike.header) right
+
+pub good_alike : (image y : Image) → IsGood image → AreAlike (home image) (home y) → IsFormatted y → HasJournal y → IsGood y
+good_alike image y good alike formatted journal = record {
+  formatted = formatted;
+  journal = journal;
+  header = header_alike (home image) (home y) good.header alike;
+  tables =
+      let g = (header_on (home image)).geometry in
+      let right : AreRight (home y) g = right_alike g (home image) (home y) good.header.2 alike.areas good.tables in
+      subst (λ h. AreRight (home y) h.geometry) (sym (alike_header (home image) (home y) alike)) right;
+}
+
+pub world_alike : (image y : Image) → HasHeader (home image) → AreAlike (home image) (home y) → world_of y ≡ world_of image
+unfolding world_of
+world_alike image y right alike =
+    (λ i. left_of (alike_tables (home image) (home y) right alike i) (alike_raw (home image) (home y) right alike i))
+
+pub stands_alike : (image y : Image) (w : World) → AreAlike (home image) (home y) → IsFormatted y → HasJournal y → Stands image w → Stands y w
+stands_alike image y w alike formatted journal stands = record {
+  good = good_alike image y stands.good alike formatted journal;
+  world = stands.world ∙ sym (world_alike image y stands.good.header alike);
+}

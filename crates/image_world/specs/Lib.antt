@@ -1,0 +1,12 @@
+pub mod Tables
+pub mod Raw
+pub mod Faults
+pub mod Sound
+pub mod Stands
+pub mod Debt
+pub mod Alike
+pub mod Written
+pub mod Turns
+pub mod Crashes
+pub mod Changes
+pub mod Fresh

@@ -1,0 +1,18 @@
+//! Batches that are put in place.
+
+ghost use Rattle.image_world.specs.Changes.{BytesAreChange, BytesArePassedOn, CapsAreChange, UpgradesAreChange, FlagsAreChange, BlocksAreChange};
+ghost use Rattle.image_world.specs.Turns.{BatchesTurnImages};
+ghost use Rattle.image_world.specs.Written.{WrittenBytesStand};
+
+/// Over an image that passes the tests, a batch is a change of the world: bytes of a live block are that block's, and a
+/// batch after which an image has other tables gives the world of those tables with the bytes that were.
+pub fn batches_are_changes()
+    ensures written { WrittenBytesStand }
+    ensures turned { BatchesTurnImages }
+    ensures bytes { BytesAreChange }
+    ensures passed_on { BytesArePassedOn }
+    ensures blocks { BlocksAreChange }
+    ensures caps { CapsAreChange }
+    ensures upgrade { UpgradesAreChange }
+    ensures flag { FlagsAreChange }
+{}

@@ -1,0 +1,11 @@
+//! What a crash leaves of a call on the ring.
+
+ghost use Rattle.image_world.specs.Crashes.{TheSameStandForTheSame, TheSameOweTheSame, BeforeStandsForTheOld};
+
+/// Where a crash leaves no more than what was before, in the ring or in place, the world stays: of a commit until its
+/// batch counts, of emptying the ring and of a replay.
+pub fn crashes_keep_the_world()
+    ensures same { TheSameStandForTheSame }
+    ensures owes { TheSameOweTheSame }
+    ensures before { BeforeStandsForTheOld }
+{}

@@ -1,0 +1,3 @@
+pub mod AreaLaws
+pub mod Formatted
+pub mod AreaRuns

@@ -1,0 +1,16 @@
+//! Formatting a disk.
+//!
+//! What it stands on: `image_device` for the disk, `image_layout` for where all stands on it and for its header and
+//! gates, `cap_store` and `block_alloc` for the sectors of their tables that aren't zeros, `intent_journal` for what an
+//! image's gates mean, and the laws of `image_world`.
+//!
+//! What it promises: after `format` a disk stands for the fresh world of its size and its capabilities, whatever was in
+//! its sectors before. A crash at any moment within leaves what one at its start would, the format gate's sector aside,
+//! or a closed format gate, or the fresh world. `Failed` comes only where the device's count of faults rose, and an Ok
+//! leaves that count as it was. It takes no memory.
+#![tactic(auto)]
+
+mod areas;
+mod formatting;
+
+pub use formatting::format;

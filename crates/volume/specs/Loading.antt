@@ -1,0 +1,21 @@
+-- What a loading answers.
+use Rattle.std.specs.Prelude.{◌≡◌, ℕ, ◌<◌, Bool, false, Result, Ok, Err, ⊤}
+use Rattle.image_layout.specs.Image.{Image}
+use Rattle.image_layout.specs.Ring.{records}
+use Rattle.intent_journal.specs.Records.{is_open_gate}
+use Rattle.image_world.specs.Faults.{IsGood, IsFirstFault}
+use Rattle.volume_laws.specs.Volume.{Volume}
+use Rattle.volume.specs.declared.fault.VolumeFault.{VolumeFault}
+use Rattle.volume.specs.declared.fault.VolumeFault.TheVariants as fault
+
+-- Where neither memory nor the device is at fault, each answer comes exactly where its line holds, since no two of them hold
+-- together.
+abbrev pub IsLoading : Image → Result Volume VolumeFault → Type 0
+IsLoading image (Ok v) = IsGood image
+IsLoading image (Err fault.NoMemory) = ⊤
+IsLoading image (Err fault.Device) = ⊤
+IsLoading image (Err (fault.Image why)) = IsFirstFault image why
+
+-- every gate reads closed
+abbrev pub AreClosed : Image → Type 0
+AreClosed image = (index : ℕ) → index < records → is_open_gate image index ≡ false
