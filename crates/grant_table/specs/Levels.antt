@@ -1,7 +1,6 @@
 -- How levels are kept: one bit a block that says at least read, and one that says write.
-use Rattle.std.specs.Prelude.{ℕ, ◌/◌, ◌%◌, ◌==◌, Bool, false, cond, List, length, map, slice_index_or}
+use Rattle.std.specs.Prelude.{Bool, false, cond, List, length, map, slice_index_or}
 use Rattle.std.specs.List.{range_with_len}
-use Rattle.std.specs.Int.{bit_at}
 use Rattle.tsd_model.specs.declared.requests.Level.{Level}
 use Rattle.tsd_model.specs.declared.requests.Level.TheVariants as level
 

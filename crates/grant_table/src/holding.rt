@@ -9,8 +9,8 @@ use crate::levels::LevelBits;
 use crate::origins::Origins;
 use std::alloc::Global;
 use std::marker::Model;
-use tsd_model::{Level, NoMemory};
 use tsd_model::levels::greater;
+use tsd_model::{Level, NoMemory};
 
 /// What one open session holds: the levels from each origin.
 #[derive(Drop)]
@@ -37,7 +37,10 @@ impl Holding {
     {
         let mut tables = Vec::new(alloc);
         for origin in 0..primaries {
-            tables.push(LevelBits::bare(alloc, blocks)?)?;
+            let table = LevelBits::bare(alloc, blocks)?;
+            if tables.push(table).is_err() {
+                return Err(NoMemory);
+            }
         }
         Ok(Holding { tables })
     }

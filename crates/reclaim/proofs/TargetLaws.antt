@@ -7,7 +7,7 @@ use Rattle.tsd_model.specs.Pairs.{holds, is_below_first, is_rising}
 use Rattle.tsd_model.specs.Step.{targets_from}
 use Rattle.tsd_model.specs.World.{World, has_number}
 use Rattle.disk_laws.specs.Reclaiming.{all_apart}
-use Rattle.graph_laws.specs.Steps.{IsStep, IsLost}
+use Rattle.graph_laws.specs.Steps.{AreTargets, IsStep, IsLost}
 use Rattle.graph_laws.proofs.StepLaws.{alone_then}
 use Rattle.tsd_model.proofs.PairLaws.{first_once}
 use Rattle.reclaim.proofs.HeldLaws.{has-take, apart-take, take-whole, has-beyond}
@@ -55,12 +55,15 @@ module _ (w : World) (a : ℕ) (rising : is_rising w.pairs ≡ true) where
     | inr few ↦ le-leb (length (targets_from w.pairs a 0)) 16 few
   ]
 
+  pub first_targets_taken : AreTargets w a (take 16 (targets_from w.pairs a 0))
+  first_targets_taken = record {
+    held = λ b is. sym (has-targets w.pairs a b) ∙ has-take 64 (all_targets w.pairs a) b (has-take 16 (targets_from w.pairs a 0) b is);
+    once = apart-take 16 (targets_from w.pairs a 0) apart;
+  }
+
   pub first_targets_step : IsLost w a → IsStep w a (take 16 (targets_from w.pairs a 0)) (nat_le (length (targets_from w.pairs a 0)) 16)
   first_targets_step lost = record {
-    taken = record {
-      held = λ b is. sym (has-targets w.pairs a b) ∙ has-take 64 (all_targets w.pairs a) b (has-take 16 (targets_from w.pairs a 0) b is);
-      once = apart-take 16 (targets_from w.pairs a 0) apart;
-    };
+    taken = first_targets_taken;
     last = λ few. alone_then w a (take 16 (targets_from w.pairs a 0)) lost (takes_all few);
   }
 

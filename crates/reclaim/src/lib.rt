@@ -18,4 +18,5 @@ mod work;
 
 pub use ahead::Ahead;
 pub use step::next_step;
+pub use targets::{STEP_TARGETS, first_targets};
 pub use work::Work;

@@ -4,6 +4,8 @@ use Rattle.image_layout.specs.Image.{Image}
 use Rattle.image_layout.specs.Ring.{records}
 use Rattle.intent_journal.specs.Records.{is_open_gate}
 use Rattle.image_world.specs.Faults.{IsGood, IsFirstFault}
+use Rattle.image_tables.specs.declared.fault.LoadFault.{LoadFault}
+use Rattle.image_tables.specs.declared.fault.LoadFault.TheVariants as table_fault
 use Rattle.volume_laws.specs.Volume.{Volume}
 use Rattle.volume.specs.declared.fault.VolumeFault.{VolumeFault}
 use Rattle.volume.specs.declared.fault.VolumeFault.TheVariants as fault
@@ -19,3 +21,9 @@ IsLoading image (Err (fault.Image why)) = IsFirstFault image why
 -- every gate reads closed
 abbrev pub AreClosed : Image → Type 0
 AreClosed image = (index : ℕ) → index < records → is_open_gate image index ≡ false
+
+-- what a fault of the tables is for the volume
+abbrev pub of_tables : LoadFault → VolumeFault
+of_tables table_fault.NoMemory = fault.NoMemory
+of_tables table_fault.Device = fault.Device
+of_tables (table_fault.Image why) = fault.Image why

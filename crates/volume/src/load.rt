@@ -1,11 +1,12 @@
 //! Loading a volume.
 
-ghost use Rattle.std.specs.Prelude.{◌≡◌, [], Ok, true, false, IfOk, IsErrOf};
+ghost use Rattle.std.specs.Prelude.{◌≡◌, [], Ok, true, false, IfOk, OnOk, OnErr, IsErrOf};
 ghost use Rattle.image_device.specs.Calls.{Rests, Uses};
 ghost use Rattle.image_device.specs.Counts.{Rose};
 ghost use Rattle.image_device.specs.Runs.{IsFirm};
-ghost use Rattle.image_layout.specs.Areas.{header_sector};
+ghost use Rattle.image_layout.specs.Areas.{header_sector, sweep_flag};
 ghost use Rattle.image_layout.specs.Header.{IsReading, IsVersion};
+ghost use Rattle.image_layout.specs.Image.{is_open};
 ghost use Rattle.tsd_model.specs.Geometry.{IsLawful};
 ghost use Rattle.image_world.specs.Faults.{IsFormatted};
 ghost use Rattle.volume.specs.Loading.{IsLoading, AreClosed};
@@ -13,10 +14,26 @@ ghost use Rattle.volume_laws.specs.Volume.{IsAt};
 
 use crate::fault::VolumeFault;
 use crate::volume::Volume;
-use image_device::Device;
-use image_layout::Header;
-use intent_journal::Ring;
+use image_device::{Device, Failed};
+use image_layout::sectors::{SECTOR_BYTES, SWEEP_FLAG};
+use image_layout::{Header, is_open};
+use image_tables::load_tables;
+use intent_journal::{Batch, Ring};
+use reclaim::{Ahead, Work};
 use std::alloc::Global;
+
+/// Whether a sweep has begun and not ended.
+fn read_flag<D: Device>(dev: &mut D) -> Result<bool, Failed>
+    ensures value { D.told → IfOk result (λ open_now. open_now ≡ is_open ((D.view dev.old).reads sweep_flag)) }
+    ensures rests { D.told → Rests (D.view dev.old) (D.view dev.new) }
+    ensures uses { Uses 0 (D.view dev.old) (D.view dev.new) }
+    ensures faultless { OnOk result ((D.view dev.new).faults ≡ (D.view dev.old).faults) }
+    ensures cause { OnErr result (Rose (D.view dev.old).faults (D.view dev.new).faults) }
+{
+    let mut sector = [0; SECTOR_BYTES];
+    dev.read(SWEEP_FLAG, &mut sector)?;
+    Ok(is_open(&sector))
+}
 
 impl Volume {
     /// Loads the tables of a disk and tests them. The device is only read. This takes all room that later calls need.
@@ -41,9 +58,27 @@ impl Volume {
         ensures unspent { IfOk result (λ v. v.is_spent ≡ false) }
         ensures rests { D.told → Rests (D.view dev.old) (D.view dev.new) }
         ensures uses { Uses 0 (D.view dev.old) (D.view dev.new) }
-        ensures faultless { OnOk result ((D.view dev.new).faults ≡ (D.view dev.old).faults) }
+        ensures faultless { ¬ IsErrOf result VolumeFault.Device → (D.view dev.new).faults ≡ (D.view dev.old).faults }
         ensures cause { IsErrOf result VolumeFault.Device → Rose (D.view dev.old).faults (D.view dev.new).faults }
     {
-        Err(VolumeFault::NoMemory)
+        let tables = load_tables(alloc, dev, header)?;
+        let is_sweeping = read_flag(dev)?;
+        let batch = Batch::new(alloc)?;
+        let work = Work::new(alloc, header.geometry.blocks)?;
+        let ahead = Ahead::new(alloc, header.geometry.blocks)?;
+        Ok(Volume {
+            header: *header,
+            ring,
+            batch,
+            pointers: tables.pointers,
+            counts: tables.counts,
+            live: tables.live,
+            caps: tables.caps,
+            work,
+            ahead,
+            is_sweeping,
+            is_ready: false,
+            is_spent: false,
+        })
     }
 }
