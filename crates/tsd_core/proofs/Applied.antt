@@ -110,7 +110,7 @@ refused_applied told kind q c v r ready known table sound at refusal = record {
   paid = λ t b. omega arith;
   most = λ t b. omega arith;
   limit = λ b. omega arith;
-  counts = record { clock = omega arith; faults = omega arith; put_faults = refl; writes = omega arith };
+  works = record { clock = omega arith; faults = omega arith; put_faults = refl; writes = omega arith };
   faultless = refl;
   cause = tt;
 }
@@ -273,7 +273,7 @@ granted_risen told kind q old new v w result ready known table at granted carrie
       paid = λ h b. then_ok result (λ (p : w.writes + due new.volume ≤ v.writes + due old.volume + cost_of t q). omega (arith, p, same h)) (op.paid b);
       most = λ h b. omega (arith, op.most b, same h);
       limit = op.limit;
-      counts = op.counts;
+      works = op.works;
       faultless = op.faultless;
       cause = op.cause;
     }

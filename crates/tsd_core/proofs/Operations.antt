@@ -13,9 +13,8 @@ use Rattle.image_device.specs.declared.device.Failed.{Failed}
 use Rattle.grant_table.specs.Table.{with_sessions}
 use Rattle.core_laws.specs.Seen.{table_change, world_after, reply_to, is_read}
 use Rattle.volume_laws.specs.Volume.{Volume, world_on}
-use Rattle.volume_laws.specs.Writes.{due, IsPaid}
+use Rattle.volume_laws.specs.Writes.{due, IsPaid, Works}
 use Rattle.tsd_core.specs.Core.{Core, told_world}
-use Rattle.tsd_core.specs.Work.{Counts}
 use Rattle.tsd_core.specs.Carrying.{IsOperation, IsChanged, IsCarriedOut, replied}
 
 -- ---- outcomes
@@ -54,7 +53,7 @@ and_ok (Err e) f p q a b = tt
 
 -- ---- counts
 
-pub counted : (most : ℕ) (v w : View) → Uses most v w → Counts v w
+pub counted : (most : ℕ) (v w : View) → Uses most v w → Works v w
 counted most v w uses = record { clock = uses.clock; faults = uses.faults; put_faults = uses.put_faults; writes = uses.writes }
 
 pub at_most : (few most : ℕ) (v w : View) → Uses few v w → few ≤ most → w.writes ≤ v.writes + most
@@ -84,7 +83,7 @@ operation_of told kind q old new v w r f op s ok err = record {
   paid = λ b. ok _ (op.paid b);
   most = op.most;
   limit = op.limit;
-  counts = op.counts;
+  works = op.works;
   faultless = ok _ op.faultless;
   cause = err _ op.cause;
 }

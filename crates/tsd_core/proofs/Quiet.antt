@@ -52,7 +52,7 @@ still_there told kind q vol v r same sound at ready unspent = record {
   paid = λ b. omega arith;
   most = λ b. omega arith;
   limit = λ b. omega arith;
-  counts = record { clock = omega arith; faults = omega arith; put_faults = refl; writes = omega arith };
+  works = record { clock = omega arith; faults = omega arith; put_faults = refl; writes = omega arith };
   faultless = refl;
   cause = tt;
 }

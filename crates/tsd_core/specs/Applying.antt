@@ -18,9 +18,9 @@ use Rattle.disk_laws.specs.Reclaiming.{is_sweep}
 use Rattle.core_laws.specs.Seen.{IsAnswer}
 use Rattle.volume_laws.specs.Volume.{world_on}
 use Rattle.volume_laws.specs.Moments.{LeavesEither, owed}
-use Rattle.volume_laws.specs.Writes.{due}
+use Rattle.volume_laws.specs.Writes.{due, Works}
 use Rattle.tsd_core.specs.Core.{Core, IsReady, IsAt, told_world, told_state, sessions_of, state_on}
-use Rattle.tsd_core.specs.Work.{debt, made_by, cost_of, write_limit, Counts, SameSize}
+use Rattle.tsd_core.specs.Work.{debt, made_by, cost_of, write_limit, SameSize}
 
 -- the same reply, or both are the bytes of a block
 abbrev pub IsReplyLike : Reply → Reply → Type 0
@@ -72,6 +72,6 @@ pub record IsApplied (told : Type 0) (kind : PlaceKind) (q : Request) (old new :
   pub paid : told → is_sweep q ≡ false → OnOk result (w.writes + due new.volume ≤ v.writes + due old.volume + cost_of (world_on v) q)
   pub most : told → is_sweep q ≡ false → w.writes ≤ v.writes + due old.volume + cost_of (world_on v) q
   pub limit : is_sweep q ≡ false → w.writes ≤ v.writes + write_limit old.volume q
-  pub counts : Counts v w
+  pub works : Works v w
   pub faultless : OnOk result (w.faults ≡ v.faults)
   pub cause : OnErr result (Rose v.faults w.faults)

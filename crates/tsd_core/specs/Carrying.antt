@@ -20,9 +20,9 @@ use Rattle.volume_laws.specs.Volume.{IsAt as IsVolumeAt}
 use Rattle.volume_laws.specs.Volume.{IsReady as IsVolumeReady}
 use Rattle.volume_laws.specs.Volume.{Volume, told_by, world_on}
 use Rattle.volume_laws.specs.Moments.{LeavesEither, LeavesOwed, owed}
-use Rattle.volume_laws.specs.Writes.{due, IsPaid}
+use Rattle.volume_laws.specs.Writes.{due, IsPaid, Works}
 use Rattle.tsd_core.specs.Core.{Core, told_world}
-use Rattle.tsd_core.specs.Work.{made_by, cost_of, write_limit, Counts}
+use Rattle.tsd_core.specs.Work.{made_by, cost_of, write_limit}
 
 -- What holds of each volume: the sizes of what it tells, that both ends of each pair are live, and how much the journal holds.
 pub record IsKnown (v : Volume) : Type 0 where
@@ -50,7 +50,7 @@ pub record IsOperation {T : Type 0} (told : Type 0) (kind : PlaceKind) (q : Requ
   pub paid : is_sweep q ≡ false → OnOk result (IsPaid (cost_of (told_by old) q) old v new w)
   pub most : is_sweep q ≡ false → w.writes ≤ v.writes + due old + cost_of (told_by old) q
   pub limit : is_sweep q ≡ false → w.writes ≤ v.writes + write_limit old q
-  pub counts : Counts v w
+  pub works : Works v w
   pub faultless : OnOk result (w.faults ≡ v.faults)
   pub cause : OnErr result (Rose v.faults w.faults)
 

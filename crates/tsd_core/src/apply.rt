@@ -7,9 +7,9 @@ ghost use Rattle.disk_laws.specs.Reclaiming.{is_sweep};
 ghost use Rattle.core_laws.specs.Seen.{IsAnswer};
 ghost use Rattle.volume_laws.specs.Volume.{world_on};
 ghost use Rattle.volume_laws.specs.Moments.{LeavesEither};
-ghost use Rattle.volume_laws.specs.Writes.{due};
+ghost use Rattle.volume_laws.specs.Writes.{due, Works};
 ghost use Rattle.tsd_core.specs.Core.{IsReady, IsAt, state_on};
-ghost use Rattle.tsd_core.specs.Work.{made_by, cost_of, write_limit, Counts, SameSize};
+ghost use Rattle.tsd_core.specs.Work.{made_by, cost_of, write_limit, SameSize};
 ghost use Rattle.tsd_core.specs.Applying.{IsToldAnswer, is_refusal, asks_nothing, next_world, LeavesDebt, IsApplied};
 
 use crate::core::Core;
@@ -53,7 +53,7 @@ impl Core {
         ensures paid { D.told → is_sweep request.now ≡ false → OnOk result ((D.view dev.new).writes + due self.new.volume ≤ (D.view dev.old).writes + due self.old.volume + cost_of (world_on (D.view dev.old)) request.now) }
         ensures most { D.told → is_sweep request.now ≡ false → (D.view dev.new).writes ≤ (D.view dev.old).writes + due self.old.volume + cost_of (world_on (D.view dev.old)) request.now }
         ensures limit { is_sweep request.now ≡ false → (D.view dev.new).writes ≤ (D.view dev.old).writes + write_limit self.old.volume request.now }
-        ensures counts { Counts (D.view dev.old) (D.view dev.new) }
+        ensures works { Works (D.view dev.old) (D.view dev.new) }
         ensures faultless { OnOk result ((D.view dev.new).faults ≡ (D.view dev.old).faults) }
         ensures cause { OnErr result (Rose (D.view dev.old).faults (D.view dev.new).faults) }
     {

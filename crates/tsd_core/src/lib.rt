@@ -15,6 +15,7 @@ mod outcome;
 mod pointers;
 mod raise;
 mod sessions;
+mod settle;
 mod told;
 
 pub use core::Core;

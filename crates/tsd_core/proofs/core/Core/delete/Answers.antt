@@ -60,7 +60,7 @@ returns g c = λ kind session shown.
       paid = λ b. then_ok c.drop_pointer.result (paid_more (batch_cost 2 + 5 * made t c.args.source c.args.target) (cost_of t q) old.volume new.volume v w (omega arith)) e.paid;
       most = λ b. most_due n (cost_of t q) old.volume v w e.uses (omega (arith, bounds));
       limit = λ b. at_most n (130) v w e.uses (omega (arith, bounds, known.ring));
-      counts = counted n v w e.uses;
+      works = counted n v w e.uses;
       faultless = e.faultless;
       cause = e.cause;
     } in

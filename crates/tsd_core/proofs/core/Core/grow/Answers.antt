@@ -68,7 +68,7 @@ returns-clause-alloc g c = λ kind session shown h count picked.
       paid = λ b. then_ok c.allocate-outcome.result (paid_more (size + batch_cost (3 * length bs)) (cost_of t q) old.volume new.volume v w (omega (arith, bounds))) e.paid;
       most = λ b. most_due n (cost_of t q) old.volume v w e.uses (omega (arith, bounds));
       limit = λ b. at_most n (600 + 12 * owed old.volume.tables) v w e.uses (omega (arith, bounds, known.ring));
-      counts = counted n v w e.uses;
+      works = counted n v w e.uses;
       faultless = e.faultless;
       cause = e.cause;
     } in
@@ -110,7 +110,7 @@ returns-clause-contig g c = λ kind session shown h count picked.
       paid = λ b. then_ok c.allocate-outcome.result (paid_more (size + batch_cost (3 * length bs)) (cost_of t q) old.volume new.volume v w (omega (arith, bounds))) e.paid;
       most = λ b. most_due n (cost_of t q) old.volume v w e.uses (omega (arith, bounds));
       limit = λ b. at_most n (600 + 12 * owed old.volume.tables) v w e.uses (omega (arith, bounds, known.ring));
-      counts = counted n v w e.uses;
+      works = counted n v w e.uses;
       faultless = e.faultless;
       cause = e.cause;
     } in

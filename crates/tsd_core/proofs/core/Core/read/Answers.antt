@@ -58,7 +58,7 @@ returns g c = λ kind session shown.
       paid = λ b. then_ok c.read_block-outcome.result (λ (same : new.volume ≡ old.volume). subst (λ (x : Volume). IsPaid (cost_of t q) old.volume v x w) (sym same) (omega (arith, e.uses.most))) e.same;
       most = λ b. most_due n (cost_of t q) old.volume v w e.uses (omega (arith, bounds));
       limit = λ b. at_most n (600) v w e.uses (omega (arith, bounds, known.ring));
-      counts = counted n v w e.uses;
+      works = counted n v w e.uses;
       faultless = e.faultless;
       cause = e.cause;
     } in

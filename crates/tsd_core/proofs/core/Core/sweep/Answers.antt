@@ -57,7 +57,7 @@ returns g c = λ kind session shown.
       paid = λ b. absurd (cc);
       most = λ b. absurd (cc);
       limit = λ b. absurd (cc);
-      counts = record { clock = e.counts.clock; faults = e.counts.faults; put_faults = e.counts.put_faults; writes = e.counts.writes };
+      works = e.works;
       faultless = e.faultless;
       cause = e.cause;
     } in

@@ -61,7 +61,7 @@ returns g c = λ kind session shown.
       paid = λ b. then_ok c.write_block.result (paid_more (batch_cost old.volume.tables.geometry.sectors) (cost_of t q) old.volume new.volume v w (omega (arith, bounds))) e.paid;
       most = λ b. most_due n (cost_of t q) old.volume v w e.uses (omega (arith, bounds));
       limit = λ b. at_most n (600) v w e.uses (omega (arith, bounds, known.ring));
-      counts = counted n v w e.uses;
+      works = counted n v w e.uses;
       faultless = e.faultless;
       cause = e.cause;
     } in
