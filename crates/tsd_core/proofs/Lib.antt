@@ -5,3 +5,4 @@ pub mod Choosing
 pub mod Rising
 pub mod Quiet
 pub mod Applied
+pub mod Settling
