@@ -30,7 +30,7 @@ same_refused (Ok bs) live w v count map same h = tt
 same_refused (Err s) live w v count map same h = record { free_is = h.free_is ∙ (free_count_same live w map ∙ ap free_count same); wanted_is = h.wanted_is; fewer = h.fewer }
 
 pub returns-clause-chosen : goal.returns-clause-chosen
-returns-clause-chosen c =
+returns-clause-chosen g c =
     let i = c.self.inside in
     let v = c.self.invariant in
     let t = tables_in i.header i.pointers i.counts i.live i.caps i.is_sweeping in
@@ -40,7 +40,7 @@ returns-clause-chosen c =
     same_chosen c.choose.result i.live.unhidden (blank_of t) (told_by c.args.self.now) c.args.place.now.kind c.args.hint c.args.count told (ap told_by c.self.view_is) c.choose.ensures.chosen
 
 pub returns-clause-enough : goal.returns-clause-enough
-returns-clause-enough c =
+returns-clause-enough g c =
     let i = c.self.inside in
     let v = c.self.invariant in
     let t = tables_in i.header i.pointers i.counts i.live i.caps i.is_sweeping in
@@ -50,7 +50,7 @@ returns-clause-enough c =
     same_enough c.choose.result i.live.unhidden (blank_of t) (told_by c.args.self.now) c.args.count told (ap told_by c.self.view_is) c.choose.ensures.enough
 
 pub returns-clause-refused : goal.returns-clause-refused
-returns-clause-refused c =
+returns-clause-refused g c =
     let i = c.self.inside in
     let v = c.self.invariant in
     let t = tables_in i.header i.pointers i.counts i.live i.caps i.is_sweeping in

@@ -37,7 +37,7 @@ same_refused (Err (refusal.NoRun free wanted)) live w v count map same h = recor
 }
 
 pub returns-clause-chosen : goal.returns-clause-chosen
-returns-clause-chosen c =
+returns-clause-chosen g c =
     let i = c.self.inside in
     let v = c.self.invariant in
     let t = tables_in i.header i.pointers i.counts i.live i.caps i.is_sweeping in
@@ -47,7 +47,7 @@ returns-clause-chosen c =
     same_chosen c.choose_run.result i.live.unhidden (blank_of t) (told_by c.args.self.now) c.args.place.now.kind c.args.hint c.args.count told (ap told_by c.self.view_is) c.choose_run.ensures.chosen
 
 pub returns-clause-enough : goal.returns-clause-enough
-returns-clause-enough c =
+returns-clause-enough g c =
     let i = c.self.inside in
     let v = c.self.invariant in
     let t = tables_in i.header i.pointers i.counts i.live i.caps i.is_sweeping in
@@ -57,7 +57,7 @@ returns-clause-enough c =
     same_enough c.choose_run.result i.live.unhidden (blank_of t) (told_by c.args.self.now) c.args.count told (ap told_by c.self.view_is) c.choose_run.ensures.enough
 
 pub returns-clause-refused : goal.returns-clause-refused
-returns-clause-refused c =
+returns-clause-refused g c =
     let i = c.self.inside in
     let v = c.self.invariant in
     let t = tables_in i.header i.pointers i.counts i.live i.caps i.is_sweeping in
