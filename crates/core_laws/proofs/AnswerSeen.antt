@@ -1,14 +1,12 @@
 -- Answers over a table that may still hold levels at free blocks.
-use Rattle.std.proofs.Common.{◌≡◌, ℕ, Bool, true, false, not, cond, List, length, refl, sym, ◌∙◌, ap, subst, ◌-◌, Option, Some, None}
-use Rattle.std.specs.Prelude.{filter, map}
+use Rattle.std.proofs.Common.{◌≡◌, ℕ, true, false, refl, sym, ◌∙◌, ap, ◌-◌, Option, Some, None}
 use Rattle.tsd_model.specs.Pairs.{without_pair}
 use Rattle.tsd_model.specs.World.{World, free_count}
-use Rattle.tsd_model.specs.Placing.{chosen, chosen_run}
-use Rattle.tsd_model.specs.Sessions.{Sessions, fitted}
+use Rattle.tsd_model.specs.Sessions.{fitted}
 use Rattle.tsd_model.specs.Verdict.{is_begin, verdict}
 use Rattle.tsd_model.specs.Doomed.{settle}
 use Rattle.tsd_model.specs.Reach.{swept}
-use Rattle.tsd_model.specs.Step.{State, gives, judged, step, run_at, targets_from, without_pointer}
+use Rattle.tsd_model.specs.Step.{State, gives, step, run_at, targets_from, without_pointer}
 use Rattle.tsd_model.specs.Run.{starved, answer}
 use Rattle.tsd_model.specs.declared.replies.Reply.{Reply}
 use Rattle.tsd_model.specs.declared.replies.Reply.TheVariants as reply
@@ -40,10 +38,10 @@ granted_over kind g h t w u x q r over granted like world table reply =
       want = false;
       reply = reply ∙ sym (ap (λ y. y.reply) o);
       state =
-        (λ i. record { world = x; sessions = fitted u (table i).sessions })
-        ∙ ((λ i. record { world = x; sessions = fitted_like u x like (table_after kind t g.sessions q) i })
-        ∙ ((λ i. record { world = world i; sessions = fitted (world i) (table_after kind t g.sessions q) })
-        ∙ sym (ap (λ y. y.state) o)));
+          (λ i. record { world = x; sessions = fitted u (table i).sessions })
+          ∙ ((λ i. record { world = x; sessions = fitted_like u x like (table_after kind t g.sessions q) i })
+          ∙ ((λ i. record { world = world i; sessions = fitted (world i) (table_after kind t g.sessions q) })
+          ∙ sym (ap (λ y. y.state) o)));
     }
 
 -- a begin for which no memory was found

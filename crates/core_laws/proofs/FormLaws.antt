@@ -1,32 +1,26 @@
 -- Replies have a form that lines and frames can send.
-use Rattle.std.proofs.Common.{◌≡◌, ℕ, zero, suc, ◌+◌, ◌-◌, ◌*◌, ◌^◌, ◌<◌, ◌≤◌, Bool, true, false, not, cond, ◌&&◌, ◌||◌, ◌==◌, nat_lt, nat_le, List, [], ◌∷◌, ◌++◌, length, refl, sym, ◌∙◌, ap, subst, arith, inl, inr, ◌⊎◌, Option, Some, None}
+use Rattle.std.proofs.Common.{◌≡◌, ℕ, zero, suc, ◌-◌, ◌^◌, ◌<◌, ◌≤◌, Bool, true, false, cond, ◌&&◌, ◌||◌, ◌==◌, nat_lt, nat_le, List, [], ◌∷◌, ◌++◌, length, refl, subst, arith, inl, inr, ◌⊎◌, Option, Some, None}
 use Rattle.std.proofs.lemmas.Bool.{ltb-true, ltb-false, or_parts, and_parts, or_right}
-use Rattle.std.proofs.lemmas.List.{length-take, length-map}
+use Rattle.std.proofs.lemmas.List.{length-take}
 use Rattle.std.proofs.lemmas.List.Sums.{sum_by-cons}
 use Rattle.std.specs.Prelude.{map, filter, take, count_by, is_none, unwrap_or}
-use Rattle.std.specs.List.{range_with_len}
 use Rattle.std.specs.Option.{option_map_or}
 use Rattle.tsd_model.specs.Pairs.{is_pair, holds}
 use Rattle.tsd_model.specs.World.{World, contents, is_live, is_free, free_count}
-use Rattle.tsd_model.specs.Reach.{swept}
-use Rattle.tsd_model.specs.Doomed.{settle}
-use Rattle.tsd_model.specs.Placing.{chosen, chosen_run}
 use Rattle.tsd_model.specs.Sessions.{Sessions}
-use Rattle.tsd_model.specs.Needs.{session_of, needs, wanted_blocks, wanted_pairs}
-use Rattle.tsd_model.specs.Verdict.{Check, check, first_rule, denied, session_rules, block_rules, level_rules, pair_rules, room_rules, rules_before_room, has_bad_count, wants_too_many, finds_no_run, has_no_room, verdict}
-use Rattle.tsd_model.specs.Step.{run_at, targets_from, without_pointer}
+use Rattle.tsd_model.specs.Needs.{session_of, needs, wanted_blocks}
+use Rattle.tsd_model.specs.Verdict.{Check, first_rule, denied, session_rules, block_rules, level_rules, pair_rules, room_rules, rules_before_room, verdict}
+use Rattle.tsd_model.specs.Step.{targets_from}
 use Rattle.tsd_model.specs.Valid.{IsSized}
 use Rattle.tsd_model.specs.ReplyForm.{AreNumbers, RuleHasNumbers, HasForm}
 use Rattle.tsd_model.specs.declared.needs.Need.{Need}
-use Rattle.tsd_model.specs.declared.replies.Reply.{Reply}
 use Rattle.tsd_model.specs.declared.replies.Reply.TheVariants as reply
 use Rattle.tsd_model.specs.declared.replies.Rule.{Rule}
-use Rattle.tsd_model.specs.declared.replies.Rule.TheVariants as rule
 use Rattle.tsd_model.specs.declared.requests.Request.{Request}
 use Rattle.disk_laws.proofs.ChangeLaws.{AllOf, AllOf-map, AllFree}
 use Rattle.tsd_model.proofs.PairLaws.{holds_first}
 use Rattle.disk_laws.proofs.DoomLaws.{live_below}
-use Rattle.disk_laws.proofs.RuleLaws.{NoRule, none_first, none_split, none_apply, NoneApply}
+use Rattle.disk_laws.proofs.RuleLaws.{NoRule, none_split, none_apply, NoneApply}
 
 -- ---- numbers
 
@@ -146,8 +140,11 @@ refusal_fits w v q r sized e = record {
   numbers = elim (first_append (rules_before_room w v q) (room_rules w q) r e) [
     | inl early ↦ first_tells (rules_before_room w v q) r (tell_before w v q) early
     | inr late ↦ first_tells (room_rules w q) r (
+      (free_fits w sized, few_wanted w v q late.0),
+      (
         (free_fits w sized, few_wanted w v q late.0),
-        ((free_fits w sized, few_wanted w v q late.0),
-        ((omega (arith, sized.room, sized.lawful.slots.1), omega (arith, sized.lawful.slots.1)), tt))) late.1
+        ((omega (arith, sized.room, sized.lawful.slots.1), omega (arith, sized.lawful.slots.1)), tt),
+      ),
+    ) late.1
   ];
 }

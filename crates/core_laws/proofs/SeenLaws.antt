@@ -1,7 +1,7 @@
 -- What is seen of a table, after a change.
-use Rattle.std.proofs.Common.{◌≡◌, ℕ, zero, suc, ◌-◌, ◌<◌, ◌≤◌, Bool, true, false, cond, not, ◌&&◌, ◌||◌, ◌==◌, List, [], ◌∷◌, length, refl, sym, ◌∙◌, ap, subst, arith, inl, inr, Option, Some, None}
+use Rattle.std.proofs.Common.{◌≡◌, ℕ, zero, suc, ◌-◌, ◌<◌, Bool, true, false, cond, not, ◌&&◌, ◌||◌, ◌==◌, List, [], ◌∷◌, length, refl, sym, ◌∙◌, ap, subst, arith, inl, inr, Option, Some, None}
 use Rattle.std.proofs.lemmas.Bool.{cases_eq, cases_lt, eq-eqb, ne_eqb}
-use Rattle.std.proofs.lemmas.List.{ext_get_or, get_or-set_same, get_or-set_other, get_or_past, get_or-map, length-set, length-map, length-replicate, get_or-replicate}
+use Rattle.std.proofs.lemmas.List.{ext_get_or, get_or-set_same, get_or-set_other, get_or_past, get_or-map, length-set, length-map}
 use Rattle.std.proofs.lemmas.List.FromFn.{length-map-range_with_len, get_or-map-range_with_len}
 use Rattle.std.specs.Prelude.{map, replicate, slice_index_or, slice_set, option_map, is_some, IfSome}
 use Rattle.std.specs.List.{range_with_len}
@@ -45,7 +45,7 @@ nested false t x = refl
 levels_twice : (p q : ℕ → Bool) (n : ℕ) → ((c : ℕ) → q c ≡ true → c < n) → (levels : Levels) → levels_seen p n (levels_seen q n levels) ≡ levels_seen (λ c. p c && q c) n levels
 levels_twice p q n inside levels =
     let here : (c : ℕ) → cond (p c) (slice_index_or (levels_seen q n levels) c level.Bare) level.Bare ≡ cond (p c && q c) (slice_index_or levels c level.Bare) level.Bare =
-      λ c. ap (λ x. cond (p c) x level.Bare) (level-seen q n levels c (inside c)) ∙ nested (p c) (q c) (slice_index_or levels c level.Bare) in
+    λ c. ap (λ x. cond (p c) x level.Bare) (level-seen q n levels c (inside c)) ∙ nested (p c) (q c) (slice_index_or levels c level.Bare) in
     λ i. map (λ c. here c i) (range_with_len 0 n)
 
 level-dropped : (levels : Levels) (a c : ℕ) → slice_index_or (slice_set levels a level.Bare) c level.Bare ≡ cond (not (a == c)) (slice_index_or levels c level.Bare) level.Bare
@@ -63,7 +63,7 @@ level-dropped levels a c = elim (cases_eq c a) [
 levels_dropped : (p : ℕ → Bool) (n a : ℕ) (levels : Levels) → levels_seen p n (slice_set levels a level.Bare) ≡ levels_seen (λ c. p c && not (a == c)) n levels
 levels_dropped p n a levels =
     let here : (c : ℕ) → cond (p c) (slice_index_or (slice_set levels a level.Bare) c level.Bare) level.Bare ≡ cond (p c && not (a == c)) (slice_index_or levels c level.Bare) level.Bare =
-      λ c. ap (λ x. cond (p c) x level.Bare) (level-dropped levels a c) ∙ nested (p c) (not (a == c)) (slice_index_or levels c level.Bare) in
+    λ c. ap (λ x. cond (p c) x level.Bare) (level-dropped levels a c) ∙ nested (p c) (not (a == c)) (slice_index_or levels c level.Bare) in
     λ i. map (λ c. here c i) (range_with_len 0 n)
 
 -- ---- in all sessions
@@ -136,12 +136,12 @@ seen_dropped_from p q n m o inside within v =
     let see : Held → Held = map (levels_seen p n) in
     let drop : Held → Held = λ held. slice_set held o (replicate m level.Bare) in
     let twice : (held : Held) → map (levels_seen p n) (map (levels_seen q n) held) ≡ map (levels_seen p n) held =
-      λ held. each_origin (levels_seen p n) (levels_seen q n) (levels_seen (λ c. p c && q c) n) (levels_twice p q n inside) held
-      ∙ (λ i. map (λ (levels : Levels). map (λ c. cond (within c i) (slice_index_or levels c level.Bare) level.Bare) (range_with_len 0 n)) held) in
+    λ held. each_origin (levels_seen p n) (levels_seen q n) (levels_seen (λ c. p c && q c) n) (levels_twice p q n inside) held
+    ∙ (λ i. map (λ (levels : Levels). map (λ c. cond (within c i) (slice_index_or levels c level.Bare) level.Bare) (range_with_len 0 n)) held) in
     let here : (held : Held) → see (drop (map (levels_seen q n) held)) ≡ see (drop held) =
-      λ held. map-set (levels_seen p n) (map (levels_seen q n) held) o (replicate m level.Bare)
-      ∙ (ap (λ h. slice_set h o (levels_seen p n (replicate m level.Bare))) (twice held)
-      ∙ sym (map-set (levels_seen p n) held o (replicate m level.Bare))) in
+    λ held. map-set (levels_seen p n) (map (levels_seen q n) held) o (replicate m level.Bare)
+    ∙ (ap (λ h. slice_set h o (levels_seen p n (replicate m level.Bare))) (twice held)
+    ∙ sym (map-set (levels_seen p n) held o (replicate m level.Bare))) in
     ap (map (option_map see)) (each_session drop (map (levels_seen q n)) (λ held. drop (map (levels_seen q n) held)) (λ held. refl) v)
     ∙ (each_session see (λ held. drop (map (levels_seen q n) held)) (λ held. see (drop held)) here v
     ∙ sym (each_session see drop (λ held. see (drop held)) (λ held. refl) v))
@@ -153,9 +153,9 @@ levels_raised p n b x levels live within long =
     let at_b : slice_index_or (levels_seen p n levels) b level.Bare ≡ slice_index_or levels b level.Bare = seen_within p n levels b within ∙ ap (λ t. cond t (slice_index_or levels b level.Bare) level.Bare) live in
     let up = greater (slice_index_or levels b level.Bare) x in
     let all : levels_seen p n (slice_set levels b up) ≡ slice_set (levels_seen p n levels) b up =
-      ext_get_or level.Bare (levels_seen p n (slice_set levels b up)) (slice_set (levels_seen p n levels) b up)
-      (length-seen p n (slice_set levels b up) ∙ (sym (length-seen p n levels) ∙ sym (length-set (levels_seen p n levels) b up)))
-      (λ c h. each up c (omega (arith, h, length-seen p n (slice_set levels b up)))) in
+    ext_get_or level.Bare (levels_seen p n (slice_set levels b up)) (slice_set (levels_seen p n levels) b up)
+    (length-seen p n (slice_set levels b up) ∙ (sym (length-seen p n levels) ∙ sym (length-set (levels_seen p n levels) b up)))
+    (λ c h. each up c (omega (arith, h, length-seen p n (slice_set levels b up)))) in
     all ∙ ap (λ l. slice_set (levels_seen p n levels) b (greater l x)) (sym at_b)
   where
     each : (up : Level) (c : ℕ) → c < n → slice_index_or (levels_seen p n (slice_set levels b up)) c level.Bare ≡ slice_index_or (slice_set (levels_seen p n levels) b up) c level.Bare
@@ -180,11 +180,11 @@ held_raised_seen p n k b f held live within at =
   where
     each : (o : ℕ) → o < length held → slice_index_or (map (levels_seen p n) (raised_held b f held)) o [] ≡ slice_index_or (raised_held b f (map (levels_seen p n) held)) o []
     each o inside =
-      get_or-map (levels_seen p n) (raised_held b f held) o [] [] (omega (arith, inside, length-raised_held b f held))
-      ∙ (ap (levels_seen p n) (get-raised_held b f held o inside)
-      ∙ (levels_raised p n b (f o) (slice_index_or held o []) live within (at.blocks o (omega (arith, inside, at.origins)))
-      ∙ (ap (raised_level b (f o)) (sym (get_or-map (levels_seen p n) held o [] [] inside))
-      ∙ sym (get-raised_held b f (map (levels_seen p n) held) o (omega (arith, inside, length-map held (levels_seen p n)))))))
+        get_or-map (levels_seen p n) (raised_held b f held) o [] [] (omega (arith, inside, length-raised_held b f held))
+        ∙ (ap (levels_seen p n) (get-raised_held b f held o inside)
+        ∙ (levels_raised p n b (f o) (slice_index_or held o []) live within (at.blocks o (omega (arith, inside, at.origins)))
+        ∙ (ap (raised_level b (f o)) (sym (get_or-map (levels_seen p n) held o [] [] inside))
+        ∙ sym (get-raised_held b f (map (levels_seen p n) held) o (omega (arith, inside, length-map held (levels_seen p n)))))))
 
 option_raised_seen : (p : ℕ → Bool) (n k b : ℕ) (f : ℕ → Level) (x : Option Held) → p b ≡ true → b < n → IfSome x (IsHeldAt n k) → option_map (map (levels_seen p n)) (option_map (raised_held b f) x) ≡ option_map (raised_held b f) (option_map (map (levels_seen p n)) x)
 option_raised_seen p n k b f None live within at = refl
@@ -199,8 +199,8 @@ pub raised_seen : (p : ℕ → Bool) (t : Table) (s b : ℕ) (f : ℕ → Level)
 raised_seen p t s b f table live within =
     map-with_held (map (levels_seen p t.blocks)) t.sessions s (option_map (raised_held b f) (held_by t.sessions s))
     ∙ ap (with_held (seen p t.blocks t.sessions) s)
-      (option_raised_seen p t.blocks t.primaries b f (held_by t.sessions s) live within (held_shape t s table)
-      ∙ ap (option_map (raised_held b f)) (sym (held-map (map (levels_seen p t.blocks)) t.sessions s)))
+    (option_raised_seen p t.blocks t.primaries b f (held_by t.sessions s) live within (held_shape t s table)
+    ∙ ap (option_map (raised_held b f)) (sym (held-map (map (levels_seen p t.blocks)) t.sessions s)))
 
 pub table_raised : (t : Table) (s b : ℕ) (f : ℕ → Level) → IsTable t → IsTable (with_sessions t (raised t.sessions s b f))
 table_raised t s b f table =

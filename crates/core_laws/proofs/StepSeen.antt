@@ -1,21 +1,20 @@
 -- A granted request over a table that may still hold levels at free blocks: what is seen of the table is what the rules say.
-use Rattle.std.proofs.Common.{◌≡◌, ℕ, ◌<◌, Bool, true, false, cond, not, ◌&&◌, ◌||◌, ◌==◌, nat_le, List, [], ◌∷◌, length, refl, sym, ◌∙◌, ap, subst, arith, inl, inr, Option, Some, None}
-use Rattle.std.proofs.lemmas.Bool.{and_parts, cases_eq, or_parts, eq-eqb, eqb-true}
+use Rattle.std.proofs.Common.{◌≡◌, ℕ, Bool, true, false, cond, not, ◌&&◌, ◌||◌, ◌==◌, nat_le, List, [], ◌∷◌, length, refl, sym, ◌∙◌, ap, subst, arith, Option, Some, None}
+use Rattle.std.proofs.lemmas.Bool.{and_parts, or_parts, eq-eqb, eqb-true}
 use Rattle.std.proofs.lemmas.List.{length-set}
 use Rattle.std.proofs.lemmas.List.FromFn.{length-map-range_with_len}
-use Rattle.std.specs.Prelude.{map, replicate, slice_set, is_some, is_none, option_map}
-use Rattle.std.specs.List.{range_with_len}
+use Rattle.std.specs.Prelude.{map, replicate, is_some, is_none, option_map}
 use Rattle.tsd_model.specs.Geometry.{block_len}
 use Rattle.tsd_model.specs.Pairs.{holds}
 use Rattle.tsd_model.specs.World.{World, contents, is_live, is_free, has_number}
 use Rattle.tsd_model.specs.Reach.{reach, restricted, swept}
 use Rattle.tsd_model.specs.Doomed.{doomed, settle}
 use Rattle.tsd_model.specs.Placing.{chosen, chosen_run}
-use Rattle.tsd_model.specs.Sessions.{Sessions, held_by, with_held, raised, levels_at_live, fitted, dropped_from}
+use Rattle.tsd_model.specs.Sessions.{Sessions, with_held, raised, levels_at_live, fitted, dropped_from}
 use Rattle.tsd_model.specs.Attained.{attained_from}
 use Rattle.tsd_model.specs.Needs.{session_of, needs}
-use Rattle.tsd_model.specs.Verdict.{names_missing_block, names_free_block, verdict}
-use Rattle.tsd_model.specs.Step.{Outcome, gives, change, fitted_outcome, judged, step, raised_at, raised_for, raised_by, filled, with_contents, with_pointer, without_pointer, with_new_blocks, zeros, run_at}
+use Rattle.tsd_model.specs.Verdict.{verdict}
+use Rattle.tsd_model.specs.Step.{gives, change, fitted_outcome, judged, step, raised_at, raised_for, raised_by, filled, with_contents, with_pointer, without_pointer, with_new_blocks, zeros, run_at}
 use Rattle.tsd_model.specs.declared.needs.Need.{Need}
 use Rattle.tsd_model.specs.declared.replies.Rule.{Rule}
 use Rattle.tsd_model.specs.declared.requests.Level.{Level}
@@ -28,9 +27,9 @@ use Rattle.disk_laws.proofs.ByteLaws.{contents_like, attained_from_like, verdict
 use Rattle.disk_laws.proofs.LikeLaws.{fitted_like}
 use Rattle.disk_laws.proofs.ChangeLaws.{AllFree, contents-other, chosen_are_free, chosen_run_is_free}
 use Rattle.disk_laws.proofs.DoomLaws.{live_below, live-restricted}
-use Rattle.disk_laws.proofs.RuleLaws.{NoRule, Passes, granted_passes}
+use Rattle.disk_laws.proofs.RuleLaws.{Passes, granted_passes}
 use Rattle.disk_laws.proofs.ValidLaws.{named_is_live, one_is_live}
-use Rattle.grant_table.specs.Table.{Table, IsTable, IsMadeFor, with_sessions}
+use Rattle.grant_table.specs.Table.{Table, IsTable, with_sessions}
 use Rattle.core_laws.specs.Seen.{seen, IsOver, dropped_each, table_after, world_after, reply_to}
 use Rattle.core_laws.proofs.SeenLaws.{same_seen, seen_twice, seen_dropped_each, seen_dropped_from, map-with_held, raised_seen, table_raised}
 use Rattle.core_laws.proofs.VerdictSeen.{ComesFrom, attained_from-fitted, verdict-fitted}
@@ -239,7 +238,7 @@ step_over kind g t w q over granted =
     let seen_granted : ◌≡◌ {A = Option Rule} (verdict w (fitted t v) q) None = verdict_over g t w q over ∙ granted in
     let reach_blocks : g.blocks ≡ length t.blocks = over.made.blocks ∙ sym over.each_block in
     let rise : raised_by w (fitted t v) q ≡ fitted w (raised_by w v q) =
-      raised_for_fitted w t from g over.table reach_blocks (session_of q) (needs q) (needs_live t v q over.each_block pass) ∙ fitted_like t w over.like (raised_by w v q) in
+    raised_for_fitted w t from g over.table reach_blocks (session_of q) (needs q) (needs_live t v q over.each_block pass) ∙ fitted_like t w over.like (raised_by w v q) in
     ap (judged kind (record { world = w; sessions = fitted t v }) q) seen_granted
     ∙ (ap (λ u. fitted_outcome (change kind w u q)) rise
     ∙ (outcome_is kind w (fitted w (raised_by w v q)) q

@@ -1,12 +1,11 @@
 -- What isn't seen of a table changes no verdict and no attained level, since pairs come from live blocks.
-use Rattle.std.proofs.Common.{◌≡◌, ℕ, ◌<◌, Bool, true, false, cond, not, ◌&&◌, ◌||◌, ◌==◌, nat_le, List, [], ◌∷◌, ◌++◌, length, refl, sym, ◌∙◌, ap, subst, arith, Option, Some, None}
+use Rattle.std.proofs.Common.{◌≡◌, ℕ, true, false, cond, not, ◌&&◌, ◌==◌, List, [], ◌∷◌, ◌++◌, refl, ◌∙◌, ap}
 use Rattle.std.proofs.lemmas.Bool.{and_from, eq-eqb, or_left, or_right}
-use Rattle.std.specs.Prelude.{map, filter, slice_index_or, unwrap_or}
-use Rattle.std.specs.List.{list_any, range_with_len}
+use Rattle.std.specs.Prelude.{map, filter, unwrap_or}
 use Rattle.std.specs.Option.{option_map_or}
 use Rattle.tsd_model.specs.Pairs.{is_pair, holds, sources_to}
 use Rattle.tsd_model.specs.World.{World, is_live, is_primary, primary_blocks}
-use Rattle.tsd_model.specs.Sessions.{Levels, Sessions, level_le, greatest, is_open, levels_from, level_from, levels_at_live, fitted}
+use Rattle.tsd_model.specs.Sessions.{Sessions, level_le, greatest, is_open, levels_from, level_from, levels_at_live, fitted}
 use Rattle.tsd_model.specs.Attained.{shown_level, led_level, attained_from, attained}
 use Rattle.tsd_model.specs.Needs.{session_of, needs}
 use Rattle.tsd_model.specs.Verdict.{check, first_rule, is_bad, has_bad_session, is_begin, block_rules, pair_rules, room_rules, verdict}

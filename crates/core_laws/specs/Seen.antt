@@ -15,7 +15,7 @@ use Rattle.tsd_model.specs.declared.requests.Request.TheVariants as ask
 use Rattle.tsd_model.specs.declared.replies.Reply.{Reply}
 use Rattle.tsd_model.specs.declared.replies.Reply.TheVariants as reply
 use Rattle.disk_laws.specs.Bytes.{AreLike}
-use Rattle.grant_table.specs.Table.{Table, IsTable, IsMadeFor, with_sessions, dropped_at}
+use Rattle.grant_table.specs.Table.{Table, IsTable, IsMadeFor, dropped_at}
 
 -- of levels at n blocks those at the blocks that pass
 abbrev pub levels_seen : (ℕ → Bool) → ℕ → Levels → Levels
