@@ -4,6 +4,7 @@
 mod blocks;
 mod caps;
 mod emptying;
+mod erasing;
 mod fault;
 mod grow;
 mod growing;
@@ -14,6 +15,7 @@ mod questions;
 mod read;
 mod settling;
 mod steps;
+mod upgrading;
 mod volume;
 mod write;
 mod zeroing;

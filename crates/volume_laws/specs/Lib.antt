@@ -7,3 +7,4 @@ pub mod Steps
 pub mod Graphs
 pub mod Growing
 pub mod Zeroed
+pub mod Erased
