@@ -41,8 +41,8 @@ const RIGHT: Said = Said {
 
 /// Sets a number of four bytes of a sector, the lowest byte first.
 fn put_number(sector: &mut [u8; 512], at: usize, number: u32) {
-    if let Some(place) = sector.get_mut(at..at + 4) {
-        place.copy_from_slice(&number.to_le_bytes());
+    if at <= 508 {
+        sector[at..at + 4].copy_from_slice(&number.to_le_bytes());
     }
 }
 

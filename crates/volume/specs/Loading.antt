@@ -1,8 +1,6 @@
 -- What a loading answers.
-use Rattle.std.specs.Prelude.{◌≡◌, ℕ, ◌<◌, Bool, false, Result, Ok, Err, ⊤}
+use Rattle.std.specs.Prelude.{Result, Ok, Err, ⊤}
 use Rattle.image_layout.specs.Image.{Image}
-use Rattle.image_layout.specs.Ring.{records}
-use Rattle.intent_journal.specs.Records.{is_open_gate}
 use Rattle.image_world.specs.Faults.{IsGood, IsFirstFault}
 use Rattle.image_tables.specs.declared.fault.LoadFault.{LoadFault}
 use Rattle.image_tables.specs.declared.fault.LoadFault.TheVariants as table_fault
@@ -17,10 +15,6 @@ IsLoading image (Ok v) = IsGood image
 IsLoading image (Err fault.NoMemory) = ⊤
 IsLoading image (Err fault.Device) = ⊤
 IsLoading image (Err (fault.Image why)) = IsFirstFault image why
-
--- every gate reads closed
-abbrev pub AreClosed : Image → Type 0
-AreClosed image = (index : ℕ) → index < records → is_open_gate image index ≡ false
 
 -- what a fault of the tables is for the volume
 abbrev pub of_tables : LoadFault → VolumeFault

@@ -9,11 +9,13 @@ ghost use Rattle.image_layout.specs.Header.{IsReading, IsVersion};
 ghost use Rattle.image_layout.specs.Image.{is_open};
 ghost use Rattle.tsd_model.specs.Geometry.{IsLawful};
 ghost use Rattle.image_world.specs.Faults.{IsFormatted};
-ghost use Rattle.volume.specs.Loading.{IsLoading, AreClosed};
+ghost use Rattle.image_world.specs.Fresh.{AreClosed};
+ghost use Rattle.volume.specs.Loading.{IsLoading};
 ghost use Rattle.volume_laws.specs.Volume.{IsAt};
 
 use crate::fault::VolumeFault;
 use crate::volume::Volume;
+use cycle_sweep::Marks;
 use image_device::{Device, Failed};
 use image_layout::sectors::{SECTOR_BYTES, SWEEP_FLAG};
 use image_layout::{Header, is_open};
@@ -65,6 +67,7 @@ impl Volume {
         let is_sweeping = read_flag(dev)?;
         let batch = Batch::new(alloc)?;
         let work = Work::new(alloc, header.geometry.blocks)?;
+        let marks = Marks::new(alloc, header.geometry.blocks)?;
         let ahead = Ahead::new(alloc, header.geometry.blocks)?;
         Ok(Volume {
             header: *header,
@@ -75,6 +78,7 @@ impl Volume {
             live: tables.live,
             caps: tables.caps,
             work,
+            marks,
             ahead,
             is_sweeping,
             is_ready: false,

@@ -23,30 +23,6 @@ use reclaim::next_step;
 const STEPS: u32 = 4;
 
 impl Volume {
-    /// Ends a sweep and a cascade that the image holds, and tells how many blocks were reclaimed.
-    pub fn finish<D: Device>(&mut self, dev: &mut D) -> Result<u32, Failed>
-        requires unspent { self.old.is_spent ≡ false }
-        requires at { D.told → IsAt self.old (D.view dev.old) }
-        ensures at { D.told → OnOk result (IsAt self.new (D.view dev.new)) }
-        ensures done { D.told → OnOk result (world_on (D.view dev.new) ≡ world_on (D.view dev.old)) }
-        ensures told { OnOk result (told_by self.new ≡ told_by self.old) }
-        ensures count { IfOk result (λ count. count ≡ free_count (told_by self.old) - free_count (world_with self.old.tables (zeros_of self.old.tables))) }
-        ensures settled { OnOk result (owed self.new.tables ≡ 0) }
-        ensures ready { OnOk result (IsReady self.new) }
-        ensures unspent { OnOk result (self.new.is_spent ≡ false) }
-        ensures spent { OnErr result (self.new.is_spent ≡ true) }
-        ensures size { (self.new.tables.geometry ≡ self.old.tables.geometry) × (self.new.tables.version ≡ self.old.tables.version) }
-        ensures sent { D.told → (D.view dev.new).sent ≡ (D.view dev.old).sent }
-        ensures any_moment { D.told → LeavesWorld (D.view dev.old) (D.view dev.new) }
-        ensures any_owed { self.old.tables.is_sweeping ≡ false → D.told → LeavesOwed (D.view dev.old) (D.view dev.new) (owed self.old.tables) }
-        ensures paid { self.old.tables.is_sweeping ≡ false → OnOk result (IsPaid 0 self.old (D.view dev.old) self.new (D.view dev.new)) }
-        ensures works { Works (D.view dev.old) (D.view dev.new) }
-        ensures faultless { OnOk result ((D.view dev.new).faults ≡ (D.view dev.old).faults) }
-        ensures cause { OnErr result (Rose (D.view dev.old).faults (D.view dev.new).faults) }
-    {
-        Err(Failed)
-    }
-
     /// Makes four steps of reclamation, or as many as are left. Answers whether something lost remains.
     pub fn settle_some<D: Device>(&mut self, dev: &mut D) -> Result<bool, Failed>
         requires ready { IsReady self.old }
@@ -100,29 +76,6 @@ impl Volume {
         ensures cause { OnErr result (Rose (D.view dev.old).faults (D.view dev.new).faults) }
     {
         self.settle_lost(dev)
-    }
-
-    /// Reclaims what no primary block leads to, and tells how many blocks became free. What is lost is reclaimed first.
-    pub fn sweep<D: Device>(&mut self, dev: &mut D) -> Result<u32, Failed>
-        requires ready { IsReady self.old }
-        requires unspent { self.old.is_spent ≡ false }
-        requires at { D.told → IsAt self.old (D.view dev.old) }
-        ensures at { D.told → OnOk result (IsAt self.new (D.view dev.new)) }
-        ensures done { D.told → OnOk result (world_on (D.view dev.new) ≡ swept (world_on (D.view dev.old))) }
-        ensures told { OnOk result (told_by self.new ≡ swept (told_by self.old)) }
-        ensures count { IfOk result (λ count. count ≡ free_count (told_by self.new) - free_count (told_by self.old)) }
-        ensures settled { OnOk result (owed self.new.tables ≡ 0) }
-        ensures ready { OnOk result (IsReady self.new) }
-        ensures unspent { OnOk result (self.new.is_spent ≡ false) }
-        ensures spent { OnErr result (self.new.is_spent ≡ true) }
-        ensures size { (self.new.tables.geometry ≡ self.old.tables.geometry) × (self.new.tables.version ≡ self.old.tables.version) }
-        ensures sent { D.told → (D.view dev.new).sent ≡ (D.view dev.old).sent }
-        ensures any_moment { D.told → LeavesEither (D.view dev.old) (D.view dev.new) (swept (world_on (D.view dev.old))) }
-        ensures works { Works (D.view dev.old) (D.view dev.new) }
-        ensures faultless { OnOk result ((D.view dev.new).faults ≡ (D.view dev.old).faults) }
-        ensures cause { OnErr result (Rose (D.view dev.old).faults (D.view dev.new).faults) }
-    {
-        Err(Failed)
     }
 }
 

@@ -4,6 +4,7 @@ ghost use Rattle.std.specs.Prelude.{◌≡◌};
 
 use block_alloc::LiveMap;
 use cap_store::CapStore;
+use cycle_sweep::Marks;
 use image_layout::Header;
 use intent_journal::{Batch, Ring};
 use pointer_table::PointerTable;
@@ -31,6 +32,9 @@ pub struct Volume {
     /// Room for the blocks that are lost. Between calls they don't matter.
     pub(crate) work: Work,
 
+    /// Room for the marks of a sweep. Between calls they don't matter.
+    pub(crate) marks: Marks,
+
     /// What is lost on the disk and not reclaimed yet. It is right once the volume is ready.
     pub(crate) ahead: Ahead,
 
@@ -45,13 +49,14 @@ pub struct Volume {
 }
 
 impl Model for Volume {
+    ghost use Rattle.std.specs.Prelude.{length};
     ghost use Rattle.volume_laws.specs.Volume.{Volume as Value_of, tables_in, AreParts};
 
     ghost Value = { Value_of };
 
     ghost view = { λ v. record { tables = tables_in v.header v.pointers v.counts v.live v.caps v.is_sweeping; ring = v.ring; is_ready = v.is_ready; is_spent = v.is_spent } };
 
-    ghost invariant = { λ v. AreParts v.header v.pointers v.counts v.live v.caps v.is_sweeping v.work.room v.ahead v.is_ready };
+    ghost invariant = { λ v. AreParts v.header v.pointers v.counts v.live v.caps v.is_sweeping (v.work.room, length v.marks) v.ahead v.is_ready };
 }
 
 impl Volume {

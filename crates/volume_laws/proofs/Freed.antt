@@ -26,7 +26,7 @@ use Rattle.image_world.specs.Sound.{AreSound}
 use Rattle.image_world.specs.Tables.{Tables, pairs_of}
 use Rattle.image_world.specs.Raw.{world_with, zeros_of}
 use Rattle.volume_laws.specs.Graphs.{graph_in, IsNext}
-use Rattle.volume_laws.specs.Steps.{pairs_without}
+use Rattle.volume_laws.specs.Steps.{pairs_without, IsAllowed}
 use Rattle.volume_laws.specs.Turns.{Turns}
 use Rattle.volume_laws.proofs.StepWorlds.{without_parts}
 use Rattle.volume_laws.proofs.TableWorlds.{graph_laid_out}
@@ -34,10 +34,14 @@ use Rattle.volume_laws.proofs.TableWorlds.{graph_laid_out}
 away : (s n : ℕ) → n ≢ s → (n == s) ≡ false
 away s n other = grind (arith, nat_tests)
 
-pub next_inside : (t : Tables) (s : OutStep) → IsNext t s → s.block < t.geometry.blocks
-next_inside t s next = subst (λ n. s.block < n) (graph_laid_out t).each_block (live_below (graph_in t).blocks s.block next.may.lost.live)
+-- a step of reclamation is allowed
+pub next_allowed : (t : Tables) (s : OutStep) → IsNext t s → IsAllowed t s
+next_allowed t s next = record { live = next.may.lost.live; apart = next.may.lost.apart; step = next.may.step; few = next.may.few }
 
-module _ (t mid : Tables) (s : OutStep) (next : IsNext t s) (same : mid.geometry ≡ t.geometry) (live : mid.live ≡ t.live) (pairs : pairs_of mid ≡ pairs_without (pairs_of t) s.block s.targets) (freed : s.freed ≡ true) (now_sound : AreSound mid) where
+pub allowed_inside : (t : Tables) (s : OutStep) → IsAllowed t s → s.block < t.geometry.blocks
+allowed_inside t s next = subst (λ n. s.block < n) (graph_laid_out t).each_block (live_below (graph_in t).blocks s.block next.live)
+
+module _ (t mid : Tables) (s : OutStep) (next : IsAllowed t s) (same : mid.geometry ≡ t.geometry) (live : mid.live ≡ t.live) (pairs : pairs_of mid ≡ pairs_without (pairs_of t) s.block s.targets) (freed : s.freed ≡ true) (now_sound : AreSound mid) where
   abbrev after : Tables
   after = record mid { live = slice_set mid.live s.block false }
 
@@ -49,7 +53,7 @@ module _ (t mid : Tables) (s : OutStep) (next : IsNext t s) (same : mid.geometry
   )
     where
       alone : IsAlone (without_pointers (graph_in t) s.block s.targets) s.block
-      alone = next.may.step.last freed
+      alone = next.step.last freed
 
       now_in : (m n : ℕ) → holds (pairs_of mid) m n ≡ holds (without_pointers (graph_in t) s.block s.targets).pairs m n
       now_in m n = ap (λ es. holds es m n) (pairs ∙ sym (ap (λ (w : World). w.pairs) (without_parts s.block s.targets (graph_in t))))
@@ -64,7 +68,7 @@ module _ (t mid : Tables) (s : OutStep) (next : IsNext t s) (same : mid.geometry
     each_block = length-set mid.live s.block false ∙ now_sound.each_block;
     each_count = now_sound.each_count;
     each_record = now_sound.each_record;
-    primaries = λ b h. still b (λ e. let apart = next.may.lost.apart in let size = ap (λ (g : Geometry). g.primaries) same in omega (arith, apart, size, e, h)) ∙ now_sound.primaries b h;
+    primaries = λ b h. still b (λ e. let apart = next.apart in let size = ap (λ (g : Geometry). g.primaries) same in omega (arith, apart, size, e, h)) ∙ now_sound.primaries b h;
     ends = λ x y held. let other = apart_from x y held in let was = and_parts (is_live mid.live x) (is_live mid.live y) (now_sound.ends x y held) in
         and_from (is_live (slice_set mid.live s.block false) x) (is_live (slice_set mid.live s.block false) y) (still x other.0 ∙ was.0) (still y other.1 ∙ was.1);
     counted = now_sound.counted;

@@ -1,8 +1,9 @@
 -- Pairs that a step of reclamation takes away, in memory and in its batch.
 use Rattle.std.specs.Prelude.{◌≡◌, ℕ, ◌≤◌, ◌*◌, ◌+◌, Bool, true, false, cond, List, [], ◌∷◌, length, slice_set, IsTrue}
 use Rattle.tsd_model.specs.Pairs.{holds, without_pair}
-use Rattle.tsd_model.specs.World.{has_number}
+use Rattle.tsd_model.specs.World.{has_number, is_live}
 use Rattle.disk_laws.specs.Reclaiming.{all_apart}
+use Rattle.graph_laws.specs.Steps.{IsStep}
 use Rattle.image_layout.specs.declared.place.Patch.{Patch}
 use Rattle.pointer_table.specs.Table.{Table as Pointers}
 use Rattle.ref_counts.specs.Table.{Table as Counts}
@@ -10,7 +11,7 @@ use Rattle.image_world.specs.Sound.{AreSound}
 use Rattle.image_world.specs.Tables.{Tables, pairs_of}
 use Rattle.block_alloc.specs.LiveMap.{LiveMap}
 use Rattle.pointer_table.specs.declared.out_step.OutStep.{OutStep}
-use Rattle.volume_laws.specs.Graphs.{IsNext}
+use Rattle.volume_laws.specs.Graphs.{graph_in}
 use Rattle.volume_laws.specs.Turns.{Turns}
 
 -- these slots and counts are the tables'
@@ -62,13 +63,21 @@ pub record IsStepped (t now : Tables) (a : ℕ) (bs : List ℕ) (freed : Bool) :
 abbrev pub with_all : Tables → Pointers → Counts → LiveMap → Tables
 with_all t p c l = record t { slots = p.slots; counts = c.counts; live = l.live }
 
--- tables that have these slots, counts and bits, where this step is next
+-- A step that the tables allow, of reclamation or of a sweep: it is at a live block that isn't primary, and takes at most 16
+-- of its pairs.
+pub record IsAllowed (t : Tables) (s : OutStep) : Type 0 where
+  pub live : IsTrue (is_live (graph_in t) s.block)
+  pub apart : t.geometry.primaries ≤ s.block
+  pub step : IsStep (graph_in t) s.block s.targets s.freed
+  pub few : length s.targets ≤ 16
+
+-- tables that have these slots, counts and bits, where this step is allowed
 pub record MayPut (t : Tables) (p : Pointers) (c : Counts) (l : LiveMap) (s : OutStep) : Type 0 where
   pub parts : AreFor t p c
   pub live_size : l.geometry ≡ t.geometry
   pub live : l.live ≡ t.live
   pub sound : AreSound t
-  pub next : IsNext t s
+  pub next : IsAllowed t s
 
 -- The step was made in these tables, and the batch makes it in an image.
 pub record IsPut (t : Tables) (s : OutStep) (now : Tables) (batch : List Patch) : Type 0 where

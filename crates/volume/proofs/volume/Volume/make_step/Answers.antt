@@ -15,6 +15,7 @@ use Rattle.cap_store.specs.Store.{Store}
 use Rattle.volume_laws.specs.Graphs.{graph_in, IsNext}
 use Rattle.reclaim.specs.Ahead.{Kept, is_gone}
 use Rattle.volume_laws.proofs.AheadKept.{hides_stepped, ahead_then, gone_then, counted_then}
+use Rattle.volume_laws.proofs.Freed.{next_allowed}
 use Rattle.volume_laws.proofs.TableWorlds.{graph_laid_out}
 use Rattle.volume_laws.specs.Moments.{owed}
 use Rattle.volume_laws.specs.Steps.{MayPut, IsPut, IsStepped, with_all, AreFor}
@@ -42,7 +43,7 @@ may g c =
       live_size = c.self.invariant.live ∙ size;
       live = ap (λ (t : Tables). t.live) is;
       sound = sound_of g c;
-      next = c.requires.next;
+      next = next_allowed c.args.self.now.tables c.args.step.now c.requires.next;
     }
 
 -- the volume then
