@@ -56,6 +56,8 @@ impl<'a> Handler for CoreServer<'a> {
 
     ghost stands_now = { λ h x held. record { good = held.good; world = refl } };
 
+    ghost given_form = { λ s q r t given. given.1 };
+
     fn apply<D: Device>(&mut self, dev: &mut D, request: &Request) -> Result<Reply, Failed> {
         self.core.apply(dev, self.place, request)
     }
