@@ -1,12 +1,13 @@
 //! Upgrading to digests.
 
-ghost use Rattle.std.specs.Prelude.{◌≡◌, ◌≢◌, ℕ, ◌+◌, ◌≤◌, [], true, false, length, OnOk, OnErr};
+ghost use Rattle.std.specs.Prelude.{◌≡◌, ◌≢◌, ℕ, ◌+◌, ◌≤◌, [], true, false, length, Ok, OnOk, OnErr};
 ghost use Rattle.tsd_model.specs.Records.{upgraded};
 ghost use Rattle.image_device.specs.Calls.{Uses};
 ghost use Rattle.image_device.specs.Counts.{Rose};
 ghost use Rattle.image_device.specs.Image.{Image, put_at, zeros};
 ghost use Rattle.image_layout.specs.Areas.{caps_start};
-ghost use Rattle.image_layout.specs.Header.{header_bytes};
+ghost use Rattle.image_layout.specs.Header.{header_bytes, IsReading, IsVersion};
+ghost use Rattle.tsd_model.specs.Geometry.{IsLawful};
 ghost use Rattle.intent_journal.specs.Home.{overlaid};
 ghost use Rattle.intent_journal.specs.Ring.{checkpoint_writes};
 ghost use Rattle.cap_store.specs.Stored.{caps_sector_bytes};
@@ -53,17 +54,17 @@ fn put_upgrade(batch: &mut Batch, was: u32, header: &Header, caps: &CapStore)
     requires some { 1 ≤ caps.now.geometry.primaries }
     requires empty { caps.now.geometry.primaries ≤ 8 → caps_sector_bytes 2 caps.now.records 1 ≡ zeros }
     ensures none { was ≡ 2 → batch.new ≡ [] }
+    ensures header { IsVersion header.now.version → IsLawful header.now.geometry → IsReading (header_bytes header.now) (Ok header.now) }
     ensures few { length batch.new ≤ 3 }
     ensures laid { was ≢ 2 → (x : Image) (n : ℕ) → overlaid batch.new x n ≡ put_at (caps_start + 1) (caps_sector_bytes 2 caps.now.records 1) (put_at caps_start (caps_sector_bytes 2 caps.now.records 0) (put_at 0 (header_bytes header.now) x)) n }
 {
+    let bytes = write_header(header);
     if was != DIGEST_VERSION {
-        put_patch(
-            batch,
-            &Patch {
-                sector: HEADER_SECTOR,
-                bytes: write_header(header),
-            },
-        );
+        let first = Patch {
+            sector: HEADER_SECTOR,
+            bytes,
+        };
+        put_patch(batch, &first);
         put_patch(batch, &caps.patch(0));
         put_patch(batch, &second_sector(header.geometry.primaries, caps));
     }

@@ -11,13 +11,8 @@ use Rattle.intent_journal.specs.Home.{overlaid}
 use Rattle.volume_laws.specs.Growing.{parts_of}
 use Rattle.volume_laws.proofs.Grown.{free_count, free_absent, one_grown, one_pair_more}
 use Rattle.volume_laws.proofs.AheadKept.{shown_more}
+use Rattle.volume_laws.proofs.Outcomes.{ok_here, if_here}
 use Rattle.volume.proofs.growing.put_one.Goals as goal
-
-ok_here : {T E : Type 0} (r : Result T E) (P : Type 0) (v : T) → r ≡ Ok v → OnOk r P → P
-ok_here {T = T} {E = E} r P v is h = subst (λ (x : Result T E). OnOk x P) is h
-
-if_here : {T E : Type 0} (r : Result T E) (P : T → Type 0) (v : T) → r ≡ Ok v → IfOk r P → P v
-if_here {T = T} {E = E} r P v is h = subst (λ (x : Result T E). IfOk x P) is h
 
 pub raise-requires-clause-room : goal.raise-requires-clause-room
 raise-requires-clause-room c =

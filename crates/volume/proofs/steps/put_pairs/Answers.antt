@@ -14,18 +14,9 @@ use Rattle.volume_laws.specs.Steps.{MayTake, IsTaken, with_parts, pairs_without}
 use Rattle.volume_laws.proofs.BlockLaws.{put_ok, length-with_patch}
 use Rattle.volume_laws.proofs.Dropped.{held_within, count_some}
 use Rattle.volume_laws.proofs.Taken.{taken_none, taken_more, next_pair}
+use Rattle.volume_laws.proofs.Outcomes.{ok_here, if_here, ok_if}
 use Rattle.volume.proofs.steps.put_pairs.Given
 use Rattle.volume.proofs.steps.put_pairs.Goals as goal
-
-ok_here : {T E : Type 0} (r : Result T E) (P : Type 0) (v : T) → r ≡ Ok v → OnOk r P → P
-ok_here {T = T} {E = E} r P v is h = subst (λ (x : Result T E). OnOk x P) is h
-
-if_here : {T E : Type 0} (r : Result T E) (P : T → Type 0) (v : T) → r ≡ Ok v → IfOk r P → P v
-if_here {T = T} {E = E} r P v is h = subst (λ (x : Result T E). IfOk x P) is h
-
-ok_if : {T E : Type 0} (r : Result T E) → (IsErr r → ⊥) → IsOk r
-ok_if (Ok v) never = refl
-ok_if (Err e) never = absurd (never refl)
 
 pub loop-target-init : goal.loop-target-init
 loop-target-init c = record {

@@ -10,7 +10,7 @@ use Rattle.block_alloc.specs.LiveMap.{LiveMap}
 use Rattle.block_alloc.specs.Stored.{IsStoredAt, IsStored, sector_of}
 use Rattle.image_world.specs.Tables.{Tables, pairs_of}
 use Rattle.volume_laws.specs.Steps.{MayTake, IsTaken, with_parts, MayPut, IsPut, with_all, IsStepped, live_after, pairs_without}
-use Rattle.volume_laws.specs.Turns.{Turns}
+use Rattle.image_world.specs.Turns.{Turns}
 use Rattle.volume_laws.proofs.BlockLaws.{put_ok, length-with_patch}
 use Rattle.volume_laws.proofs.Freed.{freed_turn, allowed_inside}
 use Rattle.pointer_table.specs.Table.{Table as Pointers}

@@ -25,22 +25,10 @@ use Rattle.reclaim.specs.Ahead.{IsAheadOf, is_gone}
 use Rattle.volume_laws.specs.Graphs.{graph_in}
 use Rattle.volume_laws.proofs.AheadKept.{adding, graph_added, gone_added, hides_same}
 use Rattle.volume_laws.proofs.StepOps.{op_owed}
+use Rattle.volume_laws.proofs.Outcomes.{ok_here, if_here}
+use Rattle.volume_laws.proofs.BlockLaws.{two_patches}
 use Rattle.volume.proofs.volume.Volume.add_pair.Given
 use Rattle.volume.proofs.volume.Volume.add_pair.Goals as goal
-
-ok_here : {T E : Type 0} (r : Result T E) (P : Type 0) (v : T) → r ≡ Ok v → OnOk r P → P
-ok_here {T = T} {E = E} r P v is h = subst (λ (x : Result T E). OnOk x P) is h
-
-if_here : {T E : Type 0} (r : Result T E) (P : T → Type 0) (v : T) → r ≡ Ok v → IfOk r P → P v
-if_here {T = T} {E = E} r P v is h = subst (λ (x : Result T E). IfOk x P) is h
-
--- the batch has the two patches
-two_patches : {T E U F : Type 0} (r : Result T E) (s : Result U F) (A B : Type 0) (ps mid new : List Patch) (p q : Patch) → ps ≡ [] → OnOk r (mid ≡ with_patch p ps) → OnErr r (A × (length ps ≡ 113)) → OnOk s (new ≡ with_patch q mid) → OnErr s (B × (length mid ≡ 113))
-    → new ≡ with_patch q (with_patch p [])
-two_patches r s A B ps mid new p q none first full second over =
-    let one : mid ≡ with_patch p [] = put_ok r A (mid ≡ with_patch p ps) (length ps) first full (omega (arith, ap (λ (qs : List Patch). length qs) none)) ∙ ap (with_patch p) none in
-    let few : length mid < 113 = omega (arith, ap (λ (qs : List Patch). length qs) one, length-with_patch p []) in
-    put_ok s B (new ≡ with_patch q mid) (length mid) second over few ∙ ap (with_patch q) one
 
 open_to : (vol : Volume) (a b : ℕ) → vol.tables.is_sweeping ≡ false → is_live (told_by vol) a ≡ true → is_live (told_by vol) b ≡ true → vol.tables.geometry.primaries ≤ b → holds (told_by vol).pairs a b ≡ false → IsOpenTo vol.tables a b
 open_to vol a b still source target apart absent = record { still = still; source = source; target = target; apart = apart; absent = absent }
