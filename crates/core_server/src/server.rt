@@ -33,7 +33,7 @@ impl<'a> CoreServer<'a> {
 
     /// The core.
     pub fn into_core(self) -> Core
-        ensures { result ≡ self.core }
+        ensures { result ≡ self.entry.core }
     {
         self.core
     }
