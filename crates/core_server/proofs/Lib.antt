@@ -1,1 +1,2 @@
--- none yet
+pub mod StepForm
+pub mod Serving

@@ -16,10 +16,10 @@ use Rattle.block_alloc.proofs.WorldLaws.{chosen_same, chosen_run_same}
 use Rattle.tsd_core.specs.Growing.{AreNew}
 
 -- which blocks of a world are live
-abbrev live_map : World → List Bool
+abbrev pub live_map : World → List Bool
 live_map w = map is_some w.blocks
 
-map_of : (w : World) → IsMapOf (live_map w) w
+pub map_of : (w : World) → IsMapOf (live_map w) w
 map_of w = record {
   each_block = length-map w.blocks is_some;
   same = λ b inside. get_or-map is_some w.blocks b None false (omega (arith, inside, length-map w.blocks is_some));
