@@ -11,6 +11,11 @@
 #![tactic(auto)]
 
 mod areas;
+mod fault;
 mod formatting;
+mod head;
+mod opening;
 
+pub use fault::OpenFault;
 pub use formatting::format;
+pub use opening::open_image;

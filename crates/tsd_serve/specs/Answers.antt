@@ -15,12 +15,6 @@ use Rattle.tsd_serve.specs.declared.plain_core.PlainCore.{PlainCore}
 abbrev pub state_of : PlainCore → State
 state_of core = record { world = core.world; sessions = core.sessions }
 
--- One request's reply, and the state after it; whether no memory was found for a Begin stands open.
-pub record IsAnswer (kind : PlaceKind) (s : State) (q : Request) (r : Reply) (now : State) : Type 0 where
-  pub want : Bool
-  pub reply : r ≡ (answer kind s q want).reply
-  pub state : now ≡ (answer kind s q want).state
-
 -- a line each
 abbrev pub requests : List (List ℕ) → List Request
 requests ls = map request_of ls

@@ -1,0 +1,11 @@
+//! Tests of the serving loop, over lines and over frames, with the least handler.
+//!
+//! They use public calls alone and show what no clause says. They stand in a crate of their own, so that a change of a test
+//! proves no other crate again. Nothing stands on it, and it promises nothing.
+#![tactic(auto)]
+
+#[cfg(test)]
+mod runs;
+mod steady;
+
+pub use steady::Steady;

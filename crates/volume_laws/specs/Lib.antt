@@ -1,0 +1,9 @@
+pub mod Volume
+pub mod Moments
+pub mod Writes
+pub mod Unused
+pub mod Turns
+pub mod Steps
+pub mod Graphs
+pub mod Growing
+pub mod Zeroed
