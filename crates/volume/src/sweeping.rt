@@ -100,7 +100,8 @@ impl Volume {
         ensures cause { OnErr result (Rose (D.view dev.old).faults (D.view dev.new).faults) }
     {
         while self.sweep_step(dev)? {}
-        self.close_flag(dev)
+        self.close_flag(dev)?;
+        Ok(())
     }
 
     /// Closes the sweep flag. Each live block is reached.

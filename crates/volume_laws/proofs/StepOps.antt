@@ -45,7 +45,7 @@ step_owed t now s next is =
     omega (arith, then, less.0, less.1)
 
 -- ---- the world
-still_left : (t : Tables) (w : World) → t.is_sweeping ≡ false → left_of t w ≡ settle w
+pub still_left : (t : Tables) (w : World) → t.is_sweeping ≡ false → left_of t w ≡ settle w
 unfolding left_of
 still_left t w still = rw still refl
 
