@@ -4,3 +4,8 @@ pub mod Mirror
 pub mod MirrorLaws
 pub mod Copying
 pub mod Sending
+pub mod MemSide
+pub mod History
+pub mod Pair
+pub mod HistoryLaws
+pub mod Twins

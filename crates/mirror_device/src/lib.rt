@@ -11,10 +11,14 @@
 #![tactic(auto)]
 
 mod copy;
+mod entry;
+mod mem_side;
 mod mirror;
+mod pair;
 mod ready;
 mod side;
 mod sides;
+mod twins;
 
 pub use mirror::Mirror;
 pub use ready::Began;
