@@ -1,5 +1,5 @@
 -- One entry more.
-use Rattle.std.proofs.Common.{◌≡◌, ◌≢◌, ◌⊎◌, inl, inr, ⊎_elim, ℕ, zero, suc, ◌-◌, ◌^◌, ◌≤◌, List, [], ◌∷◌, ◌++◌, length, refl, sym, ◌∙◌, ap, subst, arith, length-append}
+use Rattle.std.proofs.Common.{◌≡◌, ◌≢◌, ◌⊎◌, inl, inr, ⊎_elim, ℕ, zero, suc, ◌-◌, ◌^◌, ◌≤◌, true, List, [], ◌∷◌, ◌++◌, length, refl, sym, ◌∙◌, ap, subst, arith, length-append}
 use Rattle.image_device.specs.Counts.{Rose}
 use Rattle.mirror_device.specs.declared.side.Side.{Side}
 use Rattle.mirror_device.specs.declared.side.Side.TheVariants.{First, Second}
@@ -9,7 +9,7 @@ use Rattle.mirror_device.specs.declared.entry.Lapse.{Lapse}
 use Rattle.mirror_device.specs.declared.entry.Lapse.TheVariants.{Never, Of, OfBoth}
 use Rattle.mirror_device.specs.SidesView.{Item, side_of, other, IsItemNow}
 use Rattle.mirror_device.specs.SideCalls.{SidesElapse, SideRests}
-use Rattle.mirror_device.specs.History.{Stand, begun, step, after, IsNow, IsDuring, Had, HadSince, lapse_of, with_lapse, history_view}
+use Rattle.mirror_device.specs.History.{Stand, begun, step, after, still, IsNow, IsDuring, Had, HadSince, lapse_of, with_lapse, history_view}
 
 pub after_push : (es : List Entry) (s : Stand) (e : Entry) → after (es ++ e ∷ []) s ≡ step (after es s) e
 after_push [] s e = refl
@@ -133,3 +133,8 @@ both_at_end log Second Second p = still_at_end Second (log ++ lapse_of Second �
 
 pub rose_both : (log : List Entry) (lapse : Lapse) (late side : Side) (p : ℕ) → lapse ≡ OfBoth late → Rose (side_of side (history_view (with_lapse log lapse) p)).faults (side_of side (history_view (with_lapse log lapse) p)).faults
 rose_both log lapse late side p was = rose_at_end _ (subst (λ (l : Lapse). 2 ^ 64 - 1 ≤ (side_of side (history_view (with_lapse log l) p)).faults) (sym was) (both_at_end log late side p))
+
+-- what the record says of a side is loose on it
+pub loose_on : (side : Side) (es : List Entry) (p : ℕ) (s : Stand) (n : ℕ) → after es begun ≡ s → (side_of side (history_view es p)).loose n ≡ true → (side_of side (still s)).loose n ≡ true
+loose_on First es p s n agrees loose = sym (ap (λ (z : Stand). z.first.loose n) agrees) ∙ loose
+loose_on Second es p s n agrees loose = sym (ap (λ (z : Stand). z.second.loose n) agrees) ∙ loose

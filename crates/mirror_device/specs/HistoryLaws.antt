@@ -26,9 +26,9 @@ only_now [] s i had = had
 only_now (e ∷ es) s i had = only_now es (step s e) i had
 
 -- no count of syncs is above the greatest u64
-record IsBounded (s : Stand) : Type 0 where
-  first : s.first.syncs ≤ 2 ^ 64 - 1
-  second : s.second.syncs ≤ 2 ^ 64 - 1
+pub record IsBounded (s : Stand) : Type 0 where
+  pub first : s.first.syncs ≤ 2 ^ 64 - 1
+  pub second : s.second.syncs ≤ 2 ^ 64 - 1
 
 -- no count is below what it was
 record Grows (a b : Stand) : Type 0 where
@@ -47,6 +47,10 @@ step_bounded s (Poke First sector bytes) b = record { first = b.first; second = 
 step_bounded s (Poke Second sector bytes) b = record { first = b.first; second = b.second }
 step_bounded s (Fail First faults) b = record { first = b.first; second = b.second }
 step_bounded s (Fail Second faults) b = record { first = b.first; second = b.second }
+
+after_bounded : (es : List Entry) (s : Stand) → IsBounded s → IsBounded (after es s)
+after_bounded [] s b = b
+after_bounded (e ∷ es) s b = after_bounded es (step s e) (step_bounded s e b)
 
 step_grows : (s : Stand) (e : Entry) → IsBounded s → Grows s (step s e)
 step_grows s (Write First sector bytes) b = record { first_faults = omega arith; first_syncs = omega arith; second_faults = omega arith; second_syncs = omega arith }
@@ -94,6 +98,9 @@ counted (suc t) (e ∷ es) s i b had = counted t es (step s e) i (step_bounded s
 
 begun_bounded : IsBounded begun
 begun_bounded = record { first = omega arith; second = omega arith }
+
+pub history_bounded : (es : List Entry) → IsBounded (after es begun)
+history_bounded es = after_bounded es begun begun_bounded
 
 pub history_sound : (es : List Entry) (put_faults : ℕ) (p : Pair) → after es begun ≡ pair_view p → AreSound (history_view es put_faults)
 history_sound es put_faults p agrees = record {

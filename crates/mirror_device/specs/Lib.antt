@@ -9,3 +9,5 @@ pub mod History
 pub mod Pair
 pub mod HistoryLaws
 pub mod Twins
+pub mod Numbers
+pub mod MemSides

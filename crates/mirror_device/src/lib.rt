@@ -13,6 +13,7 @@
 mod copy;
 mod entry;
 mod mem_side;
+mod mem_sides;
 mod mirror;
 mod pair;
 mod ready;
@@ -20,6 +21,7 @@ mod side;
 mod sides;
 mod twins;
 
+pub use mem_sides::MemSides;
 pub use mirror::Mirror;
 pub use ready::Began;
 pub use side::{Seen, Side};

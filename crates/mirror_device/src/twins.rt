@@ -23,8 +23,9 @@ pub(crate) struct Twins {
 }
 
 impl Twins {
-    ghost use Rattle.std.specs.Prelude.{◌≤◌, ◌^◌, [], ◌∷◌, ◌++◌, ℕ, OnOk, OnErr};
-    ghost use Rattle.image_device.specs.Image.{put_at, zeros};
+    ghost use Rattle.std.specs.Prelude.{◌≤◌, ◌^◌, [], ◌∷◌, ◌++◌, ℕ, true, replicate, OnOk, OnErr};
+    ghost use Rattle.image_device.specs.Image.{put_at, zeros, IsImage};
+    ghost use Rattle.image_device.specs.MemStation.{failing_of, station_view, IsNew};
     ghost use Rattle.image_device.specs.Counts.{raised, Rose};
     ghost use Rattle.mirror_device.specs.declared.entry.Entry.TheVariants.{Poke, Put, Sync, Write};
     ghost use Rattle.mirror_device.specs.SidesView.{other, side_of};
@@ -189,5 +190,24 @@ impl Twins {
         ensures { result.now ≡ (twins_view self.now).sent }
     {
         &self.pair.sent
+    }
+
+    /// One side with nothing loose and no failing calls, as a crash leaves it.
+    pub(crate) fn into_side(self, side: Side, pick: Pick) -> MemStation
+        ensures image { IsImage (side_of side (twins_view self)).reads (side_of side (twins_view self)).loose (station_view result).reads }
+        ensures old { pick ≡ Pick.Old → (station_view result).reads ≡ synced_on side self.pair }
+        ensures new { pick ≡ Pick.New → (station_view result).reads ≡ (side_of side (twins_view self)).reads }
+        ensures torn { (b : ℕ) → pick ≡ Pick.Torn b → (n : ℕ) → (side_of side (twins_view self)).loose n ≡ true → (station_view result).reads n ≡ replicate 512 b }
+        ensures unused { IsNew result }
+        ensures fail { failing_of result ≡ [] }
+    {
+        let Twins {
+            alloc: _,
+            pair,
+            log: _,
+            lapse: _,
+            put_faults: _,
+        } = self;
+        pair.into_side(side, pick)
     }
 }
