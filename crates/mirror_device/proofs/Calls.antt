@@ -13,7 +13,7 @@ use Rattle.mirror_device.specs.declared.entry.Entry.{Entry}
 use Rattle.mirror_device.specs.declared.entry.Entry.TheVariants.{Write, Sync, Put, Poke, Fail}
 use Rattle.mirror_device.specs.SidesView.{SidesView, Item, side_of, other, IsItemNow, IsItemWithin, IsItemInPut}
 use Rattle.mirror_device.specs.SideCalls.{SidesElapse, SideRests, SideTouches, SideSettles, SidesAppend, IncludesPut, SideUses, SideSyncs, SidesPut, IsSideFirm}
-use Rattle.mirror_device.specs.History.{begun, after, IsNow, IsDuring, history_view}
+use Rattle.mirror_device.specs.History.{begun, step, after, IsNow, IsDuring, history_view}
 use Rattle.mirror_device.specs.HistoryLaws.{history_bounded}
 use Rattle.mirror_device.proofs.Pushes.{after_push, elapses_push, elapses_same, inside}
 
@@ -287,6 +287,10 @@ module _ (es : List Entry) (p : ℕ) (sector : ℕ) (box : Box (List ℕ)) where
   poked_others_at First = ap (λ z. z.second) (after_push es begun (Poke First sector box))
   poked_others_at Second = ap (λ z. z.first) (after_push es begun (Poke Second sector box))
 
+  sent_on : (side : Side) → (step (after es begun) (Poke side sector box)).sent ≡ (after es begun).sent
+  sent_on First = refl
+  sent_on Second = refl
+
   module _ (side : Side) (new : List Entry) (p' : ℕ) (is : new ≡ es ++ Poke side sector box ∷ []) (count : p' ≡ p) where
     poked_to : (P : SidesView → Type 0) → P (history_view (es ++ Poke side sector box ∷ []) p) → P (history_view new p')
     poked_to P done = subst (λ q. P (history_view new q)) (sym count) (subst (λ l. P (history_view l p)) (sym is) done)
@@ -308,3 +312,6 @@ module _ (es : List Entry) (p : ℕ) (sector : ℕ) (box : Box (List ℕ)) where
 
     pub poked_others : side_of (other side) (history_view new p') ≡ side_of (other side) (history_view es p)
     poked_others = poked_to (λ v. side_of (other side) v ≡ side_of (other side) (history_view es p)) (poked_others_at side)
+
+    pub poked_sent : (history_view new p').sent ≡ (history_view es p).sent
+    poked_sent = poked_to (λ v. v.sent ≡ (history_view es p).sent) (ap (λ z. z.sent) (after_push es begun (Poke side sector box)) ∙ sent_on side)

@@ -1,6 +1,6 @@
 -- One entry more.
 use Rattle.std.proofs.Common.{◌≡◌, ◌≢◌, ◌⊎◌, inl, inr, ⊎_elim, ℕ, zero, suc, ◌-◌, ◌^◌, ◌≤◌, true, List, [], ◌∷◌, ◌++◌, length, refl, sym, ◌∙◌, ap, subst, arith, length-append}
-use Rattle.image_device.specs.Counts.{Rose}
+use Rattle.image_device.specs.Counts.{raised, Rose}
 use Rattle.mirror_device.specs.declared.side.Side.{Side}
 use Rattle.mirror_device.specs.declared.side.Side.TheVariants.{First, Second}
 use Rattle.mirror_device.specs.declared.entry.Entry.{Entry}
@@ -138,3 +138,13 @@ rose_both log lapse late side p was = rose_at_end _ (subst (λ (l : Lapse). 2 ^ 
 pub loose_on : (side : Side) (es : List Entry) (p : ℕ) (s : Stand) (n : ℕ) → after es begun ≡ s → (side_of side (history_view es p)).loose n ≡ true → (side_of side (still s)).loose n ≡ true
 loose_on First es p s n agrees loose = sym (ap (λ (z : Stand). z.first.loose n) agrees) ∙ loose
 loose_on Second es p s n agrees loose = sym (ap (λ (z : Stand). z.second.loose n) agrees) ∙ loose
+
+-- a failed call that is recorded is counted once
+counts_at : (side : Side) (es : List Entry) (p p' faults : ℕ) → (side_of side (history_view es p)).faults ≤ faults → (side_of side (history_view (es ++ Fail side faults ∷ []) p')).faults ≡ faults
+counts_at First es p p' faults le = omega (arith, le, ap (λ z. z.first.faults) (after_push es begun (Fail First faults)))
+counts_at Second es p p' faults le = omega (arith, le, ap (λ z. z.second.faults) (after_push es begun (Fail Second faults)))
+
+pub counts_once : (side : Side) (es new : List Entry) (p p' count faults : ℕ) → new ≡ es ++ Fail side faults ∷ [] → faults ≡ raised count → count ≤ 2 ^ 64 - 1 → count ≡ (side_of side (history_view es p)).faults
+    → (side_of side (history_view new p')).faults ≡ raised (side_of side (history_view es p)).faults
+counts_once side es new p p' count faults is up bound same =
+    subst (λ l. (side_of side (history_view l p')).faults ≡ raised (side_of side (history_view es p)).faults) (sym is) (counts_at side es p p' faults (omega (arith, up, bound, same)) ∙ up ∙ ap raised same)

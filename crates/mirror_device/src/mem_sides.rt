@@ -151,6 +151,7 @@ impl Sides for MemSides {
         ensures uses { SideUses side (mem_view self.old) (mem_view self.new) }
         ensures faultless { OnOk result ((side_of side (mem_view self.new)).faults ≡ (side_of side (mem_view self.old)).faults) }
         ensures cause { OnErr result (Rose (side_of side (mem_view self.old)).faults (side_of side (mem_view self.new)).faults) }
+        ensures once { IsRecorded self.new → OnErr result ((side_of side (mem_view self.new)).faults ≡ raised (side_of side (mem_view self.old)).faults) }
         ensures called { IsCalled self.old self.new result }
         ensures synced { (s : Side) → synced_of s self.new ≡ synced_of s self.old }
         ensures answers { is_failing self.old ≡ false → IsOk result }
@@ -170,6 +171,7 @@ impl Sides for MemSides {
         ensures uses { SideUses side (mem_view self.old) (mem_view self.new) }
         ensures faultless { OnOk result ((side_of side (mem_view self.new)).faults ≡ (side_of side (mem_view self.old)).faults) }
         ensures cause { OnErr result (Rose (side_of side (mem_view self.old)).faults (side_of side (mem_view self.new)).faults) }
+        ensures once { IsRecorded self.new → OnErr result ((side_of side (mem_view self.new)).faults ≡ raised (side_of side (mem_view self.old)).faults) }
         ensures rests { OnErr result (SideRests side (mem_view self.old) (mem_view self.new)) }
         ensures called { IsCalled self.old self.new result }
         ensures synced { (s : Side) → synced_of s self.new ≡ synced_of s self.old }
@@ -195,6 +197,7 @@ impl Sides for MemSides {
         ensures not_synced { OnErr result ((side_of side (mem_view self.new)).syncs ≡ (side_of side (mem_view self.old)).syncs) }
         ensures faultless { OnOk result ((side_of side (mem_view self.new)).faults ≡ (side_of side (mem_view self.old)).faults) }
         ensures cause { OnErr result (Rose (side_of side (mem_view self.old)).faults (side_of side (mem_view self.new)).faults) }
+        ensures once { IsRecorded self.new → OnErr result ((side_of side (mem_view self.new)).faults ≡ raised (side_of side (mem_view self.old)).faults) }
         ensures called { IsCalled self.old self.new result }
         ensures synced_reads { OnOk result (synced_of side self.new ≡ (side_of side (mem_view self.old)).reads) }
         ensures other_synced { synced_of (other side) self.new ≡ synced_of (other side) self.old }
@@ -219,6 +222,7 @@ impl Sides for MemSides {
         ensures uses { SideUses side (mem_view self.old) (mem_view self.new) }
         ensures faultless { OnOk result ((side_of side (mem_view self.new)).faults ≡ (side_of side (mem_view self.old)).faults) }
         ensures cause { OnErr result (Rose (side_of side (mem_view self.old)).faults (side_of side (mem_view self.new)).faults) }
+        ensures once { IsRecorded self.new → OnErr result ((side_of side (mem_view self.new)).faults ≡ raised (side_of side (mem_view self.old)).faults) }
         ensures called { IsCalled self.old self.new result }
         ensures synced { (s : Side) → synced_of s self.new ≡ synced_of s self.old }
         ensures answers { is_failing self.old ≡ false → IsOk result }

@@ -74,7 +74,14 @@ impl Twins {
         if self.pair.write(side, sector, from).is_err() {
             return Err(AllocError);
         }
-        keep(&mut self.log, Entry::Write { side, sector, bytes });
+        keep(
+            &mut self.log,
+            Entry::Write {
+                side,
+                sector,
+                bytes,
+            },
+        );
         Ok(())
     }
 
@@ -114,7 +121,14 @@ impl Twins {
         if self.pair.poke(side, sector, from).is_err() {
             return Err(AllocError);
         }
-        keep(&mut self.log, Entry::Poke { side, sector, bytes });
+        keep(
+            &mut self.log,
+            Entry::Poke {
+                side,
+                sector,
+                bytes,
+            },
+        );
         Ok(())
     }
 
@@ -138,11 +152,12 @@ impl Twins {
         ensures rests { SideRests side (twins_view self.old) (twins_view self.new) }
         ensures uses { SideUses side (twins_view self.old) (twins_view self.new) }
         ensures cause { Rose (side_of side (twins_view self.old)).faults (side_of side (twins_view self.new)).faults }
+        ensures once { self.new.lapse ≡ Lapse.Never → (side_of side (twins_view self.new)).faults ≡ raised (side_of side (twins_view self.old)).faults }
         ensures synced { (s : Side) → synced_on s self.new.pair ≡ synced_on s self.old.pair }
     {
         match self.lapse {
             Lapse::Never => {
-                let faults = self.pair.seen(side).faults.saturating_add(1);
+                let faults = self.seen(side).faults.saturating_add(1);
                 if self.log.push(Entry::Fail { side, faults }).is_ok() {
                     self.pair.blame(side, faults);
                     return;
@@ -164,6 +179,7 @@ impl Twins {
     pub(crate) fn blame_put(&mut self)
         ensures same { entries_of self.new ≡ entries_of self.old }
         ensures put_faults { self.new.put_faults ≡ raised self.old.put_faults }
+        ensures later { self.old.put_faults ≤ self.new.put_faults }
         ensures synced { (s : Side) → synced_on s self.new.pair ≡ synced_on s self.old.pair }
     {
         self.put_faults = self.put_faults.saturating_add(1);

@@ -32,10 +32,10 @@ returns-clause-sent c =
 pub returns-then-is_failing-clause-puts : goal.returns-then-is_failing-clause-puts
 returns-then-is_failing-clause-puts c =
     let m = c.args.self.now.twins in
-    puts_not (entries_of m) _ m.put_faults _ c.blame_put.ensures.same (omega (arith, c.blame_put.ensures.put_faults))
+    puts_not (entries_of m) _ m.put_faults _ c.blame_put.ensures.same c.blame_put.ensures.later
 
 pub returns-then-is_err-clause-puts : goal.returns-then-is_err-clause-puts
 returns-then-is_err-clause-puts c =
     let m = c.args.self.now.twins in
     let same = where_err c.put.result c.is_err.result c.if-is_err.true c.is_err.ensures.value c.put.ensures.same in
-    puts_not (entries_of m) _ m.put_faults _ (c.blame_put-then-is_err.ensures.same ∙ same) (omega (arith, c.put.ensures.put_faults, c.blame_put-then-is_err.ensures.put_faults))
+    puts_not (entries_of m) _ m.put_faults _ (c.blame_put-then-is_err.ensures.same ∙ same) (omega (arith, c.put.ensures.put_faults, c.blame_put-then-is_err.ensures.later))

@@ -3,7 +3,7 @@ use Rattle.mirror_device.specs.declared.entry.Entry.TheVariants.{Fail}
 use Rattle.mirror_device.specs.History.{lapse_of}
 use Rattle.mirror_device.specs.Pair.{pair_view}
 use Rattle.mirror_device.specs.Twins.{entries_of}
-use Rattle.mirror_device.proofs.Pushes.{blames, goes_agreeing, kept_entries, lapsed_first, lapsed_then, rose_lapsed, rose_both}
+use Rattle.mirror_device.proofs.Pushes.{blames, counts_once, goes_agreeing, kept_entries, lapsed_first, lapsed_then, rose_lapsed, rose_both}
 use Rattle.mirror_device.proofs.twins.Twins.blame.Goals as goal
 
 pub invariant_of-self : goal.invariant_of-self
@@ -47,3 +47,9 @@ pub returns-in-OfBoth-clause-cause : goal.returns-in-OfBoth-clause-cause
 returns-in-OfBoth-clause-cause c =
     let m = c.args.self.now in
     rose_both m.log.items m.lapse _ c.args.side m.put_faults c.in-OfBoth.is
+
+pub returns-then-is_ok-clause-once : goal.returns-then-is_ok-clause-once
+returns-then-is_ok-clause-once c whole =
+    let m = c.args.self.now in
+    let entry = Fail c.args.side c.saturating_add-faults.result in
+    counts_once c.args.side (entries_of m) _ m.put_faults _ c.seen.result.faults c.saturating_add-faults.result (kept_entries m.log.items c.push.new.self.items m.lapse entry c.in-Never.is (search rules)) (search rules) (search rules) c.seen.ensures.faults

@@ -10,9 +10,11 @@ pub invariant_of-self-2 : goal.invariant_of-self-2
 invariant_of-self-2 c =
     let m = c.args.self.now in
     let entry = Put c.in_ok-kept.kept in
-    record { agrees = goes_agreeing (entries_of m) _ (pair_view m.pair) (pair_view c.put.new.self) entry
-    (kept_entries m.log.items c.keep.new.log.items m.lapse entry c.in_ok-make_room.ensures.whole (c.keep.ensures ∙ ap (λ l. l ++ entry ∷ []) c.make_room.ensures.items)) m.agrees
-    (c.in_ok-put.ensures.done ∙ ap (λ b. appended b (pair_view m.pair)) (sym (search rules))) }
+    record {
+      agrees = goes_agreeing (entries_of m) _ (pair_view m.pair) (pair_view c.put.new.self) entry
+          (kept_entries m.log.items c.keep.new.log.items m.lapse entry c.in_ok-make_room.ensures.whole (c.keep.ensures ∙ ap (λ l. l ++ entry ∷ []) c.make_room.ensures.items)) m.agrees
+          (c.in_ok-put.ensures.done ∙ ap (λ b. appended b (pair_view m.pair)) (sym (search rules)));
+    }
 
 pub returns-clause-kept : goal.returns-clause-kept
 returns-clause-kept c =
