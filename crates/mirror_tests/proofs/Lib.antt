@@ -1,1 +1,1 @@
-mod Saving
+mod Promise

@@ -30,7 +30,7 @@ fn first_byte<D: Device>(dev: &mut D, sector: u32) -> u8 {
 }
 
 /// Writes and syncs a sector over a mirror, puts a byte, and reads. Where no mirror begins there is no run.
-fn run<K: Began>(sides: MemSides) -> (Option<Run>, MemSides)
+fn run_over<K: Began>(sides: MemSides) -> (Option<Run>, MemSides)
     requires { K.start ≡ start_at (mem_view sides) }
 {
     let mut mirror: Mirror<MemSides, K> = match Mirror::new(sides) {
@@ -64,7 +64,7 @@ fn differing(alloc: Global, fail: Vec<u64>) -> Result<MemSides, Failed> {
 
 /// The run over such sides.
 fn run_differing(alloc: Global, fail: Vec<u64>) -> Result<(Option<Run>, MemSides), Failed> {
-    Ok(run::<Brand>(differing(alloc, fail)?))
+    Ok(run_over::<Brand>(differing(alloc, fail)?))
 }
 
 /// What the sectors 3, 4 and 5 of a side hold after a crash.

@@ -2,7 +2,7 @@ use Rattle.std.proofs.Common.{◌∙◌, sym, subst}
 use Rattle.mirror_device.specs.Mirror.{mirror_view}
 use Rattle.mirror_device.proofs.Runs.{run_leaves}
 use Rattle.mirror_tests.specs.Saving.{IsSaved}
-use Rattle.mirror_tests.proofs.Saving.{saved_first, saved_mirror}
+use Rattle.mirror_tests.proofs.Promise.{saved_first, saved_mirror}
 use Rattle.mirror_tests.proofs.saving.save_over.Goals as goal
 
 pub returns-clause-saved : goal.returns-clause-saved
