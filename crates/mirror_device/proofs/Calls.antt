@@ -1,6 +1,6 @@
 -- What an entry more says of the sides.
 use Rattle.std.specs.Global.{Box, Vec}
-use Rattle.std.proofs.Common.{◌≡◌, ◌≢◌, ◌⊎◌, inl, inr, ⊎_elim, ℕ, ◌-◌, ◌^◌, ◌≤◌, true, false, cond, ◌==◌, ◌||◌, List, [], ◌∷◌, ◌++◌, length, refl, sym, ◌∙◌, ap, subst, arith, length-append}
+use Rattle.std.proofs.Common.{◌≡◌, ◌≢◌, inl, inr, ⊎_elim, ℕ, ◌≤◌, true, false, cond, ◌==◌, ◌||◌, List, [], ◌∷◌, ◌++◌, refl, sym, ◌∙◌, ap, subst, arith, length-append}
 use Rattle.std.proofs.lemmas.Bool.Decides.{nat_tests}
 use Rattle.std.proofs.lemmas.List.{append-nil}
 use Rattle.image_device.specs.Counts.{Rose}
@@ -10,7 +10,7 @@ use Rattle.image_device.proofs.Sets.{or_false_right}
 use Rattle.mirror_device.specs.declared.side.Side.{Side}
 use Rattle.mirror_device.specs.declared.side.Side.TheVariants.{First, Second}
 use Rattle.mirror_device.specs.declared.entry.Entry.{Entry}
-use Rattle.mirror_device.specs.declared.entry.Entry.TheVariants.{Write, Sync, Put, Poke, Fail}
+use Rattle.mirror_device.specs.declared.entry.Entry.TheVariants.{Write, Sync, Put, Poke}
 use Rattle.mirror_device.specs.SidesView.{SidesView, Item, side_of, other, IsItemNow, IsItemWithin, IsItemInPut}
 use Rattle.mirror_device.specs.SideCalls.{SidesElapse, SideRests, SideTouches, SideSettles, SidesAppend, IncludesPut, SideUses, SideSyncs, SidesPut, IsSideFirm}
 use Rattle.mirror_device.specs.History.{begun, step, after, IsNow, IsDuring, history_view}

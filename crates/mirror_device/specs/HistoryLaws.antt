@@ -1,12 +1,12 @@
 -- The laws of two stations in memory.
-use Rattle.std.proofs.Common.{inl, inr, ℕ, zero, suc, ◌-◌, ◌^◌, ◌≤◌, ◌≡◌, List, [], ◌∷◌, length, refl, sym, subst, arith}
+use Rattle.std.proofs.Common.{inl, inr, ℕ, zero, suc, ◌-◌, ◌^◌, ◌≤◌, ◌≡◌, List, [], ◌∷◌, length, sym, subst, arith}
 use Rattle.image_device.specs.Image.{IsImage}
 use Rattle.image_device.specs.MemStation.{station_sound}
 use Rattle.mirror_device.specs.declared.side.Side.TheVariants.{First, Second}
 use Rattle.mirror_device.specs.declared.entry.Entry.{Entry}
 use Rattle.mirror_device.specs.declared.entry.Entry.TheVariants.{Write, Sync, Put, Poke, Fail}
 use Rattle.mirror_device.specs.declared.pair.Pair.{Pair}
-use Rattle.mirror_device.specs.SidesView.{Item, AreSound, IsCounted, IsItemNow}
+use Rattle.mirror_device.specs.SidesView.{Item, AreSound, IsCounted}
 use Rattle.mirror_device.specs.History.{Stand, begun, step, after, still, IsNow, IsDuring, Had, HadSince, history_view}
 use Rattle.mirror_device.specs.Pair.{pair_view}
 

@@ -107,6 +107,11 @@ pub record NoneIsSound (v : SidesView) (s : Start) : Type 0 where
   pub first : s.first_faults < v.first.faults
   pub second : IsSecondOut s v.second
 
+-- no call has failed on the side that was left, so it is sound now where it counts
+pub record LeftIsSound (v : SidesView) (s : Start) (c : Serving) : Type 0 where
+  pub first : c ≡ First → v.first.faults ≤ s.first_faults
+  pub second : c ≡ Second → v.second.faults ≤ s.second_faults
+
 -- a side is lost: a call on it failed while the other one was left
 abbrev pub IsLost : Side → Serving → Type 0
 IsLost FirstSide c = c ≡ Second

@@ -1,6 +1,6 @@
 -- When bytes are sent: only once the copying has ended or the second side has failed.
-use Rattle.std.specs.Prelude.{ℕ, ◌-◌, ◌^◌, ◌<◌, ◌≤◌, ◌≡◌}
-use Rattle.mirror_device.specs.SidesView.{SideView, SideItem, SidesView, Item}
+use Rattle.std.specs.Prelude.{◌-◌, ◌^◌, ◌<◌, ◌≤◌, ◌≡◌}
+use Rattle.mirror_device.specs.SidesView.{SideItem, SidesView, Item}
 use Rattle.mirror_device.specs.Mirror.{Start}
 
 -- Both counts of the second side can rise. Where one stood at its end as the mirror began, nothing is copied and that side is lost.

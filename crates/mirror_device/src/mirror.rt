@@ -1,6 +1,6 @@
 // Two images as one device.
-ghost use Rattle.std.specs.Prelude.{◌<◌};
-ghost use Rattle.mirror_device.specs.Mirror.{AreAlike, NoneIsSound, Stands};
+ghost use Rattle.std.specs.Prelude.{◌≡◌, ◌<◌};
+ghost use Rattle.mirror_device.specs.Mirror.{AreAlike, LeftIsSound, NoneIsSound, Stands};
 
 use crate::copy::{Copied, copy_all};
 use crate::ready::{Began, Ready};
@@ -22,16 +22,17 @@ pub struct Mirror<P: Sides, K: Began> {
     ghost stands: { Stands (P.view sides.sides) K.start serving },
     ghost alike: { P.told → AreAlike (P.view sides.sides) serving },
     ghost failed: { 0 < faults → NoneIsSound (P.view sides.sides) K.start },
+    ghost unfailed: { faults ≡ 0 → LeftIsSound (P.view sides.sides) K.start serving },
 }
 
 impl<P: Sides, K: Began> Mirror<P, K> {
-    ghost use Rattle.mirror_device.specs.Mirror.{start_at, AreAlike, IsLost, NoneIsSound, Stands};
+    ghost use Rattle.mirror_device.specs.Mirror.{start_at, AreAlike, IsLost, LeftIsSound, NoneIsSound, Stands};
     ghost use Rattle.mirror_device.specs.Sending.{SendsLate};
-    ghost use Rattle.mirror_device.specs.Copying.{IsLeftOfFirst};
+    ghost use Rattle.mirror_device.specs.Copying.{CopyCounts, Copying, IsLeftOfFirst};
     ghost use Rattle.image_device.specs.Image.{Image};
     ghost use Rattle.image_device.specs.Runs.{IsFirm};
     ghost use Rattle.image_device.specs.Counts.{Rose};
-    ghost use Rattle.std.specs.Prelude.{◌≡◌, ◌≤◌, ◌↔◌, ℕ, List, IsTrue, IfOk, IfErr};
+    ghost use Rattle.std.specs.Prelude.{◌≤◌, ◌↔◌, ℕ, List, IsTrue, IfOk, IfErr};
 
     /// Copies the first side to the second, and serves both as one. A fault of the second side before
     /// the copying is done makes it lost; so does a count of it that stands at the greatest `u64`.
@@ -49,6 +50,10 @@ impl<P: Sides, K: Began> Mirror<P, K> {
         ensures faults { IfOk result (λ m. (⟦<Mirror<P, K> as Device>⟧.view m).faults ≡ 0) }
         ensures writes { IfOk result (λ m. (⟦<Mirror<P, K> as Device>⟧.view m).writes ≡ 0) }
         ensures put_faults { IfOk result (λ m. (⟦<Mirror<P, K> as Device>⟧.view m).put_faults ≡ (P.view sides).put_faults) }
+
+        // Where it gives the sides back, the first one is as it was and nothing was sent.
+        ensures given_back { P.told → IfErr result (λ rest. Copying (P.view sides) (P.view rest)) }
+        ensures counts { IfErr result (λ rest. CopyCounts (P.view sides) (P.view rest)) }
         ensures cause { IfErr result (λ rest. Rose (P.view sides).first.faults (P.view rest).first.faults) }
     {
         let mut sides = sides;
@@ -75,6 +80,7 @@ impl<P: Sides, K: Began> Mirror<P, K> {
         requires stands { Stands (P.view sides) K.start serving }
         requires alike { P.told → AreAlike (P.view sides) serving }
         requires late { P.told → SendsLate (P.view sides) K.start }
+        requires unfailed { LeftIsSound (P.view sides) K.start serving }
         ensures sides { result.sides.sides ≡ sides }
         ensures serving { result.serving ≡ serving }
         ensures faults { result.faults ≡ 0 }
@@ -95,6 +101,7 @@ impl<P: Sides, K: Began> Mirror<P, K> {
     pub fn into_sides(self) -> P
         ensures sides { result ≡ self.sides.sides }
         ensures failed { 0 < (⟦<Mirror<P, K> as Device>⟧.view self).faults → NoneIsSound (P.view result) K.start }
+        ensures unfailed { (⟦<Mirror<P, K> as Device>⟧.view self).faults ≡ 0 → LeftIsSound (P.view result) K.start self.serving }
         ensures stands { Stands (P.view result) K.start self.serving }
         ensures late { P.told → SendsLate (P.view result) K.start }
     {

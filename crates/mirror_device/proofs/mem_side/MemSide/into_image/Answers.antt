@@ -1,7 +1,5 @@
-use Rattle.std.proofs.Common.{◌∙◌, ap, sym, subst}
-use Rattle.image_device.specs.declared.fuse.FuseStation.{FuseStation}
+use Rattle.std.proofs.Common.{◌∙◌, ap}
 use Rattle.image_device.specs.declared.mem.MemStation.{MemStation}
-use Rattle.image_device.specs.FuseStation.{within}
 use Rattle.image_device.specs.MemStation.{station_view}
 use Rattle.mirror_device.proofs.mem_side.MemSide.into_image.Goals as goal
 

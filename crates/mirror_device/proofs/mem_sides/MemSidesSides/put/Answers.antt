@@ -1,4 +1,4 @@
-use Rattle.std.proofs.Common.{◌++◌, length, take, sym, ◌∙◌, ap, arith}
+use Rattle.std.proofs.Common.{◌++◌, sym, ◌∙◌, ap, arith}
 use Rattle.std.proofs.Math.Seq.{take-length}
 use Rattle.image_device.proofs.Outcomes.{unless_err, where_err}
 use Rattle.mirror_device.specs.Twins.{entries_of, twins_view}

@@ -1,4 +1,4 @@
-use Rattle.std.proofs.Common.{◌≡◌, true, ◌∙◌, ap, sym}
+use Rattle.std.proofs.Common.{◌∙◌, ap, sym}
 use Rattle.mirror_device.specs.declared.side.Side.{Side}
 use Rattle.mirror_device.specs.SidesView.{side_of}
 use Rattle.mirror_device.specs.History.{still}
