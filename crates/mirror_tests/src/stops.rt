@@ -6,10 +6,10 @@ use std::alloc::Global;
 use std::test::Fail;
 
 /// Two sides that differ and whose calls all fail from a number on, after the program has run over a mirror of them.
-fn stopped(alloc: Global, number: u64) -> Result<MemSides, Fail> {
+fn stopped(alloc: Global, number: u32) -> Result<MemSides, Fail> {
     let mut fail = Vec::new(alloc);
     for more in 0..40 {
-        fail.push(number + more)?;
+        fail.push(u64::from(number) + more)?;
     }
     let mut sides = MemSides::new(alloc, fail);
     sides.poke(Side::First, 3, &[7; 512])?;
