@@ -43,9 +43,9 @@ returns-clause-grown c =
     c.set_live.ensures c.patch-2.ensures.sector c.patch-2.ensures.inside c.patch-2.ensures.stored
     (omega (arith, c.put_patch.ensures.few, c.put_patch-2.ensures.few, c.put_patch-3.ensures.few))
     (λ x n.
-        let one : overlaid b1 x ≡ put_at p.sector p.bytes (overlaid b0 x) = λ i m. c.put_patch.ensures.laid x m i in
-        let two : overlaid b2 x ≡ put_at q.sector q.bytes (overlaid b1 x) = λ i m. c.put_patch-2.ensures.laid x m i in
-        c.put_patch-3.ensures.laid x n ∙ (ap (λ (y : Image). put_at r.sector r.bytes y n) two ∙ ap (λ (y : Image). put_at r.sector r.bytes (put_at q.sector q.bytes y) n) one))
+    let one : overlaid b1 x ≡ put_at p.sector p.bytes (overlaid b0 x) = λ i m. c.put_patch.ensures.laid x m i in
+    let two : overlaid b2 x ≡ put_at q.sector q.bytes (overlaid b1 x) = λ i m. c.put_patch-2.ensures.laid x m i in
+    c.put_patch-3.ensures.laid x n ∙ (ap (λ (y : Image). put_at r.sector r.bytes y n) two ∙ ap (λ (y : Image). put_at r.sector r.bytes (put_at q.sector q.bytes y) n) one))
 
 pub returns-clause-shown : goal.returns-clause-shown
 returns-clause-shown c =

@@ -59,7 +59,7 @@ loop-target-preserved c =
     let few : i < 16 = let m = c.requires.few in omega (arith, m, within) in
     let first : c.put.new.self ≡ with_patch p c.loop-target.batch = put_ok c.put.result _ _ (length c.loop-target.batch) c.put.ensures.ok c.put.ensures.full (omega (arith, room, few)) in
     let second : c.put-in-loop-target.new.self ≡ with_patch q c.put.new.self = put_ok c.put-in-loop-target.result _ _ (length c.put.new.self) c.put-in-loop-target.ensures.ok c.put-in-loop-target.ensures.full
-        (omega (arith, room, few, ap (λ (ps : List Patch). length ps) first, length-with_patch p c.loop-target.batch)) in
+    (omega (arith, room, few, ap (λ (ps : List Patch). length ps) first, length-with_patch p c.loop-target.batch)) in
     record {
       slots = ap (λ (t : Pointers). t.geometry) change.now ∙ inv.slots;
       counts = ap (λ (t : Counts). t.geometry) c.lower.ensures.lowered ∙ inv.counts;

@@ -88,8 +88,13 @@ raise_all-requires g c =
     let i = c.self.inside in
     let is = ap (λ (w : Volume). w.tables) c.self.view_is in
     let t = c.args.self.now.tables in
-    record { told = (graph_in t, growing t c.args.blocks.now i.ahead (subst (λ (u : Tables). AreSound u) is c.self.invariant.sound) c.requires.settled c.requires.free
-        (ahead_was c.args.self.now (tables_in i.header i.pointers i.counts i.live i.caps i.is_sweeping) i.is_ready i.ahead is (ap (λ (w : Volume). w.is_ready) c.self.view_is) c.requires.ready.0 c.self.invariant.ahead)) }
+    record {
+      told = (
+        graph_in t,
+        growing t c.args.blocks.now i.ahead (subst (λ (u : Tables). AreSound u) is c.self.invariant.sound) c.requires.settled c.requires.free
+            (ahead_was c.args.self.now (tables_in i.header i.pointers i.counts i.live i.caps i.is_sweeping) i.is_ready i.ahead is (ap (λ (w : Volume). w.is_ready) c.self.view_is) c.requires.ready.0 c.self.invariant.ahead),
+      );
+    }
 
 pub invariant_of-self : goal.invariant_of-self
 invariant_of-self g c =

@@ -84,11 +84,16 @@ these g c =
     c.raise.ensures.raised c.patch-count.ensures.inside (subst (λ (w : Patch). KeepsCounts i.counts c.raise.new.self w) (sym c.patch-count.ensures.value) c.raise.ensures.stored) laid
 
 pub raise-requires-2 : goal.raise-requires-2
-raise-requires-2 g c = record { told = (graph_in c.args.self.now.tables, c.args.source,
+raise-requires-2 g c = record {
+  told = (
+    graph_in c.args.self.now.tables,
+    c.args.source,
     adding c.args.self.now.tables c.args.source c.args.target c.self.inside.ahead
-    (subst (λ (t : Tables). AreSound t) (ap (λ (w : Volume). w.tables) c.self.view_is) c.self.invariant.sound)
-    (open_to c.args.self.now c.args.source c.args.target c.requires.ready.1 c.requires.source c.requires.target c.requires.apart c.requires.absent)
-    (subst (λ (w : Volume). IsAheadOf (graph_in w.tables) c.self.inside.ahead) c.self.view_is (c.self.invariant.ahead (ap (λ (w : Volume). w.is_ready) c.self.view_is ∙ c.requires.ready.0)))) }
+        (subst (λ (t : Tables). AreSound t) (ap (λ (w : Volume). w.tables) c.self.view_is) c.self.invariant.sound)
+        (open_to c.args.self.now c.args.source c.args.target c.requires.ready.1 c.requires.source c.requires.target c.requires.apart c.requires.absent)
+        (subst (λ (w : Volume). IsAheadOf (graph_in w.tables) c.self.inside.ahead) c.self.view_is (c.self.invariant.ahead (ap (λ (w : Volume). w.is_ready) c.self.view_is ∙ c.requires.ready.0))),
+  );
+}
 
 pub invariant_of-self : goal.invariant_of-self
 invariant_of-self g c =
@@ -106,7 +111,7 @@ invariant_of-self g c =
     let old : IsAheadOf (graph_in t) i.ahead = subst (λ (w : Volume). IsAheadOf (graph_in w.tables) i.ahead) c.self.view_is (v.ahead ready) in
     let then : IsAheadOf (with_pointer (graph_in t) a b) c.raise-2.new.self = c.raise-2.ensures.ahead (graph_in t) a (adding t a b i.ahead sound o old) in
     let ahead : IsAheadOf (graph_in (tables_in i.header c.add.new.self c.raise.new.self i.live i.caps i.is_sweeping)) c.raise-2.new.self =
-        subst (λ (w : World). IsAheadOf w c.raise-2.new.self) (sym (ap graph_in all.tables ∙ graph_added t all.slots a b all.pairs)) then in
+    subst (λ (w : World). IsAheadOf w c.raise-2.new.self) (sym (ap graph_in all.tables ∙ graph_added t all.slots a b all.pairs)) then in
     record {
       pointers = ap (λ (u : Pointers). u.geometry) change.now ∙ v.pointers;
       counts = ap (λ (u : Counts). u.geometry) c.raise.ensures.raised ∙ v.counts;

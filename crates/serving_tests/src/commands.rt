@@ -1,11 +1,11 @@
 //! The words of each command, and words that are none's.
 
-use crate::spelled::{spelled, words};
+use std::alloc::Global;
 use std::test::Fail;
 use tsd_model::{Cap, CapPair, Geometry, PlaceKind};
-use tsd_serve::{Command, Format, Fresh, Load, command};
+use tsd_words::{Command, Format, Fresh, Load, command};
 
-/// Words, and the command that they spell.
+/// Words, and the command that they spell. R and W stand for 32 digits `a` and `b`, Z for 64 digits `0`.
 const SPELLED: [(&str, Command); 8] = [
     (
         "fresh 8 1 R W near",
@@ -70,16 +70,29 @@ const FAULTY: [&str; 16] = [
     "load Z 200001 near",
 ];
 
+/// The words of a text.
+fn words(alloc: Global, text: &str) -> Result<Vec<String>, Fail> {
+    let mut words = Vec::new(alloc);
+    for word in text.split(' ') {
+        let word = match word {
+            "R" => "aaaaaaaaaaaaaaaaaaaaaaaaaaaaaaaa",
+            "W" => "bbbbbbbbbbbbbbbbbbbbbbbbbbbbbbbb",
+            "Z" => "0000000000000000000000000000000000000000000000000000000000000000",
+            other => other,
+        };
+        words.push(String::from_str(alloc, word)?)?;
+    }
+    Ok(words)
+}
+
 #[test]
 fn words_of_commands(rt: HostRuntime) -> Result<(), Fail> {
     let alloc = rt.alloc();
     for (text, want) in SPELLED {
-        let words = words(alloc, spelled(alloc, text)?.as_slice())?;
-        assert_eq!(rt; command(&words), Some(want), "{text}");
+        assert_eq!(rt; command(&words(alloc, text)?), Some(want), "{text}");
     }
     for text in FAULTY {
-        let words = words(alloc, spelled(alloc, text)?.as_slice())?;
-        assert_eq!(rt; command(&words), None, "{text}");
+        assert_eq!(rt; command(&words(alloc, text)?), None, "{text}");
     }
     Ok(())
 }
