@@ -3,3 +3,4 @@ pub mod VerdictSeen
 pub mod StepSeen
 pub mod AnswerSeen
 pub mod FormLaws
+pub mod HistoryLaws

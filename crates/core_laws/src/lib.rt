@@ -7,6 +7,7 @@
 //! block counts in no verdict, and is dropped before the block is given out again; so it never comes back with the block's number.
 #![tactic(auto)]
 
+ghost use Rattle.core_laws.specs.Histories.{AnswersMakeRuns, RunsGrantAccess, AnswersKeepTheLaws};
 ghost use Rattle.core_laws.specs.Laws.{VerdictsAreSeen, StepsAreSeen, RepliesAreTold, RefusalsHaveForm, TargetsHaveForm};
 
 /// Over a table that may hold more than is seen, verdicts and steps are those of the disk.
@@ -20,4 +21,12 @@ pub fn what_is_left_at_free_blocks_counts_for_nothing()
 pub fn replies_have_a_form()
     ensures refusals { RefusalsHaveForm }
     ensures targets { TargetsHaveForm }
+{}
+
+/// What holds of requests that are answered one after another: access is by the grants of their history, what is reached stays,
+/// and exactly the last pointer reclaims a block.
+pub fn answers_keep_the_laws()
+    ensures runs { AnswersMakeRuns }
+    ensures access { RunsGrantAccess }
+    ensures laws { AnswersKeepTheLaws }
 {}
