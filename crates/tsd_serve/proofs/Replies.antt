@@ -2,7 +2,7 @@
 use Rattle.std.proofs.Common.{◌≡◌, ℕ, ◌+◌, ◌<◌, subst, Bool, List, [], ◌∷◌, ◌++◌, length, take, drop, refl, sym, ◌∙◌, ap, arith, append_assoc, append-nil, length-append}
 use Rattle.std.proofs.lemmas.List.{map-append, length-map, length-drop, take-append-drop}
 use Rattle.tsd_model.specs.Step.{State}
-use Rattle.tsd_model.specs.Run.{answer, replies, after, wants_now}
+use Rattle.tsd_model.specs.Run.{answer, replies, after}
 use Rattle.tsd_model.specs.declared.requests.PlaceKind.{PlaceKind}
 use Rattle.tsd_model.specs.declared.requests.Request.{Request}
 use Rattle.tsd_model.specs.declared.replies.Reply.{Reply}

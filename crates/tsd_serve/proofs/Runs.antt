@@ -4,19 +4,19 @@ use Rattle.std.proofs.lemmas.List.{length-take, take-append-drop}
 use Rattle.tsd_model.specs.Step.{State}
 use Rattle.tsd_model.specs.declared.requests.PlaceKind.{PlaceKind}
 use Rattle.script_text.specs.Lines.{Cutting, WasFed}
-use Rattle.script_text.specs.Pieces.{lines, all_lines, if_some, unended}
+use Rattle.script_text.specs.Pieces.{lines, all_lines, unended}
 use Rattle.tsd_words.specs.declared.status.Status.{Status}
 use Rattle.tsd_words.specs.declared.status.Status.TheVariants as status
 use Rattle.tsd_serve.specs.Served.{Served, Stopped, ByStatus}
 use Rattle.tsd_serve.specs.Ran.{AskedBy, Ran, KeepsDisk, Goes}
-use Rattle.serving.specs.Ran.{Came, IsAtEnd}
+use Rattle.serving.specs.Ran.{IsAtEnd}
 use Rattle.tsd_serve.proofs.Replies.{stopped_more}
 use Rattle.script_text.proofs.CutLaws.{onto, lines_on}
 use Rattle.script_text.specs.Pieces.{pieces, front}
 use Rattle.image_device.specs.Counts.{Rose}
 use Rattle.image_device.specs.View.{View}
 use Rattle.image_device.specs.Calls.{Puts}
-use Rattle.tsd_serve.proofs.Lines.{take_all, take_nil, take_zero, within_limit}
+use Rattle.tsd_serve.proofs.Lines.{take_all, take_nil, within_limit}
 
 -- a take that found the end
 pub at_end : (tells now : Type 0) (rest room less : List ℕ) (n : ℕ) → n ≡ 0 → now → (tells → rest ≡ take n room ++ less) → (tells → rest ≡ []) → IsAtEnd tells now less

@@ -1,7 +1,7 @@
 -- What the disk answers to lines, as text.
-use Rattle.std.specs.Prelude.{◌≡◌, ℕ, Bool, false, not, ◌&&◌, nat_le, List, [], ◌∷◌, ◌++◌, map}
+use Rattle.std.specs.Prelude.{ℕ, Bool, false, not, ◌&&◌, nat_le, List, [], ◌∷◌, ◌++◌, map}
 use Rattle.tsd_model.specs.Step.{State}
-use Rattle.tsd_model.specs.Run.{answer, replies}
+use Rattle.tsd_model.specs.Run.{replies}
 use Rattle.tsd_model.specs.declared.requests.PlaceKind.{PlaceKind}
 use Rattle.tsd_model.specs.declared.requests.Request.{Request}
 use Rattle.tsd_model.specs.declared.requests.Request.TheVariants as ask

@@ -1,5 +1,5 @@
 -- What one run took and sent.
-use Rattle.std.specs.Prelude.{◌≡◌, ℕ, ◌<◌, ◌≤◌, ◌⊎◌, List, [], ◌++◌, length, take}
+use Rattle.std.specs.Prelude.{◌≡◌, ℕ, ◌<◌, ◌≤◌, ◌⊎◌, List, length, take}
 use Rattle.image_device.specs.View.{View}
 use Rattle.tsd_model.specs.Step.{State}
 use Rattle.tsd_model.specs.declared.requests.PlaceKind.{PlaceKind}

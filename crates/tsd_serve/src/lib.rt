@@ -19,4 +19,4 @@ pub use plain_core::PlainCore;
 pub use serve::serve_lines;
 pub use serving::INPUT_MAX;
 pub use top::tsd;
-pub use tsd_words::{Command, Fresh, Status, command, image_line, status_line};
+pub use tsd_words::{Command, Format, Fresh, Load, Status, command, image_line, status_line};

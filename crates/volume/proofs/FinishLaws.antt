@@ -52,7 +52,7 @@ fewer f g more (x ∷ xs) =
     at false false h = omega arith
 
 -- no free block gets lost where some blocks go
-free_restricted : (w : World) (keep : ℕ → Bool) → free_count w ≤ free_count (restricted w keep)
+pub free_restricted : (w : World) (keep : ℕ → Bool) → free_count w ≤ free_count (restricted w keep)
 free_restricted w keep =
     let all : w.blocks ≡ map (contents w) (all_blocks w) = ext_get_or None w.blocks (map (contents w) (all_blocks w)) (sym (length-map-range_with_len (contents w) 0 (length w.blocks)))
     (λ b h. sym (get_or-map-range_with_len (contents w) 0 (length w.blocks) b b None h (omega arith))) in

@@ -29,7 +29,7 @@ use Rattle.image_world.proofs.TurnLaws.{flag_turns}
 use Rattle.volume_laws.specs.Graphs.{graph_in}
 use Rattle.volume_laws.specs.Moments.{LeavesEither, LeavesWorld, StandsForEither, owed}
 use Rattle.volume_laws.specs.Steps.{IsAllowed, IsPut, IsStepped}
-use Rattle.volume_laws.specs.Turns.{Turns}
+use Rattle.image_world.specs.Turns.{Turns}
 use Rattle.volume_laws.specs.Volume.{Volume, world_on}
 use Rattle.volume_laws.specs.Writes.{Works}
 use Rattle.volume_laws.proofs.BlockLaws.{put_ok}

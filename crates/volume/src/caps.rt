@@ -1,9 +1,8 @@
 //! Capabilities.
 
-ghost use Rattle.std.specs.Prelude.{◌≡◌, ℕ, ◌+◌, ◌<◌, ◌≤◌, true, false, OnOk, OnErr};
-ghost use Rattle.tsd_model.specs.Records.{kept, upgraded};
+ghost use Rattle.std.specs.Prelude.{◌≡◌, ◌+◌, ◌<◌, true, false, OnOk, OnErr};
+ghost use Rattle.tsd_model.specs.Records.{kept};
 ghost use Rattle.tsd_model.specs.Step.{with_caps};
-ghost use Rattle.image_device.specs.Image.{zeros};
 ghost use Rattle.image_device.specs.Calls.{Uses};
 ghost use Rattle.image_device.specs.Counts.{Rose};
 ghost use Rattle.intent_journal.specs.Ring.{checkpoint_writes};
@@ -49,29 +48,5 @@ impl Volume {
         let outcome = self.ring.commit(dev, &self.batch);
         self.is_spent = outcome.is_err();
         outcome
-    }
-
-    /// Keeps of each capability only its digest from now on, and erases what the journal held of earlier ones. A volume of
-    /// version 2 makes no batch and does the rest.
-    pub fn upgrade<D: Device>(&mut self, dev: &mut D) -> Result<(), Failed>
-        requires ready { IsReady self.old }
-        requires unspent { self.old.is_spent ≡ false }
-        requires at { D.told → IsAt self.old (D.view dev.old) }
-        ensures at { D.told → OnOk result (IsAt self.new (D.view dev.new)) }
-        ensures done { D.told → OnOk result (world_on (D.view dev.new) ≡ upgraded (world_on (D.view dev.old))) }
-        ensures told { OnOk result (told_by self.new ≡ upgraded (told_by self.old)) }
-        ensures erased { D.told → OnOk result ((n : ℕ) → 4 ≤ n → n ≤ 116 → (D.view dev.new).reads n ≡ zeros) }
-        ensures ready { OnOk result (IsReady self.new) }
-        ensures unspent { OnOk result (self.new.is_spent ≡ false) }
-        ensures spent { OnErr result (self.new.is_spent ≡ true) }
-        ensures size { self.new.tables.geometry ≡ self.old.tables.geometry }
-        ensures sent { D.told → (D.view dev.new).sent ≡ (D.view dev.old).sent }
-        ensures any_moment { D.told → LeavesEither (D.view dev.old) (D.view dev.new) (upgraded (world_on (D.view dev.old))) }
-        ensures any_owed { D.told → LeavesOwed (D.view dev.old) (D.view dev.new) (owed self.old.tables) }
-        ensures uses { Uses (checkpoint_writes self.old.ring + batch_cost 3 + 113) (D.view dev.old) (D.view dev.new) }
-        ensures faultless { OnOk result ((D.view dev.new).faults ≡ (D.view dev.old).faults) }
-        ensures cause { OnErr result (Rose (D.view dev.old).faults (D.view dev.new).faults) }
-    {
-        Err(Failed)
     }
 }

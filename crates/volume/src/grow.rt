@@ -17,8 +17,8 @@ ghost use Rattle.image_world.specs.Tables.{pairs_of};
 use crate::growing::put_new;
 use crate::volume::Volume;
 use crate::zeroing::{holds_data, zero_blocks};
-use image_layout::Layout;
 use image_device::{Device, Failed};
+use image_layout::Layout;
 use tsd_model::BlockList;
 
 impl Volume {

@@ -13,7 +13,6 @@ ghost use Rattle.volume_laws.specs.Writes.{batch_cost, due, IsPaid};
 ghost use Rattle.volume_laws.specs.Moments.{LeavesEither, LeavesOwed, owed, made};
 ghost use Rattle.volume_laws.specs.Writes.{lost_cost};
 ghost use Rattle.image_world.specs.Tables.{pairs_of};
-
 ghost use Rattle.tsd_model.specs.Doomed.{doomed};
 ghost use Rattle.volume_laws.specs.Graphs.{graph_in};
 
@@ -168,9 +167,7 @@ impl Volume {
         self.counts.lower(target);
         let count = self.counts.patch(target);
         let _ = self.batch.put(count.sector, &count.bytes);
-        let _lost = self
-            .ahead
-            .lower(&self.pointers, &mut self.live, target);
+        let _lost = self.ahead.lower(&self.pointers, &mut self.live, target);
         let outcome = self.ring.commit(dev, &self.batch);
         self.is_spent = outcome.is_err();
         outcome

@@ -10,7 +10,6 @@ ghost use Rattle.intent_journal.specs.Ring.{checkpoint_writes};
 ghost use Rattle.volume_laws.specs.Volume.{IsAt, IsReady, told_by, world_on};
 ghost use Rattle.volume_laws.specs.Writes.{batch_cost, due, IsPaid, Works};
 ghost use Rattle.volume_laws.specs.Moments.{LeavesEither, LeavesWorld, LeavesOwed, owed};
-
 ghost use Rattle.volume_laws.specs.Graphs.{IsNext};
 
 use crate::steps::{note_step, put_step};
@@ -188,7 +187,8 @@ impl Volume {
         if self.is_settled() {
             return None;
         }
-        self.work.collect(&self.counts, &self.live, self.header.geometry.primaries);
+        self.work
+            .collect(&self.counts, &self.live, self.header.geometry.primaries);
         next_step(&self.pointers, &self.counts, &self.live, &mut self.work)
     }
 

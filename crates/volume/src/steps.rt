@@ -7,8 +7,8 @@ ghost use Rattle.reclaim.specs.Stepping.{after_step};
 ghost use Rattle.image_world.specs.Tables.{Tables};
 ghost use Rattle.volume_laws.specs.Steps.{MayTake, IsTaken, with_parts, MayPut, IsPut, with_all, live_after};
 
-use intent_journal::Batch;
 use block_alloc::LiveMap;
+use intent_journal::Batch;
 use pointer_table::{OutStep, PointerTable};
 use reclaim::Ahead;
 use ref_counts::RefCounts;

@@ -57,6 +57,7 @@ impl Volume {
         ensures at { D.told → OnOk result (IsAt self.new (D.view dev.new)) }
         ensures done { D.told → OnOk result (world_on (D.view dev.new) ≡ swept (world_on (D.view dev.old))) }
         ensures told { OnOk result (told_by self.new ≡ swept (told_by self.old)) }
+        ensures sweeping { self.new.tables.is_sweeping ≡ true }
         ensures unready { self.new.is_ready ≡ false }
         ensures unspent { OnOk result (self.new.is_spent ≡ false) }
         ensures spent { OnErr result (self.new.is_spent ≡ true) }

@@ -8,8 +8,8 @@ use cycle_sweep::Marks;
 use image_layout::Header;
 use intent_journal::{Batch, Ring};
 use pointer_table::PointerTable;
-use ref_counts::RefCounts;
 use reclaim::{Ahead, Work};
+use ref_counts::RefCounts;
 use std::marker::Model;
 
 /// A world on a device. Contracts see the tables of its image, the records of its journal, and whether it is ready and spent.

@@ -1,5 +1,5 @@
 -- What memory tells of free blocks, where nothing is lost.
-use Rattle.std.proofs.Common.{◌≡◌, ℕ, zero, suc, ◌+◌, ◌<◌, ◌≤◌, true, false, ◌&&◌, ◌||◌, ◌==◌, nat_lt, inl, inr, Bool, not, List, [], ◌∷◌, length, refl, sym, ◌∙◌, ap, subst, arith}
+use Rattle.std.proofs.Common.{◌≡◌, ℕ, suc, ◌+◌, ◌<◌, ◌≤◌, true, false, ◌&&◌, ◌||◌, ◌==◌, nat_lt, inl, inr, Bool, not, List, [], ◌∷◌, length, refl, sym, ◌∙◌, ap, subst, arith}
 use Rattle.std.proofs.Common.{Option, Some, None}
 use Rattle.std.specs.Prelude.{slice_get, is_some, is_none}
 use Rattle.std.proofs.lemmas.Bool.{cases_Bool, and_parts, both_ways}
@@ -8,7 +8,6 @@ use Rattle.tsd_model.specs.declared.geometry.Geometry.{Geometry}
 use Rattle.tsd_model.specs.World.{World, contents, is_live, is_free, has_number}
 use Rattle.tsd_model.specs.Doomed.{doomed, settle}
 use Rattle.image_device.specs.View.{View}
-use Rattle.image_device.specs.Runs.{LeavesOnly}
 use Rattle.image_device.proofs.Moments.{weakened, joined}
 use Rattle.block_alloc.specs.LiveMap.{is_live as is_marked_in}
 use Rattle.graph_laws.proofs.SameLaws.{length-restricted}
@@ -32,10 +31,13 @@ below_both m n h = grind (arith, nat_tests)
 
 -- a block that is told free has a bit that is 0
 free_raw : (t : Tables) (b : ℕ) → t.is_sweeping ≡ false → owed t ≡ 0 → is_free (blank_of t) b ≡ true → (b < t.geometry.blocks) × (is_marked_in t.live b ≡ false)
-free_raw t b still none free = (inside, elim (cases_Bool (is_marked_in t.live b)) [
+free_raw t b still none free = (
+  inside,
+  elim (cases_Bool (is_marked_in t.live b)) [
     | inl on ↦ absurd (both_ways (is_live (settle w) b) (none_some (contents (settle w) b) parts.1) (live-restricted w keep b ∙ (kept ∙ (live_with t (zeros_of t) b inside ∙ on))))
     | inr off ↦ off
-  ])
+  ],
+)
   where
     w : World
     w = world_with t (zeros_of t)
@@ -99,3 +101,9 @@ then_moments v0 v1 v2 change one w1 s1 two =
     joined v0 v1 v2 (λ x f. StandsForEither (world_on v0) (change (world_on v0)) x × (f ≡ v0.sent)) (λ x f. StandsForEither (world_on v1) (change (world_on v1)) x × (f ≡ v1.sent))
     (weakened v0 v1 (λ x f. Stands x (world_on v0) × (f ≡ v0.sent)) (λ x f. StandsForEither (world_on v0) (change (world_on v0)) x × (f ≡ v0.sent)) one (λ x f left. (inl left.0, left.1)))
     two (λ x f left. (subst (λ w. StandsForEither w (change w) x) w1 left.0, left.1 ∙ s1))
+
+-- two runs, of which the first changes the world
+pub change_first : (v0 v1 v2 : View) (change : World → World) → LeavesEither v0 v1 (change (world_on v0)) → world_on v1 ≡ change (world_on v0) → v1.sent ≡ v0.sent → LeavesWorld v1 v2 → LeavesEither v0 v2 (change (world_on v0))
+change_first v0 v1 v2 change one w1 s1 two =
+    joined v0 v1 v2 (λ x f. StandsForEither (world_on v0) (change (world_on v0)) x × (f ≡ v0.sent)) (λ x f. Stands x (world_on v1) × (f ≡ v1.sent)) one two
+    (λ x f left. (inr (subst (Stands x) w1 left.0), left.1 ∙ s1))

@@ -1,30 +1,27 @@
 -- What images stand for around a commit that changes tables.
-use Rattle.std.proofs.Common.{◌≡◌, ℕ, ◌≤◌, false, inl, inr, ⊎_elim, List, refl, sym, ◌∙◌, ap, subst, arith, Result, Ok, Err}
+use Rattle.std.proofs.Common.{◌≡◌, inl, inr, ⊎_elim, List, sym, ◌∙◌, ap, subst, Result, Ok, Err}
 use Rattle.std.specs.Prelude.{OnOk}
-use Rattle.tsd_model.specs.declared.geometry.Geometry.{Geometry}
 use Rattle.tsd_model.specs.World.{World}
 use Rattle.image_device.specs.View.{View}
 use Rattle.image_device.specs.Runs.{LeavesOnly, IsFirm}
 use Rattle.image_device.proofs.Moments.{weakened}
-use Rattle.image_layout.specs.Areas.{header_sector, format_gate, data_start}
-use Rattle.image_layout.specs.Places.{data_sector}
-use Rattle.image_layout.specs.Image.{Image, data_bytes}
+use Rattle.image_layout.specs.Image.{Image}
 use Rattle.image_layout.specs.declared.place.Patch.{Patch}
 use Rattle.intent_journal.specs.Home.{home, overlaid, is_journal, AgreeBut}
 use Rattle.intent_journal.specs.Ring.{IsAt as IsRingAt}
 use Rattle.intent_journal.specs.Crash.{IsAfter, IsBeforeOrAfter}
 use Rattle.intent_journal.proofs.Uses.{at_valid}
-use Rattle.image_world.specs.Sound.{HasTables, AreSound}
+use Rattle.image_world.specs.Sound.{HasTables}
 use Rattle.image_world.specs.Tables.{Tables, tables_of}
 use Rattle.image_world.specs.Raw.{left_of, world_with, data_on}
 use Rattle.image_world.specs.Stands.{world_of, Stands}
-use Rattle.image_world.proofs.AlikeLaws.{same_data, same_contents}
-use Rattle.image_world.proofs.SoundLaws.{tables_had, has_one, had_elsewhere, tables_good}
-use Rattle.image_world.proofs.WrittenLaws.{above_journal}
+use Rattle.image_world.proofs.SoundLaws.{tables_had, has_one}
+use Rattle.image_world.proofs.TurnLaws.{after_turned}
+use Rattle.image_world.proofs.TurnLaws.{turned_had as turned_have}
 use Rattle.volume_laws.specs.Volume.{Volume, IsAt, world_on}
-use Rattle.volume_laws.specs.Turns.{Turns}
+use Rattle.image_world.specs.Turns.{Turns}
 use Rattle.volume_laws.specs.Moments.{StandsForEither, LeavesEither}
-use Rattle.volume_laws.proofs.Committed.{formatted_by, before_stands}
+use Rattle.volume_laws.proofs.Committed.{before_stands}
 
 -- the world of other tables with the bytes that an image has
 abbrev pub turned_world : Tables → View → World
@@ -38,40 +35,15 @@ world_is vol v at = ap (λ (t : Tables). left_of t (world_with t (data_on (home 
 pub has_its_tables : (vol : Volume) (v : View) → IsAt vol v → HasTables vol.tables (home v.reads)
 has_its_tables vol v at = subst (λ (t : Tables). HasTables t (home v.reads)) at.tables (tables_had (home v.reads) at.good.header)
 
-at_data : (g : Geometry) (b part : ℕ) → data_start g ≤ data_sector g b part
-at_data g b part = omega arith
-
-data_above : (g : Geometry) (n : ℕ) → data_start g ≤ n → is_journal n ≡ false
-data_above g n h = above_journal n (omega arith)
+-- the batch turns the image's own tables
+its_turns : (vol : Volume) (v : View) (t : Tables) (batch : List Patch) → IsAt vol v → Turns vol.tables t batch → Turns (tables_of (home v.reads)) t batch
+its_turns vol v t batch at turns = subst (λ (u : Tables). Turns u t batch) (sym at.tables) turns
 
 pub turned_had : (vol : Volume) (old : View) (x : Image) (batch : List Patch) (t : Tables) → IsAt vol old → Turns vol.tables t batch → AgreeBut is_journal (overlaid batch (home old.reads)) (home x) → HasTables t (home x)
-turned_had vol old x batch t at turns agree =
-    had_elsewhere t (overlaid batch (home old.reads)) (home x) turns.sound (agree header_sector refl) (λ n from to. agree n (above_journal n from)) (turns.has (home old.reads) (has_its_tables vol old at))
+turned_had vol old x batch t at turns agree = turned_have old.reads x t batch at.good (its_turns vol old t batch at turns) agree
 
 pub turned_stands : (vol : Volume) (old : View) (x : Image) (batch : List Patch) (t : Tables) → IsAt vol old → Turns vol.tables t batch → IsAfter batch old x → Stands x (turned_world t old)
-unfolding world_of
-turned_stands vol old x batch t at turns after = record {
-  good = tables_good t x (formatted_by old.reads x (after.stands format_gate refl ∙ turns.gate (home old.reads)) at.good.formatted) after.valid turns.sound had;
-  world = sym ((λ i. left_of (here i) (world_with (here i) (λ b. data_bytes (home x) (here i).geometry b))) ∙ ap (left_of t) (same_contents t (λ b. data_bytes (home x) t.geometry b) (data_on (home old.reads)) (λ b inside live. bytes b)));
-}
-  where
-    had : HasTables t (home x)
-    had = turned_had vol old x batch t at turns after.stands
-
-    here : tables_of (home x) ≡ t
-    here = has_one t (home x) turns.sound had
-
-    g : Geometry
-    g = vol.tables.geometry
-
-    size : t.geometry ≡ (tables_of (home old.reads)).geometry
-    size = turns.size ∙ sym (ap (λ (s : Tables). s.geometry) at.tables)
-
-    bytes : (b : ℕ) → data_bytes (home x) t.geometry b ≡ data_on (home old.reads) b
-    bytes b =
-        ap (λ k. data_bytes (home x) k b) turns.size
-        ∙ (same_data (home old.reads) (home x) g b (λ part h. after.stands (data_sector g b part) (data_above g (data_sector g b part) (at_data g b part)) ∙ turns.contents (home old.reads) (data_sector g b part) (at_data g b part))
-        ∙ ap (λ k. data_bytes (home old.reads) k b) (sym turns.size ∙ size))
+turned_stands vol old x batch t at turns after = (after_turned old x t batch at.good (its_turns vol old t batch at turns) after).stands
 
 -- the images that a commit leaves
 pub turned_moments : (vol : Volume) (old new : View) (batch : List Patch) (t : Tables) (w : World) → IsAt vol old → Turns vol.tables t batch → turned_world t old ≡ w

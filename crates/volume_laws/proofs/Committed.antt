@@ -1,9 +1,7 @@
 -- What images stand for around a commit.
-use Rattle.std.proofs.Common.{◌≡◌, ◌≢◌, ℕ, ◌<◌, true, false, ◌||◌, ◌==◌, inl, inr, ⊎_elim, List, [], ◌∷◌, length, refl, sym, ◌∙◌, ap, subst, arith, Result, Ok, Err}
+use Rattle.std.proofs.Common.{◌≡◌, ◌≢◌, ℕ, ◌<◌, true, false, ◌||◌, inl, inr, ⊎_elim, List, [], length, refl, sym, ◌∙◌, ap, subst, arith, Result, Ok, Err}
 use Rattle.std.specs.Prelude.{OnOk}
-use Rattle.std.specs.List.{list_all}
 use Rattle.std.proofs.lemmas.Bool.{cases_Bool}
-use Rattle.std.proofs.lemmas.Bool.Decides.{nat_tests}
 use Rattle.tsd_model.specs.declared.geometry.Geometry.{Geometry}
 use Rattle.tsd_model.specs.Geometry.{block_len}
 use Rattle.tsd_model.specs.World.{is_live}
@@ -11,65 +9,33 @@ use Rattle.tsd_model.specs.Step.{with_contents}
 use Rattle.image_device.specs.View.{View}
 use Rattle.image_device.specs.Runs.{LeavesOnly, IsFirm}
 use Rattle.image_device.proofs.Moments.{weakened}
-use Rattle.image_layout.specs.Areas.{header_sector, format_gate}
+use Rattle.image_layout.specs.Areas.{format_gate}
 use Rattle.image_layout.specs.Places.{data_sector}
-use Rattle.image_layout.specs.Image.{Image, is_open}
+use Rattle.image_layout.specs.Image.{Image}
 use Rattle.image_layout.specs.declared.place.Patch.{Patch}
-use Rattle.intent_journal.specs.Batch.{homes_of, has_home}
-use Rattle.intent_journal.specs.Homes.{is_lawful_home}
 use Rattle.intent_journal.specs.Home.{home, overlaid, is_journal, AgreeBut}
-use Rattle.intent_journal.specs.Records.{Record, patches_of, open_records}
+use Rattle.intent_journal.specs.Records.{Record}
 use Rattle.intent_journal.specs.Ring.{IsAt as IsRingAt}
 use Rattle.intent_journal.specs.Crash.{IsBefore, IsAfter, IsBeforeOrAfter}
-use Rattle.intent_journal.proofs.Bools.{and_true_parts}
-use Rattle.intent_journal.proofs.Opened.{opened_lawful, home_of_empty}
-use Rattle.intent_journal.proofs.Uses.{home_missed, at_valid}
-use Rattle.image_world.specs.Alike.{AreAlike}
+use Rattle.intent_journal.proofs.Opened.{home_of_empty}
+use Rattle.intent_journal.proofs.Uses.{at_valid}
 use Rattle.disk_laws.specs.Bytes.{AreLike}
 use Rattle.image_world.specs.Written.{IsWritten}
-use Rattle.image_world.specs.Faults.{IsFormatted, HasJournal}
+use Rattle.image_world.specs.Faults.{HasJournal}
 use Rattle.image_world.specs.Tables.{Tables, header_on, tables_of}
 use Rattle.image_world.specs.Raw.{left_of, world_with, blank_of, data_on, zeros_of}
 use Rattle.image_world.specs.Stands.{world_of, Stands}
 use Rattle.image_world.proofs.LikeLaws.{left_like, tables_like, left_live, live_inside}
 use Rattle.image_world.proofs.RawLaws.{blocks_with}
 use Rattle.image_world.proofs.AlikeLaws.{alike_tables}
-use Rattle.image_world.proofs.StandLaws.{stands_alike}
+use Rattle.image_world.proofs.AgreeLaws.{alike_outside, formatted_by, old_stands}
 use Rattle.image_world.proofs.WrittenLaws.{above_journal, written_stands, written_tables}
 use Rattle.volume_laws.specs.Volume.{Volume, IsAt, told_by, world_on}
 use Rattle.volume_laws.specs.Moments.{StandsForEither, LeavesEither, LeavesWorld}
 
--- ---- the format gate is no home
-lawful_missed : (ps : List Patch) (n : ℕ) → list_all is_lawful_home (homes_of ps) ≡ true → is_lawful_home n ≡ false → has_home ps n ≡ false
-lawful_missed [] n lawful out = refl
-lawful_missed (p ∷ ps) n lawful out =
-    let parts = and_true_parts (is_lawful_home p.sector) (list_all is_lawful_home (homes_of ps)) lawful in
-    elim (cases_Bool (p.sector == n)) [
-      | inl e ↦ absurd (both p.sector n e parts.0 out)
-      | inr e ↦ rw e (lawful_missed ps n parts.1 out)
-    ]
-  where
-    both : (m k : ℕ) → (m == k) ≡ true → is_lawful_home m ≡ true → is_lawful_home k ≡ false → ⊥
-    both m k e f g = grind (arith, nat_tests)
-
-pub home_gate : (x : Image) → home x format_gate ≡ x format_gate
-home_gate x = home_missed x format_gate (lawful_missed (patches_of (open_records x)) format_gate (opened_lawful x) refl)
-
-pub formatted_by : (x y : Image) → home y format_gate ≡ home x format_gate → IsFormatted x → IsFormatted y
-formatted_by x y same formatted = ap is_open (sym (home_gate y) ∙ (same ∙ home_gate x)) ∙ formatted
-
 -- ---- homes that agree outside the journal
-pub alike_outside : (x y : Image) → ((n : ℕ) → is_journal n ≡ false → y n ≡ x n) → AreAlike x y
-alike_outside x y same = record {
-  header = same header_sector refl;
-  areas = λ n from to. same n (above_journal n from);
-  blocks = λ b part inside within live. same (data_sector (header_on x).geometry b part) (above_journal (data_sector (header_on x).geometry b part) (omega arith));
-}
-
 pub agree_stands : (vol : Volume) (old : View) (x : Image) → IsAt vol old → ((n : ℕ) → is_journal n ≡ false → home x n ≡ home old.reads n) → HasJournal x → Stands x (world_on old)
-agree_stands vol old x at same valid =
-    stands_alike old.reads x (world_on old) (alike_outside (home old.reads) (home x) same)
-    (formatted_by old.reads x (same format_gate refl) at.good.formatted) valid (record { good = at.good; world = refl })
+agree_stands vol old x at same valid = old_stands old.reads x at.good same valid
 
 pub before_stands : (vol : Volume) (old : View) (x : Image) → IsAt vol old → IsBefore old x → Stands x (world_on old)
 before_stands vol old x at before = agree_stands vol old x at (λ n out. before.stands n (neither n out)) before.valid

@@ -1,5 +1,5 @@
 -- What is owed once a pair is deleted.
-use Rattle.std.proofs.Common.{◌≡◌, ℕ, ◌+◌, ◌*◌, ◌≤◌, true, List, length, sym, ◌∙◌, ap, arith, Result, Ok, Err}
+use Rattle.std.proofs.Common.{◌≡◌, ℕ, ◌+◌, ◌*◌, ◌≤◌, true, List, length, ◌∙◌, ap, arith, Result, Ok, Err}
 use Rattle.std.specs.Prelude.{OnOk, Option}
 use Rattle.tsd_model.specs.Pairs.{holds, without_pair}
 use Rattle.tsd_model.specs.World.{World, free_count}

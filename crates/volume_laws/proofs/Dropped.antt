@@ -1,15 +1,13 @@
 -- A pointer less.
-use Rattle.std.proofs.Common.{◌≡◌, ◌≢◌, ℕ, ◌+◌, ◌-◌, ◌<◌, ◌≤◌, true, false, ◌||◌, ◌&&◌, ◌==◌, inl, inr, Bool, cond, not, List, [], length, refl, sym, ◌∙◌, ap, subst, arith}
+use Rattle.std.proofs.Common.{◌≡◌, ℕ, ◌-◌, ◌<◌, ◌≤◌, true, false, ◌==◌, inl, inr, Bool, not, List, [], length, sym, ◌∙◌, ap, subst, arith}
 use Rattle.std.specs.Prelude.{slice_set, slice_index, Option}
 use Rattle.std.proofs.lemmas.Bool.{cases_eq, and_parts}
-use Rattle.std.proofs.lemmas.Bool.Decides.{nat_tests}
 use Rattle.std.proofs.lemmas.List.{length-set, get_or-set_same, get_or-set_other}
 use Rattle.tsd_model.specs.declared.geometry.Geometry.{Geometry}
 use Rattle.tsd_model.specs.Pairs.{is_pair, holds, without_pair, count_to}
 use Rattle.tsd_model.proofs.PairLaws.{holds-filter}
 use Rattle.tsd_model.proofs.CountLaws.{count-without_pair, source_removed}
-use Rattle.tsd_model.specs.World.{has_number}
-use Rattle.tsd_model.specs.Doomed.{doomed, settle}
+use Rattle.tsd_model.specs.Doomed.{settle}
 use Rattle.tsd_model.specs.Step.{without_pointer}
 use Rattle.image_device.specs.Image.{put_at}
 use Rattle.image_layout.specs.Areas.{counts_start, bitmap_start, slots_start, data_start}
@@ -31,10 +29,10 @@ use Rattle.ref_counts.specs.Changes.{KeepsStored as KeepsCounts}
 use Rattle.graph_laws.proofs.CommuteLaws.{settle-without_pointer}
 use Rattle.image_world.specs.Sound.{AreSound}
 use Rattle.image_world.specs.Tables.{Tables, pairs_of}
-use Rattle.image_world.specs.Raw.{left_of, world_with, zeros_of, blank_of}
+use Rattle.image_world.specs.Raw.{left_of, world_with, blank_of}
 use Rattle.volume_laws.specs.Volume.{tables_in}
 use Rattle.volume_laws.proofs.BlockLaws.{length-with_patch}
-use Rattle.volume_laws.specs.Turns.{Turns}
+use Rattle.image_world.specs.Turns.{Turns}
 use Rattle.volume_laws.specs.Graphs.{graph_in}
 use Rattle.volume_laws.proofs.TableWorlds.{laid_out, told_held, settled_held}
 use Rattle.volume_laws.proofs.Pointed.{pointer_turn, one_at, none_at}

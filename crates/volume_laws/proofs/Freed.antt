@@ -1,11 +1,11 @@
 -- A block that a step frees.
-use Rattle.std.proofs.Common.{◌≡◌, ◌≢◌, ℕ, ◌<◌, ◌≤◌, Bool, true, false, not, ◌&&◌, ◌==◌, inl, inr, List, [], ◌∷◌, refl, sym, ◌∙◌, ap, subst, arith, Ok}
+use Rattle.std.proofs.Common.{◌≡◌, ◌≢◌, ℕ, ◌<◌, ◌≤◌, true, false, ◌==◌, [], ◌∷◌, refl, sym, ◌∙◌, ap, subst, arith, Ok}
 use Rattle.std.specs.Prelude.{slice_set}
-use Rattle.std.proofs.lemmas.Bool.{cases_eq, and_parts, and_from, both_ways, not-true, eq-eqb}
+use Rattle.std.proofs.lemmas.Bool.{and_parts, and_from, both_ways}
 use Rattle.std.proofs.lemmas.Bool.Decides.{nat_tests}
 use Rattle.std.proofs.lemmas.List.{get_or-set_other, length-set}
 use Rattle.tsd_model.specs.Pairs.{holds}
-use Rattle.tsd_model.specs.World.{World, has_number}
+use Rattle.tsd_model.specs.World.{World}
 use Rattle.tsd_model.specs.declared.geometry.Geometry.{Geometry}
 use Rattle.disk_laws.proofs.DoomLaws.{live_below}
 use Rattle.image_device.specs.Image.{put_at}
@@ -18,16 +18,14 @@ use Rattle.pointer_table.proofs.LoadingLaws.{stored_elsewhere}
 use Rattle.ref_counts.proofs.StoredLaws.{same_sectors as same_counts}
 use Rattle.block_alloc.specs.LiveMap.{is_live}
 use Rattle.block_alloc.specs.Stored.{IsStoredAt, IsStored, sector_of}
-use Rattle.block_alloc.proofs.StoredLaws.{same_sectors as same_bits}
 use Rattle.cap_store.proofs.StoredLaws.{same_sectors as same_records}
-use Rattle.graph_laws.specs.Steps.{IsStep, IsLost, IsAlone, without_pointers}
+use Rattle.graph_laws.specs.Steps.{IsAlone, without_pointers}
 use Rattle.pointer_table.specs.declared.out_step.OutStep.{OutStep}
 use Rattle.image_world.specs.Sound.{AreSound}
 use Rattle.image_world.specs.Tables.{Tables, pairs_of}
-use Rattle.image_world.specs.Raw.{world_with, zeros_of}
 use Rattle.volume_laws.specs.Graphs.{graph_in, IsNext}
 use Rattle.volume_laws.specs.Steps.{pairs_without, IsAllowed}
-use Rattle.volume_laws.specs.Turns.{Turns}
+use Rattle.image_world.specs.Turns.{Turns}
 use Rattle.volume_laws.proofs.StepWorlds.{without_parts}
 use Rattle.volume_laws.proofs.TableWorlds.{graph_laid_out}
 

@@ -1,5 +1,5 @@
 -- New blocks in tables and in a batch.
-use Rattle.std.proofs.Common.{◌≡◌, ◌≢◌, ℕ, ◌+◌, ◌*◌, ◌<◌, ◌≤◌, true, false, ◌||◌, ◌&&◌, ◌==◌, inl, inr, ⊎_elim, ◌⊎◌, Bool, List, [], ◌∷◌, length, replicate, refl, sym, ◌∙◌, ap, subst, arith}
+use Rattle.std.proofs.Common.{◌≡◌, ◌≢◌, ℕ, ◌+◌, ◌<◌, ◌≤◌, true, false, ◌||◌, ◌==◌, inl, inr, ◌⊎◌, Bool, List, [], ◌∷◌, length, replicate, refl, sym, ◌∙◌, ap, subst, arith}
 use Rattle.std.specs.Prelude.{filter, slice_set, slice_index}
 use Rattle.std.proofs.lemmas.Bool.{cases_eq, cases_lt, and_from, and_parts, or_cases, or_parts, both_ways}
 use Rattle.std.proofs.lemmas.Bool.Decides.{nat_tests}
@@ -29,7 +29,6 @@ use Rattle.ref_counts.proofs.StoredLaws.{same_sectors as same_counts}
 use Rattle.block_alloc.specs.LiveMap.{LiveMap, is_live}
 use Rattle.block_alloc.specs.Stored.{IsStored as AreBits, IsStoredAt, sector_of}
 use Rattle.block_alloc.proofs.StoredLaws.{same_sectors as same_bits}
-use Rattle.image_world.specs.Tables.{Tables}
 use Rattle.image_world.specs.Raw.{world_with}
 use Rattle.image_world.proofs.GrowLaws.{block_more}
 use Rattle.volume_laws.specs.Growing.{Parts, parts_of, with_parts, DoFit, AreFree, HasRoom, HasNoLost, AreStored, IsGrown}
@@ -82,7 +81,7 @@ one_grown g a b op np oc nc ol nl p q r ps qs fit source inside free more table 
       let e : t.geometry.blocks ≡ g.blocks = ap (λ (k : Geometry). k.blocks) same in
       ap (λ (live : List Bool). world_with (record t { live = live; slots = np.slots; counts = nc.counts }) c) live
       ∙ block_more (with_parts t (parts_of op oc ol)) np.slots nc.counts a b c (omega (arith, e, inside)) (omega (arith, e, fit.each_block)) more
-        (zeroed b (here b) ∙ ap (λ (k : Geometry). replicate (block_len k) 0) (sym same));
+      (zeroed b (here b) ∙ ap (λ (k : Geometry). replicate (block_len k) 0) (sym same));
   stored = λ z had. stored z had;
   others = λ z n out. laid z n ∙ three z n (beyond n out);
   few = omega (arith, few);

@@ -1,11 +1,10 @@
 -- Where no call is made.
 use Rattle.std.proofs.Common.{◌≡◌, ℕ, ◌≤◌, refl, sym, ◌∙◌, ap, subst, arith}
-use Rattle.image_device.specs.View.{View, IsSound, IsLeftNow}
-use Rattle.image_device.specs.Runs.{LeavesOnly}
+use Rattle.image_device.specs.View.{View, IsSound}
 use Rattle.image_device.proofs.Moments.{started, firm_image, joined}
 use Rattle.image_layout.specs.Image.{Image}
 use Rattle.intent_journal.specs.Home.{home}
-use Rattle.image_world.specs.Tables.{Tables, tables_of}
+use Rattle.image_world.specs.Tables.{tables_of}
 use Rattle.image_world.specs.Stands.{Stands}
 use Rattle.volume_laws.specs.Volume.{Volume, IsAt, world_on}
 use Rattle.volume_laws.specs.Moments.{LeavesWorld, LeavesOwed, owed}

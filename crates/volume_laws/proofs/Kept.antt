@@ -1,13 +1,11 @@
 -- Records that are changed.
-use Rattle.std.proofs.Common.{◌≡◌, ◌≢◌, ℕ, zero, suc, ◌+◌, ◌<◌, ◌≤◌, false, ◌||◌, ◌==◌, inl, inr, Bool, not, List, [], ◌∷◌, length, refl, sym, ◌∙◌, ap, subst, arith, Ok}
+use Rattle.std.proofs.Common.{◌≡◌, ◌≢◌, ℕ, ◌+◌, ◌<◌, ◌≤◌, false, ◌==◌, inl, inr, List, [], ◌∷◌, length, refl, sym, ◌∙◌, ap, subst, arith, Ok}
 use Rattle.std.specs.Prelude.{filter, slice_set}
 use Rattle.std.proofs.lemmas.Bool.{cases_Bool}
 use Rattle.std.proofs.lemmas.Bool.Decides.{nat_tests}
 use Rattle.std.proofs.lemmas.List.{length-set}
 use Rattle.tsd_model.specs.declared.records.Record.{Record}
-use Rattle.tsd_model.specs.World.{World, has_number, primary_blocks}
-use Rattle.tsd_model.specs.Reach.{reach_round, reach_rounds, restricted, swept}
-use Rattle.tsd_model.specs.Doomed.{doomed_round, doomed_rounds, settle}
+use Rattle.tsd_model.specs.World.{has_number}
 use Rattle.tsd_model.specs.Step.{with_caps}
 use Rattle.image_device.specs.Image.{put_at}
 use Rattle.image_layout.specs.Areas.{header_sector, format_gate, caps_start, counts_start}
@@ -29,7 +27,7 @@ use Rattle.image_world.specs.Sound.{AreSound}
 use Rattle.image_world.specs.Tables.{Tables}
 use Rattle.image_world.specs.Raw.{left_of, world_with, zeros_of}
 use Rattle.volume_laws.specs.Moments.{owed}
-use Rattle.volume_laws.specs.Turns.{Turns}
+use Rattle.image_world.specs.Turns.{Turns}
 
 -- ---- worlds
 pub left_kept : (t : Tables) (rs : List Record) (c : ℕ → List ℕ) → left_of (record t { records = rs }) (world_with (record t { records = rs }) c) ≡ record (left_of t (world_with t c)) { records = rs }

@@ -6,8 +6,8 @@ pub mod Kept
 pub mod Pointed
 pub mod Loose
 pub mod Ops
-pub mod Replayed
 pub mod Dropped
+pub mod Outcomes
 pub mod NumberLaws
 pub mod Taken
 pub mod TableWorlds
@@ -27,3 +27,5 @@ pub mod ZeroLaws
 pub mod Allocated
 pub mod OwedLaws
 pub mod ReadLaws
+pub mod ErasedLaws
+pub mod UpgradeLaws

@@ -1,17 +1,14 @@
 -- Tables with new blocks, where nothing is lost.
-use Rattle.std.proofs.Common.{◌≡◌, ℕ, zero, suc, ◌+◌, ◌*◌, ◌<◌, ◌≤◌, true, false, ◌&&◌, ◌||◌, ◌==◌, inl, inr, Bool, not, cond, List, [], ◌∷◌, length, replicate, refl, sym, ◌∙◌, ap, subst, arith, Ok}
-use Rattle.std.specs.Prelude.{filter, slice_index}
-use Rattle.std.proofs.lemmas.Bool.{cases_Bool, cases_lt, and_parts, or_cases, both_ways}
-use Rattle.std.proofs.lemmas.List.{nil_from_length}
+use Rattle.std.proofs.Common.{◌≡◌, ℕ, ◌*◌, ◌<◌, ◌≤◌, true, false, inl, inr, List, [], length, replicate, refl, sym, ◌∙◌, ap, subst, arith, Ok}
 use Rattle.tsd_model.specs.declared.geometry.Geometry.{Geometry}
 use Rattle.tsd_model.specs.Geometry.{block_len}
-use Rattle.tsd_model.specs.Pairs.{is_pair, holds}
-use Rattle.tsd_model.specs.World.{World, is_live, has_number}
-use Rattle.tsd_model.specs.Doomed.{doomed, settle}
+use Rattle.tsd_model.specs.Pairs.{holds}
+use Rattle.tsd_model.specs.World.{World, has_number}
+use Rattle.tsd_model.specs.Doomed.{doomed}
 use Rattle.tsd_model.specs.Step.{with_new_blocks}
-use Rattle.image_layout.specs.Areas.{header_sector, format_gate, counts_start, data_start}
+use Rattle.image_layout.specs.Areas.{header_sector, format_gate}
 use Rattle.image_layout.specs.Header.{IsReading}
-use Rattle.image_layout.specs.Image.{Image, is_open}
+use Rattle.image_layout.specs.Image.{is_open}
 use Rattle.image_layout.specs.declared.place.Patch.{Patch}
 use Rattle.intent_journal.specs.Home.{overlaid}
 use Rattle.pointer_table.specs.Table.{pairs, IsTable}
@@ -31,15 +28,15 @@ use Rattle.tsd_model.proofs.CountLaws.{source_removed}
 use Rattle.volume_laws.specs.Graphs.{graph_in}
 use Rattle.volume_laws.proofs.TableWorlds.{laid_out, graph_laid_out, same_doomed, none_owed}
 use Rattle.image_world.proofs.RawLaws.{live_with, blocks_with}
-use Rattle.volume_laws.specs.Growing.{Parts, with_parts, DoFit, HasNoLost, AreStored, IsGrown}
+use Rattle.volume_laws.specs.Growing.{Parts, with_parts, DoFit, HasNoLost, IsGrown}
 use Rattle.volume_laws.specs.Moments.{owed}
-use Rattle.volume_laws.specs.Turns.{Turns}
+use Rattle.image_world.specs.Turns.{Turns}
 
 -- ---- nothing is lost
 pub full_of_settled : (t : Tables) (p : Parts) → with_parts t p ≡ t → DoFit t.geometry p → owed t ≡ 0 → HasNoLost t.geometry p
 full_of_settled t p same fit none = λ b inside live apart.
     let led = none_is_led (graph_in t) (graph_laid_out t).each_block ((none_owed t).0 none) b apart
-        (live-graph t.geometry t.live (pairs_of t) (ap (λ (u : Tables). length u.live) (sym same) ∙ fit.each_block) b ∙ (ap (λ (u : Tables). is_marked_in u.live b) (sym same) ∙ live)) in
+    (live-graph t.geometry t.live (pairs_of t) (ap (λ (u : Tables). length u.live) (sym same) ∙ fit.each_block) b ∙ (ap (λ (u : Tables). is_marked_in u.live b) (sym same) ∙ live)) in
     let held : holds (pairs p.pointers) led.0 b ≡ true = ap (λ (u : Tables). holds (pairs_of u) led.0 b) same ∙ led.1 in
     let one = source_removed led.0 b (pairs p.pointers) (rising-pairs_in p.pointers.slots) held in
     let count = fit.counted b inside in

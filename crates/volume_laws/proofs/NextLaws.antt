@@ -1,5 +1,5 @@
 -- What reclamation needs to know of the tables in memory.
-use Rattle.std.proofs.Common.{◌≡◌, ℕ, Bool, ◌+◌, ◌<◌, List, [], ◌∷◌, length, refl, sym, ◌∙◌, ap, subst, arith, ◌↔◌}
+use Rattle.std.proofs.Common.{◌≡◌, ℕ, Bool, ◌<◌, sym, ◌∙◌, subst}
 use Rattle.tsd_model.specs.World.{World}
 use Rattle.graph_laws.specs.RawGraph.{IsRawGraph}
 use Rattle.tsd_model.specs.declared.geometry.Geometry.{Geometry}
@@ -12,8 +12,6 @@ use Rattle.cap_store.specs.Store.{Store}
 use Rattle.image_layout.specs.declared.header.Header.{Header}
 use Rattle.reclaim.specs.Ahead.{Kept}
 use Rattle.reclaim.specs.Tables.{graph_of, AreTables, HaveCounts}
-use Rattle.image_world.specs.Sound.{AreSound}
-use Rattle.image_world.specs.Tables.{Tables, pairs_of}
 use Rattle.volume_laws.specs.Graphs.{graph_in}
 use Rattle.volume_laws.specs.Volume.{AreParts, tables_in}
 use Rattle.volume_laws.proofs.TableWorlds.{graph_raw}

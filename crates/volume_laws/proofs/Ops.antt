@@ -19,7 +19,7 @@ use Rattle.image_world.specs.Raw.{left_of, world_with, data_on, zeros_of}
 use Rattle.volume_laws.specs.Volume.{Volume, IsAt, world_on, told_by}
 use Rattle.volume_laws.specs.Moments.{LeavesEither, owed}
 use Rattle.volume_laws.specs.Writes.{batch_cost, lost_cost, IsPaid}
-use Rattle.volume_laws.specs.Turns.{Turns}
+use Rattle.image_world.specs.Turns.{Turns}
 use Rattle.volume_laws.proofs.Changed.{turned_world, world_is, turned_ok, turned_moments}
 use Rattle.volume_laws.proofs.Committed.{ok_map}
 use Rattle.volume_laws.proofs.Costs.{commit_pays}

@@ -1,5 +1,5 @@
 -- What is owed in the images that a run leaves which changes no table, or makes new blocks.
-use Rattle.std.proofs.Common.{◌≡◌, ℕ, ◌≤◌, Bool, true, false, inl, inr, ⊎_elim, List, refl, sym, ◌∙◌, ap, subst, arith}
+use Rattle.std.proofs.Common.{◌≡◌, ℕ, ◌≤◌, Bool, ⊎_elim, List, sym, ◌∙◌, ap, subst, arith}
 use Rattle.image_device.specs.View.{View, IsLeftWithin}
 use Rattle.image_device.specs.Runs.{LeavesOnly, IsConfined}
 use Rattle.image_device.proofs.Moments.{weakened}
@@ -14,13 +14,13 @@ use Rattle.image_world.proofs.AlikeLaws.{alike_tables}
 use Rattle.image_world.proofs.WrittenLaws.{written_tables}
 use Rattle.volume_laws.specs.Growing.{AreFree}
 use Rattle.volume_laws.specs.Moments.{LeavesOwed, owed}
-use Rattle.volume_laws.specs.Turns.{Turns}
-use Rattle.volume_laws.specs.Unused.{AreUnused}
+use Rattle.image_world.specs.Turns.{Turns}
+use Rattle.image_world.specs.Alike.{AreUnused}
 use Rattle.volume_laws.specs.Volume.{Volume, IsAt}
 use Rattle.volume_laws.specs.Zeroed.{IsZeroedAt, firmed}
 use Rattle.volume_laws.proofs.Committed.{image_geometry, written_after}
 use Rattle.image_device.proofs.Sets.{or_false}
-use Rattle.volume_laws.proofs.Loose.{unused_alike}
+use Rattle.image_world.proofs.AgreeLaws.{unused_agree}
 use Rattle.volume_laws.proofs.StepOps.{before_tables, after_tables}
 use Rattle.volume_laws.proofs.ZeroedLaws.{loosely_tables}
 
@@ -36,7 +36,7 @@ kept_owed vol old new at leaves = weakened old new (λ x f. IsBefore old x × (f
 pub unused_owed : (vol : Volume) (old new : View) (some : ℕ → Bool) → IsAt vol old → AreUnused (header_on (home old.reads)).geometry (home old.reads) some → IsConfined some old new → LeavesOwed old new (owed vol.tables)
 unused_owed vol old new some at unused run = weakened old new (IsLeftWithin some old) (λ x f. owed (tables_of (home x)) ≤ owed vol.tables) run.leaves
     (λ x f left. same_owed (tables_of (home x)) vol.tables
-    (alike_tables (home old.reads) (home x) at.good.header (unused_alike old.reads x some unused (λ n out. left.0.agrees n (or_false (some n) (old.loose n) out (at.firm n)))) ∙ at.tables))
+    (alike_tables (home old.reads) (home x) at.good.header (unused_agree old.reads x some unused (λ n out. left.0.agrees n (or_false (some n) (old.loose n) out (at.firm n)))).homes ∙ at.tables))
 
 -- a block's bytes are committed
 pub written_owed : (vol : Volume) (old new : View) (batch : List Patch) (g : Geometry) (b : ℕ) (bytes : List ℕ) → IsAt vol old → g ≡ vol.tables.geometry

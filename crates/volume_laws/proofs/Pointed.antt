@@ -1,15 +1,15 @@
 -- A pointer more.
-use Rattle.std.proofs.Common.{◌≡◌, ◌≢◌, ℕ, ◌+◌, ◌<◌, ◌≤◌, true, false, ◌||◌, ◌==◌, inl, inr, Bool, cond, not, List, [], ◌∷◌, length, refl, sym, ◌∙◌, ap, subst, arith, Ok}
-use Rattle.std.specs.Prelude.{filter, slice_set, slice_index, Option}
-use Rattle.std.proofs.lemmas.Bool.{cases_eq, and_from, or_cases, not-true}
+use Rattle.std.proofs.Common.{◌≡◌, ◌≢◌, ℕ, ◌+◌, ◌<◌, ◌≤◌, true, false, ◌==◌, inl, inr, Bool, cond, List, [], ◌∷◌, length, refl, sym, ◌∙◌, ap, subst, arith, Ok}
+use Rattle.std.specs.Prelude.{slice_set, slice_index, Option}
+use Rattle.std.proofs.lemmas.Bool.{cases_eq, and_from, or_cases}
 use Rattle.std.proofs.lemmas.Bool.Decides.{nat_tests}
 use Rattle.std.proofs.lemmas.List.{length-set, get_or-set_same, get_or-set_other}
 use Rattle.tsd_model.specs.declared.geometry.Geometry.{Geometry}
 use Rattle.tsd_model.specs.Pairs.{is_pair, holds, with_pair, count_to}
 use Rattle.tsd_model.proofs.PairLaws.{holds-with_pair, is_pair_ext}
 use Rattle.tsd_model.proofs.CountLaws.{count-with_pair, count_to_below}
-use Rattle.tsd_model.specs.World.{World, is_live, has_number}
-use Rattle.tsd_model.specs.Doomed.{doomed, settle}
+use Rattle.tsd_model.specs.World.{World, is_live}
+use Rattle.tsd_model.specs.Doomed.{settle}
 use Rattle.tsd_model.specs.Step.{with_pointer}
 use Rattle.image_device.specs.Image.{put_at}
 use Rattle.image_layout.specs.Areas.{header_sector, format_gate, counts_start, bitmap_start, slots_start, data_start}
@@ -48,7 +48,7 @@ use Rattle.volume_laws.specs.Graphs.{graph_in}
 use Rattle.volume_laws.specs.Moments.{owed}
 use Rattle.volume_laws.specs.Volume.{tables_in}
 use Rattle.volume_laws.proofs.BlockLaws.{length-with_patch}
-use Rattle.volume_laws.specs.Turns.{Turns}
+use Rattle.image_world.specs.Turns.{Turns}
 use Rattle.volume_laws.proofs.TableWorlds.{laid_out, graph_laid_out, same_doomed, none_owed, blank, told_live, told_absent, left_told}
 
 -- ---- one or none

@@ -1,11 +1,11 @@
 -- In the middle of reclaiming: the world is as at the start, and each step so far has been paid for.
-use Rattle.std.proofs.Common.{◌≡◌, ℕ, ◌+◌, ◌*◌, ◌≤◌, ◌<◌, false, refl, sym, ◌∙◌, ap, subst, arith}
+use Rattle.std.proofs.Common.{◌≡◌, ℕ, ◌+◌, ◌*◌, ◌≤◌, ◌<◌, false, refl, ◌∙◌, arith}
 use Rattle.image_device.specs.Calls.{Uses}
 use Rattle.image_device.specs.View.{View, IsSound}
 use Rattle.intent_journal.specs.Ring.{checkpoint_writes}
 use Rattle.volume_laws.specs.Volume.{Volume, IsAt, told_by, world_on}
 use Rattle.volume_laws.specs.Moments.{LeavesWorld, LeavesOwed, owed}
-use Rattle.volume_laws.specs.Writes.{batch_cost, due, IsPaid}
+use Rattle.volume_laws.specs.Writes.{due, IsPaid}
 use Rattle.volume_laws.proofs.Idle.{idle_world, idle_owed, world_joined, owed_joined}
 
 pub record IsSettling (told : Type 0) (first : Volume) (start : View) (vol : Volume) (v : View) : Type 0 where

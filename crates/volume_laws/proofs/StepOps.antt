@@ -1,7 +1,7 @@
 -- A step of reclamation as an operation: the world stays, and less is owed.
 use Rattle.std.proofs.Common.{◌≡◌, ℕ, ◌+◌, ◌*◌, ◌<◌, ◌≤◌, Bool, true, false, cond, inl, inr, ⊎_elim, List, length, refl, sym, ◌∙◌, ap, subst, arith, Result, Ok, Err}
 use Rattle.std.specs.Prelude.{OnOk}
-use Rattle.tsd_model.specs.Doomed.{doomed, settle}
+use Rattle.tsd_model.specs.Doomed.{settle}
 use Rattle.tsd_model.specs.World.{World}
 use Rattle.image_device.specs.Calls.{Uses}
 use Rattle.image_device.specs.View.{View}
@@ -10,7 +10,7 @@ use Rattle.image_device.proofs.Moments.{weakened}
 use Rattle.image_layout.specs.Image.{Image}
 use Rattle.image_layout.specs.declared.place.Patch.{Patch}
 use Rattle.intent_journal.specs.Crash.{IsBefore, IsAfter, IsBeforeOrAfter}
-use Rattle.intent_journal.specs.Home.{home, is_journal}
+use Rattle.intent_journal.specs.Home.{home}
 use Rattle.intent_journal.specs.Records.{Record}
 use Rattle.intent_journal.specs.Ring.{committed, commit_writes, checkpoint_writes}
 use Rattle.graph_laws.specs.Steps.{stepped}
@@ -27,11 +27,11 @@ use Rattle.image_world.proofs.SoundLaws.{has_one}
 use Rattle.volume_laws.specs.Graphs.{graph_in, IsNext}
 use Rattle.volume_laws.specs.Moments.{LeavesEither, LeavesWorld, LeavesOwed, owed}
 use Rattle.volume_laws.specs.Steps.{IsPut, IsStepped}
-use Rattle.volume_laws.specs.Turns.{Turns}
+use Rattle.image_world.specs.Turns.{Turns}
 use Rattle.volume_laws.specs.Volume.{Volume, IsAt, world_on}
 use Rattle.volume_laws.specs.Writes.{batch_cost, due, IsPaid}
 use Rattle.volume_laws.proofs.Changed.{turned_had}
-use Rattle.volume_laws.proofs.Committed.{alike_outside}
+use Rattle.image_world.proofs.AgreeLaws.{alike_outside}
 use Rattle.volume_laws.proofs.Costs.{commit_pays}
 use Rattle.volume_laws.proofs.Ops.{any_bytes, IsOp}
 use Rattle.volume_laws.proofs.StepWorlds.{world_stepped, graph_stepped}

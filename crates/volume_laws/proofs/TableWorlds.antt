@@ -1,5 +1,5 @@
 -- The worlds that tables tell: of one graph, whatever the blocks contain.
-use Rattle.std.proofs.Common.{◌≡◌, ℕ, ◌+◌, ◌<◌, ◌≤◌, true, false, not, Bool, List, [], ◌∷◌, length, refl, sym, ◌∙◌, ap, arith, ◌↔◌, subst}
+use Rattle.std.proofs.Common.{◌≡◌, ℕ, ◌+◌, ◌<◌, true, false, not, List, [], ◌∷◌, length, refl, sym, ◌∙◌, ap, arith, ◌↔◌, subst}
 use Rattle.std.specs.Prelude.{filter}
 use Rattle.std.proofs.lemmas.Bool.{and_parts, not-true}
 use Rattle.std.proofs.lemmas.List.{nil_from_length}

@@ -1,12 +1,10 @@
 -- Pairs of one block that are taken away, one after the other.
-use Rattle.std.proofs.Common.{◌≡◌, ℕ, ◌+◌, ◌<◌, ◌≤◌, ◌-◌, ◌*◌, true, false, not, ◌&&◌, ◌||◌, ◌==◌, Bool, List, [], ◌∷◌, ◌++◌, length, refl, sym, ◌∙◌, ap, subst, arith, take, Ok}
-use Rattle.std.specs.Prelude.{slice_set, slice_index, get_or, Option}
+use Rattle.std.proofs.Common.{◌≡◌, ℕ, ◌+◌, ◌<◌, ◌≤◌, ◌-◌, true, false, not, ◌&&◌, ◌==◌, Bool, List, [], ◌∷◌, ◌++◌, length, refl, sym, ◌∙◌, ap, subst, arith, take}
+use Rattle.std.specs.Prelude.{slice_set, slice_index, get_or}
 use Rattle.std.proofs.lemmas.Bool.{and_from}
 use Rattle.std.proofs.lemmas.List.{take_more, length-take}
 use Rattle.tsd_model.specs.Pairs.{holds, without_pair}
 use Rattle.tsd_model.specs.World.{World, has_number}
-use Rattle.tsd_model.specs.Step.{without_pointer}
-use Rattle.disk_laws.specs.Reclaiming.{all_apart}
 use Rattle.image_device.specs.Image.{put_at}
 use Rattle.image_layout.specs.Areas.{counts_start, bitmap_start, format_gate, data_start}
 use Rattle.image_layout.specs.Image.{Image}
@@ -20,14 +18,13 @@ use Rattle.pointer_table.specs.Table.{Table as Pointers}
 use Rattle.pointer_table.specs.Changes.{IsSlotSector, KeepsStored}
 use Rattle.ref_counts.specs.Table.{Table as Counts}
 use Rattle.ref_counts.specs.Changes.{KeepsStored as KeepsCounts}
-use Rattle.graph_laws.specs.Steps.{without_pointers}
 use Rattle.graph_laws.proofs.StepLaws.{holds-without_pointers}
 use Rattle.volume_laws.proofs.NumberLaws.{has-at, not_before}
-use Rattle.image_world.specs.Sound.{HasTables, AreSound}
+use Rattle.image_world.specs.Sound.{HasTables}
 use Rattle.image_world.specs.Tables.{Tables, pairs_of}
 use Rattle.image_world.specs.Raw.{world_with, zeros_of}
-use Rattle.volume_laws.specs.Turns.{Turns}
-use Rattle.volume_laws.specs.Steps.{AreFor, AreHeld, MayTake, IsTaken, pairs_without, with_parts}
+use Rattle.image_world.specs.Turns.{Turns}
+use Rattle.volume_laws.specs.Steps.{AreHeld, MayTake, IsTaken, pairs_without, with_parts}
 use Rattle.volume_laws.proofs.BlockLaws.{length-with_patch}
 use Rattle.volume_laws.proofs.StepWorlds.{without_parts}
 use Rattle.volume_laws.proofs.Dropped.{IsDropped, dropped}

@@ -1,9 +1,8 @@
 -- A device where blocks got zeros before they are live.
-use Rattle.std.proofs.Common.{◌≡◌, ◌≢◌, ℕ, ◌+◌, ◌-◌, ◌*◌, ◌<◌, ◌≤◌, true, false, ◌&&◌, ◌||◌, nat_le, nat_lt, ◌==◌, inl, inr, ⊎_elim, Bool, List, [], ◌∷◌, length, replicate, refl, sym, ◌∙◌, ap, subst, arith}
+use Rattle.std.proofs.Common.{◌≡◌, ◌≢◌, ℕ, ◌+◌, ◌-◌, ◌<◌, ◌≤◌, true, false, ◌&&◌, ◌||◌, nat_le, nat_lt, ◌==◌, inl, inr, ⊎_elim, Bool, List, [], ◌∷◌, refl, sym, ◌∙◌, ap, subst, arith}
 use Rattle.std.proofs.lemmas.Bool.{cases_Bool, cases_lt, or_parts, both_ways}
 use Rattle.std.proofs.lemmas.Bool.Decides.{nat_tests}
 use Rattle.tsd_model.specs.declared.geometry.Geometry.{Geometry}
-use Rattle.tsd_model.specs.Geometry.{block_len}
 use Rattle.tsd_model.specs.World.{World, has_number}
 use Rattle.image_device.specs.Image.{zeros}
 use Rattle.image_device.specs.View.{View}
@@ -11,9 +10,9 @@ use Rattle.image_device.specs.Runs.{LeavesOnly, IsConfined}
 use Rattle.image_device.proofs.Moments.{weakened, joined}
 use Rattle.image_layout.specs.Areas.{header_sector, format_gate, data_start}
 use Rattle.image_layout.specs.Places.{data_sector}
-use Rattle.image_layout.specs.Image.{Image, is_marked, sector_bytes}
+use Rattle.image_layout.specs.Image.{Image, sector_bytes}
 use Rattle.image_layout.specs.declared.place.Patch.{Patch}
-use Rattle.intent_journal.specs.Crash.{IsBefore, IsAfter, IsBeforeOrAfter}
+use Rattle.intent_journal.specs.Crash.{IsBefore, IsBeforeOrAfter}
 use Rattle.intent_journal.specs.Home.{home, is_journal}
 use Rattle.intent_journal.specs.Batch.{has_home}
 use Rattle.intent_journal.specs.Records.{Record, patches_of}
@@ -22,7 +21,6 @@ use Rattle.intent_journal.specs.Ring.{IsAt as IsRingAt}
 use Rattle.block_alloc.specs.LiveMap.{is_live as is_marked_in}
 use Rattle.image_world.specs.Alike.{AreAlike}
 use Rattle.image_world.specs.Stands.{Stands}
-use Rattle.image_world.specs.Sound.{HasTables}
 use Rattle.image_world.specs.Tables.{Tables, header_on, tables_of}
 use Rattle.image_world.specs.Raw.{data_on}
 use Rattle.image_world.proofs.FreshLaws.{zero_bytes}
@@ -33,13 +31,14 @@ use Rattle.image_world.proofs.WrittenLaws.{above_journal}
 use Rattle.volume_laws.specs.Growing.{AreFree}
 use Rattle.volume_laws.specs.Volume.{Volume, IsAt, world_on}
 use Rattle.volume_laws.specs.Moments.{LeavesEither, LeavesWorld, StandsForEither}
-use Rattle.volume_laws.specs.Unused.{AreUnused}
+use Rattle.image_world.specs.Alike.{AreUnused}
 use Rattle.volume_laws.specs.Zeroed.{is_part, is_data, firmed, AreMissed, IsZeroedAt}
-use Rattle.volume_laws.specs.Turns.{Turns}
+use Rattle.image_world.specs.Turns.{Turns}
 use Rattle.volume_laws.proofs.Changed.{turned_world, turned_stands, has_its_tables}
-use Rattle.volume_laws.proofs.Committed.{formatted_by, image_geometry}
+use Rattle.volume_laws.proofs.Committed.{image_geometry}
+use Rattle.image_world.proofs.AgreeLaws.{formatted_by}
 use Rattle.volume_laws.proofs.Made.{has_zeros}
-use Rattle.volume_laws.proofs.Loose.{unused_stands, unused_alike}
+use Rattle.image_world.proofs.AgreeLaws.{unused_stands, unused_agree}
 
 -- ---- sectors
 -- below the data none is one of blocks
@@ -187,7 +186,7 @@ zeroed_at vol now old new bs kept same at free missed run written = record {
     firm = λ n. refl;
     ring = subst (λ (rs : List Record). IsRingAt rs (firmed new)) (sym same) ring;
     good = stands.good;
-    tables = alike_tables (home old.reads) (home new.reads) at.good.header (unused_alike old.reads new.reads (is_data g bs) (data_unused vol old bs at free) run.reads) ∙ (at.tables ∙ sym kept);
+    tables = alike_tables (home old.reads) (home new.reads) at.good.header (unused_agree old.reads new.reads (is_data g bs) (data_unused vol old bs at free) run.reads).homes ∙ (at.tables ∙ sym kept);
   };
   loose = subst (λ (t : Tables). (n : ℕ) → is_data t.geometry bs n ≡ false → new.loose n ≡ false) (sym kept) (λ n out. run.loose n out (at.firm n));
   zeroed = subst (λ (t : Tables). (b part : ℕ) → has_number bs b ≡ true → part < t.geometry.sectors → home new.reads (data_sector t.geometry b part) ≡ zeros) (sym kept) (λ b part in_ h.

@@ -1,5 +1,5 @@
 -- The graph that tables tell.
-use Rattle.std.specs.Prelude.{◌≡◌, ℕ, ◌⊎◌, true, false, length}
+use Rattle.std.specs.Prelude.{◌≡◌, ◌⊎◌, true, length}
 use Rattle.tsd_model.specs.World.{World}
 use Rattle.graph_laws.specs.Graph.{graph}
 use Rattle.pointer_table.specs.declared.out_step.OutStep.{OutStep}

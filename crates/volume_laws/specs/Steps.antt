@@ -1,5 +1,5 @@
 -- Pairs that a step of reclamation takes away, in memory and in its batch.
-use Rattle.std.specs.Prelude.{◌≡◌, ℕ, ◌≤◌, ◌*◌, ◌+◌, Bool, true, false, cond, List, [], ◌∷◌, length, slice_set, IsTrue}
+use Rattle.std.specs.Prelude.{◌≡◌, ℕ, ◌≤◌, ◌*◌, ◌+◌, Bool, false, cond, List, [], ◌∷◌, length, slice_set, IsTrue}
 use Rattle.tsd_model.specs.Pairs.{holds, without_pair}
 use Rattle.tsd_model.specs.World.{has_number, is_live}
 use Rattle.disk_laws.specs.Reclaiming.{all_apart}
@@ -12,7 +12,7 @@ use Rattle.image_world.specs.Tables.{Tables, pairs_of}
 use Rattle.block_alloc.specs.LiveMap.{LiveMap}
 use Rattle.pointer_table.specs.declared.out_step.OutStep.{OutStep}
 use Rattle.volume_laws.specs.Graphs.{graph_in}
-use Rattle.volume_laws.specs.Turns.{Turns}
+use Rattle.image_world.specs.Turns.{Turns}
 
 -- these slots and counts are the tables'
 pub record AreFor (t : Tables) (p : Pointers) (c : Counts) : Type 0 where

@@ -1,20 +1,23 @@
 //! What follows of the definitions.
 
-ghost use Rattle.std.specs.Prelude.{◌≡◌, ◌↔◌, ℕ, Bool, false};
-ghost use Rattle.tsd_model.specs.World.{World};
-ghost use Rattle.image_layout.specs.Image.{Image};
-ghost use Rattle.image_world.specs.Stands.{Stands};
-ghost use Rattle.image_world.specs.Tables.{header_on};
-ghost use Rattle.intent_journal.specs.Home.{home};
-ghost use Rattle.intent_journal.specs.Crash.{IsTheSame};
-ghost use Rattle.volume_laws.specs.Unused.{AreUnused};
+ghost use Rattle.std.specs.Prelude.{◌≡◌, ◌+◌, ◌≤◌, cond, List, length};
+ghost use Rattle.image_layout.specs.declared.place.Patch.{Patch};
+ghost use Rattle.image_world.specs.Tables.{Tables};
+ghost use Rattle.intent_journal.specs.Records.{Record};
+ghost use Rattle.intent_journal.specs.Ring.{committed, commit_writes, checkpoint_writes};
+ghost use Rattle.pointer_table.specs.declared.out_step.OutStep.{OutStep};
+ghost use Rattle.volume_laws.specs.Graphs.{IsNext};
+ghost use Rattle.volume_laws.specs.Moments.{owed};
+ghost use Rattle.volume_laws.specs.Steps.{IsStepped};
+ghost use Rattle.volume_laws.specs.Writes.{batch_cost};
 
-/// What data sectors of free blocks hold doesn't matter.
-pub fn unused_sectors_hold_anything()
-    ensures { (image x : Image) (w : World) (some : ℕ → Bool) → Stands image w → AreUnused (header_on (home image)).geometry (home image) some → ((n : ℕ) → some n ≡ false → x n ≡ image n) → Stands x w }
+/// What a commit writes, and what is due then for emptying the ring, is at most what was due and the batch's cost. So the
+/// writes of many commits are at most the sum of their costs.
+pub fn commits_are_paid_for()
+    ensures { (rs : List Record) (batch : List Patch) → commit_writes rs batch + checkpoint_writes (committed rs batch) ≤ checkpoint_writes rs + batch_cost (length batch) }
 {}
 
-/// An image that a replay leaves stands for the same world as the image at its start, or for none as that one.
-pub fn replays_keep_the_world()
-    ensures { (image x : Image) → IsTheSame image x → (w : World) → Stands image w ↔ Stands x w }
+/// A step of reclamation owes just so much less as it takes away.
+pub fn steps_owe_less()
+    ensures { (t now : Tables) (s : OutStep) → IsNext t s → IsStepped t now s.block s.targets s.freed → owed t ≡ owed now + (cond s.freed 1 0 + length s.targets) }
 {}

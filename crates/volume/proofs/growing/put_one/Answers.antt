@@ -11,13 +11,8 @@ use Rattle.intent_journal.specs.Home.{overlaid}
 use Rattle.volume_laws.specs.Growing.{parts_of}
 use Rattle.volume_laws.proofs.Grown.{free_count, free_absent, one_grown, one_pair_more}
 use Rattle.volume_laws.proofs.AheadKept.{shown_more}
+use Rattle.volume_laws.proofs.Outcomes.{ok_here, if_here}
 use Rattle.volume.proofs.growing.put_one.Goals as goal
-
-ok_here : {T E : Type 0} (r : Result T E) (P : Type 0) (v : T) → r ≡ Ok v → OnOk r P → P
-ok_here {T = T} {E = E} r P v is h = subst (λ (x : Result T E). OnOk x P) is h
-
-if_here : {T E : Type 0} (r : Result T E) (P : T → Type 0) (v : T) → r ≡ Ok v → IfOk r P → P v
-if_here {T = T} {E = E} r P v is h = subst (λ (x : Result T E). IfOk x P) is h
 
 pub raise-requires-clause-room : goal.raise-requires-clause-room
 raise-requires-clause-room c =
@@ -48,9 +43,9 @@ returns-clause-grown c =
     c.set_live.ensures c.patch-2.ensures.sector c.patch-2.ensures.inside c.patch-2.ensures.stored
     (omega (arith, c.put_patch.ensures.few, c.put_patch-2.ensures.few, c.put_patch-3.ensures.few))
     (λ x n.
-        let one : overlaid b1 x ≡ put_at p.sector p.bytes (overlaid b0 x) = λ i m. c.put_patch.ensures.laid x m i in
-        let two : overlaid b2 x ≡ put_at q.sector q.bytes (overlaid b1 x) = λ i m. c.put_patch-2.ensures.laid x m i in
-        c.put_patch-3.ensures.laid x n ∙ (ap (λ (y : Image). put_at r.sector r.bytes y n) two ∙ ap (λ (y : Image). put_at r.sector r.bytes (put_at q.sector q.bytes y) n) one))
+    let one : overlaid b1 x ≡ put_at p.sector p.bytes (overlaid b0 x) = λ i m. c.put_patch.ensures.laid x m i in
+    let two : overlaid b2 x ≡ put_at q.sector q.bytes (overlaid b1 x) = λ i m. c.put_patch-2.ensures.laid x m i in
+    c.put_patch-3.ensures.laid x n ∙ (ap (λ (y : Image). put_at r.sector r.bytes y n) two ∙ ap (λ (y : Image). put_at r.sector r.bytes (put_at q.sector q.bytes y) n) one))
 
 pub returns-clause-shown : goal.returns-clause-shown
 returns-clause-shown c =

@@ -43,12 +43,12 @@ loop-part-preserved g c =
     let most = eight k c.requires.lawful in
     let long : length c.read.new.into ≡ 512 = c.read.array_long in
     let grown : c.extend_from_slice.new.self ≡ c.loop-part.into ++ c.read.new.into =
-        ok_of c.extend_from_slice.result _ (c.extend_from_slice.ensures.variant.1 (omega (arith, inv.long, long, most, c.loop-part-test.true))) c.extend_from_slice.ensures.ok in
+    ok_of c.extend_from_slice.result _ (c.extend_from_slice.ensures.variant.1 (omega (arith, inv.long, long, most, c.loop-part-test.true))) c.extend_from_slice.ensures.ok in
     record {
       bytes = λ told.
           let same : home (view c.loop-part.dev).reads ≡ home (view c.args.dev.now).reads = ap home (inv.rests told).reads in
           let here : c.read.new.into ≡ home (view c.args.dev.now).reads (data_sector k c.args.block 0 + p) =
-              c.in_ok-read.ensures.bytes told ∙ ((λ i. same i c.data_sector.result) ∙ ap (home (view c.args.dev.now).reads) (c.data_sector.ensures.value ∙ omega arith)) in
+          c.in_ok-read.ensures.bytes told ∙ ((λ i. same i c.data_sector.result) ∙ ap (home (view c.args.dev.now).reads) (c.data_sector.ensures.value ∙ omega arith)) in
           grown ∙ ((λ i. inv.bytes told i ++ here i) ∙ sym (bytes_push (home (view c.args.dev.now).reads) (data_sector k c.args.block 0) p));
       long = ap (λ (xs : List ℕ). length xs) grown ∙ (length-append c.loop-part.into c.read.new.into ∙ (let was = inv.long in omega (arith, was, long)));
       rests = λ told. rests_joined (view c.args.dev.now) (view c.loop-part.dev) (view c.read.new.dev) (inv.rests told) (c.read.ensures.rests told);

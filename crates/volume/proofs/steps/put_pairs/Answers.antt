@@ -14,18 +14,9 @@ use Rattle.volume_laws.specs.Steps.{MayTake, IsTaken, with_parts, pairs_without}
 use Rattle.volume_laws.proofs.BlockLaws.{put_ok, length-with_patch}
 use Rattle.volume_laws.proofs.Dropped.{held_within, count_some}
 use Rattle.volume_laws.proofs.Taken.{taken_none, taken_more, next_pair}
+use Rattle.volume_laws.proofs.Outcomes.{ok_here, if_here, ok_if}
 use Rattle.volume.proofs.steps.put_pairs.Given
 use Rattle.volume.proofs.steps.put_pairs.Goals as goal
-
-ok_here : {T E : Type 0} (r : Result T E) (P : Type 0) (v : T) → r ≡ Ok v → OnOk r P → P
-ok_here {T = T} {E = E} r P v is h = subst (λ (x : Result T E). OnOk x P) is h
-
-if_here : {T E : Type 0} (r : Result T E) (P : T → Type 0) (v : T) → r ≡ Ok v → IfOk r P → P v
-if_here {T = T} {E = E} r P v is h = subst (λ (x : Result T E). IfOk x P) is h
-
-ok_if : {T E : Type 0} (r : Result T E) → (IsErr r → ⊥) → IsOk r
-ok_if (Ok v) never = refl
-ok_if (Err e) never = absurd (never refl)
 
 pub loop-target-init : goal.loop-target-init
 loop-target-init c = record {
@@ -68,7 +59,7 @@ loop-target-preserved c =
     let few : i < 16 = let m = c.requires.few in omega (arith, m, within) in
     let first : c.put.new.self ≡ with_patch p c.loop-target.batch = put_ok c.put.result _ _ (length c.loop-target.batch) c.put.ensures.ok c.put.ensures.full (omega (arith, room, few)) in
     let second : c.put-in-loop-target.new.self ≡ with_patch q c.put.new.self = put_ok c.put-in-loop-target.result _ _ (length c.put.new.self) c.put-in-loop-target.ensures.ok c.put-in-loop-target.ensures.full
-        (omega (arith, room, few, ap (λ (ps : List Patch). length ps) first, length-with_patch p c.loop-target.batch)) in
+    (omega (arith, room, few, ap (λ (ps : List Patch). length ps) first, length-with_patch p c.loop-target.batch)) in
     record {
       slots = ap (λ (t : Pointers). t.geometry) change.now ∙ inv.slots;
       counts = ap (λ (t : Counts). t.geometry) c.lower.ensures.lowered ∙ inv.counts;

@@ -10,7 +10,7 @@ use Rattle.block_alloc.specs.LiveMap.{LiveMap}
 use Rattle.block_alloc.specs.Stored.{IsStoredAt, IsStored, sector_of}
 use Rattle.image_world.specs.Tables.{Tables, pairs_of}
 use Rattle.volume_laws.specs.Steps.{MayTake, IsTaken, with_parts, MayPut, IsPut, with_all, IsStepped, live_after, pairs_without}
-use Rattle.volume_laws.specs.Turns.{Turns}
+use Rattle.image_world.specs.Turns.{Turns}
 use Rattle.volume_laws.proofs.BlockLaws.{put_ok, length-with_patch}
 use Rattle.volume_laws.proofs.Freed.{freed_turn, allowed_inside}
 use Rattle.pointer_table.specs.Table.{Table as Pointers}
@@ -32,15 +32,15 @@ returns-then-step-clause-put c = λ t may.
     let bits : m.live ≡ slice_set t.live s.block false = ap (λ (x : LiveMap). x.live) c.set_free.ensures ∙ ap (λ (xs : List Bool). slice_set xs s.block false) may.live in
     let size : m.geometry ≡ t.geometry = ap (λ (x : LiveMap). x.geometry) c.set_free.ensures ∙ may.live_size in
     let taken : IsTaken t s.block s.targets mid c.put_pairs.new.batch = subst (λ (bs : List ℕ). IsTaken t s.block bs mid c.put_pairs.new.batch) c.as_slice.ensures.value
-        (c.put_pairs.ensures.taken t (subst (λ (bs : List ℕ). MayTake t c.args.pointers.now c.args.counts.now s.block bs) (sym c.as_slice.ensures.value) (record { parts = may.parts; sound = may.sound; held = record { held = may.next.step.taken.held; once = may.next.step.taken.once } }))) in
+    (c.put_pairs.ensures.taken t (subst (λ (bs : List ℕ). MayTake t c.args.pointers.now c.args.counts.now s.block bs) (sym c.as_slice.ensures.value) (record { parts = may.parts; sound = may.sound; held = record { held = may.next.step.taken.held; once = may.next.step.taken.once } }))) in
     let put : c.put.new.self ≡ with_patch r c.put_pairs.new.batch = put_ok c.put.result _ _ (length c.put_pairs.new.batch) c.put.ensures.ok c.put.ensures.full
-        (let f = taken.few in let few = may.next.few in omega (arith, f, few)) in
+    (let f = taken.few in let few = may.next.few in omega (arith, f, few)) in
     let stored : (x : Image) → ((b : ℕ) → b < t.geometry.blocks → sector_of t.geometry b ≢ r.sector → IsStoredAt (slice_set t.live s.block false) t.geometry x b) → IsStored (slice_set t.live s.block false) t.geometry (put_at r.sector r.bytes x) =
-        subst (λ (q : LiveMap). (x : Image) → ((b : ℕ) → b < q.geometry.blocks → sector_of q.geometry b ≢ r.sector → IsStoredAt q.live q.geometry x b) → IsStored q.live q.geometry (put_at r.sector r.bytes x))
-        (λ i. record { geometry = size i; live = bits i; unhidden = m.unhidden }) c.patch-bits.ensures.stored in
+    subst (λ (q : LiveMap). (x : Image) → ((b : ℕ) → b < q.geometry.blocks → sector_of q.geometry b ≢ r.sector → IsStoredAt q.live q.geometry x b) → IsStored q.live q.geometry (put_at r.sector r.bytes x))
+    (λ i. record { geometry = size i; live = bits i; unhidden = m.unhidden }) c.patch-bits.ensures.stored in
     let turn : Turns mid (record mid { live = slice_set t.live s.block false }) (r ∷ []) =
-        freed_turn t mid s may.next refl refl taken.pairs c.if-step.true taken.turns.sound r (c.patch-bits.ensures.sector ∙ ap (λ g. sector_of g s.block) size)
-        (subst (λ g. (bitmap_start g ≤ r.sector) × (r.sector < slots_start g)) size c.patch-bits.ensures.inside) stored in
+    freed_turn t mid s may.next refl refl taken.pairs c.if-step.true taken.turns.sound r (c.patch-bits.ensures.sector ∙ ap (λ g. sector_of g s.block) size)
+    (subst (λ g. (bitmap_start g ≤ r.sector) × (r.sector < slots_start g)) size c.patch-bits.ensures.inside) stored in
     record {
       stepped = record { same = refl; pairs = taken.pairs; live = bits ∙ sym (ap (live_after t.live s.block) c.if-step.true) };
       turns = one_turn t mid (with_all t p k m) c.put_pairs.new.batch taken.turns r c.put.new.self c.len-held.ensures.batch put (subst (λ (xs : List Bool). Turns mid (record mid { live = xs }) (r ∷ [])) (sym bits) turn);
@@ -52,7 +52,7 @@ returns-else-step-clause-put c = λ t may.
     let s = c.args.step.now in
     let mid = with_parts t c.put_pairs.new.pointers c.put_pairs.new.counts in
     let taken : IsTaken t s.block s.targets mid c.put_pairs.new.batch = subst (λ (bs : List ℕ). IsTaken t s.block bs mid c.put_pairs.new.batch) c.as_slice.ensures.value
-        (c.put_pairs.ensures.taken t (subst (λ (bs : List ℕ). MayTake t c.args.pointers.now c.args.counts.now s.block bs) (sym c.as_slice.ensures.value) (record { parts = may.parts; sound = may.sound; held = record { held = may.next.step.taken.held; once = may.next.step.taken.once } }))) in
+    (c.put_pairs.ensures.taken t (subst (λ (bs : List ℕ). MayTake t c.args.pointers.now c.args.counts.now s.block bs) (sym c.as_slice.ensures.value) (record { parts = may.parts; sound = may.sound; held = record { held = may.next.step.taken.held; once = may.next.step.taken.once } }))) in
     record {
       stepped = record { same = refl; pairs = taken.pairs; live = may.live ∙ sym (ap (live_after t.live s.block) c.if-step.false) };
       turns = subst (λ (xs : List Bool). Turns t (record mid { live = xs }) c.put_pairs.new.batch) (sym may.live) taken.turns;

@@ -22,6 +22,7 @@ use Rattle.reclaim.specs.Ahead.{Kept, is_gone, IsAheadOf}
 use Rattle.volume_laws.specs.Graphs.{graph_in}
 use Rattle.volume_laws.proofs.AheadKept.{growing, none_gone, hides_none, none_hides}
 use Rattle.volume_laws.proofs.OwedLaws.{zeroed_owed}
+use Rattle.image_device.proofs.Outcomes.{on_ok}
 use Rattle.volume.proofs.volume.Volume.add_blocks.Given
 use Rattle.volume.proofs.volume.Volume.add_blocks.Goals as goal
 
@@ -87,8 +88,13 @@ raise_all-requires g c =
     let i = c.self.inside in
     let is = ap (λ (w : Volume). w.tables) c.self.view_is in
     let t = c.args.self.now.tables in
-    record { told = (graph_in t, growing t c.args.blocks.now i.ahead (subst (λ (u : Tables). AreSound u) is c.self.invariant.sound) c.requires.settled c.requires.free
-        (ahead_was c.args.self.now (tables_in i.header i.pointers i.counts i.live i.caps i.is_sweeping) i.is_ready i.ahead is (ap (λ (w : Volume). w.is_ready) c.self.view_is) c.requires.ready.0 c.self.invariant.ahead)) }
+    record {
+      told = (
+        graph_in t,
+        growing t c.args.blocks.now i.ahead (subst (λ (u : Tables). AreSound u) is c.self.invariant.sound) c.requires.settled c.requires.free
+            (ahead_was c.args.self.now (tables_in i.header i.pointers i.counts i.live i.caps i.is_sweeping) i.is_ready i.ahead is (ap (λ (w : Volume). w.is_ready) c.self.view_is) c.requires.ready.0 c.self.invariant.ahead),
+      );
+    }
 
 pub invariant_of-self : goal.invariant_of-self
 invariant_of-self g c =
@@ -135,12 +141,8 @@ returns-clause-done g c told =
 pub returns-clause-told : goal.returns-clause-told
 returns-clause-told g c = op_told c.commit-outcome.result (has_zeros c.args.self.now.tables c.args.blocks.now) c.args.self.now (now g c) c.put_new.new.batch (3 * length c.args.blocks.now) 0 _ (this g c)
 
-settled_ok : {T E : Type 0} (r : Result T E) (P : Type 0) → P → OnOk r P
-settled_ok (Ok u) P p = p
-settled_ok (Err e) P p = tt
-
 pub returns-clause-settled : goal.returns-clause-settled
-returns-clause-settled g c = settled_ok c.commit-outcome.result _ (these g c).settled
+returns-clause-settled g c = on_ok c.commit-outcome.result (these g c).settled
 
 pub returns-clause-any_moment : goal.returns-clause-any_moment
 returns-clause-any_moment g c told =

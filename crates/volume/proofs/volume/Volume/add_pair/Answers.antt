@@ -25,22 +25,10 @@ use Rattle.reclaim.specs.Ahead.{IsAheadOf, is_gone}
 use Rattle.volume_laws.specs.Graphs.{graph_in}
 use Rattle.volume_laws.proofs.AheadKept.{adding, graph_added, gone_added, hides_same}
 use Rattle.volume_laws.proofs.StepOps.{op_owed}
+use Rattle.volume_laws.proofs.Outcomes.{ok_here, if_here}
+use Rattle.volume_laws.proofs.BlockLaws.{two_patches}
 use Rattle.volume.proofs.volume.Volume.add_pair.Given
 use Rattle.volume.proofs.volume.Volume.add_pair.Goals as goal
-
-ok_here : {T E : Type 0} (r : Result T E) (P : Type 0) (v : T) → r ≡ Ok v → OnOk r P → P
-ok_here {T = T} {E = E} r P v is h = subst (λ (x : Result T E). OnOk x P) is h
-
-if_here : {T E : Type 0} (r : Result T E) (P : T → Type 0) (v : T) → r ≡ Ok v → IfOk r P → P v
-if_here {T = T} {E = E} r P v is h = subst (λ (x : Result T E). IfOk x P) is h
-
--- the batch has the two patches
-two_patches : {T E U F : Type 0} (r : Result T E) (s : Result U F) (A B : Type 0) (ps mid new : List Patch) (p q : Patch) → ps ≡ [] → OnOk r (mid ≡ with_patch p ps) → OnErr r (A × (length ps ≡ 113)) → OnOk s (new ≡ with_patch q mid) → OnErr s (B × (length mid ≡ 113))
-    → new ≡ with_patch q (with_patch p [])
-two_patches r s A B ps mid new p q none first full second over =
-    let one : mid ≡ with_patch p [] = put_ok r A (mid ≡ with_patch p ps) (length ps) first full (omega (arith, ap (λ (qs : List Patch). length qs) none)) ∙ ap (with_patch p) none in
-    let few : length mid < 113 = omega (arith, ap (λ (qs : List Patch). length qs) one, length-with_patch p []) in
-    put_ok s B (new ≡ with_patch q mid) (length mid) second over few ∙ ap (with_patch q) one
 
 open_to : (vol : Volume) (a b : ℕ) → vol.tables.is_sweeping ≡ false → is_live (told_by vol) a ≡ true → is_live (told_by vol) b ≡ true → vol.tables.geometry.primaries ≤ b → holds (told_by vol).pairs a b ≡ false → IsOpenTo vol.tables a b
 open_to vol a b still source target apart absent = record { still = still; source = source; target = target; apart = apart; absent = absent }
@@ -96,11 +84,16 @@ these g c =
     c.raise.ensures.raised c.patch-count.ensures.inside (subst (λ (w : Patch). KeepsCounts i.counts c.raise.new.self w) (sym c.patch-count.ensures.value) c.raise.ensures.stored) laid
 
 pub raise-requires-2 : goal.raise-requires-2
-raise-requires-2 g c = record { told = (graph_in c.args.self.now.tables, c.args.source,
+raise-requires-2 g c = record {
+  told = (
+    graph_in c.args.self.now.tables,
+    c.args.source,
     adding c.args.self.now.tables c.args.source c.args.target c.self.inside.ahead
-    (subst (λ (t : Tables). AreSound t) (ap (λ (w : Volume). w.tables) c.self.view_is) c.self.invariant.sound)
-    (open_to c.args.self.now c.args.source c.args.target c.requires.ready.1 c.requires.source c.requires.target c.requires.apart c.requires.absent)
-    (subst (λ (w : Volume). IsAheadOf (graph_in w.tables) c.self.inside.ahead) c.self.view_is (c.self.invariant.ahead (ap (λ (w : Volume). w.is_ready) c.self.view_is ∙ c.requires.ready.0)))) }
+        (subst (λ (t : Tables). AreSound t) (ap (λ (w : Volume). w.tables) c.self.view_is) c.self.invariant.sound)
+        (open_to c.args.self.now c.args.source c.args.target c.requires.ready.1 c.requires.source c.requires.target c.requires.apart c.requires.absent)
+        (subst (λ (w : Volume). IsAheadOf (graph_in w.tables) c.self.inside.ahead) c.self.view_is (c.self.invariant.ahead (ap (λ (w : Volume). w.is_ready) c.self.view_is ∙ c.requires.ready.0))),
+  );
+}
 
 pub invariant_of-self : goal.invariant_of-self
 invariant_of-self g c =
@@ -118,7 +111,7 @@ invariant_of-self g c =
     let old : IsAheadOf (graph_in t) i.ahead = subst (λ (w : Volume). IsAheadOf (graph_in w.tables) i.ahead) c.self.view_is (v.ahead ready) in
     let then : IsAheadOf (with_pointer (graph_in t) a b) c.raise-2.new.self = c.raise-2.ensures.ahead (graph_in t) a (adding t a b i.ahead sound o old) in
     let ahead : IsAheadOf (graph_in (tables_in i.header c.add.new.self c.raise.new.self i.live i.caps i.is_sweeping)) c.raise-2.new.self =
-        subst (λ (w : World). IsAheadOf w c.raise-2.new.self) (sym (ap graph_in all.tables ∙ graph_added t all.slots a b all.pairs)) then in
+    subst (λ (w : World). IsAheadOf w c.raise-2.new.self) (sym (ap graph_in all.tables ∙ graph_added t all.slots a b all.pairs)) then in
     record {
       pointers = ap (λ (u : Pointers). u.geometry) change.now ∙ v.pointers;
       counts = ap (λ (u : Counts). u.geometry) c.raise.ensures.raised ∙ v.counts;

@@ -53,7 +53,7 @@ returns-clause-any_owed g c told =
           (subst (λ (v : View). LeavesOwed (view c.args.dev.now) v (owed c.args.self.now.tables)) (sym dev) (w.settle_all.ensures.any_owed told)) then (omega (arith, self, none))
       | else-len-self w ↦
           let dev = ap view w.dev-is in
-          let self : owed c.if-len-self.self.tables ≡ owed c.args.self.now.tables = ap (λ (v : Volume). owed v.tables) (w.self-is ∙ c.self.view_is) in
+          let self : owed c.if-len-self.self.tables ≡ owed c.args.self.now.tables = ap (λ (v : Volume). owed v.tables) w.self-is in
           subst (λ (v : View). LeavesOwed v (view c.add_pair.new.dev) (owed c.args.self.now.tables)) dev
           (subst (λ (n : ℕ). LeavesOwed (view c.if-len-self.dev) (view c.add_pair.new.dev) n) self then)
     ]
@@ -69,6 +69,6 @@ returns-clause-paid g c = ok_map c.add_pair.result _ _ (λ then.
           omega (arith, dev, self, first, then)
       | else-len-self w ↦
           let dev = ap (λ (v : View). v.writes) (ap view w.dev-is) in
-          let self = ap due (w.self-is ∙ c.self.view_is) in
+          let self = ap due w.self-is in
           omega (arith, dev, self, then)
     ]) c.add_pair.ensures.paid

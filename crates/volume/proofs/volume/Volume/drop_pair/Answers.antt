@@ -37,29 +37,13 @@ use Rattle.reclaim.specs.Ahead.{IsAheadOf}
 use Rattle.reclaim.specs.Tables.{graph_of}
 use Rattle.volume_laws.proofs.AheadKept.{deleting, graph_dropped, same_bits}
 use Rattle.volume_laws.proofs.TableWorlds.{graph_raw}
+use Rattle.volume_laws.proofs.Outcomes.{ok_here, if_here, ok_if}
+use Rattle.volume_laws.proofs.BlockLaws.{two_patches}
 use Rattle.volume.proofs.volume.Volume.drop_pair.Given
 use Rattle.volume.proofs.volume.Volume.drop_pair.Goals as goal
 
-ok_here : {T E : Type 0} (r : Result T E) (P : Type 0) (v : T) → r ≡ Ok v → OnOk r P → P
-ok_here {T = T} {E = E} r P v is h = subst (λ (x : Result T E). OnOk x P) is h
-
-if_here : {T E : Type 0} (r : Result T E) (P : T → Type 0) (v : T) → r ≡ Ok v → IfOk r P → P v
-if_here {T = T} {E = E} r P v is h = subst (λ (x : Result T E). IfOk x P) is h
-
--- the batch has the two patches
-two_patches : {T E U F : Type 0} (r : Result T E) (s : Result U F) (A B : Type 0) (ps mid new : List Patch) (p q : Patch) → ps ≡ [] → OnOk r (mid ≡ with_patch p ps) → OnErr r (A × (length ps ≡ 113)) → OnOk s (new ≡ with_patch q mid) → OnErr s (B × (length mid ≡ 113))
-    → new ≡ with_patch q (with_patch p [])
-two_patches r s A B ps mid new p q none first full second over =
-    let one : mid ≡ with_patch p [] = put_ok r A (mid ≡ with_patch p ps) (length ps) first full (omega (arith, ap (λ (qs : List Patch). length qs) none)) ∙ ap (with_patch p) none in
-    let few : length mid < 113 = omega (arith, ap (λ (qs : List Patch). length qs) one, length-with_patch p []) in
-    put_ok s B (new ≡ with_patch q mid) (length mid) second over few ∙ ap (with_patch q) one
-
 drops : (vol : Volume) (a b : ℕ) → vol.tables.is_sweeping ≡ false → holds (told_by vol).pairs a b ≡ true → HoldsPair vol.tables a b
 drops vol a b still held = record { still = still; held = held }
-
-ok_if : {T E : Type 0} (r : Result T E) → (IsErr r → ⊥) → IsOk r
-ok_if (Ok v) never = refl
-ok_if (Err e) never = absurd (never refl)
 
 -- the pair is held, so it was taken away
 pub unwrap-slot-requires : goal.unwrap-slot-requires

@@ -11,8 +11,10 @@ loop-init g c = record { run = run_none g.D.Device.told c.args.self.now (g.D.Dev
 pub loop-preserved : goal.loop-preserved
 loop-preserved g c =
     let e = c.in_ok-sweep_step.ensures in
-    record { run = run_more g.D.Device.told c.args.self.now (g.D.Device.view c.args.dev.now) c.loop.self (g.D.Device.view c.loop.dev) c.loop.invariant.run (g.D.Device.view c.sweep_step.new.dev) c.sweep_step.new.self
-        e.at e.done e.told e.size e.sweeping e.unready e.unspent e.sent e.any_moment e.works e.faultless }
+    record {
+      run = run_more g.D.Device.told c.args.self.now (g.D.Device.view c.args.dev.now) c.loop.self (g.D.Device.view c.loop.dev) c.loop.invariant.run (g.D.Device.view c.sweep_step.new.dev) c.sweep_step.new.self
+          e.at e.done e.told e.size e.sweeping e.unready e.unspent e.sent e.any_moment e.works e.faultless;
+    }
 
 pub returns-in_err-close_flag-clause-any_moment : goal.returns-in_err-close_flag-clause-any_moment
 returns-in_err-close_flag-clause-any_moment g c told =

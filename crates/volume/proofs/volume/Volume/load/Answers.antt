@@ -69,3 +69,6 @@ returns-clause-at g c told =
     subst (λ (rs : List Record). IsAt (record { tables = tables_with h t s; ring = rs; is_ready = false; is_spent = false }) (view c.read_flag.new.dev)) (sym c.requires.empty)
     (loaded_at h t s false false (view c.args.dev.now) (view c.read_flag.new.dev) c.in_ok-tables.ensures.fit (c.in_ok-tables.ensures.read told).1 (c.requires.firm told) (c.requires.formatted told) (c.requires.closed told) (c.requires.header told) flag
     (two.reads ∙ one.reads) (two.loose ∙ one.loose))
+
+pub returns-in_err-ahead-clause-read : goal.returns-in_err-ahead-clause-read
+returns-in_err-ahead-clause-read g c told = let is = err_from_is_err_and c.from_residual-in_err-ahead.result c.from_residual-in_err-ahead.ensures.1 in rw (is.1, is.2) tt

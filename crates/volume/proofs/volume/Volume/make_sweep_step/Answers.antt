@@ -38,20 +38,21 @@ may g c =
 pub put_step-requires-clause-tables : goal.put_step-requires-clause-tables
 put_step-requires-clause-tables g c =
     let is = ap (λ (w : Volume). w.tables) c.self.view_is in
-    let size = ap (λ (t : Tables). t.geometry) is in
-    (c.args.self.now.tables,
-    record {
-      parts = record {
-        slots_size = c.self.invariant.pointers ∙ size;
-        counts_size = c.self.invariant.counts ∙ size;
-        slots = ap (λ (t : Tables). t.slots) is;
-        counts = ap (λ (t : Tables). t.counts) is;
-      };
-      live_size = c.self.invariant.live ∙ size;
-      live = ap (λ (t : Tables). t.live) is;
-      sound = subst (λ (t : Tables). AreSound t) is c.self.invariant.sound;
-      next = sweep_allowed c.args.self.now.tables c.args.step.now (subst (λ (t : Tables). AreSound t) is c.self.invariant.sound) c.requires.may;
-    })
+    let size = ap (λ (t : Tables). t.geometry) is in (
+      c.args.self.now.tables,
+      record {
+        parts = record {
+          slots_size = c.self.invariant.pointers ∙ size;
+          counts_size = c.self.invariant.counts ∙ size;
+          slots = ap (λ (t : Tables). t.slots) is;
+          counts = ap (λ (t : Tables). t.counts) is;
+        };
+        live_size = c.self.invariant.live ∙ size;
+        live = ap (λ (t : Tables). t.live) is;
+        sound = subst (λ (t : Tables). AreSound t) is c.self.invariant.sound;
+        next = sweep_allowed c.args.self.now.tables c.args.step.now (subst (λ (t : Tables). AreSound t) is c.self.invariant.sound) c.requires.may;
+      },
+    )
 
 -- the volume then
 abbrev now : (g : Given.Over) → goal.After-self-1 g → Volume
@@ -92,7 +93,6 @@ invariant_of-self g c =
       ahead = λ never. let not_yet = unready in absurd (cc);
       begun = v.begun;
     }
-
 
 pub returns-clause-at : goal.returns-clause-at
 returns-clause-at g c told =

@@ -16,7 +16,7 @@ use Rattle.image_world.specs.Raw.{left_of, world_with}
 use Rattle.volume_laws.specs.Volume.{Volume, tables_in}
 use Rattle.volume_laws.specs.Moments.{owed}
 use Rattle.volume_laws.proofs.BlockLaws.{put_ok}
-use Rattle.volume_laws.specs.Turns.{Turns}
+use Rattle.image_world.specs.Turns.{Turns}
 use Rattle.volume_laws.proofs.Ops.{any_bytes, IsOp, op_at, op_done, op_told, op_moments, op_paid}
 use Rattle.volume_laws.proofs.Kept.{caps_set, left_with_caps, owed_kept}
 use Rattle.image_world.specs.Sound.{AreSound}

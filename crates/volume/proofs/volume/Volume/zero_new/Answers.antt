@@ -11,6 +11,7 @@ use Rattle.volume_laws.proofs.Committed.{ok_map}
 use Rattle.volume_laws.proofs.Loose.{unused_moments}
 use Rattle.volume_laws.proofs.ZeroedLaws.{free_inside, data_unused, zero_done, zeroed_at}
 use Rattle.volume_laws.proofs.OwedLaws.{unused_owed}
+use Rattle.image_device.proofs.Outcomes.{on_ok}
 use Rattle.volume.proofs.volume.Volume.zero_new.Given
 use Rattle.volume.proofs.volume.Volume.zero_new.Goals as goal
 
@@ -19,10 +20,6 @@ zero_blocks-outcome-requires g c =
     let size = c.of.ensures ∙ ap (λ (w : Volume). w.tables.geometry) c.self.view_is in
     let t = c.args.self.now.tables in
     record { inside = λ b in_. subst (λ (k : Geometry). b < k.blocks) (sym size) (free_inside t.live t.geometry.blocks c.args.blocks.now b c.requires.free in_) }
-
-on_all : {T E : Type 0} (r : Result T E) (P : Type 0) → P → OnOk r P
-on_all (Ok u) P p = p
-on_all (Err e) P p = tt
 
 pub returns-clause-zeroed : goal.returns-clause-zeroed
 returns-clause-zeroed g c told =
@@ -43,7 +40,7 @@ returns-clause-done g c told =
     let size = c.of.ensures ∙ ap (λ (w : Volume). w.tables.geometry) c.self.view_is in
     let old = view c.args.dev.now in
     let new = view c.zero_blocks-outcome.new.dev in
-    on_all c.zero_blocks-outcome.result _ (zero_done c.args.self.now old new c.args.blocks.now (c.requires.at told) c.requires.free
+    on_ok c.zero_blocks-outcome.result (zero_done c.args.self.now old new c.args.blocks.now (c.requires.at told) c.requires.free
     (subst (λ (k : Geometry). IsConfined (is_data k c.args.blocks.now) old new) size (c.zero_blocks-outcome.ensures.confined told)))
 
 pub returns-clause-any_moment : goal.returns-clause-any_moment
