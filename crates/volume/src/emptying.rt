@@ -7,7 +7,7 @@ ghost use Rattle.intent_journal.specs.Ring.{checkpoint_writes};
 ghost use Rattle.volume_laws.specs.Volume.{IsAt, told_by, world_on};
 ghost use Rattle.volume_laws.specs.Writes.{batch_cost, due, IsPaid};
 ghost use Rattle.volume_laws.specs.Moments.{LeavesWorld, LeavesOwed, owed};
-ghost use Rattle.volume.specs.Loading.{AreClosed};
+ghost use Rattle.image_world.specs.Fresh.{AreClosed};
 
 use crate::volume::Volume;
 use image_device::{Device, Failed};
