@@ -1,7 +1,7 @@
 //! Runs over memory, from texts that are easy to read.
 //!
-//! In a text R, W, C and D stand for 32 digits `a`, `b`, `c` and `d`, Z for 64 digits `0`, B for the 1,024 digits of a block
-//! of 512 bytes, and a slash for a line feed.
+//! In a text R, W, C and D stand for 32 digits `a`, `b`, `c` and `d`, B for the 1,024 digits of a block of 512 bytes, and a
+//! slash for a line feed.
 
 ghost use Rattle.std.specs.Prelude.{◌<◌};
 
@@ -29,7 +29,6 @@ pub fn spelled(alloc: Global, text: &str) -> Result<Vec<u8>, AllocError> {
     for byte in text.as_bytes() {
         match *byte {
             b'R' | b'W' | b'C' | b'D' => push_digits(&mut bytes, digit_of(*byte), 32)?,
-            b'Z' => push_digits(&mut bytes, b'0', 64)?,
             b'B' => push_digits(&mut bytes, b'1', 1_024)?,
             b'/' => bytes.push(b'\n')?,
             other => bytes.push(other)?,

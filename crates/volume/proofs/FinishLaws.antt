@@ -15,7 +15,11 @@ use Rattle.graph_laws.proofs.SettleLaws.{settle_none}
 use Rattle.image_world.specs.Raw.{world_with, left_of, zeros_of, blank_of}
 use Rattle.image_world.specs.Tables.{Tables}
 use Rattle.image_world.proofs.RawLaws.{blocks_with, live_with}
+use Rattle.image_device.specs.Calls.{Uses}
+use Rattle.image_device.specs.View.{View}
 use Rattle.volume_laws.specs.Moments.{owed}
+use Rattle.volume_laws.specs.Volume.{Volume}
+use Rattle.volume_laws.specs.Writes.{due, IsPaid}
 use Rattle.volume_laws.proofs.TableWorlds.{blank, laid_out, same_doomed, none_owed}
 
 -- ---- free blocks
@@ -73,3 +77,14 @@ raw_is_left t still none = blank t still ∙ settle_none (world_with t (zeros_of
 -- how many blocks became free until nothing was lost
 pub free_then : (old now : Tables) → now.is_sweeping ≡ false → owed now ≡ 0 → blank_of now ≡ blank_of old → free_count (world_with now (zeros_of now)) ≡ free_count (blank_of old)
 free_then old now still none told = ap (λ (w : World). free_count w) (sym (raw_is_left now still none) ∙ told)
+
+-- ---- how often is written
+-- a run that pays for what was due, and then one that writes what is due
+pub uses_due : (old mid : Volume) (v0 v1 v2 : View) → Uses 0 v0 v1 → IsPaid 0 old v0 mid v1 → Uses (due mid) v1 v2 → Uses (due old) v0 v2
+uses_due old mid v0 v1 v2 one paid two = record {
+  clock = omega (arith, one.clock, two.clock);
+  faults = omega (arith, one.faults, two.faults);
+  put_faults = two.put_faults ∙ one.put_faults;
+  writes = omega (arith, one.writes, two.writes);
+  most = omega (arith, paid, two.most);
+}

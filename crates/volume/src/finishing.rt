@@ -2,12 +2,13 @@
 
 ghost use Rattle.std.specs.Prelude.{◌≡◌, ◌-◌, ◌≤◌, true, false, OnOk, OnErr, IfOk};
 ghost use Rattle.block_alloc.specs.LiveMap.{free_count as free_in};
+ghost use Rattle.image_device.specs.Calls.{Uses};
 ghost use Rattle.image_device.specs.Counts.{Rose};
 ghost use Rattle.image_world.specs.Raw.{world_with, zeros_of};
 ghost use Rattle.tsd_model.specs.World.{free_count};
 ghost use Rattle.volume_laws.specs.Moments.{LeavesWorld, LeavesOwed, owed};
 ghost use Rattle.volume_laws.specs.Volume.{IsAt, IsReady, told_by, world_on};
-ghost use Rattle.volume_laws.specs.Writes.{IsPaid, Works};
+ghost use Rattle.volume_laws.specs.Writes.{due, IsPaid, Works};
 
 use crate::volume::Volume;
 use block_alloc::LiveMap;
@@ -46,6 +47,7 @@ impl Volume {
         ensures any_owed { self.old.tables.is_sweeping ≡ false → D.told → LeavesOwed (D.view dev.old) (D.view dev.new) (owed self.old.tables) }
         ensures paid { self.old.tables.is_sweeping ≡ false → OnOk result (IsPaid 0 self.old (D.view dev.old) self.new (D.view dev.new)) }
         ensures works { Works (D.view dev.old) (D.view dev.new) }
+        ensures uses { self.old.tables.is_sweeping ≡ false → Uses (due self.old) (D.view dev.old) (D.view dev.new) }
         ensures faultless { OnOk result ((D.view dev.new).faults ≡ (D.view dev.old).faults) }
         ensures cause { OnErr result (Rose (D.view dev.old).faults (D.view dev.new).faults) }
     {
@@ -75,6 +77,7 @@ impl Volume {
         ensures any_owed { self.old.tables.is_sweeping ≡ false → D.told → LeavesOwed (D.view dev.old) (D.view dev.new) (owed self.old.tables) }
         ensures paid { self.old.tables.is_sweeping ≡ false → OnOk result (IsPaid 0 self.old (D.view dev.old) self.new (D.view dev.new)) }
         ensures works { Works (D.view dev.old) (D.view dev.new) }
+        ensures uses { self.old.tables.is_sweeping ≡ false → Uses 0 (D.view dev.old) (D.view dev.new) }
         ensures faultless { OnOk result ((D.view dev.new).faults ≡ (D.view dev.old).faults) }
         ensures cause { OnErr result (Rose (D.view dev.old).faults (D.view dev.new).faults) }
     {

@@ -41,6 +41,7 @@ impl Volume {
         ensures any_owed { D.told → LeavesOwed (D.view dev.old) (D.view dev.new) (owed self.old.tables) }
         ensures paid { OnOk result (IsPaid 0 self.old (D.view dev.old) self.new (D.view dev.new)) }
         ensures uses { Uses (checkpoint_writes self.old.ring + 4 * batch_cost 33) (D.view dev.old) (D.view dev.new) }
+        ensures uses_due { Uses (due self.old) (D.view dev.old) (D.view dev.new) }
         ensures faultless { OnOk result ((D.view dev.new).faults ≡ (D.view dev.old).faults) }
         ensures cause { OnErr result (Rose (D.view dev.old).faults (D.view dev.new).faults) }
     {
