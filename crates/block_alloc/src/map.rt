@@ -1,6 +1,6 @@
 //! Which blocks are live, a bit a block.
 
-ghost use Rattle.std.specs.Prelude.{◌≡◌, ℕ, ◌/◌, ◌<◌, ◌≤◌, ◌≢◌, true, false, slice_set, IfOk, OnOk, IsErrOf, IsTrue};
+ghost use Rattle.std.specs.Prelude.{◌≡◌, ℕ, ◌/◌, ◌<◌, ◌≤◌, ◌≢◌, true, false, slice_set, IfOk, IsErrOf, IsTrue};
 ghost use Rattle.image_device.specs.Calls.{Rests, Uses};
 ghost use Rattle.image_device.specs.Counts.{Rose};
 ghost use Rattle.image_device.specs.Image.{Image, put_at};
@@ -68,7 +68,7 @@ impl LiveMap {
         ensures none_hidden { IfOk result (λ m. m.unhidden ≡ m.live) }
         ensures rests { D.told → Rests (D.view dev.old) (D.view dev.new) }
         ensures uses { Uses 0 (D.view dev.old) (D.view dev.new) }
-        ensures faultless { OnOk result ((D.view dev.new).faults ≡ (D.view dev.old).faults) }
+        ensures faultless { ¬ IsErrOf result LoadFault.Device → (D.view dev.new).faults ≡ (D.view dev.old).faults }
         ensures cause { IsErrOf result LoadFault.Device → Rose (D.view dev.old).faults (D.view dev.new).faults }
     {
         let layout = Layout::of(geometry);

@@ -11,7 +11,7 @@ use Rattle.tsd_model.proofs.CountLaws.{none_pass, none_passes}
 use Rattle.pointer_table.specs.declared.out_step.OutStep.{OutStep}
 use Rattle.graph_laws.specs.Graph.{HasGraphOf}
 use Rattle.graph_laws.specs.RawGraph.{IsRawGraph}
-use Rattle.graph_laws.specs.Steps.{without_pointers, AreTargets, IsStep, IsAlone}
+use Rattle.graph_laws.specs.Steps.{without_pointers, AreTargets, IsAlone}
 use Rattle.graph_laws.proofs.CountLaws.{count_but_pair, led_or_alone}
 use Rattle.graph_laws.proofs.LostLaws.{alone_count, count_alone}
 use Rattle.graph_laws.proofs.SameGraphLaws.{raw_by_graph, reach_by_graph, step_by_graph}
@@ -19,7 +19,7 @@ use Rattle.graph_laws.proofs.StepLaws.{holds-without_pointers, nothing_out, raw-
 use Rattle.graph_laws.proofs.SweepLaws.{target_reached, unreached_apart, sweeps-stepped, swept_whole}
 use Rattle.graph_laws.proofs.WeightLaws.{step_takes}
 use Rattle.reclaim.proofs.TargetLaws.{first_targets_taken, takes_all, takes_all_only}
-use Rattle.cycle_sweep.specs.Sweep.{MaySweep, IsAloneAfter, AreSweptBy, IsStuck, is_last}
+use Rattle.cycle_sweep.specs.Sweep.{MaySweep, AreSweptBy, IsStuck, is_last}
 
 -- but for its own pair no pair leads to the block exactly where the count says so
 module _ (w : World) (b : ℕ) (raw : IsRawGraph w) where

@@ -1,5 +1,5 @@
 -- From the four loadings and the tests to the tables.
-use Rattle.std.proofs.Common.{◌≡◌, ℕ, ◌<◌, ◌&&◌, Bool, true, length, sym, ◌∙◌, ap, subst}
+use Rattle.std.proofs.Common.{◌≡◌, ℕ, ◌<◌, sym, ◌∙◌, ap, subst}
 use Rattle.std.proofs.Common.{Err}
 use Rattle.tsd_model.specs.declared.geometry.Geometry.{Geometry}
 use Rattle.image_layout.specs.declared.header.Header.{Header}
@@ -10,9 +10,9 @@ use Rattle.pointer_table.specs.Sectors.{IsStored as AreSlots}
 use Rattle.pointer_table.specs.Table.{Table as Pointers, IsTable as IsPointers}
 use Rattle.ref_counts.specs.Stored.{IsStored as AreCounts}
 use Rattle.ref_counts.specs.Table.{Table as Counts, IsTable as IsCounts}
-use Rattle.block_alloc.specs.LiveMap.{LiveMap, IsTable as IsMap, is_live}
+use Rattle.block_alloc.specs.LiveMap.{LiveMap, IsTable as IsMap}
 use Rattle.block_alloc.specs.Stored.{IsStored as AreBits}
-use Rattle.cap_store.specs.Store.{Store, IsTable as IsStore}
+use Rattle.cap_store.specs.Store.{IsTable as IsStore}
 use Rattle.cap_store.specs.Stored.{IsStored as AreKept}
 use Rattle.image_tables.specs.declared.tables.ImageTables.{ImageTables}
 use Rattle.image_tables.specs.Loaded.{DoFit, AreStored}

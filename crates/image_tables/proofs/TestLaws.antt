@@ -1,20 +1,20 @@
 -- Tests on tables in memory, and those of an image that has the tables.
-use Rattle.std.proofs.Common.{◌≡◌, ℕ, ◌<◌, ◌&&◌, Bool, true, false, List, length, refl, sym, ◌∙◌, ap, subst, arith}
-use Rattle.std.proofs.Common.{Option, Some, None, inl, inr}
-use Rattle.std.specs.Prelude.{◌≢◌, slice_index}
-use Rattle.std.proofs.lemmas.Bool.{both_ways, cases_Bool}
+use Rattle.std.proofs.Common.{◌≡◌, ℕ, ◌<◌, ◌&&◌, true, List, sym, ◌∙◌, ap, subst, arith}
+use Rattle.std.proofs.Common.{Some, None, inl, inr}
+use Rattle.std.specs.Prelude.{slice_index}
+use Rattle.std.proofs.lemmas.Bool.{cases_Bool}
 use Rattle.tsd_model.specs.declared.geometry.Geometry.{Geometry}
-use Rattle.tsd_model.specs.Pairs.{holds, pair_lt, count_to}
-use Rattle.image_layout.specs.Image.{Image, is_marked, stored_count}
+use Rattle.tsd_model.specs.Pairs.{holds, count_to}
+use Rattle.image_layout.specs.Image.{Image}
 use Rattle.pointer_table.specs.Slots.{slot_at, pairs_in}
 use Rattle.pointer_table.specs.Table.{Table as Pointers, pairs, IsTable}
 use Rattle.pointer_table.proofs.LoadingLaws.{one_table}
 use Rattle.pointer_table.proofs.SlotLaws.{holds_from_slot, slot_from_holds}
 use Rattle.ref_counts.specs.Table.{Table as Counts}
-use Rattle.block_alloc.specs.LiveMap.{LiveMap, is_live}
+use Rattle.block_alloc.specs.LiveMap.{LiveMap}
 use Rattle.image_world.specs.Faults.{are_marked, HasPrimaries as HasPrimariesOn, HasEnds as HasEndsOn, AreRight, IsLeastEnd, IsLeastCount}
 use Rattle.image_world.specs.Tables.{slots_on}
-use Rattle.image_tables.specs.Tests.{are_live, HasPrimaries, HasEnds, HasCounts, IsLooseBefore, IsLeastLoose, AreFound, AreSame, IsLeastWrong, DoAgree}
+use Rattle.image_tables.specs.Tests.{are_live, HasPrimaries, HasEnds, IsLeastLoose, AreFound, IsLeastWrong, DoAgree}
 use Rattle.image_tables.specs.Testing.{AreRead}
 
 -- ---- ends in memory

@@ -1,6 +1,5 @@
 -- What a test of primary blocks, ends and counts answers.
 use Rattle.std.specs.Prelude.{Result, Ok, Err, ⊤}
-use Rattle.image_layout.specs.declared.fault.ImageFault.{ImageFault}
 use Rattle.image_layout.specs.Image.{Image}
 use Rattle.pointer_table.specs.Loading.{HasNoBad}
 use Rattle.pointer_table.specs.Sectors.{IsStored as AreSlots}

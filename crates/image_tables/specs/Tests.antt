@@ -1,7 +1,7 @@
 -- The tests on tables in memory.
 use Rattle.std.specs.Prelude.{◌≡◌, ◌≢◌, ℕ, ◌<◌, ◌==◌, ◌&&◌, if◌then◌else◌, Bool, true, false, List, count_by, slice_index, Option, Some, None}
 use Rattle.tsd_model.specs.Pairs.{holds, pair_lt, count_to}
-use Rattle.pointer_table.specs.Slots.{slot_at, pairs_in}
+use Rattle.pointer_table.specs.Slots.{slot_at}
 use Rattle.pointer_table.specs.Table.{Table as Pointers, pairs}
 use Rattle.ref_counts.specs.Table.{Table as Counts}
 use Rattle.block_alloc.specs.LiveMap.{LiveMap, is_live}

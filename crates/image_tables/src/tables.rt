@@ -1,6 +1,6 @@
 //! The four tables, and their loading.
 
-ghost use Rattle.std.specs.Prelude.{◌≡◌, IfOk, OnOk, IsErrOf};
+ghost use Rattle.std.specs.Prelude.{◌≡◌, IfOk, IsErrOf};
 ghost use Rattle.image_device.specs.Calls.{Rests, Uses};
 ghost use Rattle.image_device.specs.Counts.{Rose};
 ghost use Rattle.image_layout.specs.Header.{IsVersion};
@@ -50,7 +50,7 @@ pub fn load_tables<D: Device>(
     ensures read { D.told → IsLoading (D.view dev.old).reads header.now result }
     ensures rests { D.told → Rests (D.view dev.old) (D.view dev.new) }
     ensures uses { Uses 0 (D.view dev.old) (D.view dev.new) }
-    ensures faultless { OnOk result ((D.view dev.new).faults ≡ (D.view dev.old).faults) }
+    ensures faultless { ¬ IsErrOf result LoadFault.Device → (D.view dev.new).faults ≡ (D.view dev.old).faults }
     ensures cause { IsErrOf result LoadFault.Device → Rose (D.view dev.old).faults (D.view dev.new).faults }
 {
     let geometry = &header.geometry;

@@ -17,7 +17,9 @@ const SMALL: Geometry = Geometry {
 
 /// Its counts, its bitmap and its slots, each in one sector.
 const COUNTS_AT: u32 = 134;
+
 const BITS_AT: u32 = 135;
+
 const SLOTS_AT: u32 = 136;
 
 /// What the sectors of such a disk say.
@@ -39,8 +41,8 @@ const RIGHT: Said = Said {
 
 /// Sets a number of four bytes of a sector, the lowest byte first.
 fn put_number(sector: &mut [u8; 512], at: usize, number: u32) {
-    if let Some(place) = sector.get_mut(at..at + 4) {
-        place.copy_from_slice(&number.to_le_bytes());
+    if at <= 508 {
+        sector[at..at + 4].copy_from_slice(&number.to_le_bytes());
     }
 }
 

@@ -13,6 +13,7 @@ pub mod TurnLaws
 pub mod ChangeLaws
 pub mod FaultLaws
 pub mod LeastLaws
+pub mod FaultAlike
 pub mod AnswerLaws
 pub mod FreshLaws
 pub mod GrowLaws

@@ -12,11 +12,11 @@ use Rattle.intent_journal.specs.Home.{home}
 use Rattle.pointer_table.specs.Slots.{pairs_in}
 use Rattle.pointer_table.specs.Table.{IsWithin}
 use Rattle.pointer_table.specs.Sectors.{stored_slot}
-use Rattle.pointer_table.specs.Loading.{is_bad, HasNoBad}
+use Rattle.pointer_table.specs.Loading.{is_bad, is_bad_at, HasNoBad, IsRepeatedOn}
 use Rattle.pointer_table.proofs.LoadLaws.{good_slot}
 use Rattle.pointer_table.proofs.SlotLaws.{slot_from_holds}
 use Rattle.image_world.specs.Alike.{AreAlike}
-use Rattle.image_world.specs.Faults.{IsFormatted, HasJournal, HasHeader, AreRight, IsGood}
+use Rattle.image_world.specs.Faults.{IsFormatted, HasJournal, HasHeader, HasNoRepeated, HasPrimaries, HasEnds, are_marked, found_count, AreRight, IsGood}
 use Rattle.image_world.specs.Tables.{header_on, slots_on}
 use Rattle.image_world.specs.Raw.{left_of}
 use Rattle.image_world.specs.Stands.{world_of, Stands}
@@ -37,23 +37,51 @@ pair_within x g good a b held =
 pub same_pairs : (g : Geometry) (x y : Image) → SameAreas g x y → pairs_in (slots_on y g) ≡ pairs_in (slots_on x g)
 same_pairs g x y same = ap pairs_in (same_below (stored_slot y g) (stored_slot x g) g.slots (same_slots g x y same))
 
+pub bad_alike : (g : Geometry) (x y : Image) → SameAreas g x y → (k : ℕ) → k < g.slots → is_bad_at y g k ≡ is_bad_at x g k
+bad_alike g x y same k h = λ i. is_bad g (same_sources g x y same k h i) (same_targets g x y same k h i)
+
+pub no_bad_alike : (g : Geometry) (x y : Image) → SameAreas g x y → HasNoBad x g → HasNoBad y g
+no_bad_alike g x y same none k h = bad_alike g x y same k h ∙ none k h
+
+-- a pair that y has in two slots x has there
+pub repeated_alike : (g : Geometry) (x y : Image) → SameAreas g x y → (e : ℕ × ℕ) → IsRepeatedOn y g e → IsRepeatedOn x g e
+repeated_alike g x y same e r = record {
+  first = r.first;
+  second = r.second;
+  apart = r.apart;
+  inside = r.inside;
+  one = sym (same_slots g x y same r.first (let a = r.apart in let b = r.inside in omega arith)) ∙ r.one;
+  other = sym (same_slots g x y same r.second r.inside) ∙ r.other;
+}
+
+pub none_repeated_alike : (g : Geometry) (x y : Image) → SameAreas g x y → HasNoRepeated x g → HasNoRepeated y g
+none_repeated_alike g x y same none e r = none e (repeated_alike g x y same e r)
+
+pub primaries_alike : (g : Geometry) (x y : Image) → IsLawful g → SameAreas g x y → HasPrimaries x g → HasPrimaries y g
+primaries_alike g x y lawful same all b h = same_marks g x y same b (let most = lawful.primaries.2 in omega arith) ∙ all b h
+
+-- a pair that y holds x holds, and both mark its ends alike
+pub held_alike : (g : Geometry) (x y : Image) → SameAreas g x y → (e : ℕ × ℕ) → holds (pairs_in (slots_on y g)) e.0 e.1 ≡ true → holds (pairs_in (slots_on x g)) e.0 e.1 ≡ true
+held_alike g x y same e h = ap (λ es. holds es e.0 e.1) (sym (same_pairs g x y same)) ∙ h
+
+pub marked_alike : (g : Geometry) (x y : Image) → SameAreas g x y → HasNoBad x g → (e : ℕ × ℕ) → holds (pairs_in (slots_on x g)) e.0 e.1 ≡ true → are_marked y g e ≡ are_marked x g e
+marked_alike g x y same none e held =
+    let within = pair_within x g none e.0 e.1 held in
+    λ i. same_marks g x y same e.0 within.0 i && same_marks g x y same e.1 within.2 i
+
+pub ends_alike : (g : Geometry) (x y : Image) → SameAreas g x y → HasNoBad x g → HasEnds x g → HasEnds y g
+ends_alike g x y same none all e h = let held = held_alike g x y same e h in marked_alike g x y same none e held ∙ all e held
+
+pub found_alike : (g : Geometry) (x y : Image) → SameAreas g x y → (b : ℕ) → found_count y g b ≡ found_count x g b
+found_alike g x y same b = ap (λ es. count_to es b) (same_pairs g x y same)
+
 pub right_alike : (g : Geometry) (x y : Image) → IsLawful g → SameAreas g x y → AreRight x g → AreRight y g
 right_alike g x y lawful same right = record {
-  no_bad = λ k h. (λ i. is_bad g (same_sources g x y same k h i) (same_targets g x y same k h i)) ∙ right.no_bad k h;
-  none_repeated = λ e r. right.none_repeated e (record {
-    first = r.first;
-    second = r.second;
-    apart = r.apart;
-    inside = r.inside;
-    one = sym (same_slots g x y same r.first (let a = r.apart in let b = r.inside in omega arith)) ∙ r.one;
-    other = sym (same_slots g x y same r.second r.inside) ∙ r.other;
-  });
-  primaries = λ b h. same_marks g x y same b (let most = lawful.primaries.2 in omega arith) ∙ right.primaries b h;
-  ends = λ e h.
-      let held : holds (pairs_in (slots_on x g)) e.0 e.1 ≡ true = ap (λ es. holds es e.0 e.1) (sym (same_pairs g x y same)) ∙ h in
-      let within = pair_within x g right.no_bad e.0 e.1 held in
-      (λ i. same_marks g x y same e.0 within.0 i && same_marks g x y same e.1 within.2 i) ∙ right.ends e held;
-  counts = λ b h. same_stored_counts g x y same b h ∙ (right.counts b h ∙ ap (λ es. count_to es b) (sym (same_pairs g x y same)));
+  no_bad = no_bad_alike g x y same right.no_bad;
+  none_repeated = none_repeated_alike g x y same right.none_repeated;
+  primaries = primaries_alike g x y lawful same right.primaries;
+  ends = ends_alike g x y same right.no_bad right.ends;
+  counts = λ b h. same_stored_counts g x y same b h ∙ (right.counts b h ∙ sym (found_alike g x y same b));
 }
 
 -- ---- all of them

@@ -34,11 +34,15 @@ fresh_tables g caps = record {
   is_sweeping = false;
 }
 
+-- every gate of the journal reads closed
+abbrev pub AreClosed : Image → Type 0
+AreClosed x = (index : ℕ) → index < records → is_open_gate x index ≡ false
+
 -- All that formatting writes but the format gate: the tables, zeros in the primary blocks, and closed gates of the journal.
 pub record IsWrittenFresh (g : Geometry) (caps : List CapPair) (x : Image) : Type 0 where
   pub tables : HasTables (fresh_tables g caps) x
   pub zeroed : (b part : ℕ) → b < g.primaries → part < g.sectors → x (data_sector g b part) ≡ zeros
-  pub closed : (index : ℕ) → index < records → is_open_gate x index ≡ false
+  pub closed : AreClosed x
 
 -- The sectors of those tables as they are written: zeros for counts and slots, a bit for each primary block.
 pub record AreFreshSectors (g : Geometry) (caps : List CapPair) (x : Image) : Type 0 where

@@ -1,8 +1,7 @@
 use Rattle.std.proofs.Common.{◌≡◌, ◌<◌, ℕ, not, true, false, length, refl, sym, ◌∙◌, ap, subst, arith, inl, inr}
-use Rattle.std.specs.Prelude.{slice_index_or, IsTrue}
 use Rattle.std.proofs.lemmas.Bool.{cases_eq, both_ways, and_from, and_parts}
 use Rattle.disk_laws.proofs.DoomLaws.{live_below}
-use Rattle.tsd_model.specs.World.{World, is_live}
+use Rattle.tsd_model.specs.World.{is_live}
 use Rattle.tsd_model.specs.declared.geometry.Geometry.{Geometry}
 use Rattle.block_alloc.specs.LiveMap.{LiveMap, IsTable}
 use Rattle.block_alloc.specs.LiveMap.{is_live as is_live_in}

@@ -1,6 +1,5 @@
-use Rattle.std.proofs.Common.{◌≡◌, ◌&&◌, length, take, nat_le, List, ℕ, sym, ◌∙◌, ap}
+use Rattle.std.proofs.Common.{◌&&◌, length, take, nat_le, sym, ◌∙◌, ap}
 use Rattle.tsd_model.specs.World.{has_number}
-use Rattle.graph_laws.specs.Counts.{AreCounts}
 use Rattle.cycle_sweep.specs.Sweep.{is_last}
 use Rattle.reclaim.specs.Tables.{graph_of}
 use Rattle.cycle_sweep.proofs.SweepStepLaws.{frees_alone, may_sweep, is_stuck, moves}

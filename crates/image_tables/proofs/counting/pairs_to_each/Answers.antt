@@ -1,9 +1,7 @@
-use Rattle.std.proofs.Common.{◌≡◌, ℕ, ◌+◌, ◌<◌, ◌≤◌, List, length, take, get_or, set, subst, sym, ap, ◌∙◌, arith}
+use Rattle.std.proofs.Common.{◌≡◌, ℕ, ◌+◌, ◌<◌, ◌≤◌, length, take, get_or, set, subst, sym, ap, ◌∙◌, arith}
 use Rattle.std.proofs.Math.ListN.{length-set}
 use Rattle.std.proofs.lemmas.Grind.{get_or_default_zero}
 use Rattle.tsd_model.specs.declared.geometry.Geometry.{Geometry}
-use Rattle.tsd_model.specs.Pairs.{count_to}
-use Rattle.pointer_table.specs.Slots.{pairs_in}
 use Rattle.image_tables.specs.Tests.{slots_to}
 use Rattle.image_tables.proofs.CountLaws.{few_to, all_counted, found_more, none_counted}
 use Rattle.image_tables.proofs.counting.pairs_to_each.Goals as goal

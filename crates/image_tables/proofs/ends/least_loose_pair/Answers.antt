@@ -1,8 +1,6 @@
-use Rattle.std.proofs.Common.{◌≡◌, ℕ, subst, sym, ap, arith}
+use Rattle.std.proofs.Common.{◌≡◌, ℕ, subst, ap, arith}
 use Rattle.tsd_model.specs.declared.geometry.Geometry.{Geometry}
-use Rattle.image_tables.specs.Tests.{loose_in, IsLeastLoose}
-use Rattle.pointer_table.specs.Slots.{slot_at}
-use Rattle.pointer_table.specs.Scanning.{lesser_pair}
+use Rattle.image_tables.specs.Tests.{IsLeastLoose}
 use Rattle.image_tables.proofs.EndLaws.{loose_more}
 use Rattle.image_tables.proofs.ends.least_loose_pair.Goals as goal
 

@@ -1,11 +1,8 @@
-use Rattle.std.proofs.Common.{◌≡◌, sym, ◌∙◌, subst}
+use Rattle.std.proofs.Common.{sym, ◌∙◌, subst}
 use Rattle.std.proofs.lemmas.Result.{err_from_is_err_and}
-use Rattle.image_device.specs.Calls.{Rests}
 use Rattle.image_device.proofs.Resting.{rests_joined}
 use Rattle.tsd_model.specs.declared.geometry.Geometry.{Geometry}
-use Rattle.image_layout.specs.Image.{Image}
 use Rattle.image_world.specs.Faults.{AreRight}
-use Rattle.image_tables.specs.declared.tables.ImageTables.{ImageTables}
 use Rattle.image_tables.proofs.LoadLaws.{are_read, are_stored, do_fit, failed}
 use Rattle.image_tables.proofs.TestLaws.{right_on}
 use Rattle.image_tables.proofs.tables.load_tables.Goals as goal

@@ -1,12 +1,11 @@
-use Rattle.std.proofs.Common.{◌≡◌, ◌<◌, ℕ, List, sym, ap, ◌∙◌, subst, arith}
+use Rattle.std.proofs.Common.{◌<◌, ℕ, List, sym, ap, ◌∙◌, subst, arith}
 use Rattle.std.specs.Prelude.{slice_index}
 use Rattle.std.proofs.lemmas.Grind.{get_or_default_zero}
 use Rattle.tsd_model.specs.declared.geometry.Geometry.{Geometry}
 use Rattle.image_layout.specs.Image.{Image}
 use Rattle.block_alloc.specs.Stored.{IsStored}
 use Rattle.image_world.specs.Faults.{IsLeastPrimary}
-use Rattle.image_tables.specs.Tests.{AreFound, AreSame, IsLeastWrong, HasCounts}
-use Rattle.image_tables.specs.Testing.{IsTesting}
+use Rattle.image_tables.specs.Tests.{IsLeastWrong}
 use Rattle.image_tables.proofs.TestLaws.{ends_live, primaries_on, ends_on, least_end, least_count}
 use Rattle.image_tables.proofs.tests_in_order.test_tables.Goals as goal
 

@@ -1,0 +1,69 @@
+-- The writes of all sectors but the format gate, one group after another.
+use Rattle.std.proofs.Common.{◌≡◌, ℕ, ◌<◌, ◌≤◌, ◌==◌, nat_le, Bool, true, false, not, List, length, sym, ◌∙◌, ap, subst, arith, refl, Ok}
+use Rattle.std.proofs.lemmas.Bool.Decides.{nat_tests}
+use Rattle.tsd_model.specs.declared.caps.CapPair.{CapPair}
+use Rattle.tsd_model.specs.declared.geometry.Geometry.{Geometry}
+use Rattle.tsd_model.specs.Geometry.{IsLawful}
+use Rattle.cap_store.specs.Fresh.{fresh_records}
+use Rattle.cap_store.specs.Store.{AreRecords}
+use Rattle.image_device.specs.Calls.{Settles, Touches}
+use Rattle.image_device.specs.Image.{Image}
+use Rattle.image_device.specs.Runs.{IsConfined}
+use Rattle.image_device.specs.View.{View, IsSound}
+use Rattle.image_device.proofs.Confined.{confined_start, confined_write, confined_joined, confined_wider}
+use Rattle.image_layout.specs.Areas.{header_sector, format_gate, sweep_flag}
+use Rattle.image_layout.specs.Header.{IsReading}
+use Rattle.image_layout.specs.Image.{is_open}
+use Rattle.image_layout.specs.Ring.{gate_sector}
+use Rattle.image_world.specs.Fresh.{IsWrittenFresh, AreClosed}
+use Rattle.intent_journal.specs.Home.{is_journal}
+use Rattle.intent_journal.proofs.Places.{gate_in}
+use Rattle.recovery.specs.Areas.{fresh_end, fresh_bytes}
+use Rattle.recovery.proofs.AreaLaws.{has_written}
+
+abbrev pub but_gate : ℕ → Bool
+but_gate n = not (n == format_gate)
+
+is_gate : (n : ℕ) → but_gate n ≡ false → n ≡ 1
+is_gate n out = grind (arith, nat_tests)
+
+pub after_header : (v0 v1 : View) → IsSound v0 → Touches header_sector v0 v1 → IsConfined but_gate v0 v1
+after_header v0 v1 sound touches = confined_write but_gate header_sector v0 v0 v1 refl (confined_start but_gate v0 sound) touches
+
+pub after_gates : (v0 v1 v2 : View) → IsConfined but_gate v0 v1 → IsConfined is_journal v1 v2 → IsConfined but_gate v0 v2
+after_gates v0 v1 v2 one two =
+    confined_joined but_gate v0 v1 v2 one (confined_wider is_journal but_gate v1 v2 (λ n out. ap is_journal (is_gate n out)) two)
+
+pub after_tables : (v0 v2 v3 : View) → IsConfined but_gate v0 v2 → IsConfined (nat_le sweep_flag) v2 v3 → IsConfined but_gate v0 v3
+after_tables v0 v2 v3 two three =
+    confined_joined but_gate v0 v2 v3 two (confined_wider (nat_le sweep_flag) but_gate v2 v3 (λ n out. ap (nat_le sweep_flag) (is_gate n out)) three)
+
+below_flag : (n : ℕ) → n < 131 → nat_le sweep_flag n ≡ false
+below_flag n less = grind (arith, nat_tests)
+
+gate_low : (n : ℕ) → is_journal n ≡ true → n < 131
+gate_low n inside = grind (arith, nat_tests)
+
+no_gate : (n : ℕ) → 2 ≤ n → (n == format_gate) ≡ false
+no_gate n more = grind (arith, nat_tests)
+
+journal_high : (n : ℕ) → is_journal n ≡ true → 2 ≤ n
+journal_high n inside = grind (arith, nat_tests)
+
+-- every image that agrees with the device but at the format gate
+pub all_written : (g : Geometry) (caps : List CapPair) (v1 v2 v3 v4 : View) → IsLawful g → length caps ≡ g.primaries → AreRecords 1 (fresh_records caps)
+    → IsReading (v1.reads header_sector) (Ok (record { version = 1; geometry = g }))
+    → IsConfined is_journal v1 v2 → AreClosed v2.reads
+    → IsConfined (nat_le sweep_flag) v2 v3 → ((n : ℕ) → sweep_flag ≤ n → n < fresh_end g → v3.reads n ≡ fresh_bytes g caps n)
+    → Settles v3 v4
+    → (x : Image) → ((n : ℕ) → (n == format_gate) ≡ false → x n ≡ v4.reads n) → IsWrittenFresh g caps x
+all_written g caps v1 v2 v3 v4 lawful each kept header two closed three fresh four x same = has_written g caps x lawful each kept (record {
+  header = subst (λ bytes. IsReading bytes (Ok (record { version = 1; geometry = g }))) (sym (there header_sector refl ∙ (three.reads header_sector refl ∙ two.reads header_sector refl))) header;
+  closed = λ i h.
+      let inside = gate_in i h in
+      ap is_open (there (gate_sector i) (no_gate (gate_sector i) (journal_high (gate_sector i) inside)) ∙ three.reads (gate_sector i) (below_flag (gate_sector i) (gate_low (gate_sector i) inside))) ∙ closed i h;
+  areas = λ n from to. there n (no_gate n (omega arith)) ∙ fresh n from to;
+})
+  where
+    there : (n : ℕ) → (n == format_gate) ≡ false → x n ≡ v3.reads n
+    there n out = same n out ∙ ap (λ (reads : Image). reads n) four.reads

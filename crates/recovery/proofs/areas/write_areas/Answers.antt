@@ -1,0 +1,35 @@
+use Rattle.std.proofs.Common.{◌≡◌, ℕ, ◌<◌, ◌≤◌, sym, subst, inl, refl, Ok}
+use Rattle.tsd_model.specs.declared.geometry.Geometry.{Geometry}
+use Rattle.image_device.proofs.Confined.{confined_sync}
+use Rattle.image_device.proofs.Outcomes.{on_ok}
+use Rattle.image_layout.specs.Areas.{sweep_flag}
+use Rattle.image_layout.specs.Header.{IsReading}
+use Rattle.recovery.specs.Areas.{fresh_end, fresh_bytes}
+use Rattle.recovery.proofs.AreaRuns.{but_gate, after_header, after_gates, after_tables, all_written}
+use Rattle.recovery.proofs.areas.write_areas.Goals as goal
+
+pub returns-in_err-write-clause-confined : goal.returns-in_err-write-clause-confined
+returns-in_err-write-clause-confined g c told = after_header _ _ (g.met.D.Device.sound c.args.dev.now told) (c.write.ensures.touches told)
+
+pub returns-in_err-close_gates-clause-confined : goal.returns-in_err-close_gates-clause-confined
+returns-in_err-close_gates-clause-confined g c told =
+    after_gates _ _ _ (after_header _ _ (g.met.D.Device.sound c.args.dev.now told) (c.write.ensures.touches told)) (c.close_gates.ensures.confined told)
+
+pub returns-in_err-write_tables-clause-confined : goal.returns-in_err-write_tables-clause-confined
+returns-in_err-write_tables-clause-confined g c told =
+    after_tables _ _ _ (after_gates _ _ _ (after_header _ _ (g.met.D.Device.sound c.args.dev.now told) (c.write.ensures.touches told)) (c.close_gates.ensures.confined told)) (c.write_tables.ensures.confined told)
+
+pub returns-clause-confined : goal.returns-clause-confined
+returns-clause-confined g c told =
+    confined_sync but_gate _ _ _
+    (after_tables _ _ _ (after_gates _ _ _ (after_header _ _ (g.met.D.Device.sound c.args.dev.now told) (c.write.ensures.touches told)) (c.close_gates.ensures.confined told)) (c.write_tables.ensures.confined told))
+    (c.sync.ensures.settles told)
+
+pub returns-clause-written : goal.returns-clause-written
+returns-clause-written g c told =
+    let header = subst (λ bytes. IsReading bytes (Ok (record { version = 1; geometry = c.args.geometry.now }))) (sym (c.in_ok-write.ensures.written told)) (c.write_header.ensures.reads_back (inl refl) c.requires.lawful) in
+    let now = g.D.Device.view c.write_tables.new.dev in
+    let fresh = subst (λ (k : Geometry). (n : ℕ) → sweep_flag ≤ n → n < fresh_end k → now.reads n ≡ fresh_bytes k c.args.caps.now n) c.of.ensures (c.in_ok-write_tables.ensures.fresh told) in
+    on_ok c.sync.result
+    (all_written c.args.geometry.now c.args.caps.now _ _ _ _ c.requires.lawful c.requires.each c.in_ok-write_tables.ensures.kept header
+    (c.close_gates.ensures.confined told) (c.in_ok-close_gates.ensures.closed told) (c.write_tables.ensures.confined told) fresh (c.sync.ensures.settles told))

@@ -1,0 +1,31 @@
+use Rattle.std.proofs.Common.{◌∙◌, ap, Result, Ok, Err}
+use Rattle.std.specs.Prelude.{OnOk}
+use Rattle.image_layout.specs.Image.{is_open}
+use Rattle.image_device.proofs.Outcomes.{on_ok}
+use Rattle.image_world.proofs.FreshLaws.{fresh_stands}
+use Rattle.recovery.proofs.Formatted.{formatted_moments}
+use Rattle.recovery.proofs.formatting.format.Goals as goal
+
+ok_map : {T E : Type 0} (r : Result T E) (P Q : Type 0) → (P → Q) → OnOk r P → OnOk r Q
+ok_map (Ok u) P Q f p = f p
+ok_map (Err e) P Q f p = tt
+
+pub returns-clause-done : goal.returns-clause-done
+returns-clause-done g c told =
+    let new = g.D.Device.view c.write_through-2.new.dev in
+    ok_map c.write_through-2.result _ _
+    (λ written. fresh_stands c.args.geometry.now c.args.caps.now new.reads c.requires.lawful c.requires.each
+    (c.in_ok-write_areas.ensures.written told new.reads (c.write_through-2.ensures.confined told).reads) (ap is_open written ∙ c.gate_bytes-2.ensures.reads_back))
+    (c.write_through-2.ensures.written told)
+
+pub returns-clause-closed : goal.returns-clause-closed
+returns-clause-closed g c told =
+    let new = g.D.Device.view c.write_through-2.new.dev in
+    on_ok c.write_through-2.result (c.in_ok-write_areas.ensures.written told new.reads (c.write_through-2.ensures.confined told).reads).closed
+
+pub returns-clause-any_moment : goal.returns-clause-any_moment
+returns-clause-any_moment g c told =
+    let view = g.D.Device.view in
+    formatted_moments c.args.geometry.now c.args.caps.now (view c.args.dev.now) (view c.write_through.new.dev) (view c.write_areas.new.dev) (view c.write_through-2.new.dev) c.requires.lawful c.requires.each
+    (c.write_through.ensures.confined told) (ap is_open (c.in_ok-write_through.ensures.written told) ∙ c.gate_bytes.ensures.reads_back) (c.in_ok-write_through.ensures.firm told)
+    (c.write_areas.ensures.confined told) (c.in_ok-write_areas.ensures.written told) (c.in_ok-write_areas.ensures.firm told) (c.write_through-2.ensures.confined told)

@@ -1,0 +1,93 @@
+use Rattle.std.proofs.Common.{◌≡◌, ◌∙◌, ap, sym, subst, arith}
+use Rattle.image_device.proofs.Moments.{uses_and}
+use Rattle.image_layout.specs.Image.{Image, is_open}
+use Rattle.recovery.proofs.OpenRuns.{IsStill, synced, read_still, opened_start, opened_sync, opened_head, opened_replay, replayed, loaded, opened_load, stood, opened_finish, opened_fault, opened_err, quiet_uses, quiet_finish}
+use Rattle.recovery.proofs.opening.open_image.Goals as goal
+
+pub returns-in_err-ring-clause-any_moment : goal.returns-in_err-ring-clause-any_moment
+returns-in_err-ring-clause-any_moment g c told firm = opened_start _ (g.met.D.Device.sound c.args.dev.now told) firm
+
+pub returns-in_err-sync-clause-any_moment : goal.returns-in_err-sync-clause-any_moment
+returns-in_err-sync-clause-any_moment g c told firm = opened_sync _ _ (g.met.D.Device.sound c.args.dev.now told) firm (c.sync.ensures.settles told)
+
+pub returns-in_err-header-clause-any_moment : goal.returns-in_err-header-clause-any_moment
+returns-in_err-header-clause-any_moment g c told firm =
+    opened_head _ _ _ (opened_sync _ _ (g.met.D.Device.sound c.args.dev.now told) firm (c.sync.ensures.settles told)) (synced _ _ (c.in_ok-sync.ensures.firm told) (c.sync.ensures.settles told)) (c.read_head.ensures.rests told)
+
+pub returns-in_err-replay-clause-any_moment : goal.returns-in_err-replay-clause-any_moment
+returns-in_err-replay-clause-any_moment g c told firm =
+    let still = read_still _ _ _ (synced _ _ (c.in_ok-sync.ensures.firm told) (c.sync.ensures.settles told)) (c.read_head.ensures.rests told) in
+    opened_replay _ _ _ (opened_head _ _ _ (opened_sync _ _ (g.met.D.Device.sound c.args.dev.now told) firm (c.sync.ensures.settles told)) (synced _ _ (c.in_ok-sync.ensures.firm told) (c.sync.ensures.settles told)) (c.read_head.ensures.rests told)) still (c.replay.ensures.any_moment told)
+
+pub returns-in_err-replay-clause-unwritten : goal.returns-in_err-replay-clause-unwritten
+returns-in_err-replay-clause-unwritten g c told quiet =
+    let still = read_still _ _ _ (synced _ _ (c.in_ok-sync.ensures.firm told) (c.sync.ensures.settles told)) (c.read_head.ensures.rests told) in
+    quiet_uses _ _ _ _ still quiet c.sync.ensures.uses c.read_head.ensures.uses (c.replay.ensures.needed told)
+
+pub load-requires-clause-formatted : goal.load-requires-clause-formatted
+load-requires-clause-formatted g c told =
+    let still = read_still _ _ _ (synced _ _ (c.in_ok-sync.ensures.firm told) (c.sync.ensures.settles told)) (c.read_head.ensures.rests told) in
+    let done = replayed _ _ _ still (c.in_ok-replay.ensures.at told) (c.in_ok-replay.ensures.done told) (c.in_ok-replay.ensures.valid told) (c.in_ok-replay.ensures.firm told) (c.replay.ensures.sent told) in
+    done.agree.gate ∙ (ap (λ (r : Image). is_open (r 1)) (sym (c.sync.ensures.settles told).reads) ∙ (c.in_ok-header.ensures.head told).formatted)
+
+pub returns-in_err-volume-clause-read : goal.returns-in_err-volume-clause-read
+returns-in_err-volume-clause-read g c told =
+    let still = read_still _ _ _ (synced _ _ (c.in_ok-sync.ensures.firm told) (c.sync.ensures.settles told)) (c.read_head.ensures.rests told) in
+    let done = replayed _ _ _ still (c.in_ok-replay.ensures.at told) (c.in_ok-replay.ensures.done told) (c.in_ok-replay.ensures.valid told) (c.in_ok-replay.ensures.firm told) (c.replay.ensures.sent told) in
+    opened_err _ _ _ c.from_residual-in_err-volume.result c.from_residual-in_err-volume.ensures.1 done (c.in_err-volume.ensures.read told)
+
+pub returns-in_err-volume-clause-any_moment : goal.returns-in_err-volume-clause-any_moment
+returns-in_err-volume-clause-any_moment g c told firm =
+    let still = read_still _ _ _ (synced _ _ (c.in_ok-sync.ensures.firm told) (c.sync.ensures.settles told)) (c.read_head.ensures.rests told) in
+    let done = replayed _ _ _ still (c.in_ok-replay.ensures.at told) (c.in_ok-replay.ensures.done told) (c.in_ok-replay.ensures.valid told) (c.in_ok-replay.ensures.firm told) (c.replay.ensures.sent told) in
+    let far = opened_replay _ _ _ (opened_head _ _ _ (opened_sync _ _ (g.met.D.Device.sound c.args.dev.now told) firm (c.sync.ensures.settles told)) (synced _ _ (c.in_ok-sync.ensures.firm told) (c.sync.ensures.settles told)) (c.read_head.ensures.rests told)) still (c.replay.ensures.any_moment told) in
+    opened_load _ _ _ far done (c.load.ensures.rests told)
+
+pub returns-in_err-volume-clause-unwritten : goal.returns-in_err-volume-clause-unwritten
+returns-in_err-volume-clause-unwritten g c told quiet =
+    let still = read_still _ _ _ (synced _ _ (c.in_ok-sync.ensures.firm told) (c.sync.ensures.settles told)) (c.read_head.ensures.rests told) in
+    uses_and 0 0 0 _ _ _ (omega arith) (quiet_uses _ _ _ _ still quiet c.sync.ensures.uses c.read_head.ensures.uses (c.replay.ensures.needed told)) c.load.ensures.uses
+
+pub returns-in_err-finish-clause-any_moment : goal.returns-in_err-finish-clause-any_moment
+returns-in_err-finish-clause-any_moment g c told firm =
+    let still = read_still _ _ _ (synced _ _ (c.in_ok-sync.ensures.firm told) (c.sync.ensures.settles told)) (c.read_head.ensures.rests told) in
+    let done = replayed _ _ _ still (c.in_ok-replay.ensures.at told) (c.in_ok-replay.ensures.done told) (c.in_ok-replay.ensures.valid told) (c.in_ok-replay.ensures.firm told) (c.replay.ensures.sent told) in
+    let far = opened_replay _ _ _ (opened_head _ _ _ (opened_sync _ _ (g.met.D.Device.sound c.args.dev.now told) firm (c.sync.ensures.settles told)) (synced _ _ (c.in_ok-sync.ensures.firm told) (c.sync.ensures.settles told)) (c.read_head.ensures.rests told)) still (c.replay.ensures.any_moment told) in
+    let now = loaded _ _ _ done (c.load.ensures.rests told) in
+    opened_finish _ _ _ (opened_load _ _ _ far done (c.load.ensures.rests told)) now (c.in_ok-volume.ensures.at told).good (c.finish.ensures.any_moment told)
+
+pub returns-in_err-finish-clause-unwritten : goal.returns-in_err-finish-clause-unwritten
+returns-in_err-finish-clause-unwritten g c told quiet =
+    let still = read_still _ _ _ (synced _ _ (c.in_ok-sync.ensures.firm told) (c.sync.ensures.settles told)) (c.read_head.ensures.rests told) in
+    let done = replayed _ _ _ still (c.in_ok-replay.ensures.at told) (c.in_ok-replay.ensures.done told) (c.in_ok-replay.ensures.valid told) (c.in_ok-replay.ensures.firm told) (c.replay.ensures.sent told) in
+    let now = loaded _ _ _ done (c.load.ensures.rests told) in
+    quiet_finish _ _ _ _ quiet now (c.in_ok-volume.ensures.at told) c.in_ok-volume.ensures.ring (uses_and 0 0 0 _ _ _ (omega arith) (quiet_uses _ _ _ _ still quiet c.sync.ensures.uses c.read_head.ensures.uses (c.replay.ensures.needed told)) c.load.ensures.uses) c.finish.ensures.uses
+
+pub returns-clause-read : goal.returns-clause-read
+returns-clause-read g c told =
+    let still = read_still _ _ _ (synced _ _ (c.in_ok-sync.ensures.firm told) (c.sync.ensures.settles told)) (c.read_head.ensures.rests told) in
+    let done = replayed _ _ _ still (c.in_ok-replay.ensures.at told) (c.in_ok-replay.ensures.done told) (c.in_ok-replay.ensures.valid told) (c.in_ok-replay.ensures.firm told) (c.replay.ensures.sent told) in
+    let now = loaded _ _ _ done (c.load.ensures.rests told) in
+    (stood _ _ now (c.in_ok-volume.ensures.at told).good).good
+
+pub returns-clause-done : goal.returns-clause-done
+returns-clause-done g c told =
+    let still = read_still _ _ _ (synced _ _ (c.in_ok-sync.ensures.firm told) (c.sync.ensures.settles told)) (c.read_head.ensures.rests told) in
+    let done = replayed _ _ _ still (c.in_ok-replay.ensures.at told) (c.in_ok-replay.ensures.done told) (c.in_ok-replay.ensures.valid told) (c.in_ok-replay.ensures.firm told) (c.replay.ensures.sent told) in
+    let now = loaded _ _ _ done (c.load.ensures.rests told) in
+    c.in_ok-finish.ensures.done told ∙ (stood _ _ now (c.in_ok-volume.ensures.at told).good).world
+
+pub returns-clause-any_moment : goal.returns-clause-any_moment
+returns-clause-any_moment g c told firm =
+    let still = read_still _ _ _ (synced _ _ (c.in_ok-sync.ensures.firm told) (c.sync.ensures.settles told)) (c.read_head.ensures.rests told) in
+    let done = replayed _ _ _ still (c.in_ok-replay.ensures.at told) (c.in_ok-replay.ensures.done told) (c.in_ok-replay.ensures.valid told) (c.in_ok-replay.ensures.firm told) (c.replay.ensures.sent told) in
+    let far = opened_replay _ _ _ (opened_head _ _ _ (opened_sync _ _ (g.met.D.Device.sound c.args.dev.now told) firm (c.sync.ensures.settles told)) (synced _ _ (c.in_ok-sync.ensures.firm told) (c.sync.ensures.settles told)) (c.read_head.ensures.rests told)) still (c.replay.ensures.any_moment told) in
+    let now = loaded _ _ _ done (c.load.ensures.rests told) in
+    opened_finish _ _ _ (opened_load _ _ _ far done (c.load.ensures.rests told)) now (c.in_ok-volume.ensures.at told).good (c.finish.ensures.any_moment told)
+
+pub returns-clause-unwritten : goal.returns-clause-unwritten
+returns-clause-unwritten g c told quiet =
+    let still = read_still _ _ _ (synced _ _ (c.in_ok-sync.ensures.firm told) (c.sync.ensures.settles told)) (c.read_head.ensures.rests told) in
+    let done = replayed _ _ _ still (c.in_ok-replay.ensures.at told) (c.in_ok-replay.ensures.done told) (c.in_ok-replay.ensures.valid told) (c.in_ok-replay.ensures.firm told) (c.replay.ensures.sent told) in
+    let now = loaded _ _ _ done (c.load.ensures.rests told) in
+    quiet_finish _ _ _ _ quiet now (c.in_ok-volume.ensures.at told) c.in_ok-volume.ensures.ring (uses_and 0 0 0 _ _ _ (omega arith) (quiet_uses _ _ _ _ still quiet c.sync.ensures.uses c.read_head.ensures.uses (c.replay.ensures.needed told)) c.load.ensures.uses) c.finish.ensures.uses
