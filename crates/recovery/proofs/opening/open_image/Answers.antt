@@ -1,7 +1,7 @@
-use Rattle.std.proofs.Common.{◌≡◌, ◌∙◌, ap, sym, subst, arith}
+use Rattle.std.proofs.Common.{◌∙◌, ap, sym, arith}
 use Rattle.image_device.proofs.Moments.{uses_and}
 use Rattle.image_layout.specs.Image.{Image, is_open}
-use Rattle.recovery.proofs.OpenRuns.{IsStill, synced, read_still, opened_start, opened_sync, opened_head, opened_replay, replayed, loaded, opened_load, stood, opened_finish, opened_fault, opened_err, opened_device, quiet_uses, quiet_finish}
+use Rattle.recovery.proofs.OpenRuns.{synced, read_still, opened_start, opened_sync, opened_head, opened_replay, replayed, loaded, opened_load, stood, opened_finish, opened_err, opened_device, quiet_uses, quiet_finish}
 use Rattle.recovery.proofs.opening.open_image.Goals as goal
 
 pub returns-in_err-ring-clause-any_moment : goal.returns-in_err-ring-clause-any_moment
