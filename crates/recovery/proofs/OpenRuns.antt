@@ -30,6 +30,7 @@ use Rattle.volume_laws.specs.Moments.{LeavesWorld, owed}
 use Rattle.volume_laws.specs.Volume.{Volume, IsAt, world_on}
 use Rattle.volume_laws.specs.Writes.{due}
 use Rattle.recovery.specs.declared.fault.OpenFault.{OpenFault}
+use Rattle.recovery.specs.declared.fault.OpenFault.TheVariants as fault
 use Rattle.recovery.specs.Faults.{of_volume}
 use Rattle.recovery.specs.Opening.{IsOpening, StandAlike, IsQuiet}
 
@@ -160,3 +161,7 @@ quiet_finish v0 v4 v5 vol quiet done at none four five =
 pub opened_err : (v0 v3 : View) (why : VolumeFault) (r : Result Volume OpenFault) → IsErrAnd r (λ made. made ≡ of_volume why) → IsReplayed v0 v3 → IsLoading v3.reads (Err why) → IsOpening v0.reads r
 opened_err v0 v3 why (Ok v) is done p = absurd is
 opened_err v0 v3 why (Err made) is done p = subst (λ (e : OpenFault). IsOpening v0.reads (Err e)) (sym is) (opened_fault v0 v3 why done p)
+
+pub opened_device : (v0 : View) (r : Result Volume OpenFault) → IsErrAnd r (λ made. made ≡ fault.Device) → IsOpening v0.reads r
+opened_device v0 (Ok v) is = absurd is
+opened_device v0 (Err made) is = subst (λ (e : OpenFault). IsOpening v0.reads (Err e)) (sym is) tt
