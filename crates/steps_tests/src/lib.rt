@@ -13,6 +13,4 @@ mod disk;
 #[cfg(test)]
 mod reclaim_tests;
 #[cfg(test)]
-mod sweeps;
-#[cfg(test)]
 mod told;
