@@ -5,7 +5,6 @@ ghost use Rattle.std.specs.Prelude.{◌<◌};
 use crate::help::{HELP, VERSION};
 use crate::run::run;
 use image_device::MemSource;
-use std::alloc::Global;
 use std::test::Fail;
 use tsd_serve::Status;
 
@@ -18,7 +17,8 @@ struct Ended {
 }
 
 /// A run with these words, parted by spaces, and this input. The take of this number fails.
-fn ran(alloc: Global, text: &str, input: &str, failing: u64) -> Result<Ended, Fail> {
+fn ran(rt: &HostRuntime, text: &str, input: &str, failing: u64) -> Result<Ended, Fail> {
+    let alloc = rt.alloc();
     let mut words = Vec::new(alloc);
     for word in text.split(' ') {
         words.push(String::from_str(alloc, word)?)?;
@@ -27,7 +27,7 @@ fn ran(alloc: Global, text: &str, input: &str, failing: u64) -> Result<Ended, Fa
     let mut source = MemSource::new(bytes, 7, vec![in alloc; failing]?);
     let mut output = Vec::new(alloc);
     let mut errors = Vec::new(alloc);
-    let status = run(alloc, words, &mut source, &mut output, &mut errors);
+    let status = run(rt, words, &mut source, &mut output, &mut errors);
     Ok(Ended {
         status,
         output,
@@ -84,7 +84,7 @@ const RUNS: [(&str, &str, u64, Status, &str, &str); 7] = [
 #[test]
 fn runs(rt: HostRuntime) -> Result<(), Fail> {
     for (words, input, failing, status, output, errors) in RUNS {
-        let end = ran(rt.alloc(), words, input, failing)?;
+        let end = ran(&rt, words, input, failing)?;
         assert_eq!(rt; end.status, status, "{words}");
         assert_eq!(rt; end.output.as_slice(), output.as_bytes(), "{words}");
         assert_eq!(rt; end.errors.as_slice(), errors.as_bytes(), "{words}");

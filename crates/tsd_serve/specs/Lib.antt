@@ -1,4 +1,1 @@
 pub mod Built
-pub mod Answers
-pub mod Served
-pub mod Ran
