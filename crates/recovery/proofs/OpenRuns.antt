@@ -1,16 +1,15 @@
 -- The parts of an opening.
-use Rattle.std.proofs.Common.{◌≡◌, ℕ, zero, suc, ◌+◌, ◌*◌, ◌<◌, true, false, List, [], ◌∷◌, refl, sym, ◌∙◌, ap, subst, arith, Ok, Err}
+use Rattle.std.proofs.Common.{◌≡◌, ℕ, true, false, List, [], refl, sym, ◌∙◌, ap, subst, arith, Ok, Err}
 use Rattle.std.specs.Prelude.{◌↔◌, Result, IsErrAnd}
-use Rattle.tsd_model.specs.World.{World}
 use Rattle.image_device.specs.Calls.{Rests, Settles, Uses}
 use Rattle.image_device.specs.Runs.{IsFirm, LeavesOnly}
 use Rattle.image_device.specs.View.{View, IsLeftNow, IsSound}
 use Rattle.image_device.proofs.Moments.{started, after_sync, after_read, joined, firm_image, uses_and}
 use Rattle.image_layout.specs.Image.{Image, is_open}
 use Rattle.image_world.specs.Alike.{DoAgree}
-use Rattle.image_world.specs.Faults.{HasHeader, IsGood}
+use Rattle.image_world.specs.Faults.{IsGood}
 use Rattle.image_world.specs.Fresh.{AreClosed}
-use Rattle.image_world.specs.Stands.{world_of, Stands}
+use Rattle.image_world.specs.Stands.{Stands}
 use Rattle.image_world.specs.Tables.{Tables, tables_of}
 use Rattle.image_world.proofs.AgreeLaws.{same_agree, same_stand, agree_back, agree_both, agree_stands}
 use Rattle.image_world.proofs.AlikeLaws.{alike_tables}
@@ -30,6 +29,7 @@ use Rattle.volume_laws.specs.Moments.{LeavesWorld, owed}
 use Rattle.volume_laws.specs.Volume.{Volume, IsAt, world_on}
 use Rattle.volume_laws.specs.Writes.{due}
 use Rattle.recovery.specs.declared.fault.OpenFault.{OpenFault}
+use Rattle.recovery.specs.declared.fault.OpenFault.TheVariants as fault
 use Rattle.recovery.specs.Faults.{of_volume}
 use Rattle.recovery.specs.Opening.{IsOpening, StandAlike, IsQuiet}
 
@@ -110,10 +110,13 @@ stood v0 v4 done good = agree_stands v4.reads v0.reads (world_on v4) (agree_back
 pub opened_finish : (v0 v4 v5 : View) → LeavesOnly v0 v4 (Kept v0) → IsReplayed v0 v4 → IsGood v4.reads → LeavesWorld v4 v5 → LeavesOnly v0 v5 (Kept v0)
 opened_finish v0 v4 v5 so_far done good leaves =
     joined v0 v4 v5 (Kept v0) (λ x f. Stands x (world_on v4) × (f ≡ v4.sent)) so_far leaves
-    (λ x f left. (λ w. (
-      (λ s. subst (Stands x) (sym (one_world v0.reads w (world_on v4) s (stood v0 v4 done good))) left.0),
-      (λ s. subst (Stands v0.reads) (sym (one_world x w (world_on v4) s left.0)) (stood v0 v4 done good)),
-    ), left.1 ∙ done.sent))
+    (λ x f left. (
+      λ w. (
+        (λ s. subst (Stands x) (sym (one_world v0.reads w (world_on v4) s (stood v0 v4 done good))) left.0),
+        (λ s. subst (Stands v0.reads) (sym (one_world x w (world_on v4) s left.0)) (stood v0 v4 done good)),
+      ),
+      left.1 ∙ done.sent,
+    ))
 
 -- ---- what it answers
 pub opened_fault : (v0 v3 : View) (why : VolumeFault) → IsReplayed v0 v3 → IsLoading v3.reads (Err why) → IsOpening v0.reads (Err (of_volume why))
@@ -160,3 +163,7 @@ quiet_finish v0 v4 v5 vol quiet done at none four five =
 pub opened_err : (v0 v3 : View) (why : VolumeFault) (r : Result Volume OpenFault) → IsErrAnd r (λ made. made ≡ of_volume why) → IsReplayed v0 v3 → IsLoading v3.reads (Err why) → IsOpening v0.reads r
 opened_err v0 v3 why (Ok v) is done p = absurd is
 opened_err v0 v3 why (Err made) is done p = subst (λ (e : OpenFault). IsOpening v0.reads (Err e)) (sym is) (opened_fault v0 v3 why done p)
+
+pub opened_device : (v0 : View) (r : Result Volume OpenFault) → IsErrAnd r (λ made. made ≡ fault.Device) → IsOpening v0.reads r
+opened_device v0 (Ok v) is = absurd is
+opened_device v0 (Err made) is = subst (λ (e : OpenFault). IsOpening v0.reads (Err e)) (sym is) tt

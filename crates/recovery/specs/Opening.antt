@@ -1,5 +1,5 @@
 -- What opening answers, and what a crash leaves of it.
-use Rattle.std.specs.Prelude.{◌≡◌, ◌↔◌, ℕ, false, Result, Ok, Err, ⊤}
+use Rattle.std.specs.Prelude.{◌≡◌, ◌↔◌, false, Result, Ok, Err, ⊤}
 use Rattle.tsd_model.specs.World.{World}
 use Rattle.image_layout.specs.declared.header.Header.{Header}
 use Rattle.image_layout.specs.Areas.{header_sector, sweep_flag}

@@ -87,7 +87,7 @@ made_like t w (ask.List s a shown start) like = refl
 owes : (vol : Volume) (v w : View) (x : World) (few more : ℕ) → IsVolumeAt vol v → few ≡ more → LeavesOwed v w (owed vol.tables + few) → LeavesEither v w x → LeavesDebt v w more
 owes vol v w x few more at same owing either =
     weakened v w _ _ (leaves_both v w _ _ owing either) (λ y f left.
-      (let here : owed (tables_of (home v.reads)) ≡ owed vol.tables = ap owed at.tables in omega (arith, left.0, here, same), left.1.1))
+    (let here : owed (tables_of (home v.reads)) ≡ owed vol.tables = ap owed at.tables in omega (arith, left.0, here, same), left.1.1))
 
 -- ---- refused
 
@@ -99,14 +99,14 @@ refused_applied told kind q c v r ready known table sound at refusal = record {
   form = refusal_fits (told_world c) c.grants.sessions q r known.sized refusal;
   given = λ t. refused_over kind c.grants (told_world c) (world_on v) q r (over c (world_on v) ready known table (like_at c.volume v (at_volume c v (at t)))) refusal;
   told_given = let here = refused_over kind c.grants (told_world c) (told_world c) q r (over c (told_world c) ready known table (like_itself (told_world c))) refusal in
-    record { want = here.want; reply = inl here.reply; world = subst (λ (s : State). AreLike (told_world c) s.world) here.state (like_itself (told_world c)); sessions = ap (λ s. s.sessions) here.state };
+      record { want = here.want; reply = inl here.reply; world = subst (λ (s : State). AreLike (told_world c) s.world) here.state (like_itself (told_world c)); sessions = ap (λ s. s.sessions) here.state };
   refused = λ e. refl;
   size = record { geometry = refl; version = refl };
   spent = tt;
   sent = λ t. refl;
   any_moment = λ t. still_stands c.volume v (next_world kind (state_on c v.reads) q) (sound t) (at_volume c v (at t));
   debt = λ t b. owes c.volume v v (world_on v) (made_by (world_on v) q) (made_by (world_on v) q) (at_volume c v (at t)) refl
-    (still_owes c.volume v (made_by (world_on v) q) (sound t) (at_volume c v (at t))) (still_stands c.volume v (world_on v) (sound t) (at_volume c v (at t)));
+      (still_owes c.volume v (made_by (world_on v) q) (sound t) (at_volume c v (at t))) (still_stands c.volume v (world_on v) (sound t) (at_volume c v (at t)));
   paid = λ t b. omega arith;
   most = λ t b. omega arith;
   limit = λ b. omega arith;

@@ -33,7 +33,7 @@ still_stands vol v x sound at = started v (λ y f. StandsForEither (world_on v) 
 pub still_owes : (vol : Volume) (v : View) (more : ℕ) → IsSound v → IsVolumeAt vol v → LeavesOwed v v (owed vol.tables + more)
 still_owes vol v more sound at = started v (λ y f. owed (tables_of (home y)) ≤ owed vol.tables + more) sound
     (λ y f left. subst (λ (z : Image). owed (tables_of (home z)) ≤ owed vol.tables + more) (sym (firm_image v at.firm y f left))
-      (let same : owed (tables_of (home v.reads)) ≡ owed vol.tables = ap owed at.tables in omega (arith, same)))
+    (let same : owed (tables_of (home v.reads)) ≡ owed vol.tables = ap owed at.tables in omega (arith, same)))
 
 still_there : (told : Type 0) (kind : PlaceKind) (q : Request) (vol : Volume) (v : View) (r : Reply) → ((w : World) → world_after kind w q ≡ w)
     → (told → IsSound v) → (told → IsVolumeAt vol v) → IsVolumeReady vol → vol.is_spent ≡ false
@@ -67,7 +67,7 @@ quiet told kind q old new v r same sound at ready stays kept unread form = recor
   bytes = λ t e. absurd (clash (sym unread ∙ e));
   form = form;
   volume = subst (λ (x : Volume). IsOperation told kind q old.volume x v v (Ok r)) (sym stays)
-    (still_there told kind q old.volume v r same sound (λ t. at_volume old v (at t)) ready.volume ready.unspent);
+      (still_there told kind q old.volume v r same sound (λ t. at_volume old v (at t)) ready.volume ready.unspent);
 }
   where
     clash : false ≡ true → ⊥

@@ -12,7 +12,7 @@ ghost use Rattle.tsd_core.specs.Core.{IsReady, IsAt, state_on};
 ghost use Rattle.tsd_core.specs.Work.{made_by, cost_of, write_limit, SameSize};
 ghost use Rattle.tsd_core.specs.Applying.{IsToldAnswer, is_refusal, asks_nothing, next_world, LeavesDebt, IsApplied};
 
-use crate::core::Core;
+use crate::disk::Core;
 use crate::told::Told;
 use image_device::{Device, Failed};
 use place_policy::Placement;

@@ -10,7 +10,7 @@ ghost use Rattle.tsd_model.specs.declared.requests.Request.TheVariants as ask;
 ghost use Rattle.tsd_core.specs.Core.{IsReady, IsAt, told_world};
 ghost use Rattle.tsd_core.specs.Carrying.{IsKnown, IsCarriedOut};
 
-use crate::core::Core;
+use crate::disk::Core;
 use crate::outcome::{bytes, done};
 use image_device::{Device, Failed};
 use tsd_model::{CapPair, Data, Reply};

@@ -7,7 +7,7 @@ ghost use Rattle.tsd_core.specs.Core.{IsReady, IsAt, told_world};
 ghost use Rattle.tsd_core.specs.Carrying.{IsKnown, IsCarriedOut};
 ghost use Rattle.tsd_core.specs.Granted.{IsRaised};
 
-use crate::core::Core;
+use crate::disk::Core;
 use image_device::{Device, Failed};
 use place_policy::Placement;
 use tsd_model::{Reply, Request};

@@ -9,7 +9,6 @@ ghost use Rattle.tsd_model.specs.declared.requests.PlaceKind.{PlaceKind};
 ghost use Rattle.tsd_model.specs.declared.requests.Request.TheVariants as ask;
 ghost use Rattle.tsd_core.specs.Core.{IsReady, IsAt, told_world};
 ghost use Rattle.tsd_core.specs.Carrying.{IsKnown, IsCarriedOut};
-
 ghost use Rattle.tsd_model.specs.Placing.{chosen, chosen_run, hint_block, runs};
 ghost use Rattle.tsd_model.specs.Step.{run_at};
 ghost use Rattle.tsd_model.specs.Verdict.{is_empty};
@@ -21,14 +20,14 @@ ghost use Rattle.core_laws.specs.Seen.{dropped_each};
 ghost use Rattle.grant_table.specs.Table.{with_sessions};
 ghost use Rattle.tsd_core.specs.Growing.{AreNew};
 
-use crate::core::Core;
+use crate::disk::Core;
 use crate::outcome::blocks;
+use block_alloc::RunRefusal;
 use grant_table::Grants;
 use image_device::{Device, Failed};
 use place_policy::Placement;
-use block_alloc::RunRefusal;
-use tsd_model::{BlockList, Hint, Reply, Rule};
 use tsd_model::ranks::hint_block;
+use tsd_model::{BlockList, Hint, Reply, Rule};
 
 impl Core {
     /// Takes free blocks and points to them.
@@ -79,8 +78,14 @@ impl Core {
     {
         match self.volume.choose_run(place, hint_block(hint), count) {
             Ok(first) => self.grow(dev, source, run_of(first, count)),
-            Err(RunRefusal::Short { free, wanted }) => Ok(Reply::Refused(Rule::Full { free, wanted })),
-            Err(RunRefusal::NoRun { free, wanted }) => Ok(Reply::Refused(Rule::NoRun { free, wanted })),
+            Err(RunRefusal::Short { free, wanted }) => Ok(Reply::Refused(Rule::Full {
+                free,
+                wanted,
+            })),
+            Err(RunRefusal::NoRun { free, wanted }) => Ok(Reply::Refused(Rule::NoRun {
+                free,
+                wanted,
+            })),
         }
     }
 

@@ -9,7 +9,7 @@
 mod apply;
 mod blocks;
 mod carry;
-mod core;
+mod disk;
 mod grow;
 mod outcome;
 mod pointers;
@@ -18,4 +18,4 @@ mod sessions;
 mod settle;
 mod told;
 
-pub use core::Core;
+pub use disk::Core;

@@ -10,7 +10,7 @@ ghost use Rattle.grant_table.specs.Table.{IsMadeFor, with_sessions};
 ghost use Rattle.tsd_core.specs.Core.{told_world};
 ghost use Rattle.tsd_core.specs.Granted.{raised_need};
 
-use crate::core::Core;
+use crate::disk::Core;
 use grant_table::{Granted, Grants, Origins};
 use tsd_model::Request;
 use tsd_model::needs::{Need, needs, session_of};
@@ -25,8 +25,18 @@ impl Core {
         ensures grants { self.new.grants ≡ with_sessions self.old.grants (raised_by (told_world self.old) self.old.grants.sessions request.now) }
     {
         let session = session_of(request).unwrap_or(0);
-        raise_at(&mut self.grants, session, need_at(request, 0), &granted.source);
-        raise_at(&mut self.grants, session, need_at(request, 1), &granted.target);
+        raise_at(
+            &mut self.grants,
+            session,
+            need_at(request, 0),
+            &granted.source,
+        );
+        raise_at(
+            &mut self.grants,
+            session,
+            need_at(request, 1),
+            &granted.target,
+        );
     }
 }
 

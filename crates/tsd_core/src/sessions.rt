@@ -17,7 +17,7 @@ ghost use Rattle.tsd_model.specs.declared.replies.Reply.TheVariants as reply;
 ghost use Rattle.grant_table.specs.Table.{with_sessions, begin_verdict, end_verdict};
 ghost use Rattle.std.specs.Prelude.{◌⊎◌};
 
-use crate::core::Core;
+use crate::disk::Core;
 use grant_table::{BeginRefusal, EndRefusal};
 use tsd_model::{Reply, Rule};
 

@@ -7,7 +7,7 @@ ghost use Rattle.volume_laws.specs.Writes.{due, Works};
 ghost use Rattle.tsd_core.specs.Core.{IsReady, IsAt, state_on, told_state};
 ghost use Rattle.tsd_core.specs.Work.{debt, IsClosed, LeavesNoDebt, SameSize};
 
-use crate::core::Core;
+use crate::disk::Core;
 use image_device::{Device, Failed};
 
 impl Core {

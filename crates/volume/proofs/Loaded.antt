@@ -1,11 +1,10 @@
 -- From the tables that were loaded to a volume at its device.
-use Rattle.std.proofs.Common.{◌≡◌, ℕ, ◌<◌, ◌&&◌, not, Bool, true, false, List, [], length, replicate, refl, sym, ◌∙◌, ap, subst, arith}
-use Rattle.std.proofs.Common.{Ok, Err, Result, inl, inr}
+use Rattle.std.proofs.Common.{◌≡◌, ℕ, ◌&&◌, not, Bool, true, false, List, [], length, replicate, refl, sym, ◌∙◌, ap, subst, arith}
+use Rattle.std.proofs.Common.{Ok, Err, inl, inr}
 use Rattle.std.proofs.lemmas.Bool.{cases_lt}
 use Rattle.std.proofs.lemmas.List.{get_or-replicate, get_or_past, length-replicate}
 use Rattle.image_device.specs.Runs.{IsFirm}
 use Rattle.image_device.specs.View.{View}
-use Rattle.image_layout.specs.declared.fault.ImageFault.{ImageFault}
 use Rattle.image_layout.specs.declared.header.Header.{Header}
 use Rattle.image_layout.specs.Areas.{header_sector, sweep_flag}
 use Rattle.image_layout.specs.Header.{IsReading}
@@ -15,7 +14,7 @@ use Rattle.intent_journal.specs.Records.{open_records, is_open_gate}
 use Rattle.intent_journal.proofs.Opened.{opened_none, home_of_empty}
 use Rattle.block_alloc.specs.LiveMap.{LiveMap, is_live}
 use Rattle.reclaim.specs.Ahead.{Kept, is_gone, Hides}
-use Rattle.image_world.specs.Faults.{IsFormatted, IsGood, HasHeader, IsTableFault, IsFirstFault}
+use Rattle.image_world.specs.Faults.{IsFormatted, IsGood, HasHeader, IsTableFault}
 use Rattle.image_world.specs.Fresh.{AreClosed}
 use Rattle.image_world.specs.Sound.{HasTables}
 use Rattle.image_world.specs.Tables.{header_on, tables_of}
@@ -27,7 +26,7 @@ use Rattle.image_tables.specs.declared.fault.LoadFault.TheVariants as table_faul
 use Rattle.image_tables.specs.Loaded.{DoFit, AreStored, tables_with}
 use Rattle.image_tables.specs.Loading.{IsLoading as AreLoading}
 use Rattle.volume.specs.Loading.{IsLoading, of_tables}
-use Rattle.volume_laws.specs.Volume.{Volume, IsAt, AreParts}
+use Rattle.volume_laws.specs.Volume.{IsAt, AreParts}
 
 -- ---- an image whose gates are closed is its own home
 at_home : (x : Image) → AreClosed x → home x ≡ x

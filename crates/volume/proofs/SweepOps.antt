@@ -1,6 +1,6 @@
 -- Steps of a sweep, and its flag, as operations.
-use Rattle.std.proofs.Common.{◌≡◌, ◌⊎◌, ℕ, ◌+◌, ◌-◌, ◌*◌, ◌<◌, ◌≤◌, Bool, true, false, cond, inl, inr, List, [], ◌∷◌, length, refl, sym, ◌∙◌, ap, subst, arith, Result}
-use Rattle.std.specs.Prelude.{OnOk, OnErr, IsTrue, is_none}
+use Rattle.std.proofs.Common.{◌≡◌, ℕ, ◌+◌, ◌<◌, ◌≤◌, Bool, true, false, cond, inl, inr, List, [], ◌∷◌, length, refl, sym, ◌∙◌, ap, subst, arith, Result}
+use Rattle.std.specs.Prelude.{OnOk, OnErr, is_none}
 use Rattle.std.proofs.lemmas.Bool.{cases_lt, both_ways}
 use Rattle.std.proofs.lemmas.List.Sums.{count_by-le-length}
 use Rattle.tsd_model.specs.Doomed.{doomed, settle}
@@ -14,9 +14,8 @@ use Rattle.image_layout.specs.Image.{gate_bytes}
 use Rattle.image_layout.specs.declared.place.Patch.{Patch}
 use Rattle.intent_journal.specs.Batch.{with_patch}
 use Rattle.pointer_table.specs.declared.out_step.OutStep.{OutStep}
-use Rattle.cycle_sweep.specs.Sweep.{MaySweep, AreSweptBy, IsSweptBy}
+use Rattle.cycle_sweep.specs.Sweep.{MaySweep, AreSweptBy}
 use Rattle.graph_laws.specs.Graph.{HasGraphOf}
-use Rattle.graph_laws.specs.RawGraph.{IsRawGraph}
 use Rattle.graph_laws.specs.Steps.{stepped}
 use Rattle.graph_laws.proofs.SameGraphLaws.{graph_of_same}
 use Rattle.graph_laws.proofs.SettleLaws.{settle_none}

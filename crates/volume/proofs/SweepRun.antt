@@ -1,5 +1,5 @@
 -- In the middle of a sweep: the world is as at the start.
-use Rattle.std.proofs.Common.{◌≡◌, ℕ, true, false, refl, ◌∙◌, arith}
+use Rattle.std.proofs.Common.{◌≡◌, true, false, refl, ◌∙◌, arith}
 use Rattle.image_device.specs.View.{View, IsSound}
 use Rattle.volume_laws.specs.Moments.{LeavesWorld}
 use Rattle.volume_laws.specs.Volume.{Volume, IsAt, told_by, world_on}

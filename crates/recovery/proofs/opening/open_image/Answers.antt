@@ -1,7 +1,7 @@
-use Rattle.std.proofs.Common.{◌≡◌, ◌∙◌, ap, sym, subst, arith}
+use Rattle.std.proofs.Common.{◌∙◌, ap, sym, arith}
 use Rattle.image_device.proofs.Moments.{uses_and}
 use Rattle.image_layout.specs.Image.{Image, is_open}
-use Rattle.recovery.proofs.OpenRuns.{IsStill, synced, read_still, opened_start, opened_sync, opened_head, opened_replay, replayed, loaded, opened_load, stood, opened_finish, opened_fault, opened_err, quiet_uses, quiet_finish}
+use Rattle.recovery.proofs.OpenRuns.{synced, read_still, opened_start, opened_sync, opened_head, opened_replay, replayed, loaded, opened_load, stood, opened_finish, opened_err, opened_device, quiet_uses, quiet_finish}
 use Rattle.recovery.proofs.opening.open_image.Goals as goal
 
 pub returns-in_err-ring-clause-any_moment : goal.returns-in_err-ring-clause-any_moment
@@ -91,3 +91,6 @@ returns-clause-unwritten g c told quiet =
     let done = replayed _ _ _ still (c.in_ok-replay.ensures.at told) (c.in_ok-replay.ensures.done told) (c.in_ok-replay.ensures.valid told) (c.in_ok-replay.ensures.firm told) (c.replay.ensures.sent told) in
     let now = loaded _ _ _ done (c.load.ensures.rests told) in
     quiet_finish _ _ _ _ quiet now (c.in_ok-volume.ensures.at told) c.in_ok-volume.ensures.ring (uses_and 0 0 0 _ _ _ (omega arith) (quiet_uses _ _ _ _ still quiet c.sync.ensures.uses c.read_head.ensures.uses (c.replay.ensures.needed told)) c.load.ensures.uses) c.finish.ensures.uses
+
+pub returns-in_err-finish-clause-read : goal.returns-in_err-finish-clause-read
+returns-in_err-finish-clause-read g c told = opened_device (g.D.Device.view c.args.dev.now) c.from_residual-in_err-finish.result c.from_residual-in_err-finish.ensures.1

@@ -15,10 +15,11 @@ loop-block-preserved c =
     let n = c.loop-block.block - c.args.first in
     let short : length c.loop-block.run < 64 = omega (arith, ap length so_far.0, length-range c.args.first n, so_far.2, c.requires.few) in
     let pushed : c.push.new.self ≡ c.loop-block.run ++ c.loop-block.block ∷ [] = where_ok c.push.result (c.push.ensures.variant.1 short) c.push.ensures.ok in
-    let more : suc n ≡ c.loop-block.block + 1 - c.args.first = omega (arith, so_far.1) in
-    (pushed
-      ∙ (ap (λ bs. bs ++ c.loop-block.block ∷ []) so_far.0
-      ∙ (sym (range_with_len-next c.args.first n c.loop-block.block (omega (arith, so_far.1)))
-      ∙ ap (range_with_len c.args.first) more)),
-     omega (arith, so_far.1),
-     omega (arith, c.loop-block-test.true))
+    let more : suc n ≡ c.loop-block.block + 1 - c.args.first = omega (arith, so_far.1) in (
+      pushed
+          ∙ (ap (λ bs. bs ++ c.loop-block.block ∷ []) so_far.0
+          ∙ (sym (range_with_len-next c.args.first n c.loop-block.block (omega (arith, so_far.1)))
+          ∙ ap (range_with_len c.args.first) more)),
+      omega (arith, so_far.1),
+      omega (arith, c.loop-block-test.true),
+    )

@@ -1,9 +1,9 @@
-use Rattle.std.proofs.Common.{◌≡◌, ℕ, ◌+◌, ◌<◌, List, [], ◌∷◌, length, drop, drop_of_length-le, sym, ◌∙◌, ap, subst, arith}
+use Rattle.std.proofs.Common.{◌≡◌, ℕ, ◌+◌, List, [], ◌∷◌, drop, drop_of_length-le, sym, ◌∙◌, ap, subst, arith}
 use Rattle.std.specs.Prelude.{slice_index}
 use Rattle.std.proofs.lemmas.List.{drop_more}
 use Rattle.tsd_model.specs.declared.geometry.Geometry.{Geometry}
 use Rattle.block_alloc.specs.LiveMap.{LiveMap}
-use Rattle.volume_laws.specs.Growing.{Parts, parts_of, DoFit, HasRoom, IsGrown}
+use Rattle.volume_laws.specs.Growing.{parts_of, DoFit, HasRoom, IsGrown}
 use Rattle.volume_laws.proofs.Grown.{grown_none, grown_more, room_more}
 use Rattle.volume.proofs.growing.put_new.Goals as goal
 

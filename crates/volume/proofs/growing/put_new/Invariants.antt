@@ -1,4 +1,4 @@
-use Rattle.std.proofs.Common.{◌≡◌, ◌+◌, ◌≤◌, ◌*◌, List, [], length, drop}
+use Rattle.std.proofs.Common.{◌≡◌, ◌≤◌, ◌*◌, List, [], length, drop}
 use Rattle.image_layout.specs.declared.place.Patch.{Patch}
 use Rattle.volume_laws.specs.Growing.{Parts, parts_of, DoFit, HasRoom, HidesNone, IsGrown}
 use Rattle.volume.proofs.growing.put_new.Given as goal

@@ -1,11 +1,8 @@
-use Rattle.std.proofs.Common.{◌≡◌, ℕ, ◌+◌, ◌<◌, length, List, sym, ◌∙◌, ap, subst, arith, Result, Ok}
-use Rattle.std.specs.Prelude.{OnOk, IfOk}
+use Rattle.std.proofs.Common.{◌≡◌, sym, ◌∙◌, ap, subst, arith}
 use Rattle.tsd_model.specs.declared.geometry.Geometry.{Geometry}
 use Rattle.image_layout.specs.declared.place.Patch.{Patch}
-use Rattle.pointer_table.specs.Table.{Table as Pointers, pairs}
-use Rattle.ref_counts.specs.Table.{Table as Counts}
+use Rattle.pointer_table.specs.Table.{Table as Pointers}
 use Rattle.ref_counts.specs.Changes.{KeepsStored as KeepsCounts}
-use Rattle.block_alloc.specs.LiveMap.{LiveMap}
 use Rattle.image_device.specs.Image.{Image, put_at}
 use Rattle.intent_journal.specs.Home.{overlaid}
 use Rattle.volume_laws.specs.Growing.{parts_of}

@@ -1,4 +1,4 @@
-use Rattle.std.proofs.Common.{◌≡◌, ◌*◌, ℕ, length}
+use Rattle.std.proofs.Common.{◌≡◌, ◌*◌, length}
 use Rattle.image_device.specs.Calls.{Rests, Uses}
 use Rattle.image_layout.specs.Image.{sector_bytes}
 use Rattle.image_layout.specs.Places.{data_sector}

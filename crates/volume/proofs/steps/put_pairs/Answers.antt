@@ -1,8 +1,7 @@
-use Rattle.std.proofs.Common.{◌≡◌, ◌<◌, ◌≤◌, ◌*◌, ◌+◌, ℕ, true, List, length, take, refl, sym, ◌∙◌, ap, subst, arith, Result, Ok, Err}
+use Rattle.std.proofs.Common.{◌≡◌, ◌<◌, ◌≤◌, ◌*◌, ℕ, true, List, length, take, refl, sym, ◌∙◌, ap, subst, arith}
 use Rattle.std.proofs.lemmas.Bool.{both_ways}
 use Rattle.std.proofs.lemmas.List.{length-take}
-use Rattle.std.specs.Prelude.{IsErr, IsOk, OnOk, OnErr, IfOk, slice_index, get_or}
-use Rattle.tsd_model.specs.declared.geometry.Geometry.{Geometry}
+use Rattle.std.specs.Prelude.{get_or}
 use Rattle.tsd_model.specs.Pairs.{holds}
 use Rattle.image_layout.specs.declared.place.Patch.{Patch}
 use Rattle.intent_journal.specs.Batch.{with_patch}
@@ -10,12 +9,11 @@ use Rattle.pointer_table.specs.Table.{Table as Pointers}
 use Rattle.ref_counts.specs.Table.{Table as Counts}
 use Rattle.ref_counts.specs.Changes.{KeepsStored as KeepsCounts}
 use Rattle.image_world.specs.Tables.{Tables, pairs_of}
-use Rattle.volume_laws.specs.Steps.{MayTake, IsTaken, with_parts, pairs_without}
+use Rattle.volume_laws.specs.Steps.{MayTake, IsTaken, with_parts}
 use Rattle.volume_laws.proofs.BlockLaws.{put_ok, length-with_patch}
-use Rattle.volume_laws.proofs.Dropped.{held_within, count_some}
+use Rattle.volume_laws.proofs.Dropped.{count_some}
 use Rattle.volume_laws.proofs.Taken.{taken_none, taken_more, next_pair}
 use Rattle.volume_laws.proofs.Outcomes.{ok_here, if_here, ok_if}
-use Rattle.volume.proofs.steps.put_pairs.Given
 use Rattle.volume.proofs.steps.put_pairs.Goals as goal
 
 pub loop-target-init : goal.loop-target-init

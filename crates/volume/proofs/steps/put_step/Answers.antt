@@ -1,4 +1,4 @@
-use Rattle.std.proofs.Common.{◌≡◌, ◌≢◌, ◌<◌, ◌≤◌, ◌*◌, ◌+◌, ℕ, true, false, Bool, List, [], ◌∷◌, length, cond, refl, sym, ◌∙◌, ap, subst, arith}
+use Rattle.std.proofs.Common.{◌≡◌, ◌≢◌, ◌<◌, ◌≤◌, ℕ, false, Bool, List, [], ◌∷◌, length, cond, refl, sym, ◌∙◌, ap, subst, arith}
 use Rattle.std.specs.Prelude.{slice_set}
 use Rattle.tsd_model.specs.declared.geometry.Geometry.{Geometry}
 use Rattle.image_device.specs.Image.{put_at}
@@ -8,8 +8,8 @@ use Rattle.image_layout.specs.declared.place.Patch.{Patch}
 use Rattle.intent_journal.specs.Batch.{with_patch}
 use Rattle.block_alloc.specs.LiveMap.{LiveMap}
 use Rattle.block_alloc.specs.Stored.{IsStoredAt, IsStored, sector_of}
-use Rattle.image_world.specs.Tables.{Tables, pairs_of}
-use Rattle.volume_laws.specs.Steps.{MayTake, IsTaken, with_parts, MayPut, IsPut, with_all, IsStepped, live_after, pairs_without}
+use Rattle.image_world.specs.Tables.{Tables}
+use Rattle.volume_laws.specs.Steps.{MayTake, IsTaken, with_parts, MayPut, with_all, live_after}
 use Rattle.image_world.specs.Turns.{Turns}
 use Rattle.volume_laws.proofs.BlockLaws.{put_ok, length-with_patch}
 use Rattle.volume_laws.proofs.Freed.{freed_turn, allowed_inside}
@@ -17,7 +17,6 @@ use Rattle.pointer_table.specs.Table.{Table as Pointers}
 use Rattle.pointer_table.specs.declared.out_step.OutStep.{OutStep}
 use Rattle.ref_counts.specs.Table.{Table as Counts}
 use Rattle.volume_laws.proofs.Taken.{one_turn}
-use Rattle.volume.proofs.steps.put_step.Given
 use Rattle.volume.proofs.steps.put_step.Goals as goal
 
 pub returns-then-step-clause-put : goal.returns-then-step-clause-put

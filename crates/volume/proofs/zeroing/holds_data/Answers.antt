@@ -1,4 +1,4 @@
-use Rattle.std.proofs.Common.{◌≡◌, ◌<◌, ℕ, false, ◌∙◌, ap, sym, arith}
+use Rattle.std.proofs.Common.{◌∙◌, ap, sym, arith}
 use Rattle.image_layout.specs.Places.{data_sector}
 use Rattle.intent_journal.specs.Batch.{has_home}
 use Rattle.intent_journal.specs.Records.{patches_of}

@@ -1,4 +1,4 @@
-use Rattle.std.proofs.Common.{◌≡◌, ◌≢◌, ◌<◌, ◌+◌, ℕ, true, inl, inr, ◌∙◌, ap, sym, arith}
+use Rattle.std.proofs.Common.{◌≢◌, ◌+◌, inl, inr, ◌∙◌, ap, sym, arith}
 use Rattle.std.proofs.lemmas.Bool.{cases_eq}
 use Rattle.image_device.proofs.Confined.{confined_write}
 use Rattle.image_layout.specs.Places.{data_sector}

@@ -1,4 +1,4 @@
-use Rattle.std.proofs.Common.{◌≡◌, ◌<◌, ◌≤◌, ℕ}
+use Rattle.std.proofs.Common.{◌≡◌, ◌<◌, ℕ}
 use Rattle.image_device.specs.Calls.{Uses}
 use Rattle.image_device.specs.Image.{zeros}
 use Rattle.image_device.specs.Runs.{IsConfined}

@@ -1,7 +1,6 @@
-use Rattle.std.proofs.Common.{◌≡◌, ◌≢◌, ◌<◌, ◌≤◌, ◌+◌, ◌-◌, ◌*◌, ℕ, true, false, inl, inr, ◌∙◌, ap, sym, arith}
+use Rattle.std.proofs.Common.{◌≡◌, ◌+◌, ◌-◌, ◌*◌, false, inl, inr, ◌∙◌, ap, sym, arith}
 use Rattle.std.specs.Prelude.{slice_index}
 use Rattle.std.proofs.lemmas.Bool.{cases_eq, cases_Bool, cases_lt}
-use Rattle.image_device.specs.Image.{zeros}
 use Rattle.image_device.proofs.Confined.{confined_joined, confined_wider}
 use Rattle.image_layout.specs.Places.{data_sector}
 use Rattle.volume_laws.specs.Zeroed.{is_part, is_data}

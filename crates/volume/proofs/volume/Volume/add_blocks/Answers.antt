@@ -1,4 +1,4 @@
-use Rattle.std.proofs.Common.{◌≡◌, ◌≤◌, ◌<◌, ◌+◌, ◌*◌, ℕ, List, [], length, refl, sym, ◌∙◌, ap, subst, arith, Result, Ok, Err}
+use Rattle.std.proofs.Common.{◌≡◌, ◌+◌, ◌*◌, ℕ, List, [], length, refl, sym, ◌∙◌, ap, subst, arith}
 use Rattle.std.specs.Prelude.{OnOk}
 use Rattle.tsd_model.specs.declared.geometry.Geometry.{Geometry}
 use Rattle.tsd_model.specs.World.{World}
@@ -7,10 +7,8 @@ use Rattle.image_layout.specs.declared.place.Patch.{Patch}
 use Rattle.block_alloc.specs.LiveMap.{is_live as is_marked_in}
 use Rattle.image_world.specs.Sound.{AreSound}
 use Rattle.image_world.specs.Tables.{Tables, pairs_of}
-use Rattle.image_world.specs.Raw.{left_of, world_with}
-use Rattle.volume_laws.specs.Growing.{Parts, parts_of, with_parts, DoFit, AreFree, HasRoom, IsGrown}
-use Rattle.volume_laws.specs.Moments.{owed}
-use Rattle.volume_laws.specs.Volume.{Volume, tables_in, told_by}
+use Rattle.volume_laws.specs.Growing.{Parts, parts_of, with_parts, DoFit, AreFree, IsGrown}
+use Rattle.volume_laws.specs.Volume.{Volume, tables_in}
 use Rattle.volume_laws.specs.Writes.{batch_cost, lost_cost, IsPaid}
 use Rattle.volume_laws.specs.Zeroed.{firmed}
 use Rattle.volume_laws.proofs.Made.{IsMade, has_zeros, made, fits}

@@ -1,11 +1,10 @@
-use Rattle.std.proofs.Common.{◌≡◌, ◌≤◌, ◌<◌, ℕ, List, [], true, false, length, sym, ◌∙◌, ap, subst, arith, Result, Ok}
-use Rattle.std.specs.Prelude.{OnOk, OnErr, IfOk, slice_index}
+use Rattle.std.proofs.Common.{◌≡◌, ◌≤◌, ◌<◌, ℕ, List, true, false, sym, ◌∙◌, ap, subst, arith}
+use Rattle.std.specs.Prelude.{slice_index}
 use Rattle.tsd_model.specs.declared.geometry.Geometry.{Geometry}
 use Rattle.tsd_model.specs.Pairs.{holds}
 use Rattle.tsd_model.specs.World.{is_live}
 use Rattle.tsd_model.specs.Step.{with_pointer}
 use Rattle.image_layout.specs.declared.place.Patch.{Patch}
-use Rattle.intent_journal.specs.Batch.{with_patch}
 use Rattle.pointer_table.specs.Slots.{pairs_in}
 use Rattle.pointer_table.specs.Table.{IsWithin}
 use Rattle.pointer_table.specs.Table.{Table as Pointers}
@@ -16,7 +15,6 @@ use Rattle.image_world.specs.Tables.{Tables}
 use Rattle.image_world.specs.Raw.{left_of, world_with}
 use Rattle.volume_laws.specs.Volume.{Volume, tables_in, told_by}
 use Rattle.volume_laws.specs.Moments.{owed}
-use Rattle.volume_laws.proofs.BlockLaws.{put_ok, length-with_patch}
 use Rattle.volume_laws.proofs.Ops.{any_bytes, IsOp, op_at, op_done, op_told, op_moments, op_paid}
 use Rattle.volume_laws.proofs.Pointed.{IsOpenTo, IsAdded, raw_absent, ends_within, count_room, left_pointer, owed_pointer, added}
 use Rattle.std.proofs.lemmas.Bool.{both_ways}

@@ -1,12 +1,11 @@
-use Rattle.std.proofs.Common.{◌≡◌, ◌<◌, ◌≤◌, ℕ, false, List, length, sym, ◌∙◌, ap, subst, arith}
-use Rattle.image_world.specs.Tables.{Tables, pairs_of}
+use Rattle.std.proofs.Common.{◌≡◌, ◌<◌, ℕ, List, length, sym, ap, subst, arith}
+use Rattle.image_world.specs.Tables.{pairs_of}
 use Rattle.tsd_model.specs.World.{World}
 use Rattle.tsd_model.specs.declared.geometry.Geometry.{Geometry}
-use Rattle.pointer_table.specs.Slots.{pairs_in}
 use Rattle.volume_laws.specs.Moments.{owed}
 use Rattle.volume_laws.specs.Volume.{Volume, IsReady, told_by}
 use Rattle.volume_laws.proofs.Pointed.{settled_pairs}
-use Rattle.std.proofs.Common.{ℕ, ◌+◌, ◌≤◌, sym}
+use Rattle.std.proofs.Common.{ℕ, sym}
 use Rattle.image_device.specs.View.{View}
 use Rattle.volume_laws.specs.Moments.{LeavesOwed}
 use Rattle.volume_laws.specs.Writes.{due}

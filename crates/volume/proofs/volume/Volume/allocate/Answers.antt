@@ -1,6 +1,5 @@
-use Rattle.std.proofs.Common.{◌≡◌, ◌≤◌, ◌+◌, ℕ, List, length, sym, ◌∙◌, ap, subst}
+use Rattle.std.proofs.Common.{◌≤◌, ◌+◌, ℕ, List, length, sym, subst}
 use Rattle.image_world.specs.Tables.{pairs_of}
-use Rattle.tsd_model.specs.World.{World}
 use Rattle.tsd_model.specs.Step.{with_new_blocks}
 use Rattle.volume_laws.specs.Growing.{AreFree}
 use Rattle.volume_laws.specs.Moments.{LeavesEither}

@@ -1,13 +1,10 @@
-use Rattle.std.proofs.Common.{◌≡◌, ℕ, List, [], ◌∷◌, true, false, inl, inr, refl, sym, ◌∙◌, ap, subst}
+use Rattle.std.proofs.Common.{◌≡◌, ℕ, List, [], ◌∷◌, true, false, inl, inr, sym, ◌∙◌, ap, subst}
 use Rattle.std.proofs.lemmas.Bool.{cases_Bool}
 use Rattle.tsd_model.specs.Reach.{swept}
-use Rattle.tsd_model.specs.World.{World}
-use Rattle.image_layout.specs.declared.place.Patch.{Patch}
 use Rattle.intent_journal.specs.Ring.{commit_writes}
 use Rattle.image_layout.specs.Areas.{sweep_flag}
 use Rattle.image_world.specs.Sound.{AreSound}
 use Rattle.image_world.specs.Tables.{Tables}
-use Rattle.reclaim.specs.Ahead.{is_gone}
 use Rattle.volume_laws.specs.Moments.{owed}
 use Rattle.volume_laws.specs.Volume.{Volume, tables_in}
 use Rattle.volume_laws.proofs.AheadKept.{none_gone}

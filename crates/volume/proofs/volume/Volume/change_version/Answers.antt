@@ -1,14 +1,11 @@
-use Rattle.std.proofs.Common.{◌≡◌, ℕ, ◌≤◌, inl, inr, List, [], length, refl, sym, ◌∙◌, ap, subst, arith, Ok}
-use Rattle.std.specs.Prelude.{OnOk, map}
+use Rattle.std.proofs.Common.{◌≡◌, inl, inr, List, refl, sym, ◌∙◌, ap, subst, Ok}
+use Rattle.std.specs.Prelude.{map}
 use Rattle.std.proofs.lemmas.Bool.{cases_eq}
 use Rattle.tsd_model.specs.Records.{upgraded, upgraded_record}
 use Rattle.tsd_model.specs.Geometry.{IsLawful}
 use Rattle.tsd_model.specs.declared.geometry.Geometry.{Geometry}
 use Rattle.tsd_model.specs.declared.records.Record.{Record}
 use Rattle.image_layout.specs.Header.{IsReading, header_bytes}
-use Rattle.image_layout.specs.Areas.{caps_start}
-use Rattle.image_layout.specs.Image.{Image}
-use Rattle.image_layout.specs.declared.header.Header.{Header}
 use Rattle.cap_store.specs.Store.{Store}
 use Rattle.cap_store.specs.Stored.{caps_sector_bytes}
 use Rattle.cap_store.specs.Stored.{IsStored as AreKept}

@@ -1,12 +1,11 @@
-use Rattle.std.proofs.Common.{◌≡◌, ◌+◌, ◌≤◌, ◌<◌, ℕ, List, [], true, false, length, refl, sym, ◌∙◌, ap, subst, arith, Result, Ok, Err}
+use Rattle.std.proofs.Common.{◌≡◌, ◌+◌, ◌<◌, ℕ, List, true, false, length, sym, ◌∙◌, ap, subst, arith}
 use Rattle.std.proofs.lemmas.Bool.{both_ways}
-use Rattle.std.specs.Prelude.{IsErr, IsOk, OnOk, OnErr, IfOk, slice_index}
+use Rattle.std.specs.Prelude.{slice_index}
 use Rattle.tsd_model.specs.declared.geometry.Geometry.{Geometry}
 use Rattle.tsd_model.specs.Pairs.{holds}
 use Rattle.tsd_model.specs.Step.{without_pointer}
 use Rattle.tsd_model.specs.Doomed.{settle}
 use Rattle.image_layout.specs.declared.place.Patch.{Patch}
-use Rattle.intent_journal.specs.Batch.{with_patch}
 use Rattle.pointer_table.specs.Slots.{pairs_in}
 use Rattle.pointer_table.specs.Table.{Table as Pointers}
 use Rattle.ref_counts.specs.Table.{Table as Counts}
@@ -16,7 +15,6 @@ use Rattle.image_world.specs.Tables.{Tables}
 use Rattle.image_world.specs.Raw.{left_of, world_with}
 use Rattle.volume_laws.specs.Volume.{Volume, tables_in, told_by}
 use Rattle.volume_laws.specs.Moments.{owed}
-use Rattle.volume_laws.proofs.BlockLaws.{put_ok, length-with_patch}
 use Rattle.volume_laws.proofs.Ops.{any_bytes, IsOp, op_at, op_done, op_told, op_moments}
 use Rattle.volume_laws.proofs.Dropped.{HoldsPair, IsDropped, less_slots, held_within, count_some, raw_held, left_dropped, dropped}
 use Rattle.image_device.proofs.Outcomes.{on_ok}
@@ -27,7 +25,6 @@ use Rattle.volume_laws.specs.Graphs.{graph_in}
 use Rattle.volume_laws.proofs.Committed.{ok_map}
 use Rattle.volume_laws.proofs.DropOwed.{owed_dropped, drop_paid, drop_counted}
 use Rattle.volume_laws.proofs.StepOps.{owed_moments}
-use Rattle.image_world.specs.Raw.{zeros_of}
 use Rattle.tsd_model.specs.World.{World}
 use Rattle.block_alloc.specs.LiveMap.{LiveMap}
 use Rattle.graph_laws.specs.Graph.{graph}

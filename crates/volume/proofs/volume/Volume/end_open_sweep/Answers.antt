@@ -1,8 +1,6 @@
-use Rattle.std.proofs.Common.{◌≡◌, ◌<◌, true, refl, ◌∙◌, arith}
+use Rattle.std.proofs.Common.{◌∙◌}
 use Rattle.volume_laws.proofs.Idle.{world_joined}
 use Rattle.volume.proofs.SweepRun.{run_none, run_more, run_moment}
-use Rattle.volume.proofs.SweepOps.{works_joined}
-use Rattle.volume.proofs.volume.Volume.end_open_sweep.Given
 use Rattle.volume.proofs.volume.Volume.end_open_sweep.Goals as goal
 
 pub loop-init : goal.loop-init

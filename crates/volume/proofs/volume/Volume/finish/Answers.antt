@@ -1,4 +1,4 @@
-use Rattle.std.proofs.Common.{◌≡◌, ◌≤◌, ℕ, ap, sym, ◌∙◌, subst, arith}
+use Rattle.std.proofs.Common.{◌≡◌, ap, ◌∙◌, arith}
 use Rattle.tsd_model.specs.World.{free_count}
 use Rattle.image_world.specs.Raw.{world_with, zeros_of}
 use Rattle.volume_laws.specs.Volume.{Volume, told_by}

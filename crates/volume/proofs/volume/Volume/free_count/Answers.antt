@@ -1,5 +1,4 @@
-use Rattle.std.proofs.Common.{◌≡◌, false, length, refl, ◌∙◌, ap}
-use Rattle.block_alloc.specs.LiveMap.{LiveMap}
+use Rattle.std.proofs.Common.{◌≡◌, false, refl, ◌∙◌, ap}
 use Rattle.image_world.specs.Raw.{blank_of}
 use Rattle.volume_laws.specs.Volume.{Volume, tables_in, told_by}
 use Rattle.volume_laws.proofs.QuestionLaws.{map_of}

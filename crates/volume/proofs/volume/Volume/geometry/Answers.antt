@@ -1,10 +1,5 @@
-use Rattle.std.proofs.Common.{◌≡◌, ℕ, ◌≤◌, true, ◌∙◌, sym, ap, subst, arith}
-use Rattle.block_alloc.specs.LiveMap.{LiveMap}
-use Rattle.image_world.specs.Raw.{blank_of}
-use Rattle.volume_laws.specs.Volume.{Volume, tables_in, told_by}
-use Rattle.tsd_model.specs.Pairs.{holds}
-use Rattle.tsd_model.specs.World.{is_live}
-use Rattle.tsd_model.specs.Valid.{IsSized}
+use Rattle.std.proofs.Common.{ap, subst, arith}
+use Rattle.volume_laws.specs.Volume.{Volume}
 use Rattle.intent_journal.specs.Ring.{checkpoint_writes}
 use Rattle.intent_journal.proofs.Emptying.{ring_most}
 use Rattle.image_world.specs.Tables.{Tables}

@@ -1,6 +1,6 @@
 use Rattle.tsd_model.specs.Step.{with_new_blocks}
 use Rattle.volume_laws.proofs.ZeroedLaws.{grow_moments}
-use Rattle.std.proofs.Common.{◌≡◌, ℕ, ◌+◌, ◌*◌, ◌≤◌, length, ap, arith}
+use Rattle.std.proofs.Common.{◌≡◌, ◌*◌, length, ap, arith}
 use Rattle.tsd_model.specs.declared.geometry.Geometry.{Geometry}
 use Rattle.volume_laws.specs.Moments.{owed}
 use Rattle.volume_laws.specs.Volume.{Volume}

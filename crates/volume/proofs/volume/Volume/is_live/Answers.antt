@@ -1,7 +1,4 @@
 use Rattle.std.proofs.Common.{◌≡◌, false, refl, ◌∙◌, ap}
-use Rattle.block_alloc.specs.LiveMap.{LiveMap}
-use Rattle.image_world.specs.Sound.{AreSound}
-use Rattle.image_world.specs.Tables.{Tables}
 use Rattle.volume_laws.specs.Volume.{Volume, tables_in}
 use Rattle.volume_laws.proofs.QuestionLaws.{shown}
 use Rattle.tsd_model.specs.World.{is_live}

@@ -1,5 +1,4 @@
-use Rattle.std.proofs.Common.{◌≡◌, ◌∙◌, sym, ap}
-use Rattle.block_alloc.specs.LiveMap.{LiveMap}
+use Rattle.std.proofs.Common.{◌∙◌, sym, ap}
 use Rattle.image_world.specs.Raw.{blank_of}
 use Rattle.volume_laws.specs.Volume.{Volume, tables_in, told_by}
 use Rattle.tsd_model.specs.Attained.{shown_level}

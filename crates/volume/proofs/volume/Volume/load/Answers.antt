@@ -1,10 +1,10 @@
-use Rattle.std.proofs.Common.{◌≡◌, ℕ, List, false, ap, sym, ◌∙◌, subst}
+use Rattle.std.proofs.Common.{List, false, ap, sym, ◌∙◌, subst}
 use Rattle.std.proofs.lemmas.Result.{err_from_is_err_and}
 use Rattle.image_device.proofs.Resting.{rests_joined}
 use Rattle.intent_journal.specs.Records.{Record}
 use Rattle.image_layout.specs.Areas.{sweep_flag}
 use Rattle.image_layout.specs.Image.{Image, is_open}
-use Rattle.volume_laws.specs.Volume.{Volume, IsAt}
+use Rattle.volume_laws.specs.Volume.{IsAt}
 use Rattle.image_tables.specs.Loaded.{tables_with}
 use Rattle.volume.proofs.Loaded.{loaded_good, loaded_at, loading_failed, parts_fit}
 use Rattle.volume.proofs.volume.Volume.load.Goals as goal

@@ -1,6 +1,5 @@
-use Rattle.std.proofs.Common.{◌≡◌, ℕ, true, false, inl, inr, ap, sym, ◌∙◌, subst}
+use Rattle.std.proofs.Common.{◌≡◌, ℕ, false, inl, inr, ap, sym, ◌∙◌}
 use Rattle.std.proofs.lemmas.Bool.{cases_Bool}
-use Rattle.image_world.specs.Tables.{Tables}
 use Rattle.reclaim.specs.Ahead.{IsAheadOf, is_gone}
 use Rattle.volume_laws.specs.Graphs.{graph_in}
 use Rattle.volume_laws.specs.Moments.{owed}

@@ -1,26 +1,16 @@
-use Rattle.std.proofs.Common.{◌≡◌, ◌<◌, ℕ, List, false, length, cond, refl, sym, ◌∙◌, ap, subst, arith}
-use Rattle.std.specs.Prelude.{OnOk}
+use Rattle.std.proofs.Common.{◌≡◌, refl, sym, ◌∙◌, ap, subst, arith}
 use Rattle.image_device.proofs.Outcomes.{on_ok}
-use Rattle.tsd_model.specs.World.{World}
-use Rattle.image_layout.specs.declared.place.Patch.{Patch}
-use Rattle.intent_journal.specs.Records.{Record}
 use Rattle.image_world.specs.Sound.{AreSound}
 use Rattle.image_world.specs.Tables.{Tables}
-use Rattle.pointer_table.specs.declared.out_step.OutStep.{OutStep}
-use Rattle.pointer_table.specs.Table.{Table as Pointers}
-use Rattle.ref_counts.specs.Table.{Table as Counts}
-use Rattle.block_alloc.specs.LiveMap.{LiveMap}
-use Rattle.image_layout.specs.declared.header.Header.{Header}
-use Rattle.cap_store.specs.Store.{Store}
 use Rattle.volume_laws.specs.Graphs.{graph_in, IsNext}
 use Rattle.reclaim.specs.Ahead.{Kept, is_gone}
 use Rattle.volume_laws.proofs.AheadKept.{hides_stepped, ahead_then, gone_then, counted_then}
 use Rattle.volume_laws.proofs.Freed.{next_allowed}
 use Rattle.volume_laws.proofs.TableWorlds.{graph_laid_out}
 use Rattle.volume_laws.specs.Moments.{owed}
-use Rattle.volume_laws.specs.Steps.{MayPut, IsPut, IsStepped, with_all, AreFor}
-use Rattle.volume_laws.specs.Volume.{Volume, tables_in, told_by}
-use Rattle.volume_laws.proofs.Ops.{any_bytes, IsOp, op_at, op_done, op_told, op_moments}
+use Rattle.volume_laws.specs.Steps.{MayPut, IsPut, IsStepped, with_all}
+use Rattle.volume_laws.specs.Volume.{Volume, tables_in}
+use Rattle.volume_laws.proofs.Ops.{any_bytes, op_at, op_done, op_told, op_moments}
 use Rattle.volume_laws.proofs.StepOps.{IsStepOf, step_of, step_paid, step_used, step_uses, step_most, either_same, owed_moments}
 use Rattle.volume.proofs.volume.Volume.make_step.Given
 use Rattle.volume.proofs.volume.Volume.make_step.Goals as goal

@@ -1,4 +1,4 @@
-use Rattle.std.proofs.Common.{◌≡◌, ◌<◌, ℕ, List, true, false, length, refl, sym, ◌∙◌, ap, subst, arith}
+use Rattle.std.proofs.Common.{◌≡◌, false, refl, sym, ◌∙◌, ap, subst}
 use Rattle.image_device.proofs.Outcomes.{on_ok}
 use Rattle.intent_journal.specs.Ring.{commit_writes}
 use Rattle.image_world.specs.Sound.{AreSound}

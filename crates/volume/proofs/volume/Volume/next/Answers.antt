@@ -1,4 +1,4 @@
-use Rattle.std.proofs.Common.{◌≡◌, ℕ, [], length, sym, ◌∙◌, ap, subst}
+use Rattle.std.proofs.Common.{◌≡◌, length, sym, ◌∙◌, ap}
 use Rattle.tsd_model.specs.World.{World}
 use Rattle.tsd_model.specs.Doomed.{doomed}
 use Rattle.image_world.specs.Tables.{Tables}

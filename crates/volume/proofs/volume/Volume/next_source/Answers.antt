@@ -1,4 +1,4 @@
-use Rattle.std.proofs.Common.{◌≡◌, ℕ, ◌+◌, ◌<◌, ◌≤◌, Bool, true, false, not, ◌&&◌, List, refl, sym, ◌∙◌, ap, arith}
+use Rattle.std.proofs.Common.{◌≡◌, ℕ, Bool, false, not, ◌&&◌, List, refl, sym, ◌∙◌, ap, arith}
 use Rattle.tsd_model.specs.Pairs.{holds}
 use Rattle.pointer_table.specs.Table.{pairs}
 use Rattle.reclaim.specs.Ahead.{is_gone}

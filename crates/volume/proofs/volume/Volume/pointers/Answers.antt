@@ -1,6 +1,4 @@
-use Rattle.std.proofs.Common.{◌≡◌, ◌+◌, ◌≤◌, false, length, refl, ◌∙◌, ap, arith}
-use Rattle.block_alloc.specs.LiveMap.{LiveMap}
-use Rattle.image_world.specs.Raw.{blank_of}
+use Rattle.std.proofs.Common.{◌≡◌, false, length, refl, ◌∙◌, ap, arith}
 use Rattle.volume_laws.specs.Volume.{Volume, tables_in, told_by}
 use Rattle.volume_laws.proofs.QuestionLaws.{pairs_told}
 use Rattle.volume.proofs.volume.Volume.pointers.Goals as goal

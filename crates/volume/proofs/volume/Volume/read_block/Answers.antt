@@ -1,8 +1,6 @@
-use Rattle.std.proofs.Common.{◌≡◌, ◌<◌, true, List, length, refl, sym, ◌∙◌, ap, subst, Result, Some}
-use Rattle.std.specs.Prelude.{OnOk}
+use Rattle.std.proofs.Common.{◌<◌, List, sym, ◌∙◌, ap, subst, Some}
 use Rattle.tsd_model.specs.declared.geometry.Geometry.{Geometry}
 use Rattle.tsd_model.specs.Geometry.{IsLawful, block_len}
-use Rattle.tsd_model.specs.World.{contents}
 use Rattle.image_device.proofs.Outcomes.{on_ok}
 use Rattle.image_layout.specs.Image.{data_bytes}
 use Rattle.intent_journal.specs.Home.{home}
@@ -10,7 +8,7 @@ use Rattle.intent_journal.specs.Records.{Record}
 use Rattle.intent_journal.specs.Ring.{IsAt as IsRingAt}
 use Rattle.image_world.specs.Sound.{AreSound}
 use Rattle.image_world.specs.Tables.{Tables}
-use Rattle.volume_laws.specs.Volume.{Volume, world_on}
+use Rattle.volume_laws.specs.Volume.{Volume}
 use Rattle.volume_laws.proofs.Committed.{ok_map, told_inside}
 use Rattle.volume_laws.proofs.ReadLaws.{rested_at, rested_world, rested_moments, rested_owed, read_bytes}
 use Rattle.volume.proofs.volume.Volume.read_block.Goals as goal

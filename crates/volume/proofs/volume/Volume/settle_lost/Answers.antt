@@ -1,6 +1,5 @@
-use Rattle.std.proofs.Common.{◌≡◌, ◌<◌, true, arith}
+use Rattle.std.proofs.Common.{arith}
 use Rattle.volume_laws.proofs.SettlingLaws.{settling_none, settling_more, moment_more}
-use Rattle.volume.proofs.volume.Volume.settle_lost.Given
 use Rattle.volume.proofs.volume.Volume.settle_lost.Goals as goal
 
 pub loop-init : goal.loop-init

@@ -1,7 +1,5 @@
-use Rattle.std.proofs.Common.{◌≡◌, ◌<◌, ◌+◌, ◌*◌, ◌≤◌, true, arith}
-use Rattle.std.proofs.lemmas.Bool.{not-false}
+use Rattle.std.proofs.Common.{arith}
 use Rattle.volume_laws.proofs.SettlingLaws.{settling_none, settling_more, moment_more}
-use Rattle.volume.proofs.volume.Volume.settle_some.Given
 use Rattle.volume.proofs.volume.Volume.settle_some.Goals as goal
 
 pub loop-step-init : goal.loop-step-init

@@ -1,7 +1,6 @@
-use Rattle.std.proofs.Common.{◌≡◌, ◌≤◌, ℕ, refl, sym, ◌∙◌, ap, subst, arith}
+use Rattle.std.proofs.Common.{◌≡◌, refl, sym, ◌∙◌, ap, subst, arith}
 use Rattle.tsd_model.specs.Reach.{swept, reach}
 use Rattle.tsd_model.specs.World.{World, free_count, has_number}
-use Rattle.image_device.specs.View.{View}
 use Rattle.image_world.specs.Raw.{world_with, zeros_of}
 use Rattle.volume_laws.specs.Volume.{Volume, IsAt, told_by, world_on}
 use Rattle.volume_laws.proofs.Allocated.{then_moments}

@@ -1,4 +1,3 @@
-use Rattle.std.proofs.Common.{refl, arith}
 use Rattle.volume_laws.proofs.Idle.{idle_world}
 use Rattle.volume.proofs.volume.Volume.sweep_step.Goals as goal
 

@@ -1,4 +1,4 @@
-use Rattle.std.proofs.Common.{◌≡◌, false, true, [], refl, sym, ◌∙◌, ap}
+use Rattle.std.proofs.Common.{◌≡◌, false, refl, sym, ◌∙◌, ap}
 use Rattle.tsd_model.specs.Step.{targets_from}
 use Rattle.volume_laws.proofs.QuestionLaws.{targets_stay, targets_gone}
 use Rattle.volume_laws.specs.Volume.{Volume, tables_in, told_by}

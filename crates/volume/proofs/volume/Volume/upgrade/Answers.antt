@@ -1,7 +1,7 @@
-use Rattle.std.proofs.Common.{◌≡◌, ℕ, ◌≤◌, inl, inr, ⊎_elim, sym, ◌∙◌, ap, subst, arith}
+use Rattle.std.proofs.Common.{◌≡◌, ◌∙◌, ap, arith}
 use Rattle.tsd_model.specs.Records.{upgraded}
 use Rattle.volume_laws.specs.Moments.{owed}
-use Rattle.volume_laws.specs.Volume.{Volume, world_on}
+use Rattle.volume_laws.specs.Volume.{Volume}
 use Rattle.volume_laws.proofs.Allocated.{change_first}
 use Rattle.volume_laws.proofs.Idle.{owed_joined}
 use Rattle.volume.proofs.volume.Volume.upgrade.Goals as goal

@@ -1,5 +1,4 @@
-use Rattle.std.proofs.Common.{◌≡◌, ◌<◌, ℕ, true, ◌∙◌, ap, sym, subst, Result, Ok, Err}
-use Rattle.std.specs.Prelude.{OnOk}
+use Rattle.std.proofs.Common.{◌≡◌, ◌<◌, ℕ, true, ◌∙◌, ap, sym, subst}
 use Rattle.tsd_model.specs.declared.geometry.Geometry.{Geometry}
 use Rattle.tsd_model.specs.World.{has_number}
 use Rattle.image_device.specs.Image.{zeros}
@@ -12,7 +11,6 @@ use Rattle.volume_laws.proofs.Loose.{unused_moments}
 use Rattle.volume_laws.proofs.ZeroedLaws.{free_inside, data_unused, zero_done, zeroed_at}
 use Rattle.volume_laws.proofs.OwedLaws.{unused_owed}
 use Rattle.image_device.proofs.Outcomes.{on_ok}
-use Rattle.volume.proofs.volume.Volume.zero_new.Given
 use Rattle.volume.proofs.volume.Volume.zero_new.Goals as goal
 
 pub zero_blocks-outcome-requires : goal.zero_blocks-outcome-requires

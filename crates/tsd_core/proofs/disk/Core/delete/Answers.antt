@@ -29,7 +29,7 @@ use Rattle.tsd_core.specs.Carrying.{IsKnown, IsOperation, IsCarriedOut, replied}
 use Rattle.tsd_core.proofs.AtLaws.{at_volume, like_at}
 use Rattle.tsd_core.proofs.Likes.{like_as, like_back, sectors_most, sectors_of_blocks, block_size_of}
 use Rattle.tsd_core.proofs.Operations.{then_ok, if_ok, if_both, ok_if, if_map, counted, at_most, most_due, paid_more, carried_out}
-use Rattle.tsd_core.proofs.core.Core.delete.Goals as goal
+use Rattle.tsd_core.proofs.disk.Core.delete.Goals as goal
 
 pub returns : goal.returns
 returns g c = λ kind session shown.
@@ -66,5 +66,5 @@ returns g c = λ kind session shown.
     } in
     subst (λ (x : Core). IsCarriedOut g.D.Device.told kind q x new v w c.gone.result) c.self.view_is
     (subst (IsCarriedOut g.D.Device.told kind q old new v w) (sym c.gone.ensures)
-      (carried_out g.D.Device.told kind q old new v w c.drop_pointer.result (λ count. reply.Gone count) op refl
-        (if_both c.drop_pointer.result (λ x (same : told_by new.volume ≡ settle cut) h e. ap reply.Gone (h ∙ ap (λ u. free_count u - free_count t) same)) e.told e.lost) (λ x e. absurd (cc)) (λ told. if_ok c.drop_pointer.result (λ x e. absurd (cc))) (if_both c.drop_pointer.result (λ x (same : told_by new.volume ≡ settle cut) (h : x ≡ free_count (told_by new.volume) - free_count t). record { body = tt; numbers = subst (λ n. n < 2 ^ 32) (sym (h ∙ ap (λ u. free_count u - free_count t) same)) (gone_fits t (settle cut) long known.sized) }) e.told e.lost)))
+    (carried_out g.D.Device.told kind q old new v w c.drop_pointer.result (λ count. reply.Gone count) op refl
+    (if_both c.drop_pointer.result (λ x (same : told_by new.volume ≡ settle cut) h e. ap reply.Gone (h ∙ ap (λ u. free_count u - free_count t) same)) e.told e.lost) (λ x e. absurd (cc)) (λ told. if_ok c.drop_pointer.result (λ x e. absurd (cc))) (if_both c.drop_pointer.result (λ x (same : told_by new.volume ≡ settle cut) (h : x ≡ free_count (told_by new.volume) - free_count t). record { body = tt; numbers = subst (λ n. n < 2 ^ 32) (sym (h ∙ ap (λ u. free_count u - free_count t) same)) (gone_fits t (settle cut) long known.sized) }) e.told e.lost)))

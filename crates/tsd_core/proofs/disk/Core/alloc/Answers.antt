@@ -7,7 +7,7 @@ use Rattle.tsd_core.specs.Core.{Core, told_world}
 use Rattle.tsd_core.specs.Growing.{AreNew}
 use Rattle.tsd_core.specs.Carrying.{IsCarriedOut}
 use Rattle.tsd_core.proofs.Choosing.{new_chosen}
-use Rattle.tsd_core.proofs.core.Core.alloc.Goals as goal
+use Rattle.tsd_core.proofs.disk.Core.alloc.Goals as goal
 
 pub grow-requires-clause-new : goal.grow-requires-clause-new
 grow-requires-clause-new g c =

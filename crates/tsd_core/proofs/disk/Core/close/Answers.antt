@@ -9,7 +9,7 @@ use Rattle.tsd_core.specs.Work.{IsClosed}
 use Rattle.tsd_core.proofs.AtLaws.{at_volume}
 use Rattle.tsd_core.proofs.Operations.{then_ok}
 use Rattle.tsd_core.proofs.Settling.{debt_at, owes_no_more, worlds_joined, owing_joined}
-use Rattle.tsd_core.proofs.core.Core.close.Goals as goal
+use Rattle.tsd_core.proofs.disk.Core.close.Goals as goal
 
 all_ok : {T E A B C P : Type 0} (r : Result T E) → (A → B → C → P) → OnOk r A → OnOk r B → OnOk r C → OnOk r P
 all_ok (Ok x) f a b c = f a b c
@@ -40,8 +40,8 @@ returns-clause-debt g c = λ told.
     let first = c.in_ok-settle_all.ensures in
     let none : owed c.settle_all.new.self.tables ≡ 0 = first.settled in
     owes_no_more c.self.inside.volume v w at
-      (owing_joined v m w (owed c.settle_all.new.self.tables) (owed c.self.inside.volume.tables) (first.any_owed told) (c.empty_ring.ensures.any_owed told) (omega (arith, none)))
-      (worlds_joined v m w (first.any_moment told) (c.empty_ring.ensures.any_moment told) (first.done told) (first.sent told))
+    (owing_joined v m w (owed c.settle_all.new.self.tables) (owed c.self.inside.volume.tables) (first.any_owed told) (c.empty_ring.ensures.any_owed told) (omega (arith, none)))
+    (worlds_joined v m w (first.any_moment told) (c.empty_ring.ensures.any_moment told) (first.done told) (first.sent told))
 
 pub returns-clause-paid : goal.returns-clause-paid
 returns-clause-paid g c =

@@ -33,7 +33,7 @@ use Rattle.tsd_model.specs.ReplyForm.{AreNumbers}
 use Rattle.disk_laws.proofs.ByteLaws.{chosen_like, chosen_run_like}
 use Rattle.disk_laws.proofs.ChangeLaws.{chosen_are_free, chosen_run_is_free}
 use Rattle.core_laws.specs.Seen.{dropped_each}
-use Rattle.tsd_core.proofs.core.Core.grow.Goals as goal
+use Rattle.tsd_core.proofs.disk.Core.grow.Goals as goal
 
 pub returns-clause-alloc : goal.returns-clause-alloc
 returns-clause-alloc g c = λ kind session shown h count picked.
@@ -74,8 +74,8 @@ returns-clause-alloc g c = λ kind session shown h count picked.
     } in
     subst (λ (x : Core). IsCarriedOut g.D.Device.told kind q x new v w c.blocks-2.result) c.self.view_is
     (subst (IsCarriedOut g.D.Device.told kind q old new v w) (sym c.blocks-2.ensures)
-      (carried_out g.D.Device.told kind q old new v w c.allocate-outcome.result (λ x. reply.Blocks bs) op (c.drop_at.ensures ∙ ap (λ cs. with_sessions old.grants (dropped_each cs old.grants.sessions)) (c.as_slice.ensures.value ∙ pick))
-        (if_ok c.allocate-outcome.result (λ x e. ap reply.Blocks pick)) (λ x e. absurd (cc)) (λ told. if_ok c.allocate-outcome.result (λ x e. absurd (cc))) (if_ok c.allocate-outcome.result (λ x. record { body = (c.requires.new.some, c.requires.new.few); numbers = subst AreNumbers (sym pick) (free_numbers t (chosen kind t h count) known.sized (chosen_are_free kind t h count)) }))))
+    (carried_out g.D.Device.told kind q old new v w c.allocate-outcome.result (λ x. reply.Blocks bs) op (c.drop_at.ensures ∙ ap (λ cs. with_sessions old.grants (dropped_each cs old.grants.sessions)) (c.as_slice.ensures.value ∙ pick))
+    (if_ok c.allocate-outcome.result (λ x e. ap reply.Blocks pick)) (λ x e. absurd (cc)) (λ told. if_ok c.allocate-outcome.result (λ x e. absurd (cc))) (if_ok c.allocate-outcome.result (λ x. record { body = (c.requires.new.some, c.requires.new.few); numbers = subst AreNumbers (sym pick) (free_numbers t (chosen kind t h count) known.sized (chosen_are_free kind t h count)) }))))
 
 pub returns-clause-contig : goal.returns-clause-contig
 returns-clause-contig g c = λ kind session shown h count picked.
@@ -116,5 +116,5 @@ returns-clause-contig g c = λ kind session shown h count picked.
     } in
     subst (λ (x : Core). IsCarriedOut g.D.Device.told kind q x new v w c.blocks-2.result) c.self.view_is
     (subst (IsCarriedOut g.D.Device.told kind q old new v w) (sym c.blocks-2.ensures)
-      (carried_out g.D.Device.told kind q old new v w c.allocate-outcome.result (λ x. reply.Blocks bs) op (c.drop_at.ensures ∙ ap (λ cs. with_sessions old.grants (dropped_each cs old.grants.sessions)) (c.as_slice.ensures.value ∙ pick))
-        (if_ok c.allocate-outcome.result (λ x e. ap reply.Blocks pick)) (λ x e. absurd (cc)) (λ told. if_ok c.allocate-outcome.result (λ x e. absurd (cc))) (if_ok c.allocate-outcome.result (λ x. record { body = (c.requires.new.some, c.requires.new.few); numbers = subst AreNumbers (sym pick) (free_numbers t (run_at (chosen_run kind t h count) count) known.sized (chosen_run_is_free kind t h count)) }))))
+    (carried_out g.D.Device.told kind q old new v w c.allocate-outcome.result (λ x. reply.Blocks bs) op (c.drop_at.ensures ∙ ap (λ cs. with_sessions old.grants (dropped_each cs old.grants.sessions)) (c.as_slice.ensures.value ∙ pick))
+    (if_ok c.allocate-outcome.result (λ x e. ap reply.Blocks pick)) (λ x e. absurd (cc)) (λ told. if_ok c.allocate-outcome.result (λ x e. absurd (cc))) (if_ok c.allocate-outcome.result (λ x. record { body = (c.requires.new.some, c.requires.new.few); numbers = subst AreNumbers (sym pick) (free_numbers t (run_at (chosen_run kind t h count) count) known.sized (chosen_run_is_free kind t h count)) }))))

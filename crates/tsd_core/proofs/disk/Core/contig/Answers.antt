@@ -12,7 +12,7 @@ use Rattle.tsd_core.specs.Core.{Core, told_world}
 use Rattle.tsd_core.specs.Growing.{AreNew}
 use Rattle.tsd_core.specs.Carrying.{IsKnown}
 use Rattle.tsd_core.proofs.Choosing.{new_run, run_inside}
-use Rattle.tsd_core.proofs.core.Core.contig.Goals as goal
+use Rattle.tsd_core.proofs.disk.Core.contig.Goals as goal
 
 -- the run that was chosen for the hint's block is that for the hint
 picked : (kind : PlaceKind) (w : World) (h : Hint) (b count first : ℕ) → b ≡ hint_block h → chosen_run kind w (hint.At b) count ≡ Some first → chosen_run kind w h count ≡ Some first

@@ -6,7 +6,7 @@ use Rattle.tsd_core.specs.Work.{LeavesNoDebt}
 use Rattle.tsd_core.proofs.AtLaws.{at_volume}
 use Rattle.tsd_core.proofs.Operations.{then_ok}
 use Rattle.tsd_core.proofs.Settling.{owes_no_more, owes_less}
-use Rattle.tsd_core.proofs.core.Core.settle_some.Goals as goal
+use Rattle.tsd_core.proofs.disk.Core.settle_some.Goals as goal
 
 also_ok : {T E A B P : Type 0} (r : Result T E) → (A → B → P) → OnOk r A → OnOk r B → OnOk r P
 also_ok (Ok x) f a b = f a b

@@ -4,7 +4,7 @@ use Rattle.tsd_model.specs.declared.replies.Rule.{Rule}
 use Rattle.volume_laws.specs.Volume.{Volume, told_by}
 use Rattle.tsd_core.specs.Core.{Core, told_world}
 use Rattle.tsd_core.proofs.Applied.{refused_applied, granted_applied}
-use Rattle.tsd_core.proofs.core.Core.judge.Goals as goal
+use Rattle.tsd_core.proofs.disk.Core.judge.Goals as goal
 
 pub returns-in-Err-clause-applied : goal.returns-in-Err-clause-applied
 returns-in-Err-clause-applied g c =

@@ -11,44 +11,44 @@ use Rattle.core_laws.proofs.FormLaws.{free_fits, targets_fit}
 use Rattle.tsd_core.specs.Core.{told_world}
 use Rattle.tsd_core.specs.Carrying.{IsCarriedOut}
 use Rattle.tsd_core.proofs.Quiet.{quiet}
-use Rattle.tsd_core.proofs.core.Core.carry_out.Goals as goal
+use Rattle.tsd_core.proofs.disk.Core.carry_out.Goals as goal
 
 pub returns-in-GetFree-clause-carried_out : goal.returns-in-GetFree-clause-carried_out
 returns-in-GetFree-clause-carried_out g c =
     let v = g.D.Device.view c.args.dev.now in
     subst (λ (q : Request). IsCarriedOut g.D.Device.told c.args.place.now.kind q c.args.self.now c.args.self.now v v (Ok c.free.result)) (sym c.in-GetFree.is)
     (quiet g.D.Device.told c.args.place.now.kind (ask.GetFree) c.args.self.now c.args.self.now v c.free.result (λ w. refl) (g.met.D.Device.sound c.args.dev.now) c.requires.at c.requires.ready
-      refl (inl (record { table = refl; reply = λ e. c.free.ensures; read = λ e. absurd (cc) }))
-      refl
-      (subst HasForm (sym c.free.ensures) (record { body = tt; numbers = free_fits (told_world c.args.self.now) c.check.ensures.volume.sized })))
+    refl (inl (record { table = refl; reply = λ e. c.free.ensures; read = λ e. absurd (cc) }))
+    refl
+    (subst HasForm (sym c.free.ensures) (record { body = tt; numbers = free_fits (told_world c.args.self.now) c.check.ensures.volume.sized })))
 
 pub returns-in-Begin-clause-carried_out : goal.returns-in-Begin-clause-carried_out
 returns-in-Begin-clause-carried_out g c =
     let v = g.D.Device.view c.args.dev.now in
     subst (λ (q : Request). IsCarriedOut g.D.Device.told c.args.place.now.kind q c.args.self.now c.begin.new.self v v (Ok c.begin.result)) (sym c.in-Begin.is)
     (quiet g.D.Device.told c.args.place.now.kind (ask.Begin c.in-Begin.session) c.args.self.now c.begin.new.self v c.begin.result (λ w. refl) (g.met.D.Device.sound c.args.dev.now) c.requires.at c.requires.ready
-      c.begin.ensures.volume
-      (elim c.begin.ensures.answer [ inl done ↦ inl (record { table = done.1; reply = λ e. done.0; read = λ e. absurd (cc) }) | inr none ↦ inr (record { begin = refl; reply = none.0; table = none.1 }) ])
-      refl
-      (elim c.begin.ensures.answer [ inl done ↦ subst HasForm (sym done.0) (record { body = tt; numbers = tt }) | inr none ↦ subst HasForm (sym none.0) (record { body = tt; numbers = tt }) ]))
+    c.begin.ensures.volume
+    (elim c.begin.ensures.answer [ inl done ↦ inl (record { table = done.1; reply = λ e. done.0; read = λ e. absurd (cc) }) | inr none ↦ inr (record { begin = refl; reply = none.0; table = none.1 }) ])
+    refl
+    (elim c.begin.ensures.answer [ inl done ↦ subst HasForm (sym done.0) (record { body = tt; numbers = tt }) | inr none ↦ subst HasForm (sym none.0) (record { body = tt; numbers = tt }) ]))
 
 pub returns-in-End-clause-carried_out : goal.returns-in-End-clause-carried_out
 returns-in-End-clause-carried_out g c =
     let v = g.D.Device.view c.args.dev.now in
     subst (λ (q : Request). IsCarriedOut g.D.Device.told c.args.place.now.kind q c.args.self.now c.end.new.self v v (Ok c.end.result)) (sym c.in-End.is)
     (quiet g.D.Device.told c.args.place.now.kind (ask.End c.in-End.session) c.args.self.now c.end.new.self v c.end.result (λ w. refl) (g.met.D.Device.sound c.args.dev.now) c.requires.at c.requires.ready
-      c.end.ensures.volume (inl (record { table = c.end.ensures.answer.1; reply = λ e. c.end.ensures.answer.0; read = λ e. absurd (cc) }))
-      refl
-      (subst HasForm (sym c.end.ensures.answer.0) (record { body = tt; numbers = tt })))
+    c.end.ensures.volume (inl (record { table = c.end.ensures.answer.1; reply = λ e. c.end.ensures.answer.0; read = λ e. absurd (cc) }))
+    refl
+    (subst HasForm (sym c.end.ensures.answer.0) (record { body = tt; numbers = tt })))
 
 pub returns-in-List-clause-carried_out : goal.returns-in-List-clause-carried_out
 returns-in-List-clause-carried_out g c =
     let v = g.D.Device.view c.args.dev.now in
     subst (λ (q : Request). IsCarriedOut g.D.Device.told c.args.place.now.kind q c.args.self.now c.args.self.now v v (Ok c.list.result)) (sym c.in-List.is)
     (quiet g.D.Device.told c.args.place.now.kind (ask.List c.in-List.session c.in-List.source c.in-List.shown c.in-List.start) c.args.self.now c.args.self.now v c.list.result (λ w. refl) (g.met.D.Device.sound c.args.dev.now) c.requires.at c.requires.ready
-      refl (inl (record { table = refl; reply = λ e. c.list.ensures; read = λ e. absurd (cc) }))
-      refl
-      (subst HasForm (sym c.list.ensures) (targets_fit (told_world c.args.self.now) c.in-List.source c.in-List.start c.check.ensures.volume.sized (λ a b held. (c.check.ensures.volume.ends a b held).1))))
+    refl (inl (record { table = refl; reply = λ e. c.list.ensures; read = λ e. absurd (cc) }))
+    refl
+    (subst HasForm (sym c.list.ensures) (targets_fit (told_world c.args.self.now) c.in-List.source c.in-List.start c.check.ensures.volume.sized (λ a b held. (c.check.ensures.volume.ends a b held).1))))
 
 pub returns-in-Read-clause-carried_out : goal.returns-in-Read-clause-carried_out
 returns-in-Read-clause-carried_out g c =
@@ -89,4 +89,3 @@ pub returns-in-Contig-clause-carried_out : goal.returns-in-Contig-clause-carried
 returns-in-Contig-clause-carried_out g c =
     subst (λ (q : Request). IsCarriedOut g.D.Device.told c.args.place.now.kind q c.args.self.now c.contig.new.self (g.D.Device.view c.args.dev.now) (g.D.Device.view c.contig.new.dev) c.contig.result) (sym c.in-Contig.is)
     (c.contig.ensures c.in-Contig.session c.in-Contig.shown)
-
