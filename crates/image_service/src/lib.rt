@@ -14,7 +14,9 @@
 //! alone; of a call with its opening it isn't said here.
 #![tactic(auto)]
 
+mod fresh;
 mod image;
 mod opening;
 
+pub use fresh::serve_fresh;
 pub use image::serve_image;
