@@ -30,11 +30,11 @@ pub ends_formatted : (r : Status) (v : Voice) (kind : PlaceKind) (w : World) (ol
     → Ends r v kind mid new asked final → FreshEnds r v kind w old new asked final
 ends_formatted r v kind w old mid new asked final stands firm sent leaves ends =
     let by : ByStatus r (disk_service v) (fresh_start kind w) old.sent asked final new.sent =
-      subst (λ (b : List ℕ). ByStatus r (disk_service v) (fresh_start kind w) b asked final new.sent) sent
-        (subst (λ (u : World). ByStatus r (disk_service v) (fresh_start kind u) mid.sent asked final new.sent) (sym stands.world) ends.sent) in
+    subst (λ (b : List ℕ). ByStatus r (disk_service v) (fresh_start kind w) b asked final new.sent) sent
+    (subst (λ (u : World). ByStatus r (disk_service v) (fresh_start kind u) mid.sent asked final new.sent) (sym stands.world) ends.sent) in
     let moments : LeavesOnly mid new (IsAcknowledged (disk_service v) (fresh_start kind w) old.sent asked) =
-      subst (λ (b : List ℕ). LeavesOnly mid new (IsAcknowledged (disk_service v) (fresh_start kind w) b asked)) sent
-        (subst (λ (u : World). LeavesOnly mid new (IsAcknowledged (disk_service v) (fresh_start kind u) mid.sent asked)) (sym stands.world) (ends.any_moment firm w stands)) in
+    subst (λ (b : List ℕ). LeavesOnly mid new (IsAcknowledged (disk_service v) (fresh_start kind w) b asked)) sent
+    (subst (λ (u : World). LeavesOnly mid new (IsAcknowledged (disk_service v) (fresh_start kind u) mid.sent asked)) (sym stands.world) (ends.any_moment firm w stands)) in
     record {
       sent = by;
       any_moment = joined old mid new (left_by v kind w old asked) _ (weakened old mid _ _ leaves (λ x f p. inl p)) moments (λ x f p. inr p);
