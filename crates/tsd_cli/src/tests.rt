@@ -5,6 +5,8 @@ ghost use Rattle.std.specs.Prelude.{◌<◌};
 use crate::help::{HELP, VERSION};
 use crate::run::run;
 use image_device::MemSource;
+use image_layout::ImageFault;
+use std::fs;
 use std::test::Fail;
 use tsd_serve::Status;
 
@@ -43,7 +45,7 @@ const FRESH: &str =
     "- fresh 8 1 aaaaaaaaaaaaaaaaaaaaaaaaaaaaaaaa bbbbbbbbbbbbbbbbbbbbbbbbbbbbbbbb near";
 
 /// The words, the input and the take that fails; the status, the output and the errors.
-const RUNS: [(&str, &str, u64, Status, &str, &str); 7] = [
+const RUNS: [(&str, &str, u64, Status, &str, &str); 8] = [
     ("--help", "free\n", NEVER, Status::Done, HELP, ""),
     ("--version", "free\n", NEVER, Status::Done, VERSION, ""),
     (
@@ -79,6 +81,14 @@ const RUNS: [(&str, &str, u64, Status, &str, &str); 7] = [
         "",
         "tsd: usage\n",
     ),
+    (
+        "- run near",
+        "free\n",
+        NEVER,
+        Status::NotImage(ImageFault::NotFormatted),
+        "",
+        "tsd: not an image: not-formatted\n",
+    ),
 ];
 
 #[test]
@@ -89,6 +99,37 @@ fn runs(rt: HostRuntime) -> Result<(), Fail> {
         assert_eq!(rt; end.output.as_slice(), output.as_bytes(), "{words}");
         assert_eq!(rt; end.errors.as_slice(), errors.as_bytes(), "{words}");
     }
+    Ok(())
+}
+
+/// A small disk in a file.
+const FILE: &str =
+    "tests_run.img fresh 8 1 aaaaaaaaaaaaaaaaaaaaaaaaaaaaaaaa bbbbbbbbbbbbbbbbbbbbbbbbbbbbbbbb near";
+
+/// A run over a file, and one more.
+#[test]
+fn runs_over_a_file(rt: HostRuntime) -> Result<(), Fail> {
+    let _none_left = fs::remove_file(&rt, "tests_run.img");
+    let missing = ran(&rt, "tests_run.img run near", "free\n", NEVER)?;
+    assert_eq!(rt; missing.status, Status::DeviceFault);
+    assert!(rt;
+        missing
+            .errors
+            .starts_with(b"tsd: device fault\ntsd: tests_run.img: ")
+    );
+    assert!(rt; missing.output.is_empty());
+
+    let input = "open 1\nwrite 1 0 bbbbbbbbbbbbbbbbbbbbbbbbbbbbbbbb 6869\n";
+    let first = ran(&rt, FILE, input, NEVER)?;
+    assert_eq!(rt; first.status, Status::Done);
+    assert_eq!(rt; first.output.as_slice(), b"ok\nok\n".as_slice());
+
+    let input = "open 1\nread 1 0 aaaaaaaaaaaaaaaaaaaaaaaaaaaaaaaa\n";
+    let second = ran(&rt, "tests_run.img run near", input, NEVER)?;
+    assert_eq!(rt; second.status, Status::Done);
+    assert_eq!(rt; second.output.as_slice(), b"ok\ndata 6869\n".as_slice());
+    assert!(rt; second.errors.is_empty());
+    fs::remove_file(&rt, "tests_run.img")?;
     Ok(())
 }
 
