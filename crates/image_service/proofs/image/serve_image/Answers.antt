@@ -4,7 +4,7 @@ use Rattle.tsd_core.specs.Core.{Core, IsReady, IsAt}
 use Rattle.core_server.specs.Server.{disk_rules, placed_on}
 use Rattle.serving.specs.Voice.{spoken_counted}
 use Rattle.image_service.specs.Served.{start_of}
-use Rattle.image_service.proofs.Opened.{placed_at, ends_opened, ends_unopened, judged_by, not_of_source, not_of_put, unopened_unserved, served_no_device}
+use Rattle.image_service.proofs.Opened.{placed_at, ends_opened, ends_unopened, judged_by, not_of_source, not_of_put}
 use Rattle.image_service.proofs.image.serve_image.Goals as goal
 
 pub serve-requires-clause-few : goal.serve-requires-clause-few
@@ -65,7 +65,7 @@ pub returns-in-Ok-clause-no_source_fault : goal.returns-in-Ok-clause-no_source_f
 returns-in-Ok-clause-no_source_fault g c = c.serve.ensures.no_source_fault
 
 pub returns-in-Ok-clause-no_device_fault : goal.returns-in-Ok-clause-no_device_fault
-returns-in-Ok-clause-no_device_fault g c served = c.serve.ensures.no_device_fault (served_no_device c.serve.result served) ∙ c.in-Ok.ensures.faultless
+returns-in-Ok-clause-no_device_fault g c other = c.serve.ensures.no_device_fault other ∙ c.in-Ok.ensures.faultless
 
 pub returns-in-Ok-clause-no_put_fault : goal.returns-in-Ok-clause-no_put_fault
 returns-in-Ok-clause-no_put_fault g c other = c.serve.ensures.no_put_fault other ∙ c.open_core.ensures.works.put_faults
@@ -100,7 +100,7 @@ pub returns-in-Err-clause-no_source_fault : goal.returns-in-Err-clause-no_source
 returns-in-Err-clause-no_source_fault g c other = refl
 
 pub returns-in-Err-clause-no_device_fault : goal.returns-in-Err-clause-no_device_fault
-returns-in-Err-clause-no_device_fault g c served = absurd (unopened_unserved c.in-Err.why c.in-Err.ensures.stops served)
+returns-in-Err-clause-no_device_fault g c = c.in-Err.ensures.fault
 
 pub returns-in-Err-clause-no_put_fault : goal.returns-in-Err-clause-no_put_fault
 returns-in-Err-clause-no_put_fault g c other = c.open_core.ensures.works.put_faults

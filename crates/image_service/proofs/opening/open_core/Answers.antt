@@ -1,10 +1,12 @@
-use Rattle.std.proofs.Common.{◌≡◌, sym, ◌∙◌, subst}
+use Rattle.std.proofs.Common.{◌≡◌, sym, ◌∙◌, ap, subst}
+use Rattle.std.specs.Prelude.{Err}
+use Rattle.recovery.specs.declared.fault.OpenFault.{OpenFault}
 use Rattle.volume_laws.specs.Volume.{Volume}
 use Rattle.volume_laws.specs.Volume.{IsAt as IsVolumeAt}
 use Rattle.tsd_words.specs.declared.status.Status.{Status}
 use Rattle.tsd_core.proofs.AtLaws.{at_core}
 use Rattle.image_service.specs.Served.{IsJudged, IsUnopened}
-use Rattle.image_service.proofs.Opened.{state_of_none, judged_of, unopened_of, device_of}
+use Rattle.image_service.proofs.Opened.{state_of_none, judged_of, unopened_of, device_of, device_only}
 use Rattle.image_service.proofs.opening.open_core.Goals as goal
 
 pub new-requires : goal.new-requires
@@ -34,10 +36,7 @@ pub returns-in-Ok-clause-works : goal.returns-in-Ok-clause-works
 returns-in-Ok-clause-works g c = c.open_image.ensures.works
 
 pub returns-in-Ok-clause-faultless : goal.returns-in-Ok-clause-faultless
-returns-in-Ok-clause-faultless g c = c.in-Ok.ensures.faultless
-
-pub returns-in-Ok-clause-cause : goal.returns-in-Ok-clause-cause
-returns-in-Ok-clause-cause g c = λ e. absurd e
+returns-in-Ok-clause-faultless g c = c.in-Ok.ensures.faultless (λ e. cc)
 
 pub returns-in-Err-clause-read : goal.returns-in-Err-clause-read
 returns-in-Err-clause-read g c told =
@@ -56,5 +55,8 @@ returns-in-Err-clause-any_moment g c = c.open_image.ensures.any_moment
 pub returns-in-Err-clause-works : goal.returns-in-Err-clause-works
 returns-in-Err-clause-works g c = c.open_image.ensures.works
 
+pub returns-in-Err-clause-fault : goal.returns-in-Err-clause-fault
+returns-in-Err-clause-fault g c other = c.in-Err.ensures.faultless (λ e. other (c.status_of.ensures ∙ device_only c.in-Err.why e))
+
 pub returns-in-Err-clause-cause : goal.returns-in-Err-clause-cause
-returns-in-Err-clause-cause g c = λ e. c.in-Err.ensures.cause (device_of c.in-Err.why (sym c.status_of.ensures ∙ e))
+returns-in-Err-clause-cause g c e = c.in-Err.ensures.cause (ap (λ (w : OpenFault). Err w) (device_of c.in-Err.why (sym c.status_of.ensures ∙ e)))
