@@ -1,5 +1,5 @@
 -- A disk that was opened, and a run from there as one from the start.
-use Rattle.std.proofs.Common.{◌≡◌, ◌⊎◌, inl, inr, ℕ, List, [], ◌∷◌, ◌++◌, refl, sym, ◌∙◌, ap, subst, append-nil}
+use Rattle.std.proofs.Common.{◌≡◌, inl, inr, ℕ, List, [], refl, sym, ◌∙◌, ap, subst, append-nil}
 use Rattle.std.specs.Prelude.{Result, Ok, Err, IfOk}
 use Rattle.tsd_model.specs.World.{World}
 use Rattle.tsd_model.specs.Sessions.{Sessions, no_sessions, fitted}
@@ -32,7 +32,7 @@ use Rattle.image_service.specs.Served.{disk_service, start_of, IsAtEase, Ends, I
 pub state_of_none : (c : Core) (x : Image) (w : World) → world_of x ≡ w → c.grants.sessions ≡ no_sessions → state_on c x ≡ at_rest w
 state_of_none c x w e none =
     let same : state_on c x ≡ record { world = world_of x; sessions = fitted (told_world c) no_sessions } =
-      ap (λ (v : Sessions). let s : State = record { world = world_of x; sessions = fitted (told_world c) v } in s) none in
+    ap (λ (v : Sessions). let s : State = record { world = world_of x; sessions = fitted (told_world c) v } in s) none in
     same ∙ ap at_rest e
 
 -- the same beside a placement
@@ -44,16 +44,19 @@ placed_at kind other c d x w same_kind same at =
 -- with nothing answered, an image of the world at the start
 pub first_moment : (v : Voice) (s : Placed) (before : List ℕ) (qs : List Request) (x : Image) (f : List ℕ) → IsCounted (disk_service v) → Stands x s.state.world → f ≡ before
     → IsAcknowledged (disk_service v) s before qs x f
-first_moment v s before qs x f counted stands e = inl (record {
-  answered = [];
-  rest = qs;
-  parts = refl;
-  answers = [];
-  state = s;
-  run = refl;
-  sent = e ∙ sym (append-nil before);
-  count = counted.nothing;
-}, stands)
+first_moment v s before qs x f counted stands e = inl (
+  record {
+    answered = [];
+    rest = qs;
+    parts = refl;
+    answers = [];
+    state = s;
+    run = refl;
+    sent = e ∙ sym (append-nil before);
+    count = counted.nothing;
+  },
+  stands,
+)
 
 -- what a crash leaves while an image is opened
 pub opening_moments : (v : Voice) (kind : PlaceKind) (old mid : View) (qs : List Request) → IsCounted (disk_service v)
@@ -70,9 +73,9 @@ pub ends_opened : (r : Status) (v : Voice) (kind : PlaceKind) (old mid new : Vie
 ends_opened r v kind old mid new qs s final owed counted at sent leaves served done =
     let start = start_of kind old.reads in
     let by : ByStatus r (disk_service v) start old.sent qs final new.sent =
-      subst (λ (b : List ℕ). ByStatus r (disk_service v) start b qs final new.sent) sent (subst (λ (p : Placed). ByStatus r (disk_service v) p mid.sent qs final new.sent) at served.sent) in
+    subst (λ (b : List ℕ). ByStatus r (disk_service v) start b qs final new.sent) sent (subst (λ (p : Placed). ByStatus r (disk_service v) p mid.sent qs final new.sent) at served.sent) in
     let moments : LeavesOnly mid new (IsAcknowledged (disk_service v) start old.sent qs) =
-      subst (λ (b : List ℕ). LeavesOnly mid new (IsAcknowledged (disk_service v) start b qs)) sent (subst (λ (p : Placed). LeavesOnly mid new (IsAcknowledged (disk_service v) p mid.sent qs)) at served.any_moment) in
+    subst (λ (b : List ℕ). LeavesOnly mid new (IsAcknowledged (disk_service v) start b qs)) sent (subst (λ (p : Placed). LeavesOnly mid new (IsAcknowledged (disk_service v) p mid.sent qs)) at served.any_moment) in
     record {
       sent = by;
       any_moment = λ firm w stands. joined old mid new _ _ (opening_moments v kind old mid qs counted (leaves firm) w stands) moments (λ x f acked. acked);

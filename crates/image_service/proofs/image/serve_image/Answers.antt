@@ -27,7 +27,7 @@ array_drop-server-requires g c = lit< tt
 pub returns-in-Ok-clause-read : goal.returns-in-Ok-clause-read
 returns-in-Ok-clause-read g c told =
     let ran = c.serve.ensures.ran in
-    judged_by _ c.serve.result g.R.Protocol.spelling c.args.limit ran.bytes _ ran.asked ran.these (c.in-Ok.ensures.read told)
+    judged_by (g.P.Device.view c.args.port.now).reads c.serve.result g.R.Protocol.spelling c.args.limit ran.bytes _ ran.asked ran.these (c.in-Ok.ensures.read told)
 
 pub returns-in-Ok-clause-ran : goal.returns-in-Ok-clause-ran
 returns-in-Ok-clause-ran g c =
