@@ -39,7 +39,10 @@ before_or_after kind c q v w sound held either =
     let valid = world_valid v.reads (world_of v.reads) sound.own.whole (record { good = held.good; world = refl }) in
     let form = step_form kind (state_on c v.reads) q valid.raw.sized valid.raw.targets in
     let next : Placed = record { kind = kind; state = (step kind (state_on c v.reads) q).state } in
-    weakened v w _ _ either (λ x f left. (elim left.0 [
-      | inl before ↦ inl before
-      | inr after ↦ inr ((step kind (state_on c v.reads) q).reply, next, (record { want = false; reply = refl; state = refl }, form, refl), after)
-    ], left.1))
+    weakened v w _ _ either (λ x f left. (
+      elim left.0 [
+        | inl before ↦ inl before
+        | inr after ↦ inr ((step kind (state_on c v.reads) q).reply, next, (record { want = false; reply = refl; state = refl }, form, refl), after)
+      ],
+      left.1,
+    ))

@@ -49,7 +49,7 @@ pub length-chosen_enough : (kind : PlaceKind) (w : World) (h : Hint) (count : �
 length-chosen_enough kind w h count enough =
     let order = sorted_by_rank (rank_of kind (hint_block h)) (free_blocks w) in
     let all : length order ≡ free_count w = length-sorted (rank_of kind (hint_block h)) (free_blocks w)
-      ∙ (ap length (sym (free_blocks_same (live_map w) w (map_of w))) ∙ (length-free_blocks (live_map w) ∙ free_count_same (live_map w) w (map_of w))) in
+    ∙ (ap length (sym (free_blocks_same (live_map w) w (map_of w))) ∙ (length-free_blocks (live_map w) ∙ free_count_same (live_map w) w (map_of w))) in
     omega (arith, length-take count order, all, enough)
 
 -- the first of some

@@ -5,6 +5,7 @@ ghost use Rattle.tsd_core.specs.Core.{IsReady, Holds};
 ghost use Rattle.tsd_core.specs.Work.{IsClosed};
 ghost use Rattle.volume_laws.specs.Writes.{due};
 ghost use Rattle.core_server.specs.Server.{disk_rules, disk_work, placed_on};
+ghost use Rattle.core_server.specs.StandsLaws.{stands_here};
 
 use image_device::{Device, Failed};
 use place_policy::Placement;
@@ -54,7 +55,7 @@ impl<'a> Handler for CoreServer<'a> {
 
     ghost is_closed = { IsClosed };
 
-    ghost stands_now = { λ h x held. record { good = held.good; world = refl } };
+    ghost stands_now = { λ h x held. stands_here h.core x held };
 
     ghost given_form = { λ s q r t given. given.1 };
 

@@ -1,5 +1,5 @@
 -- A disk that was opened, and a run from there as one from the start.
-use Rattle.std.proofs.Common.{◌≡◌, ◌⊎◌, inl, inr, ℕ, List, [], ◌∷◌, ◌++◌, refl, sym, ◌∙◌, ap, subst, append-nil}
+use Rattle.std.proofs.Common.{◌≡◌, inl, inr, ℕ, List, [], refl, sym, ◌∙◌, ap, subst, append-nil}
 use Rattle.std.specs.Prelude.{Result, Ok, Err, IfOk}
 use Rattle.tsd_model.specs.World.{World}
 use Rattle.tsd_model.specs.Sessions.{Sessions, no_sessions, fitted}
@@ -26,7 +26,7 @@ use Rattle.serving.specs.Service.{Service, IsCounted}
 use Rattle.serving.specs.Voice.{Voice}
 use Rattle.tsd_core.specs.Core.{Core, state_on, told_world}
 use Rattle.core_server.specs.Server.{disk_work, placed_on}
-use Rattle.image_service.specs.Served.{disk_service, start_of, IsAtEase, Ends, IsUnopened, IsServed, IsJudged, status_of}
+use Rattle.image_service.specs.Served.{disk_service, start_of, IsAtEase, Ends, IsUnopened, IsJudged, status_of}
 
 -- a disk with no session open, of this world
 pub state_of_none : (c : Core) (x : Image) (w : World) → world_of x ≡ w → c.grants.sessions ≡ no_sessions → state_on c x ≡ at_rest w
@@ -34,6 +34,12 @@ state_of_none c x w e none =
     let same : state_on c x ≡ record { world = world_of x; sessions = fitted (told_world c) no_sessions } =
     ap (λ (v : Sessions). let s : State = record { world = world_of x; sessions = fitted (told_world c) v } in s) none in
     same ∙ ap at_rest e
+
+-- the same beside a placement
+pub placed_at : (kind other : PlaceKind) (c d : Core) (x : Image) (w : World) → other ≡ kind → d ≡ c → state_on c x ≡ at_rest w → placed_on other d x ≡ record { kind = kind; state = at_rest w }
+placed_at kind other c d x w same_kind same at =
+    ap (λ (k : PlaceKind). let p : Placed = record { kind = k; state = state_on d x } in p) same_kind
+    ∙ ap (λ (s : State). let p : Placed = record { kind = kind; state = s } in p) (ap (λ (e : Core). state_on e x) same ∙ at)
 
 -- with nothing answered, an image of the world at the start
 pub first_moment : (v : Voice) (s : Placed) (before : List ℕ) (qs : List Request) (x : Image) (f : List ℕ) → IsCounted (disk_service v) → Stands x s.state.world → f ≡ before
@@ -115,6 +121,12 @@ device_of (opening.Image reason) e = absurd (cc)
 device_of opening.Device e = refl
 device_of opening.NoMemory e = absurd (cc)
 
+-- a fault of the device has that status alone
+pub device_only : {T : Type 0} (why : OpenFault) → ◌≡◌ {A = Result T OpenFault} (Err why) (Err opening.Device) → status_of why ≡ status.DeviceFault
+device_only (opening.Image reason) e = absurd (cc)
+device_only opening.Device e = refl
+device_only opening.NoMemory e = absurd (cc)
+
 -- a loop's status comes of a disk that was opened
 pub judged_by : (image : Image) (r : Status) (p : Spelling Request) (limit : ℕ) (bytes : List ℕ) (ended : Type 0) (qs : List Request) → AskedBy r p limit bytes ended qs → IsGood image → IsJudged image r
 judged_by image status.Done p limit bytes ended qs h good = good
@@ -134,18 +146,3 @@ not_of_source r h e = subst IsUnopened e h
 
 pub not_of_put : (r : Status) → IsUnopened r → r ≡ status.PutFault → ⊥
 not_of_put r h e = subst IsUnopened e h
-
-pub unopened_unserved : (r : Status) → IsUnopened r → IsServed r → ⊥
-unopened_unserved (status.NotImage reason) h s = s
-unopened_unserved status.DeviceFault h s = s
-unopened_unserved status.NoMemory h s = s
-unopened_unserved status.Done h s = h
-unopened_unserved status.SourceFault h s = h
-unopened_unserved status.PutFault h s = h
-unopened_unserved status.TooLong h s = h
-unopened_unserved status.Truncated h s = h
-unopened_unserved status.Usage h s = h
-unopened_unserved (status.RootDenied level) h s = h
-
-pub served_no_device : (r : Status) → IsServed r → r ≡ status.DeviceFault → ⊥
-served_no_device r s e = subst IsServed e s

@@ -51,15 +51,6 @@ IsUnopened status.DeviceFault = ⊤
 IsUnopened status.NoMemory = ⊤
 IsUnopened r = ⊥
 
--- the disk was opened, and the device never failed
-abbrev pub IsServed : Status → Type 0
-IsServed status.Done = ⊤
-IsServed status.SourceFault = ⊤
-IsServed status.PutFault = ⊤
-IsServed status.TooLong = ⊤
-IsServed status.Truncated = ⊤
-IsServed r = ⊥
-
 -- ---- the run
 
 -- what is served: the disk by its rules, with its replies as they are sent

@@ -3,7 +3,7 @@
 ghost use Rattle.std.specs.Prelude.{◌≡◌, ◌≢◌, ◌≤◌, []};
 ghost use Rattle.image_device.specs.Counts.{Rose};
 ghost use Rattle.serving.specs.Ran.{Came, IsAtEnd};
-ghost use Rattle.image_service.specs.Served.{IsJudged, IsServed, Ran};
+ghost use Rattle.image_service.specs.Served.{IsJudged, Ran};
 
 use crate::opening::open_core;
 use core_server::CoreServer;
@@ -38,7 +38,7 @@ pub fn serve_image<S: Source, P: Port, R: Protocol<Request = Request> + Replies>
     ensures device_fault { result ≡ Status.DeviceFault → Rose (P.view port.old).faults (P.view port.new).faults }
     ensures put_fault { result ≡ Status.PutFault → Rose (P.view port.old).put_faults (P.view port.new).put_faults }
     ensures no_source_fault { result ≢ Status.SourceFault → S.faults source.new ≡ S.faults source.old }
-    ensures no_device_fault { IsServed result → (P.view port.new).faults ≡ (P.view port.old).faults }
+    ensures no_device_fault { result ≢ Status.DeviceFault → (P.view port.new).faults ≡ (P.view port.old).faults }
     ensures no_put_fault { result ≢ Status.PutFault → (P.view port.new).put_faults ≡ (P.view port.old).put_faults }
 {
     match open_core(alloc, port) {

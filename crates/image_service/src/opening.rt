@@ -1,6 +1,6 @@
 //! The disk of an image.
 
-ghost use Rattle.std.specs.Prelude.{◌≡◌, IfOk, OnOk, IfErr, IsErrOf};
+ghost use Rattle.std.specs.Prelude.{◌≡◌, ◌≢◌, IfOk, OnOk, IfErr};
 ghost use Rattle.image_device.specs.Counts.{Rose};
 ghost use Rattle.image_device.specs.Runs.{IsFirm, LeavesOnly};
 ghost use Rattle.image_world.specs.Stands.{world_of};
@@ -28,7 +28,8 @@ pub(crate) fn open_core<D: Device>(alloc: Global, dev: &mut D) -> Result<Core, S
     ensures any_moment { D.told → IsFirm (D.view dev.old) → LeavesOnly (D.view dev.old) (D.view dev.new) (λ x f. StandAlike (D.view dev.old).reads x × (f ≡ (D.view dev.old).sent)) }
     ensures works { Works (D.view dev.old) (D.view dev.new) }
     ensures faultless { OnOk result ((D.view dev.new).faults ≡ (D.view dev.old).faults) }
-    ensures cause { IsErrOf result Status.DeviceFault → Rose (D.view dev.old).faults (D.view dev.new).faults }
+    ensures fault { IfErr result (λ why. why ≢ Status.DeviceFault → (D.view dev.new).faults ≡ (D.view dev.old).faults) }
+    ensures cause { IfErr result (λ why. why ≡ Status.DeviceFault → Rose (D.view dev.old).faults (D.view dev.new).faults) }
 {
     match open_image(alloc, dev) {
         Ok(volume) => Ok(Core::new(alloc, volume)),

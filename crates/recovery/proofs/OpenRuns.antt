@@ -1,13 +1,15 @@
 -- The parts of an opening.
-use Rattle.std.proofs.Common.{◌≡◌, ℕ, true, false, List, [], refl, sym, ◌∙◌, ap, subst, arith, Ok, Err}
-use Rattle.std.specs.Prelude.{◌↔◌, Result, IsErrAnd}
+use Rattle.std.proofs.Common.{◌≡◌, ℕ, ◌+◌, ◌≤◌, true, false, List, [], refl, sym, ◌∙◌, ap, subst, arith, Ok, Err}
+use Rattle.std.specs.Prelude.{◌↔◌, Result, IsErrAnd, IsErrOf}
 use Rattle.image_device.specs.Calls.{Rests, Settles, Uses}
 use Rattle.image_device.specs.Runs.{IsFirm, LeavesOnly}
 use Rattle.image_device.specs.View.{View, IsLeftNow, IsSound}
 use Rattle.image_device.proofs.Moments.{started, after_sync, after_read, joined, firm_image, uses_and}
+use Rattle.image_layout.specs.declared.header.Header.{Header}
+use Rattle.image_layout.specs.Header.{IsReading}
 use Rattle.image_layout.specs.Image.{Image, is_open}
 use Rattle.image_world.specs.Alike.{DoAgree}
-use Rattle.image_world.specs.Faults.{IsGood}
+use Rattle.image_world.specs.Faults.{HasHeader, IsGood}
 use Rattle.image_world.specs.Fresh.{AreClosed}
 use Rattle.image_world.specs.Stands.{Stands}
 use Rattle.image_world.specs.Tables.{Tables, tables_of}
@@ -25,13 +27,13 @@ use Rattle.intent_journal.proofs.Uses.{at_valid}
 use Rattle.volume.specs.Loading.{IsLoading}
 use Rattle.volume.specs.declared.fault.VolumeFault.{VolumeFault}
 use Rattle.volume.specs.declared.fault.VolumeFault.TheVariants as loading
-use Rattle.volume_laws.specs.Moments.{LeavesWorld, owed}
+use Rattle.volume_laws.specs.Moments.{LeavesWorld, LeavesOwed, owed}
 use Rattle.volume_laws.specs.Volume.{Volume, IsAt, world_on}
-use Rattle.volume_laws.specs.Writes.{due}
+use Rattle.volume_laws.specs.Writes.{due, IsPaid}
 use Rattle.recovery.specs.declared.fault.OpenFault.{OpenFault}
 use Rattle.recovery.specs.declared.fault.OpenFault.TheVariants as fault
 use Rattle.recovery.specs.Faults.{of_volume}
-use Rattle.recovery.specs.Opening.{IsOpening, StandAlike, IsQuiet}
+use Rattle.recovery.specs.Opening.{HasHead, IsOpening, StandAlike, IsQuiet}
 
 -- what opening leaves: the world of the start, or none, and what was sent then
 abbrev pub Kept : View → Image → List ℕ → Type 0
@@ -167,3 +169,63 @@ opened_err v0 v3 why (Err made) is done p = subst (λ (e : OpenFault). IsOpening
 pub opened_device : (v0 : View) (r : Result Volume OpenFault) → IsErrAnd r (λ made. made ≡ fault.Device) → IsOpening v0.reads r
 opened_device v0 (Ok v) is = absurd is
 opened_device v0 (Err made) is = subst (λ (e : OpenFault). IsOpening v0.reads (Err e)) (sym is) tt
+
+pub quiet_paid : (v0 v4 v5 : View) (vol now : Volume) → IsQuiet v0.reads → IsReplayed v0 v4 → IsAt vol v4 → vol.ring ≡ [] → Uses 0 v0 v4 → (vol.tables.is_sweeping ≡ false → IsPaid 0 vol v4 now v5) → v5.writes + due now ≤ v0.writes
+quiet_paid v0 v4 v5 vol now quiet done at none four five =
+    omega (arith, quiet_due v0 v4 vol quiet done at none, five (quiet_flag v0 v4 vol quiet done at), four.most)
+
+-- ---- what is owed on the way
+-- as much as at the start, at most
+abbrev pub OwesNoMore : View → Image → List ℕ → Type 0
+OwesNoMore v0 x f = owed (tables_of (home x)) ≤ owed (tables_of (home v0.reads))
+
+owes_same : (v0 : View) (x : Image) → x ≡ v0.reads → owed (tables_of (home x)) ≤ owed (tables_of (home v0.reads))
+owes_same v0 x e = omega (arith, ap (λ (y : Image). owed (tables_of (home y))) e)
+
+still_owes : (v0 v : View) → IsStill v0 v → (x : Image) (f : List ℕ) → IsLeftNow v x f → OwesNoMore v0 x f
+still_owes v0 v still x f left = owes_same v0 x (firm_image v still.firm x f left ∙ still.reads)
+
+first_still : (v0 : View) → IsFirm v0 → IsStill v0 v0
+first_still v0 firm = record { firm = firm; reads = refl; sent = refl }
+
+pub owed_start : (v0 : View) → IsSound v0 → IsFirm v0 → LeavesOnly v0 v0 (OwesNoMore v0)
+owed_start v0 sound firm = started v0 (OwesNoMore v0) sound (still_owes v0 v0 (first_still v0 firm))
+
+pub owed_sync : (v0 v1 : View) → IsSound v0 → IsFirm v0 → Settles v0 v1 → LeavesOnly v0 v1 (OwesNoMore v0)
+owed_sync v0 v1 sound firm settles = after_sync v0 v0 v1 (OwesNoMore v0) (owed_start v0 sound firm) settles (still_owes v0 v0 (first_still v0 firm))
+
+pub owed_head : (v0 v1 v2 : View) → LeavesOnly v0 v1 (OwesNoMore v0) → IsStill v0 v1 → Rests v1 v2 → LeavesOnly v0 v2 (OwesNoMore v0)
+owed_head v0 v1 v2 so_far still rests = after_read v0 v1 v2 (OwesNoMore v0) so_far rests (still_owes v0 v1 still)
+
+head_right : (x : Image) (h : Header) → IsReading (x 0) (Ok h) → HasHeader x
+head_right x h reading = subst (λ (k : Header). IsReading (x 0) (Ok k)) reading.3 reading
+
+agree_owes : (v0 : View) (x : Image) → HasHeader (home v0.reads) → DoAgree v0.reads x → owed (tables_of (home x)) ≤ owed (tables_of (home v0.reads))
+agree_owes v0 x header agree = omega (arith, ap owed (alike_tables (home v0.reads) (home x) header agree.homes))
+
+pub owed_replay : (v0 v2 v3 : View) (h : Header) → LeavesOnly v0 v2 (OwesNoMore v0) → IsStill v0 v2 → HasHead v2.reads h → LeavesOnly v2 v3 (λ x f. IsTheSame v2.reads x × (f ≡ v2.sent)) → LeavesOnly v0 v3 (OwesNoMore v0)
+owed_replay v0 v2 v3 h so_far still head leaves =
+    let right = subst (λ (r : Image). HasHeader (home r)) still.reads (head_right (home v2.reads) h head.header) in
+    joined v0 v2 v3 (OwesNoMore v0) (λ x f. IsTheSame v2.reads x × (f ≡ v2.sent)) so_far leaves
+    (λ x f left. agree_owes v0 x right (subst (λ (r : Image). DoAgree r x) still.reads (same_agree v2.reads x left.0)))
+
+pub owed_load : (v0 v3 v4 : View) → HasHeader (home v0.reads) → LeavesOnly v0 v3 (OwesNoMore v0) → IsReplayed v0 v3 → Rests v3 v4 → LeavesOnly v0 v4 (OwesNoMore v0)
+owed_load v0 v3 v4 right so_far done rests = after_read v0 v3 v4 (OwesNoMore v0) so_far rests
+    (λ x f left. agree_owes v0 x right (subst (DoAgree v0.reads) (sym (firm_image v3 done.firm x f left)) done.agree))
+
+pub right_head : (v0 v2 : View) (h : Header) → IsStill v0 v2 → HasHead v2.reads h → HasHeader (home v0.reads)
+right_head v0 v2 h still head = subst (λ (r : Image). HasHeader (home r)) still.reads (head_right (home v2.reads) h head.header)
+
+still_flag : (v0 v4 : View) (vol : Volume) → is_open (home v0.reads 131) ≡ false → IsReplayed v0 v4 → IsAt vol v4 → vol.tables.is_sweeping ≡ false
+unfolding tables_of
+still_flag v0 v4 vol flag done at = ap (λ (t : Tables). t.is_sweeping) (same_tables v0 v4 vol done at) ∙ flag
+
+pub owed_finish : (v0 v4 v5 : View) (vol : Volume) → is_open (home v0.reads 131) ≡ false → LeavesOnly v0 v4 (OwesNoMore v0) → IsReplayed v0 v4 → IsAt vol v4 → (vol.tables.is_sweeping ≡ false → LeavesOwed v4 v5 (owed vol.tables)) → LeavesOnly v0 v5 (OwesNoMore v0)
+owed_finish v0 v4 v5 vol flag so_far done at leaves =
+    joined v0 v4 v5 (OwesNoMore v0) (λ x f. owed (tables_of (home x)) ≤ owed vol.tables) so_far (leaves (still_flag v0 v4 vol flag done at))
+    (λ x f left. omega (arith, left, ap owed (same_tables v0 v4 vol done at)))
+
+-- ---- a call that failed
+pub is_device : (r : Result Volume OpenFault) → IsErrAnd r (λ made. made ≡ fault.Device) → IsErrOf r fault.Device
+is_device (Ok v) is = absurd is
+is_device (Err made) is = λ i. Err (is i)

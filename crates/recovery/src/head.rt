@@ -1,6 +1,6 @@
 //! The tests of an image that come before a replay.
 
-ghost use Rattle.std.specs.Prelude.{◌≡◌, [], IfOk, OnOk, IsErrOf};
+ghost use Rattle.std.specs.Prelude.{◌≡◌, [], IfOk, IsErrOf};
 ghost use Rattle.tsd_model.specs.Geometry.{IsLawful};
 ghost use Rattle.image_device.specs.Calls.{Rests, Uses};
 ghost use Rattle.image_device.specs.Counts.{Rose};
@@ -25,7 +25,7 @@ pub(crate) fn read_head<D: Device>(dev: &mut D, ring: &mut Ring) -> Result<Heade
     ensures right { IfOk result (λ h. IsVersion h.version × IsLawful h.geometry) }
     ensures rests { D.told → Rests (D.view dev.old) (D.view dev.new) }
     ensures uses { Uses 0 (D.view dev.old) (D.view dev.new) }
-    ensures faultless { OnOk result ((D.view dev.new).faults ≡ (D.view dev.old).faults) }
+    ensures faultless { ¬ IsErrOf result OpenFault.Device → (D.view dev.new).faults ≡ (D.view dev.old).faults }
     ensures cause { IsErrOf result OpenFault.Device → Rose (D.view dev.old).faults (D.view dev.new).faults }
 {
     let mut sector = [0; SECTOR_BYTES];

@@ -1,13 +1,17 @@
 //! Opening.
 
-ghost use Rattle.std.specs.Prelude.{◌≡◌, false, IfOk, OnOk, IsErrOf};
+ghost use Rattle.std.specs.Prelude.{◌≡◌, ◌+◌, ◌≤◌, false, IfOk, OnOk, IsErrOf};
 ghost use Rattle.image_device.specs.Calls.{Uses};
 ghost use Rattle.image_device.specs.Counts.{Rose};
 ghost use Rattle.image_device.specs.Runs.{IsFirm, LeavesOnly};
+ghost use Rattle.image_layout.specs.Areas.{sweep_flag};
+ghost use Rattle.image_layout.specs.Image.{is_open};
 ghost use Rattle.image_world.specs.Stands.{world_of};
-ghost use Rattle.volume_laws.specs.Moments.{owed};
+ghost use Rattle.image_world.specs.Tables.{tables_of};
+ghost use Rattle.intent_journal.specs.Home.{home};
+ghost use Rattle.volume_laws.specs.Moments.{LeavesOwed, owed};
 ghost use Rattle.volume_laws.specs.Volume.{IsAt, IsReady, world_on};
-ghost use Rattle.volume_laws.specs.Writes.{Works};
+ghost use Rattle.volume_laws.specs.Writes.{due, Works};
 ghost use Rattle.recovery.specs.Opening.{IsOpening, IsQuiet, StandAlike};
 
 use crate::fault::OpenFault;
@@ -35,8 +39,14 @@ pub fn open_image<D: Device>(alloc: Global, dev: &mut D) -> Result<Volume, OpenF
         (λ x f. StandAlike (D.view dev.old).reads x × (f ≡ (D.view dev.old).sent)) }
 
     ensures unwritten { D.told → IsQuiet (D.view dev.old).reads → Uses 0 (D.view dev.old) (D.view dev.new) }
+    ensures paid { D.told → IsQuiet (D.view dev.old).reads → IfOk result (λ v. (D.view dev.new).writes + due v ≤ (D.view dev.old).writes) }
+
+    // Where no sweep had begun, it never owes more than at the start.
+    ensures any_owed { D.told → IsFirm (D.view dev.old) → is_open (home (D.view dev.old).reads sweep_flag) ≡ false
+        → LeavesOwed (D.view dev.old) (D.view dev.new) (owed (tables_of (home (D.view dev.old).reads))) }
+
     ensures works { Works (D.view dev.old) (D.view dev.new) }
-    ensures faultless { OnOk result ((D.view dev.new).faults ≡ (D.view dev.old).faults) }
+    ensures faultless { ¬ IsErrOf result OpenFault.Device → (D.view dev.new).faults ≡ (D.view dev.old).faults }
     ensures cause { IsErrOf result OpenFault.Device → Rose (D.view dev.old).faults (D.view dev.new).faults }
 {
     let mut ring = Ring::new(alloc)?;

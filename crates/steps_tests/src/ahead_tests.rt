@@ -167,8 +167,8 @@ fn a_deletion_in_a_cycle_dooms_all_of_it_and_steps_free_it(rt: HostRuntime) -> R
     assert_eq!(rt; delete(&rt, &mut disk, &mut ahead, 3, 1)?, 3);
     assert_eq!(rt; (ahead.doomed(), ahead.doomed_pairs()), (3, 2));
     assert_eq!(rt; disk.live.free_count(), 7);
-    let mut steps = 0;
-    for _turn in 0..10 {
+    let mut steps: u32 = 0;
+    for _turn in 0..10u32 {
         if step(&rt, alloc, &mut disk, &mut ahead)? {
             steps += 1;
         }

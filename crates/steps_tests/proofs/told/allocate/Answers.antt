@@ -28,5 +28,5 @@ returns-in_ok-add-in-None g c =
     let dead : is_live d.live.live c.args.block ≡ false = search rules in
     subst (λ (v : World). IsAheadOf v c.raise_all.new.self)
     (sym (graph_grown d.pointers c.add.new.pointers d.live c.set_live.new.self c.args.source c.args.block (slice_set d.live.unhidden c.args.block true)
-    (c.geometry-size.ensures.table.each_block ∙ ap (λ (x : Geometry). x.blocks) tables.geometry) within c.set_live.ensures c.in_ok-add.ensures.geometry c.in_ok-add.ensures.pairs))
+    (c.geometry-size.ensures.table.each_block ∙ ap (λ (x : Geometry). x.blocks) tables.geometry) within c.set_live.ensures c.in_ok-add-in-None.ensures.geometry c.in_ok-add-in-None.ensures.pairs))
     (c.raise_all.ensures.ahead w c.args.source (growing_one d.pointers d.live c.args.ahead.now c.args.block tables (subst (λ (o : Option OutStep). IfNone o (doomed w ≡ [])) c.in-None.is c.in_ok-next.ensures.none) within dead c.requires))
