@@ -3,7 +3,6 @@
 ghost use Rattle.std.specs.Prelude.{◌≡◌, ◌≢◌, ◌≤◌, ◌∷◌, []};
 ghost use Rattle.image_device.specs.Counts.{Rose};
 ghost use Rattle.image_service.specs.Fresh.{FreshRan, single_world};
-ghost use Rattle.image_service.specs.Served.{IsJudged, IsServed};
 ghost use Rattle.serving.specs.Ran.{Came, IsAtEnd};
 ghost use Rattle.tsd_model.specs.Geometry.{IsLawful};
 
@@ -42,7 +41,7 @@ pub fn serve_fresh<S: Source, P: Port, R: Protocol<Request = Request> + Replies>
     ensures device_fault { result ≡ Status.DeviceFault → Rose (P.view port.old).faults (P.view port.new).faults }
     ensures put_fault { result ≡ Status.PutFault → Rose (P.view port.old).put_faults (P.view port.new).put_faults }
     ensures no_source_fault { result ≢ Status.SourceFault → S.faults source.new ≡ S.faults source.old }
-    ensures no_device_fault { IsServed result → (P.view port.new).faults ≡ (P.view port.old).faults }
+    ensures no_device_fault { result ≢ Status.DeviceFault → (P.view port.new).faults ≡ (P.view port.old).faults }
     ensures no_put_fault { result ≢ Status.PutFault → (P.view port.new).put_faults ≡ (P.view port.old).put_faults }
 {
     match format(port, geometry, &one_pair(caps)) {

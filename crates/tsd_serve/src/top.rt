@@ -2,7 +2,6 @@
 
 ghost use Rattle.std.specs.Prelude.{◌≡◌, ◌≢◌, ◌↔◌, ◌⊎◌, map, string_bytes, None, Some};
 ghost use Rattle.image_device.specs.Counts.{Rose};
-ghost use Rattle.image_service.specs.Served.{IsServed};
 ghost use Rattle.serving.specs.Ran.{Came, IsAtEnd};
 ghost use Rattle.tsd_model.specs.Geometry.{IsLawful};
 ghost use Rattle.tsd_serve.specs.Built.{built};
@@ -44,7 +43,7 @@ pub fn tsd<S: Source, P: Port>(
     ensures device_fault { result ≡ Status.DeviceFault → Rose (P.view port.old).faults (P.view port.new).faults }
     ensures put_fault { result ≡ Status.PutFault → Rose (P.view port.old).put_faults (P.view port.new).put_faults }
     ensures no_source_fault { result ≢ Status.SourceFault → S.faults source.new ≡ S.faults source.old }
-    ensures no_device_fault { IsServed result → (P.view port.new).faults ≡ (P.view port.old).faults }
+    ensures no_device_fault { result ≢ Status.DeviceFault → (P.view port.new).faults ≡ (P.view port.old).faults }
     ensures no_put_fault { result ≢ Status.PutFault → (P.view port.new).put_faults ≡ (P.view port.old).put_faults }
 {
     match command(words) {
@@ -72,7 +71,7 @@ fn fresh_lines<S: Source, P: Port>(
     ensures device_fault { result ≡ Status.DeviceFault → Rose (P.view port.old).faults (P.view port.new).faults }
     ensures put_fault { result ≡ Status.PutFault → Rose (P.view port.old).put_faults (P.view port.new).put_faults }
     ensures no_source_fault { result ≢ Status.SourceFault → S.faults source.new ≡ S.faults source.old }
-    ensures no_device_fault { IsServed result → (P.view port.new).faults ≡ (P.view port.old).faults }
+    ensures no_device_fault { result ≢ Status.DeviceFault → (P.view port.new).faults ≡ (P.view port.old).faults }
     ensures no_put_fault { result ≢ Status.PutFault → (P.view port.new).put_faults ≡ (P.view port.old).put_faults }
 {
     let mut cutter = LineCutter::new();
@@ -103,7 +102,7 @@ fn run_lines<S: Source, P: Port>(
     ensures device_fault { result ≡ Status.DeviceFault → Rose (P.view port.old).faults (P.view port.new).faults }
     ensures put_fault { result ≡ Status.PutFault → Rose (P.view port.old).put_faults (P.view port.new).put_faults }
     ensures no_source_fault { result ≢ Status.SourceFault → S.faults source.new ≡ S.faults source.old }
-    ensures no_device_fault { IsServed result → (P.view port.new).faults ≡ (P.view port.old).faults }
+    ensures no_device_fault { result ≢ Status.DeviceFault → (P.view port.new).faults ≡ (P.view port.old).faults }
     ensures no_put_fault { result ≢ Status.PutFault → (P.view port.new).put_faults ≡ (P.view port.old).put_faults }
 {
     let mut cutter = LineCutter::new();
@@ -132,7 +131,7 @@ fn serve_frames<S: Source, P: Port>(
     ensures device_fault { result ≡ Status.DeviceFault → Rose (P.view port.old).faults (P.view port.new).faults }
     ensures put_fault { result ≡ Status.PutFault → Rose (P.view port.old).put_faults (P.view port.new).put_faults }
     ensures no_source_fault { result ≢ Status.SourceFault → S.faults source.new ≡ S.faults source.old }
-    ensures no_device_fault { IsServed result → (P.view port.new).faults ≡ (P.view port.old).faults }
+    ensures no_device_fault { result ≢ Status.DeviceFault → (P.view port.new).faults ≡ (P.view port.old).faults }
     ensures no_put_fault { result ≢ Status.PutFault → (P.view port.new).put_faults ≡ (P.view port.old).put_faults }
 {
     match FrameCutter::new(alloc) {
