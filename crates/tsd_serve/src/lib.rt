@@ -1,4 +1,12 @@
 //! The program as one call: command words, an input, and an image with an output beside it.
+//!
+//! What it stands on: an image opened and served (`image_service`), the outside (`image_device`), lines (`script_text`) and
+//! frames (`request_frames`), placements (`place_policy`), and words and statuses (`tsd_words`).
+//!
+//! What it promises: [`tsd`] does what its words say, or is Usage where they are no command that is built, and then has
+//! called nothing. By command and status it says what came in, which requests that holds, what was sent, what a crash at any
+//! moment may have left, and what the disk is after Done (`specs/Did.antt`). A count of faults rose only where the status is
+//! that fault's.
 #![tactic(auto)]
 
 mod top;
