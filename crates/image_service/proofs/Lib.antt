@@ -1,2 +1,4 @@
+pub mod StepForm
+pub mod Serving
 mod Opened
 mod FreshRuns

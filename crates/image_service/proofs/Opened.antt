@@ -25,7 +25,7 @@ use Rattle.serving.specs.Runs.{IsAcknowledged}
 use Rattle.serving.specs.Service.{Service, IsCounted}
 use Rattle.serving.specs.Voice.{Voice}
 use Rattle.tsd_core.specs.Core.{Core, state_on, told_world}
-use Rattle.core_server.specs.Server.{disk_work, placed_on}
+use Rattle.image_service.specs.Server.{disk_work, placed_on}
 use Rattle.image_service.specs.Served.{disk_service, start_of, IsAtEase, Ends, IsUnopened, IsJudged, status_of}
 
 -- a disk with no session open, of this world

@@ -1,2 +1,4 @@
+pub mod Server
+pub mod StandsLaws
 pub mod Served
 pub mod Fresh

@@ -21,7 +21,7 @@ use Rattle.serving.specs.Service.{Service}
 use Rattle.serving.specs.Voice.{Voice, spoken}
 use Rattle.tsd_core.specs.Core.{Core}
 use Rattle.tsd_core.specs.Work.{IsClosed}
-use Rattle.core_server.specs.Server.{disk_rules}
+use Rattle.image_service.specs.Server.{disk_rules}
 
 -- ---- what a status says of the image at the start
 

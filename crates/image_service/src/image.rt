@@ -6,7 +6,7 @@ ghost use Rattle.serving.specs.Ran.{Came, IsAtEnd};
 ghost use Rattle.image_service.specs.Served.{IsJudged, Ran};
 
 use crate::opening::open_core;
-use core_server::CoreServer;
+use crate::server::CoreServer;
 use image_device::{Port, Source};
 use place_policy::Placement;
 use serving::{INPUT_MAX, Protocol, Replies, serve};

@@ -17,6 +17,8 @@
 mod fresh;
 mod image;
 mod opening;
+mod server;
 
 pub use fresh::serve_fresh;
 pub use image::serve_image;
+pub use server::CoreServer;

@@ -4,7 +4,7 @@ use Rattle.image_world.specs.Stands.{Stands}
 use Rattle.recovery.specs.Formatting.{IsFormatting}
 use Rattle.tsd_model.specs.Run.{fresh_world}
 use Rattle.tsd_model.specs.declared.caps.CapPair.{CapPair}
-use Rattle.core_server.specs.Server.{disk_rules}
+use Rattle.image_service.specs.Server.{disk_rules}
 use Rattle.serving.specs.Voice.{spoken_counted}
 use Rattle.image_service.specs.Fresh.{single_world}
 use Rattle.image_service.proofs.FreshRuns.{ran_formatted, ran_unformatted}

@@ -1,7 +1,7 @@
 use Rattle.std.proofs.Common.{◌≡◌, inl, inr, ℕ, [], refl, sym, ◌∙◌, subst, append-nil, lit<}
 use Rattle.image_device.specs.Counts.{Rose}
 use Rattle.tsd_core.specs.Core.{Core, IsReady, IsAt}
-use Rattle.core_server.specs.Server.{disk_rules, placed_on}
+use Rattle.image_service.specs.Server.{disk_rules, placed_on}
 use Rattle.serving.specs.Voice.{spoken_counted}
 use Rattle.image_service.specs.Served.{start_of}
 use Rattle.image_service.proofs.Opened.{placed_at, ends_opened, ends_unopened, judged_by, not_of_source, not_of_put}

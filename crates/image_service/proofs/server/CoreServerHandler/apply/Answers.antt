@@ -1,5 +1,5 @@
-use Rattle.core_server.proofs.Serving.{before_or_after}
-use Rattle.core_server.proofs.server.CoreServerHandler.apply.Goals as goal
+use Rattle.image_service.proofs.Serving.{before_or_after}
+use Rattle.image_service.proofs.server.CoreServerHandler.apply.Goals as goal
 
 pub returns-clause-any_moment : goal.returns-clause-any_moment
 returns-clause-any_moment g c = λ told.

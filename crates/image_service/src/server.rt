@@ -4,8 +4,8 @@ ghost use Rattle.std.specs.Prelude.{◌≡◌};
 ghost use Rattle.tsd_core.specs.Core.{IsReady, Holds};
 ghost use Rattle.tsd_core.specs.Work.{IsClosed};
 ghost use Rattle.volume_laws.specs.Writes.{due};
-ghost use Rattle.core_server.specs.Server.{disk_rules, disk_work, placed_on};
-ghost use Rattle.core_server.specs.StandsLaws.{stands_here};
+ghost use Rattle.image_service.specs.Server.{disk_rules, disk_work, placed_on};
+ghost use Rattle.image_service.specs.StandsLaws.{stands_here};
 
 use image_device::{Device, Failed};
 use place_policy::Placement;

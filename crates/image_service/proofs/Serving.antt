@@ -20,8 +20,8 @@ use Rattle.serving.specs.Handling.{Works as AreCounted}
 use Rattle.serving.specs.ModelRules.{Placed}
 use Rattle.tsd_core.specs.Core.{Core, Holds, state_on}
 use Rattle.tsd_core.specs.Applying.{next_world}
-use Rattle.core_server.specs.Server.{disk_rules, placed_on}
-use Rattle.core_server.proofs.StepForm.{step_form}
+use Rattle.image_service.specs.Server.{disk_rules, placed_on}
+use Rattle.image_service.proofs.StepForm.{step_form}
 
 pub counted_in : (v w : View) → Works v w → AreCounted v w
 counted_in v w works = record { faults = works.faults; put_faults = works.put_faults }

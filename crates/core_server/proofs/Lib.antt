@@ -1,2 +1,0 @@
-pub mod StepForm
-pub mod Serving
