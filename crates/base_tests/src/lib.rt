@@ -1,10 +1,12 @@
-//! Tests of the crates at the bottom: the abstract disk, the plain disk, the outside, the layout of the image, the order of
-//! choice, and the table of grants.
+//! Tests of the crates at the bottom: the outside, the layout of the image, bits, the order of choice, and the table of grants,
+//! whose verdicts are compared with the abstract disk's over the plain disk.
 //!
 //! They use public calls alone and show what no clause says. They stand in a crate of their own, so that a change of a test
 //! proves no other crate again. Nothing stands on it, and it promises nothing.
 #![tactic(auto)]
 
+#[cfg(test)]
+mod bits;
 #[cfg(test)]
 mod device;
 #[cfg(test)]
@@ -12,16 +14,6 @@ mod grants;
 #[cfg(test)]
 mod layout;
 #[cfg(test)]
-mod model;
-#[cfg(test)]
-mod plain;
-#[cfg(test)]
 mod plain_facts;
-#[cfg(test)]
-mod plain_levels;
-#[cfg(test)]
-mod plain_runs;
-#[cfg(test)]
-mod plain_versions;
 #[cfg(test)]
 mod policy;

@@ -2,14 +2,16 @@
 use Rattle.std.proofs.Common.{inl, inr, w8, bit_and, bit_or, ◌≡◌, ◌≢◌, ℕ, ◌+◌, ◌-◌, ◌^◌, ◌*◌, ◌%◌, ◌<◌, ◌≤◌, Bool, true, false, not, cond, List, length, refl, sym, ◌∙◌, ap, subst, arith}
 use Rattle.std.specs.Prelude.{slice_index_or, slice_set}
 use Rattle.std.specs.Int.{bit_at, bit_not}
-use Rattle.std.proofs.lemmas.Bool.{cases_eq, cases_lt}
+use Rattle.std.proofs.lemmas.Bool.{cases_eq, cases_lt, false≢true}
 use Rattle.std.proofs.lemmas.List.{get_or_past, get_or-set_same, get_or-set_other, length-set}
 use Rattle.std.proofs.lemmas.List.FromFn.{length-map-range_with_len, get_or-map-range_with_len, fill_by_all, sum_by-map-range_with_len_more}
 use Rattle.std.proofs.lemmas.List.Sums.{sum_by-set, count_by-le-length}
 use Rattle.std.proofs.lemmas.Nat.Bits.{bit_at_and, bit_at_or, bit_at_not, bit_at-lt, bit_at-pow_same, bit_at-pow_other, bit_at_ones, bit_at_ones_above}
 use Rattle.std.proofs.lemmas.Grind.{one_shifted}
-use Rattle.block_alloc.specs.LiveMap.{is_live, free_count}
-use Rattle.block_alloc.specs.Bytes.{bit_in, bits_of, IsKept}
+use Rattle.tsd_model.specs.Geometry.{IsLawful}
+use Rattle.tsd_model.specs.declared.geometry.Geometry.{Geometry}
+use Rattle.block_alloc.specs.LiveMap.{is_live, free_count, IsTable}
+use Rattle.block_alloc.specs.Bytes.{bit_in, bits_of, AreBits, IsPut, IsKept}
 
 pub length-bits_of : (bytes : List ℕ) (len : ℕ) → length (bits_of bytes len) ≡ len
 length-bits_of bytes len = length-map-range_with_len (bit_in bytes) 0 len
@@ -40,37 +42,38 @@ bits-changed old new len b bit h same others =
       | inr ne ↦ get_or-set_other (bits_of old len) b k bit false ne ∙ (get-bits_of old len k g ∙ sym (others k ne))
     ]
 
-pub kept-changed : (blocks : ℕ) (old new : List ℕ) (b free now : ℕ) (bit : Bool) → IsKept blocks old free → b < blocks
-    → length new ≡ length old → bit_in new b ≡ bit → ((k : ℕ) → k ≢ b → bit_in new k ≡ bit_in old k)
-    → now ≡ free_count (slice_set (bits_of old blocks) b bit) → IsKept blocks new now
-kept-changed blocks old new b free now bit kept h whole same others counted = record {
-  whole = whole ∙ kept.whole;
-  ends = λ k g. others k (λ e. omega arith) ∙ kept.ends k g;
-  counted = counted ∙ ap free_count (sym (bits-changed old new blocks b bit h same others));
+-- the bits are kept as before
+pub bits-put : (len : ℕ) (old new : List ℕ) (b : ℕ) (bit : Bool) → AreBits len old → b < len → IsPut old new b bit → AreBits len new
+bits-put len old new b bit kept h put = record {
+  whole = put.whole ∙ kept.whole;
+  ends = λ k g. put.others k (λ e. omega arith) ∙ kept.ends k g;
 }
 
--- a bit that is already so
-pub bit-same : (bytes : List ℕ) (len b : ℕ) (bit : Bool) → b < len → bit_in bytes b ≡ bit → bits_of bytes len ≡ slice_set (bits_of bytes len) b bit
-bit-same bytes len b bit h same = bits-changed bytes bytes len b bit h same (λ k ne. refl)
+-- and with them a map
+pub kept-put : (blocks : ℕ) (bytes unhidden bytes' unhidden' : List ℕ) (b free free' : ℕ) (bit rest : Bool) → IsKept blocks bytes unhidden free → b < blocks
+    → (rest ≡ true → bit ≡ true) → IsPut bytes bytes' b bit → IsPut unhidden unhidden' b rest → free' ≡ free_count (bits_of unhidden' blocks)
+    → IsKept blocks bytes' unhidden' free'
+kept-put blocks bytes unhidden bytes' unhidden' b free free' bit rest kept h within raw seen counted = record {
+  bitmap = bits-put blocks bytes bytes' b bit kept.bitmap h raw;
+  rest = bits-put blocks unhidden unhidden' b rest kept.rest h seen;
+  are_live = λ k live. elim (cases_eq k b) [
+    | inl e ↦ ap (bit_in bytes') e ∙ (raw.same ∙ within (sym seen.same ∙ (ap (bit_in unhidden') (sym e) ∙ live)))
+    | inr ne ↦ raw.others k ne ∙ kept.are_live k (sym (seen.others k ne) ∙ live)
+  ];
+  counted = counted;
+}
 
 -- ---- how many are free
 weight : Bool → ℕ
 weight x = cond (not x) 1 0
 
--- a free block that becomes live
-pub free_count-live : (live : List Bool) (b : ℕ) → b < length live → is_live live b ≡ false → free_count (slice_set live b true) + 1 ≡ free_count live
+-- one block changes
+pub free_count-set : (live : List Bool) (b : ℕ) (was bit : Bool) → b < length live → is_live live b ≡ was
+    → free_count (slice_set live b bit) + cond (not was) 1 0 ≡ free_count live + cond (not bit) 1 0
 unfolding weight
-free_count-live live b h free =
-    let e = sum_by-set weight live b true false h in
-    let w : weight (is_live live b) ≡ 1 = ap weight free in
-    omega (arith, e, w)
-
--- a live block that becomes free
-pub free_count-free : (live : List Bool) (b : ℕ) → b < length live → is_live live b ≡ true → free_count (slice_set live b false) ≡ free_count live + 1
-unfolding weight
-free_count-free live b h was =
-    let e = sum_by-set weight live b false false h in
-    let w : weight (is_live live b) ≡ 0 = ap weight was in
+free_count-set live b was bit h is =
+    let e = sum_by-set weight live b bit false h in
+    let w : weight (is_live live b) ≡ weight was = ap weight is in
     omega (arith, e, w)
 
 pub free_count-le : (live : List Bool) → free_count live ≤ length live
@@ -120,34 +123,32 @@ low-none x m k i e h =
     let none : bit_at m i ≡ 0 = ap (λ n. bit_at n i) e ∙ bit_at_ones_above k i h in
     bit_at_and x m i ∙ omega (arith, none)
 
--- ---- one block changes
-some-free : (live : List Bool) (b : ℕ) → b < length live → is_live live b ≡ false → 1 ≤ free_count live
-some-free live b h free = let e = free_count-live live b h free in omega (arith, e)
+-- ---- one bit was given a value
+pub count-put : (len : ℕ) (old new : List ℕ) (b : ℕ) (was bit now : Bool) → b < len → bit_in old b ≡ was → IsPut old new b bit → bit ≡ now
+    → free_count (bits_of new len) + cond (not was) 1 0 ≡ free_count (bits_of old len) + cond (not now) 1 0
+count-put len old new b was bit now h is put becomes =
+    let size = length-bits_of old len in
+    ap (λ bits. free_count bits + cond (not was) 1 0) (bits-changed old new len b now h (put.same ∙ becomes) put.others)
+    ∙ free_count-set (bits_of old len) b was now (omega (arith, size)) (get-bits_of old len b h ∙ is)
 
-live-within : (bytes : List ℕ) (blocks b : ℕ) → b < blocks → b < length (bits_of bytes blocks)
-live-within bytes blocks b h = let e = length-bits_of bytes blocks in omega (arith, e)
+-- and so many of so many bits are 0 at most
+pub count-most : (len : ℕ) (bytes : List ℕ) → free_count (bits_of bytes len) ≤ len
+count-most len bytes = let most = free_count-le (bits_of bytes len) in let size = length-bits_of bytes len in omega (arith, most, size)
 
-pub one-free : (blocks : ℕ) (old : List ℕ) (b free : ℕ) → IsKept blocks old free → b < blocks → bit_in old b ≡ false → 1 ≤ free
-one-free blocks old b free kept h was =
-    let some = some-free (bits_of old blocks) b (live-within old blocks b h) (get-bits_of old blocks b h ∙ was) in
-    omega (arith, some, kept.counted)
+-- ---- a map that is so kept is a table
+pub kept-table : (g : Geometry) (bytes unhidden : List ℕ) (free : ℕ) → IsLawful g → IsKept g.blocks bytes unhidden free
+    → IsTable (record { geometry = g; live = bits_of bytes g.blocks; unhidden = bits_of unhidden g.blocks })
+kept-table g bytes unhidden free lawful kept = record {
+  lawful = lawful;
+  each_block = length-bits_of bytes g.blocks;
+  each_unhidden = length-bits_of unhidden g.blocks;
+  are_live = λ b live.
+      each-bits_of bytes g.blocks b kept.bitmap.ends ∙ kept.are_live b (sym (each-bits_of unhidden g.blocks b kept.rest.ends) ∙ live);
+}
 
-pub one-live : (blocks : ℕ) (old : List ℕ) (b free : ℕ) → IsKept blocks old free → b < blocks → bit_in old b ≡ true → free + 1 ≤ blocks
-one-live blocks old b free kept h was =
-    let count = free_count-free (bits_of old blocks) b (live-within old blocks b h) (get-bits_of old blocks b h ∙ was) in
-    let most = free_count-le (slice_set (bits_of old blocks) b false) in
-    let size = length-set (bits_of old blocks) b false in
-    let each = length-bits_of old blocks in
-    omega (arith, count, most, size, each, kept.counted)
-
-pub kept-live : (blocks : ℕ) (old new : List ℕ) (b free : ℕ) → IsKept blocks old free → b < blocks → bit_in old b ≡ false
-    → length new ≡ length old → bit_in new b ≡ true → ((k : ℕ) → k ≢ b → bit_in new k ≡ bit_in old k) → IsKept blocks new (free - 1)
-kept-live blocks old new b free kept h was whole same others =
-    let count = free_count-live (bits_of old blocks) b (live-within old blocks b h) (get-bits_of old blocks b h ∙ was) in
-    kept-changed blocks old new b free (free - 1) true kept h whole same others (omega (arith, count, kept.counted))
-
-pub kept-free : (blocks : ℕ) (old new : List ℕ) (b free : ℕ) → IsKept blocks old free → b < blocks → bit_in old b ≡ true
-    → length new ≡ length old → bit_in new b ≡ false → ((k : ℕ) → k ≢ b → bit_in new k ≡ bit_in old k) → IsKept blocks new (free + 1)
-kept-free blocks old new b free kept h was whole same others =
-    let count = free_count-free (bits_of old blocks) b (live-within old blocks b h) (get-bits_of old blocks b h ∙ was) in
-    kept-changed blocks old new b free (free + 1) false kept h whole same others (omega (arith, count, kept.counted))
+-- a live block is one of the list's
+pub live-inside : (live : List Bool) (b : ℕ) → is_live live b ≡ true → b < length live
+live-inside live b is = elim (cases_lt b (length live)) [
+  | inl h ↦ h
+  | inr h ↦ let past = get_or_past live b false h in absurd (false≢true (sym past ∙ is))
+]

@@ -38,13 +38,17 @@ fresh_at g b =
           ∙ (dead (g.blocks - g.primaries) (b - g.primaries) ∙ sym (le-ltb b g.primaries high))
     ]
 
-pub fresh_table : (g : Geometry) → IsLawful g → IsTable (record { geometry = g; live = fresh_live g })
+pub fresh_table : (g : Geometry) → IsLawful g → IsTable (record { geometry = g; live = fresh_live g; unhidden = fresh_live g })
 fresh_table g lawful = record {
   lawful = lawful;
-  each_block =
-      length-append (replicate g.primaries true) (replicate (g.blocks - g.primaries) false)
-      ∙ (let ones = length-replicate g.primaries true in let rest = length-replicate (g.blocks - g.primaries) false in let fewer = lawful.primaries.2 in omega (arith, ones, rest, fewer));
+  each_block = each;
+  each_unhidden = each;
+  are_live = λ b live. live;
 }
+  where
+    each : length (fresh_live g) ≡ g.blocks
+    each = length-append (replicate g.primaries true) (replicate (g.blocks - g.primaries) false)
+        ∙ (let ones = length-replicate g.primaries true in let rest = length-replicate (g.blocks - g.primaries) false in let fewer = lawful.primaries.2 in omega (arith, ones, rest, fewer))
 
 pub fresh_free : (g : Geometry) → free_count (fresh_live g) ≡ g.blocks - g.primaries
 fresh_free g =

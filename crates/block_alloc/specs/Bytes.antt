@@ -1,5 +1,5 @@
 -- Bits in bytes: eight blocks a byte, the first of them in the lowest bit.
-use Rattle.std.specs.Prelude.{◌≡◌, ℕ, ◌+◌, ◌*◌, ◌/◌, ◌%◌, ◌≤◌, ◌==◌, Bool, false, cond, List, [], ◌∷◌, length, map, take, drop, slice_index}
+use Rattle.std.specs.Prelude.{◌≡◌, ◌≢◌, ℕ, ◌+◌, ◌*◌, ◌/◌, ◌%◌, ◌≤◌, ◌==◌, Bool, true, false, cond, List, [], ◌∷◌, length, map, take, drop, slice_index}
 use Rattle.std.specs.List.{range_with_len}
 use Rattle.std.specs.Int.{bit_at, div_ceil}
 use Rattle.block_alloc.specs.LiveMap.{free_count}
@@ -12,11 +12,24 @@ bit_in bytes b = bit_at (slice_index bytes (b / 8)) (b % 8) == 1
 abbrev pub bits_of : List ℕ → ℕ → List Bool
 bits_of bytes len = map (bit_in bytes) (range_with_len 0 len)
 
--- How a map of so many blocks is kept: a bit a block, no bit past the last block, and the number of free blocks.
-pub record IsKept (blocks : ℕ) (bytes : List ℕ) (free : ℕ) : Type 0 where
+-- How the bits of so many blocks are kept: a bit a block, and no bit past the last block.
+pub record AreBits (blocks : ℕ) (bytes : List ℕ) : Type 0 where
   pub whole : length bytes ≡ div_ceil blocks 8
   pub ends : (b : ℕ) → blocks ≤ b → bit_in bytes b ≡ false
-  pub counted : free ≡ free_count (bits_of bytes blocks)
+
+-- How a map of so many blocks is kept: the bits of the bitmap, those of the blocks that aren't hidden, and how many blocks are
+-- free.
+pub record IsKept (blocks : ℕ) (bytes unhidden : List ℕ) (free : ℕ) : Type 0 where
+  pub bitmap : AreBits blocks bytes
+  pub rest : AreBits blocks unhidden
+  pub are_live : (b : ℕ) → bit_in unhidden b ≡ true → bit_in bytes b ≡ true
+  pub counted : free ≡ free_count (bits_of unhidden blocks)
+
+-- one bit was given a value, and all others are as before
+pub record IsPut (old new : List ℕ) (b : ℕ) (bit : Bool) : Type 0 where
+  pub whole : length new ≡ length old
+  pub same : bit_in new b ≡ bit
+  pub others : (k : ℕ) → k ≢ b → bit_in new k ≡ bit_in old k
 
 -- ---- bytes that have given bits
 -- the number with these bits, the lowest first

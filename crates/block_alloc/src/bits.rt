@@ -1,12 +1,13 @@
 //! Bits in bytes, eight a byte, the lowest first.
 
-ghost use Rattle.std.specs.Prelude.{◌≡◌, ℕ, ◌*◌, ◌+◌, ◌/◌, ◌%◌, ◌<◌, ◌≤◌, ◌≢◌, ◌==◌, cond, false, length, slice_index};
+ghost use Rattle.std.specs.Prelude.{◌≡◌, ℕ, ◌*◌, ◌+◌, ◌/◌, ◌%◌, ◌<◌, ◌≤◌, ◌≢◌, ◌==◌, cond, false, length, slice_index, IfOk};
 ghost use Rattle.std.specs.Int.{bit_at, div_ceil};
 ghost use Rattle.block_alloc.specs.LiveMap.{free_count};
-ghost use Rattle.block_alloc.specs.Bytes.{bit_in, bits_of};
+ghost use Rattle.block_alloc.specs.Bytes.{bit_in, bits_of, AreBits, IsPut};
 
 use image_layout::bit_mask;
 use image_layout::sectors::SECTOR_BYTES;
+use std::alloc::{AllocError, Global};
 
 /// How many bits a byte has.
 pub const BYTE_BITS: u32 = 8;
@@ -70,15 +71,37 @@ pub fn cut_to(bytes: &mut Vec<u8>, len: u32)
     }
 }
 
+/// The same bytes once more.
+pub fn copy_of(alloc: Global, bytes: &[u8]) -> Result<Vec<u8>, AllocError>
+    ensures { IfOk result (λ copy. copy.items ≡ bytes.now) }
+{
+    bytes.to_vec(alloc)
+}
+
 /// Gives a bit a value.
 pub fn put_bit(bytes: &mut Vec<u8>, b: u32, bit: bool)
     requires { b / 8 < length bytes.old.items }
-    ensures whole { length bytes.new.items ≡ length bytes.old.items }
-    ensures same { bit_in bytes.new.items b ≡ bit }
-    ensures others { (k : ℕ) → k ≢ b → bit_in bytes.new.items k ≡ bit_in bytes.old.items k }
+    ensures { IsPut bytes.old.items bytes.new.items b bit }
 {
     let place = (b / BYTE_BITS) as usize;
     bytes[place] = with_bit(bytes[place], b, bit);
+}
+
+/// Gives a bit a value, and tells how many of the first so many are 0 then, where so many were.
+pub fn put_counted(bytes: &mut Vec<u8>, len: u32, b: u32, bit: bool, zeros: u32) -> u32
+    requires inside { b < len }
+    requires bits { AreBits len bytes.old.items }
+    requires counted { zeros ≡ free_count (bits_of bytes.old.items len) }
+    ensures put { IsPut bytes.old.items bytes.new.items b bit }
+    ensures counted { result ≡ free_count (bits_of bytes.new.items len) }
+{
+    let was = bit_in(bytes, b);
+    put_bit(bytes, b, bit);
+    match (was, bit) {
+        (false, true) => zeros - 1,
+        (true, false) => zeros + 1,
+        _ => zeros,
+    }
 }
 
 /// The bytes of a sector from a byte on, and zeros past the last byte.

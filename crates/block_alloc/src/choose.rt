@@ -48,7 +48,7 @@ impl LiveMap {
     /// Whether so many free blocks stand in a row somewhere.
     pub fn has_run(&self, count: u32) -> bool
         requires { (1 ≤ count) × (count ≤ 32) }
-        ensures { result ≡ not (is_empty (runs self.now.live count)) }
+        ensures { result ≡ not (is_empty (runs self.now.unhidden count)) }
     {
         let blocks = self.geometry().blocks;
         let mut row = 0;
@@ -65,10 +65,10 @@ impl LiveMap {
     /// every free block (tested). `Short` comes exactly where fewer are free.
     pub fn choose(&self, place: &Placement, hint: u32, count: u32) -> Result<BlockList, Short>
         requires { (1 ≤ count) × (count ≤ 32) }
-        ensures chosen { IfOk result (λ blocks. blocks ≡ chosen place.now.kind self.now.live hint count) }
+        ensures chosen { IfOk result (λ blocks. blocks ≡ chosen place.now.kind self.now.unhidden hint count) }
         ensures counted { IfOk result (λ blocks. length blocks ≡ count) }
-        ensures enough { OnOk result (count ≤ free_count self.now.live) }
-        ensures refused { IfErr result (λ s. IsShort self.now.live count s.free s.wanted) }
+        ensures enough { OnOk result (count ≤ free_count self.now.unhidden) }
+        ensures refused { IfErr result (λ s. IsShort self.now.unhidden count s.free s.wanted) }
     {
         let free = self.free_count();
         if free < count {
@@ -85,9 +85,9 @@ impl LiveMap {
     /// free, `NoRun` exactly where enough are and no run is that long.
     pub fn choose_run(&self, place: &Placement, hint: u32, count: u32) -> Result<u32, RunRefusal>
         requires { (1 ≤ count) × (count ≤ 32) }
-        ensures chosen { IfOk result (λ first. chosen_run place.now.kind self.now.live hint count ≡ Some first) }
-        ensures enough { OnOk result (count ≤ free_count self.now.live) }
-        ensures refused { IfErr result (IsRunRefusal self.now.live count) }
+        ensures chosen { IfOk result (λ first. chosen_run place.now.kind self.now.unhidden hint count ≡ Some first) }
+        ensures enough { OnOk result (count ≤ free_count self.now.unhidden) }
+        ensures refused { IfErr result (IsRunRefusal self.now.unhidden count) }
     {
         let free = self.free_count();
         if free < count {
@@ -108,7 +108,7 @@ impl LiveMap {
     /// So many free blocks of least rank, or all where there are fewer.
     fn least_free(&self, place: &Placement, hint: u32, count: u32) -> Least
         requires { count ≤ 32 }
-        ensures { result.kept.items ≡ least_of (rank_of place.now.kind hint) count (free_blocks self.now.live) }
+        ensures { result.kept.items ≡ least_of (rank_of place.now.kind hint) count (free_blocks self.now.unhidden) }
     {
         let blocks = self.geometry().blocks;
         let mut least = Least::new(count as usize);
@@ -125,7 +125,7 @@ impl LiveMap {
 
     /// Where the run of so many free blocks begins whose first block has the least rank.
     fn least_run(&self, place: &Placement, hint: u32, count: u32) -> Least
-        ensures { result.kept.items ≡ least_of (rank_of place.now.kind hint) 1 (runs self.now.live count) }
+        ensures { result.kept.items ≡ least_of (rank_of place.now.kind hint) 1 (runs self.now.unhidden count) }
     {
         let blocks = self.geometry().blocks;
         let mut least = Least::new(1);
@@ -147,7 +147,7 @@ impl LiveMap {
         requires table { IsTable self.now }
         requires block { block < self.now.geometry.blocks }
         requires behind { behind + block < self.now.geometry.blocks }
-        ensures row { IsRow self.now.live (block + 1) behind → IsRow self.now.live block result }
+        ensures row { IsRow self.now.unhidden (block + 1) behind → IsRow self.now.unhidden block result }
         ensures within { result + block ≤ self.now.geometry.blocks }
     {
         if self.is_live(block) { 0 } else { behind + 1 }

@@ -50,7 +50,7 @@ pub fn fresh_sector(geometry: &Geometry, part: u32) -> [u8; SECTOR_BYTES]
 /// the primary blocks are live and all others are free.
 pub fn written_sectors_have_the_bits()
     ensures stored { (live : List Bool) (g : Geometry) (x : Image) → AreWritten live g x → IsStored live g x }
-    ensures fresh { (g : Geometry) → IsLawful g → IsTable (record { geometry = g; live = fresh_live g }) }
+    ensures fresh { (g : Geometry) → IsLawful g → IsTable (record { geometry = g; live = fresh_live g; unhidden = fresh_live g }) }
     ensures live { (g : Geometry) (b : ℕ) → is_live (fresh_live g) b ≡ nat_lt b g.primaries }
     ensures free { (g : Geometry) → free_count (fresh_live g) ≡ g.blocks - g.primaries }
 {}

@@ -1,6 +1,6 @@
 //! Which blocks are live, a bit a block.
 
-ghost use Rattle.std.specs.Prelude.{◌≡◌, ℕ, ◌/◌, ◌<◌, ◌≤◌, ◌≢◌, true, false, slice_set, IfOk, OnOk, IsErrOf};
+ghost use Rattle.std.specs.Prelude.{◌≡◌, ℕ, ◌/◌, ◌<◌, ◌≤◌, ◌≢◌, true, false, slice_set, IfOk, IsErrOf, IsTrue};
 ghost use Rattle.image_device.specs.Calls.{Rests, Uses};
 ghost use Rattle.image_device.specs.Counts.{Rose};
 ghost use Rattle.image_device.specs.Image.{Image, put_at};
@@ -10,7 +10,7 @@ ghost use Rattle.block_alloc.specs.LiveMap.{IsTable, is_live, free_count};
 ghost use Rattle.block_alloc.specs.Bytes.{bitmap_sector_bytes};
 ghost use Rattle.block_alloc.specs.Stored.{IsStoredAt, IsStored, per_sector, sector_of};
 
-use crate::bits::{bit_in, count_zeros, cut_to, put_bit, sector_from};
+use crate::bits::{bit_in, copy_of, count_zeros, cut_to, put_bit, put_counted, sector_from};
 use crate::fault::LoadFault;
 use crate::sectors::read_sectors;
 use image_device::Device;
@@ -25,12 +25,15 @@ pub(crate) const PER_SECTOR: u32 = 4096;
 
 const _: () = prove!(PER_SECTOR == 4096);
 
-/// Which blocks are live and which are free.
+/// Which blocks are live and which are free. A live block may be hidden: it is free for each question and each choice, while its
+/// bit stays in the bitmap.
 #[derive(Drop)]
 pub struct LiveMap {
     geometry: Geometry,
     /// The bytes of the bitmap that have the blocks' bits; those past the last block are 0.
     bytes: Vec<u8>,
+    /// The same with 0 for each hidden block.
+    unhidden: Vec<u8>,
     /// How many blocks are free.
     free: u32,
 }
@@ -42,13 +45,17 @@ impl Model for LiveMap {
 
     ghost Value = { Value_of };
 
-    ghost view = { λ m. record { geometry = m.geometry; live = bits_of m.bytes.items m.geometry.blocks } };
+    ghost view = { λ m. record {
+      geometry = m.geometry;
+      live = bits_of m.bytes.items m.geometry.blocks;
+      unhidden = bits_of m.unhidden.items m.geometry.blocks;
+    } };
 
-    ghost invariant = { λ m. IsLawful m.geometry × IsKept m.geometry.blocks m.bytes.items m.free };
+    ghost invariant = { λ m. IsLawful m.geometry × IsKept m.geometry.blocks m.bytes.items m.unhidden.items m.free };
 }
 
 impl LiveMap {
-    /// Reads the bitmap. Bits past the last block don't matter. `Device` comes only where `faults` rose.
+    /// Reads the bitmap, and hides no block. Bits past the last block don't matter. `Device` comes only where `faults` rose.
     pub fn load<D: Device>(
         alloc: Global,
         dev: &mut D,
@@ -58,19 +65,22 @@ impl LiveMap {
         ensures geometry { IfOk result (λ m. m.geometry ≡ geometry.now) }
         ensures table { IfOk result IsTable }
         ensures stored { D.told → IfOk result (λ m. IsStored m.live geometry.now (D.view dev.old).reads) }
+        ensures none_hidden { IfOk result (λ m. m.unhidden ≡ m.live) }
         ensures rests { D.told → Rests (D.view dev.old) (D.view dev.new) }
         ensures uses { Uses 0 (D.view dev.old) (D.view dev.new) }
-        ensures faultless { OnOk result ((D.view dev.new).faults ≡ (D.view dev.old).faults) }
+        ensures faultless { ¬ IsErrOf result LoadFault.Device → (D.view dev.new).faults ≡ (D.view dev.old).faults }
         ensures cause { IsErrOf result LoadFault.Device → Rose (D.view dev.old).faults (D.view dev.new).faults }
     {
         let layout = Layout::of(geometry);
         let sectors = geometry.blocks.div_ceil(PER_SECTOR);
         let mut bytes = read_sectors(alloc, dev, layout.bitmap_start(), sectors)?;
         cut_to(&mut bytes, geometry.blocks);
-        let free = count_zeros(&bytes, geometry.blocks);
+        let unhidden = copy_of(alloc, &bytes)?;
+        let free = count_zeros(&unhidden, geometry.blocks);
         Ok(LiveMap {
             geometry: *geometry,
             bytes,
+            unhidden,
             free,
         })
     }
@@ -85,39 +95,70 @@ impl LiveMap {
 
     /// How many blocks are free.
     pub fn free_count(&self) -> u32
-        ensures { result ≡ free_count self.now.live }
+        ensures { result ≡ free_count self.now.unhidden }
     {
         self.free
     }
 
-    /// Whether a block is live.
+    /// Whether a block is live and isn't hidden.
     pub fn is_live(&self, block: u32) -> bool
+        requires { block < self.now.geometry.blocks }
+        ensures { result ≡ is_live self.now.unhidden block }
+    {
+        bit_in(&self.unhidden, block)
+    }
+
+    /// Whether a block is live in the bitmap, hidden or not.
+    pub fn raw_live(&self, block: u32) -> bool
         requires { block < self.now.geometry.blocks }
         ensures { result ≡ is_live self.now.live block }
     {
         bit_in(&self.bytes, block)
     }
 
-    /// Makes a block live, whatever it was.
+    /// Makes a block live and not hidden, whatever it was.
     pub fn set_live(&mut self, block: u32)
         requires { block < self.old.geometry.blocks }
-        ensures { self.new ≡ record self.old { live = slice_set self.old.live block true } }
+        ensures { self.new ≡ record self.old {
+          live = slice_set self.old.live block true;
+          unhidden = slice_set self.old.unhidden block true;
+        } }
     {
-        if !bit_in(&self.bytes, block) {
-            put_bit(&mut self.bytes, block, true);
-            self.free -= 1;
-        }
+        self.set(block, true, true);
     }
 
-    /// Makes a block free, whatever it was.
+    /// Makes a block free and not hidden, whatever it was.
     pub fn set_free(&mut self, block: u32)
         requires { block < self.old.geometry.blocks }
-        ensures { self.new ≡ record self.old { live = slice_set self.old.live block false } }
+        ensures { self.new ≡ record self.old {
+          live = slice_set self.old.live block false;
+          unhidden = slice_set self.old.unhidden block false;
+        } }
     {
-        if bit_in(&self.bytes, block) {
-            put_bit(&mut self.bytes, block, false);
-            self.free += 1;
-        }
+        self.set(block, false, false);
+    }
+
+    /// Hides a live block: it is free from now on for each question and each choice, and its bit stays in the bitmap.
+    pub fn hide(&mut self, block: u32)
+        requires { IsTrue (is_live self.old.unhidden block) }
+        ensures { self.new ≡ record self.old { unhidden = slice_set self.old.unhidden block false } }
+    {
+        let blocks = self.geometry.blocks;
+        self.free = put_counted(&mut self.unhidden, blocks, block, false, self.free);
+    }
+
+    /// Sets the bit of a block, and whether it is live and not hidden.
+    fn set(&mut self, block: u32, bit: bool, unhidden: bool)
+        requires inside { block < self.old.geometry.blocks }
+        requires live { unhidden ≡ true → bit ≡ true }
+        ensures { self.new ≡ record self.old {
+          live = slice_set self.old.live block bit;
+          unhidden = slice_set self.old.unhidden block unhidden;
+        } }
+    {
+        let blocks = self.geometry.blocks;
+        put_bit(&mut self.bytes, block, bit);
+        self.free = put_counted(&mut self.unhidden, blocks, block, unhidden, self.free);
     }
 
     /// The sector of the bitmap that has a block's bit, as it now must read.

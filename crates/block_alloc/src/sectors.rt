@@ -1,6 +1,6 @@
 //! The bitmap's sectors on a device.
 
-ghost use Rattle.std.specs.Prelude.{◌≡◌, ℕ, ◌*◌, ◌+◌, ◌/◌, ◌%◌, ◌^◌, ◌<◌, length, slice_index, IfOk, OnOk, IsErrOf};
+ghost use Rattle.std.specs.Prelude.{◌≡◌, ℕ, ◌*◌, ◌+◌, ◌/◌, ◌%◌, ◌^◌, ◌<◌, length, slice_index, IfOk, IsErrOf};
 ghost use Rattle.image_device.specs.Calls.{Rests, Uses};
 ghost use Rattle.image_device.specs.Counts.{Rose};
 
@@ -21,7 +21,7 @@ pub fn read_sectors<D: Device>(
     ensures read { D.told → IfOk result (λ bytes. (i : ℕ) → i < 512 * count → slice_index bytes.items i ≡ slice_index ((D.view dev.old).reads (first + i / 512)) (i % 512)) }
     ensures rests { D.told → Rests (D.view dev.old) (D.view dev.new) }
     ensures uses { Uses 0 (D.view dev.old) (D.view dev.new) }
-    ensures faultless { OnOk result ((D.view dev.new).faults ≡ (D.view dev.old).faults) }
+    ensures faultless { ¬ IsErrOf result LoadFault.Device → (D.view dev.new).faults ≡ (D.view dev.old).faults }
     ensures cause { IsErrOf result LoadFault.Device → Rose (D.view dev.old).faults (D.view dev.new).faults }
 {
     let mut bytes = Vec::with_capacity(alloc, SECTOR_BYTES * count as usize)?;

@@ -1,4 +1,3 @@
-pub mod BitLaws
 pub mod LevelLaws
 pub mod HeldLaws
 pub mod TableLaws

@@ -1,17 +1,8 @@
 -- How levels are kept: one bit a block that says at least read, and one that says write.
-use Rattle.std.specs.Prelude.{ℕ, ◌/◌, ◌%◌, ◌==◌, Bool, false, cond, List, length, map, slice_index_or}
+use Rattle.std.specs.Prelude.{Bool, false, cond, List, length, map, slice_index_or}
 use Rattle.std.specs.List.{range_with_len}
-use Rattle.std.specs.Int.{bit_at}
 use Rattle.tsd_model.specs.declared.requests.Level.{Level}
 use Rattle.tsd_model.specs.declared.requests.Level.TheVariants as level
-
--- bit i of the words, 64 a word, the lowest first
-abbrev pub bit_of : List ℕ → ℕ → Bool
-bit_of words i = bit_at (slice_index_or words (i / 64) 0) (i % 64) == 1
-
--- the first so many bits
-abbrev pub bits_of : List ℕ → ℕ → List Bool
-bits_of words len = map (bit_of words) (range_with_len 0 len)
 
 abbrev pub level_of_bits : Bool → Bool → Level
 level_of_bits reads writes = cond writes level.Write (cond reads level.Read level.Bare)

@@ -7,10 +7,10 @@ ghost use Rattle.tsd_model.specs.declared.requests.Level.TheVariants as level;
 
 use crate::levels::LevelBits;
 use crate::origins::Origins;
-use std::alloc::{AllocError, Global};
+use std::alloc::Global;
 use std::marker::Model;
-use tsd_model::Level;
 use tsd_model::levels::greater;
+use tsd_model::{Level, NoMemory};
 
 /// What one open session holds: the levels from each origin.
 #[derive(Drop)]
@@ -31,13 +31,16 @@ impl Model for Holding {
 
 impl Holding {
     /// Nothing, at so many blocks from so many origins.
-    pub fn nothing(alloc: Global, primaries: u32, blocks: u32) -> Result<Holding, AllocError>
+    pub fn nothing(alloc: Global, primaries: u32, blocks: u32) -> Result<Holding, NoMemory>
         requires { primaries ≤ 16 }
         ensures { IfOk result (λ h. h ≡ replicate primaries (replicate blocks level.Bare)) }
     {
         let mut tables = Vec::new(alloc);
         for origin in 0..primaries {
-            tables.push(LevelBits::bare(alloc, blocks)?)?;
+            let table = LevelBits::bare(alloc, blocks)?;
+            if tables.push(table).is_err() {
+                return Err(NoMemory);
+            }
         }
         Ok(Holding { tables })
     }

@@ -4,10 +4,10 @@ ghost use Rattle.std.specs.Prelude.{◌≡◌, cond, length, replicate, slice_in
 ghost use Rattle.tsd_model.specs.Sessions.{raised_level};
 ghost use Rattle.tsd_model.specs.declared.requests.Level.TheVariants as level;
 
-use crate::bits::BitArray;
-use std::alloc::{AllocError, Global};
+use bit_array::BitArray;
+use std::alloc::Global;
 use std::marker::Model;
-use tsd_model::Level;
+use tsd_model::{Level, NoMemory};
 
 /// The level at each block, of one session and from one origin.
 #[derive(Drop)]
@@ -33,7 +33,7 @@ impl Model for LevelBits {
 
 impl LevelBits {
     /// Nothing, at so many blocks.
-    pub fn bare(alloc: Global, blocks: u32) -> Result<LevelBits, AllocError>
+    pub fn bare(alloc: Global, blocks: u32) -> Result<LevelBits, NoMemory>
         ensures { IfOk result (λ t. t ≡ replicate blocks level.Bare) }
     {
         Ok(LevelBits {

@@ -95,7 +95,7 @@ pub(crate) fn read_slots<D: Device>(
     ensures within { OnOk result (AreWithinTo geometry.now geometry.now.slots (slots_in slots.new)) }
     ensures rests { D.told → Rests (D.view dev.old) (D.view dev.new) }
     ensures uses { Uses 0 (D.view dev.old) (D.view dev.new) }
-    ensures faultless { OnOk result ((D.view dev.new).faults ≡ (D.view dev.old).faults) }
+    ensures faultless { ¬ IsErrOf result TableFault.Device → (D.view dev.new).faults ≡ (D.view dev.old).faults }
     ensures cause { IsErrOf result TableFault.Device → Rose (D.view dev.old).faults (D.view dev.new).faults }
 {
     let layout = Layout::of(geometry);

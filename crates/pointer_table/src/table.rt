@@ -57,7 +57,7 @@ impl Model for PointerTable {
 impl PointerTable {
     /// Reads the table of a disk. The device is only read.
     ///
-    /// Fails with `NoMemory` where memory is short; with `Device` only where the device's faults rose; with `Slot` where a slot
+    /// Fails with `NoMemory` where memory is short; with `Device` only where the device's faults rose, and with every other answer it stays; with `Slot` where a slot
     /// is bad, for the least one; with `Repeated` where none is bad and two slots hold one pair, for the least such pair.
     pub fn load<D: Device>(
         alloc: Global,
@@ -69,7 +69,7 @@ impl PointerTable {
         ensures read { D.told → IsLoading (D.view dev.old).reads geometry.now result }
         ensures rests { D.told → Rests (D.view dev.old) (D.view dev.new) }
         ensures uses { Uses 0 (D.view dev.old) (D.view dev.new) }
-        ensures faultless { OnOk result ((D.view dev.new).faults ≡ (D.view dev.old).faults) }
+        ensures faultless { ¬ IsErrOf result TableFault.Device → (D.view dev.new).faults ≡ (D.view dev.old).faults }
         ensures cause { IsErrOf result TableFault.Device → Rose (D.view dev.old).faults (D.view dev.new).faults }
     {
         let mut slots = empty_slots(alloc, geometry)?;
@@ -93,6 +93,15 @@ impl PointerTable {
         self.held
     }
 
+    /// The pair that a slot holds.
+    pub fn pair_in(&self, slot: u32) -> Option<(u32, u32)>
+        requires { slot < self.now.geometry.slots }
+        ensures value { result ≡ slot_at self.now.slots slot }
+        ensures table { IsTable self.now }
+    {
+        self.slots[slot as usize].pair()
+    }
+
     /// Whether a pair is held.
     pub fn has(&self, source: u32, target: u32) -> bool
         ensures { result ≡ holds (pairs self.now) source target }
@@ -111,7 +120,14 @@ impl PointerTable {
     pub fn next_out(&self, source: u32) -> Option<u32>
         ensures { IsNextTarget (pairs self.now) source 0 result }
     {
-        next_target(&self.slots, source, 0)
+        self.next_target(source, 0)
+    }
+
+    /// The least target of the pairs from a block that is not below `start`.
+    pub fn next_target(&self, source: u32, start: u32) -> Option<u32>
+        ensures { IsNextTarget (pairs self.now) source start result }
+    {
+        next_target(&self.slots, source, start)
     }
 
     /// The least source of the pairs to a block that is not below `start`.

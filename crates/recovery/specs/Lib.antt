@@ -1,2 +1,4 @@
 pub mod Areas
 pub mod Formatting
+pub mod Faults
+pub mod Opening

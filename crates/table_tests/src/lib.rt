@@ -1,4 +1,4 @@
-//! Tests of the journal and of the tables above it: pointers, counts, free space and capabilities.
+//! Tests of the tables of an image: pointers, counts, free space and capabilities.
 //!
 //! They use public calls alone and show what no clause says. They stand in a crate of their own, so that a change of a test
 //! proves no other crate again. Nothing stands on it, and it promises nothing.
@@ -10,7 +10,5 @@ mod blocks;
 mod caps;
 #[cfg(test)]
 mod counts;
-#[cfg(test)]
-mod journal;
 #[cfg(test)]
 mod pointers;

@@ -313,6 +313,7 @@ fn agrees(
             && table.targets_from(source, 0).as_slice() == all.as_slice()
             && table.targets_from(source, target).as_slice() == from.as_slice()
             && table.next_out(source) == all.first().copied()
+            && table.next_target(source, target) == from.first().copied()
             && table.next_source(target, source) == plain_next_source(pairs, target, source),
     )
 }

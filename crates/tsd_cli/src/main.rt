@@ -7,9 +7,12 @@
 //! output and the command line are on a real machine is trusted, and shown by the stored run alone.
 #![tactic(auto)]
 
+mod file_station;
 mod help;
 mod input;
 mod run;
+#[cfg(test)]
+mod station_tests;
 #[cfg(test)]
 mod tests;
 

@@ -2,14 +2,15 @@
 use Rattle.std.proofs.Common.{◌≡◌, ℕ, ◌+◌, ◌<◌, subst, Bool, List, [], ◌∷◌, ◌++◌, length, take, drop, refl, sym, ◌∙◌, ap, arith, append_assoc, append-nil, length-append}
 use Rattle.std.proofs.lemmas.List.{map-append, length-map, length-drop, take-append-drop}
 use Rattle.tsd_model.specs.Step.{State}
-use Rattle.tsd_model.specs.Run.{answer, replies, after, wants_now}
+use Rattle.tsd_model.specs.Run.{answer, replies, after}
 use Rattle.tsd_model.specs.declared.requests.PlaceKind.{PlaceKind}
 use Rattle.tsd_model.specs.declared.requests.Request.{Request}
 use Rattle.tsd_model.specs.declared.replies.Reply.{Reply}
 use Rattle.script_text.specs.Reading.{request_of}
-use Rattle.tsd_serve.specs.declared.status.Status.{Status}
-use Rattle.tsd_serve.specs.declared.status.Status.TheVariants as status
-use Rattle.tsd_serve.specs.Answers.{IsAnswer, requests, answers, line_of, texts}
+use Rattle.tsd_words.specs.declared.status.Status.{Status}
+use Rattle.tsd_words.specs.declared.status.Status.TheVariants as status
+use Rattle.serving.specs.ModelRules.{IsAnswer}
+use Rattle.tsd_serve.specs.Answers.{requests, answers, line_of, texts}
 use Rattle.tsd_serve.specs.Served.{Served, IsCutOff, Stopped}
 
 drop_one : (w : Bool) (ws : List Bool) → drop 1 (w ∷ ws) ≡ ws

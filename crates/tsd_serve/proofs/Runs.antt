@@ -4,41 +4,19 @@ use Rattle.std.proofs.lemmas.List.{length-take, take-append-drop}
 use Rattle.tsd_model.specs.Step.{State}
 use Rattle.tsd_model.specs.declared.requests.PlaceKind.{PlaceKind}
 use Rattle.script_text.specs.Lines.{Cutting, WasFed}
-use Rattle.script_text.specs.Pieces.{lines, all_lines, if_some, unended}
-use Rattle.tsd_serve.specs.declared.status.Status.{Status}
-use Rattle.tsd_serve.specs.declared.status.Status.TheVariants as status
+use Rattle.script_text.specs.Pieces.{lines, all_lines, unended}
+use Rattle.tsd_words.specs.declared.status.Status.{Status}
+use Rattle.tsd_words.specs.declared.status.Status.TheVariants as status
 use Rattle.tsd_serve.specs.Served.{Served, Stopped, ByStatus}
-use Rattle.tsd_serve.specs.Ran.{Came, IsAtEnd, AskedBy, Ran, KeepsDisk, Goes}
+use Rattle.tsd_serve.specs.Ran.{AskedBy, Ran, KeepsDisk, Goes}
+use Rattle.serving.specs.Ran.{IsAtEnd}
 use Rattle.tsd_serve.proofs.Replies.{stopped_more}
 use Rattle.script_text.proofs.CutLaws.{onto, lines_on}
 use Rattle.script_text.specs.Pieces.{pieces, front}
 use Rattle.image_device.specs.Counts.{Rose}
 use Rattle.image_device.specs.View.{View}
 use Rattle.image_device.specs.Calls.{Puts}
-use Rattle.tsd_serve.proofs.Lines.{take_all, take_nil, take_zero, within_limit}
-
-pub came_first : (tells : Type 0) (taken left : List ℕ) → Came tells taken taken left left []
-came_first tells taken left = record { taken = λ t. sym (append-nil taken); left = λ t. refl }
-
-pub came_more : (tells : Type 0) (taken now new left rest less x p : List ℕ) → Came tells taken now left rest x → (tells → new ≡ now ++ p) → (tells → rest ≡ p ++ less) → Came tells taken new left less (x ++ p)
-came_more tells taken now new left rest less x p came e f = record {
-  taken = λ t. e t ∙ ap (λ xs. xs ++ p) (came.taken t) ∙ append_assoc taken x p;
-  left = λ t. came.left t ∙ ap (λ xs. x ++ xs) (f t) ∙ sym (append_assoc x p less);
-}
-
--- a take that found the end
-pub came_none : (tells : Type 0) (taken now new left rest less room x : List ℕ) (n : ℕ) → n ≡ 0 → (tells → new ≡ now ++ take n room) → (tells → rest ≡ take n room ++ less)
-    → Came tells taken now left rest x → Came tells taken new left less x
-came_none tells taken now new left rest less room x n zero e f came =
-    let none : x ++ take n room ≡ x = ap (λ k. x ++ take k room) zero ∙ ap (λ p. x ++ p) (take_zero room) ∙ append-nil x in
-    subst (λ y. Came tells taken new left less y) none (came_more tells taken now new left rest less x (take n room) came e f)
-
--- a take that failed
-pub came_same : (tells : Type 0) (taken now new left rest less x : List ℕ) → (tells → (less ≡ rest) × (new ≡ now)) → Came tells taken now left rest x → Came tells taken new left less x
-came_same tells taken now new left rest less x same came = record {
-  taken = λ t. (same t).1 ∙ came.taken t;
-  left = λ t. came.left t ∙ ap (λ xs. x ++ xs) (sym (same t).0);
-}
+use Rattle.tsd_serve.proofs.Lines.{take_all, take_nil, within_limit}
 
 -- a take that found the end
 pub at_end : (tells now : Type 0) (rest room less : List ℕ) (n : ℕ) → n ≡ 0 → now → (tells → rest ≡ take n room ++ less) → (tells → rest ≡ []) → IsAtEnd tells now less

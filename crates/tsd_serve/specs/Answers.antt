@@ -1,7 +1,7 @@
 -- What the disk answers to lines, as text.
-use Rattle.std.specs.Prelude.{◌≡◌, ℕ, Bool, false, not, ◌&&◌, nat_le, List, [], ◌∷◌, ◌++◌, map}
+use Rattle.std.specs.Prelude.{ℕ, Bool, false, not, ◌&&◌, nat_le, List, [], ◌∷◌, ◌++◌, map}
 use Rattle.tsd_model.specs.Step.{State}
-use Rattle.tsd_model.specs.Run.{answer, replies}
+use Rattle.tsd_model.specs.Run.{replies}
 use Rattle.tsd_model.specs.declared.requests.PlaceKind.{PlaceKind}
 use Rattle.tsd_model.specs.declared.requests.Request.{Request}
 use Rattle.tsd_model.specs.declared.requests.Request.TheVariants as ask
@@ -14,12 +14,6 @@ use Rattle.tsd_serve.specs.declared.plain_core.PlainCore.{PlainCore}
 -- the world that a core holds, and what its sessions hold
 abbrev pub state_of : PlainCore → State
 state_of core = record { world = core.world; sessions = core.sessions }
-
--- One request's reply, and the state after it; whether no memory was found for a Begin stands open.
-pub record IsAnswer (kind : PlaceKind) (s : State) (q : Request) (r : Reply) (now : State) : Type 0 where
-  pub want : Bool
-  pub reply : r ≡ (answer kind s q want).reply
-  pub state : now ≡ (answer kind s q want).state
 
 -- a line each
 abbrev pub requests : List (List ℕ) → List Request

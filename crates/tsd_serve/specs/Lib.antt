@@ -1,5 +1,4 @@
-pub mod Words
-pub mod StatusText
+pub mod Built
 pub mod Answers
 pub mod Served
 pub mod Ran

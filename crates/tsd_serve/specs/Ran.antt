@@ -1,23 +1,13 @@
 -- What one run took and sent.
-use Rattle.std.specs.Prelude.{◌≡◌, ℕ, ◌<◌, ◌≤◌, ◌⊎◌, List, [], ◌++◌, length, take}
+use Rattle.std.specs.Prelude.{◌≡◌, ℕ, ◌<◌, ◌≤◌, ◌⊎◌, List, length, take}
 use Rattle.image_device.specs.View.{View}
 use Rattle.tsd_model.specs.Step.{State}
 use Rattle.tsd_model.specs.declared.requests.PlaceKind.{PlaceKind}
 use Rattle.script_text.specs.Lines.{Cutting, WasFed}
 use Rattle.script_text.specs.Pieces.{lines, all_lines}
-use Rattle.tsd_serve.specs.declared.status.Status.{Status}
-use Rattle.tsd_serve.specs.declared.status.Status.TheVariants as status
+use Rattle.tsd_words.specs.declared.status.Status.{Status}
+use Rattle.tsd_words.specs.declared.status.Status.TheVariants as status
 use Rattle.tsd_serve.specs.Served.{Served, ByStatus}
-
--- these bytes came in between two moments, where the source tells
-pub record Came (tells : Type 0) (taken_before taken_now left_before left_now : List ℕ) (bytes : List ℕ) : Type 0 where
-  pub taken : tells → taken_now ≡ taken_before ++ bytes
-  pub left : tells → left_before ≡ bytes ++ left_now
-
--- a source has come to its end
-pub record IsAtEnd (tells ended : Type 0) (left : List ℕ) : Type 0 where
-  pub found : ended
-  pub nothing : tells → left ≡ []
 
 -- Which lines a run that ended so was asked, by the bytes x that came in. At most `limit` bytes are served. What stands
 -- after the last line feed is a line only where the input has come to its end.

@@ -5,9 +5,10 @@ use Rattle.tsd_model.specs.Run.{after}
 use Rattle.tsd_model.specs.declared.requests.PlaceKind.{PlaceKind}
 use Rattle.tsd_model.specs.declared.replies.Reply.{Reply}
 use Rattle.script_text.specs.Reading.{request_of}
-use Rattle.tsd_serve.specs.declared.status.Status.{Status}
-use Rattle.tsd_serve.specs.declared.status.Status.TheVariants as status
-use Rattle.tsd_serve.specs.Answers.{IsAnswer, requests, answers, line_of, texts}
+use Rattle.tsd_words.specs.declared.status.Status.{Status}
+use Rattle.tsd_words.specs.declared.status.Status.TheVariants as status
+use Rattle.serving.specs.ModelRules.{IsAnswer}
+use Rattle.tsd_serve.specs.Answers.{requests, answers, line_of, texts}
 
 -- the replies to these lines were sent, all of them and nothing else, and this is the state after the lines
 pub record Served (kind : PlaceKind) (s : State) (tells : Type 0) (before : List ℕ) (ls : List (List ℕ)) (state : State) (now : List ℕ) : Type 0 where

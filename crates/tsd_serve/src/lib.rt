@@ -1,7 +1,8 @@
 //! The program as one call: command words, input lines, and replies.
 //!
 //! What it stands on: the abstract disk (`tsd_model`) and the plain program that computes it (`plain_disk`), the outside
-//! (`image_device`), lines (`script_text`), placements (`place_policy`), and the faults of an image (`image_layout`).
+//! (`image_device`), lines (`script_text`), placements (`place_policy`), words and statuses (`tsd_words`), and what a loop over
+//! an input says of its bytes (`serving`).
 //!
 //! What it promises: [`tsd`] answers each whole line of its input with the reply that the abstract disk gives, whole and
 //! in order, before it applies the next; and its status says how the run ended, what of the replies was sent, and which
@@ -10,16 +11,12 @@
 //! The disk is held in memory, and nothing of it is written to the device yet. So every request may want memory.
 #![tactic(auto)]
 
-mod image_text;
 mod plain_core;
 mod serve;
-mod status;
 mod top;
-mod words;
 
-pub use image_text::image_line;
 pub use plain_core::PlainCore;
-pub use serve::{INPUT_MAX, serve_lines};
-pub use status::{Status, status_line};
+pub use serve::serve_lines;
+pub use serving::INPUT_MAX;
 pub use top::tsd;
-pub use words::{Fresh, command};
+pub use tsd_words::{Command, Format, Fresh, Load, Status, command, image_line, status_line};

@@ -6,7 +6,8 @@ ghost use Rattle.tsd_model.specs.Run.{answer, at_rest, fresh_world};
 ghost use Rattle.tsd_model.specs.Step.{gives};
 ghost use Rattle.tsd_model.specs.declared.requests.PlaceKind.{PlaceKind};
 ghost use Rattle.tsd_model.specs.declared.replies.Reply.TheVariants as reply;
-ghost use Rattle.tsd_serve.specs.Answers.{IsAnswer, is_opening, state_of};
+ghost use Rattle.serving.specs.ModelRules.{IsAnswer};
+ghost use Rattle.tsd_serve.specs.Answers.{is_opening, state_of};
 
 use place_policy::Placement;
 use plain_disk::{Sessions, World, plain_step};

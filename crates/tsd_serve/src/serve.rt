@@ -7,16 +7,14 @@ ghost use Rattle.script_text.specs.Pieces.{lines, all_lines};
 ghost use Rattle.tsd_model.specs.Step.{State};
 ghost use Rattle.tsd_serve.specs.Answers.{state_of};
 ghost use Rattle.tsd_serve.specs.Served.{ByStatus, Served, Stopped};
-ghost use Rattle.tsd_serve.specs.Ran.{Came, IsAtEnd, KeepsDisk, Ran};
+ghost use Rattle.serving.specs.Ran.{Came, IsAtEnd};
+ghost use Rattle.tsd_serve.specs.Ran.{KeepsDisk, Ran};
 
 use crate::plain_core::PlainCore;
-use crate::status::Status;
 use image_device::{Port, Source, put_all};
 use place_policy::Placement;
 use script_text::{LineCutter, OutBuf, parse_line, print_reply};
-
-/// The most bytes of input that a run serves.
-pub const INPUT_MAX: u64 = 1 << 40;
+use tsd_words::Status;
 
 /// The most bytes that one take gives.
 const TAKE_MAX: usize = 512;

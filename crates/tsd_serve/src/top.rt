@@ -5,17 +5,19 @@ ghost use Rattle.image_device.specs.Counts.{Rose};
 ghost use Rattle.tsd_model.specs.Geometry.{IsLawful};
 ghost use Rattle.tsd_model.specs.Run.{at_rest, fresh_world};
 ghost use Rattle.tsd_model.specs.Step.{State};
-ghost use Rattle.tsd_serve.specs.Ran.{Came, IsAtEnd, IsUnmade, KeepsDisk, Ran};
-ghost use Rattle.tsd_serve.specs.Words.{command_of};
+ghost use Rattle.serving.specs.Ran.{Came, IsAtEnd};
+ghost use Rattle.tsd_serve.specs.Ran.{IsUnmade, KeepsDisk, Ran};
+ghost use Rattle.tsd_serve.specs.Built.{built};
+ghost use Rattle.tsd_words.specs.Words.{command_of};
 
 use crate::plain_core::PlainCore;
-use crate::serve::{INPUT_MAX, serve_lines};
-use crate::status::Status;
-use crate::words::{Fresh, command};
+use crate::serve::serve_lines;
 use image_device::{Port, Source};
 use place_policy::PlaceBook;
 use script_text::LineCutter;
+use serving::INPUT_MAX;
 use std::alloc::Global;
+use tsd_words::{Command, Fresh, Status, command};
 
 /// Does what the words say: `fresh BLOCKS SECTORS READCAP WRITECAP PLACE` makes a disk in memory and answers the lines of
 /// the input until it ends. No other command is built yet.
@@ -28,13 +30,13 @@ pub fn tsd<S: Source, P: Port>(
     port: &mut P,
     places: &PlaceBook,
 ) -> Status
-    // Usage comes exactly where the words are no command, and before any call.
-    ensures usage { (result ≡ Status.Usage) ↔ (command_of (map string_bytes words.now.items) ≡ None) }
+    // Usage comes exactly where the words are no command that is built, and before any call.
+    ensures usage { (result ≡ Status.Usage) ↔ (built (command_of (map string_bytes words.now.items)) ≡ None) }
     ensures untouched_source { result ≡ Status.Usage → source.new ≡ source.old }
     ensures untouched_port { result ≡ Status.Usage → port.new ≡ port.old }
     // What came in and what was sent, by status. The replies are those of the abstract disk, from the fresh one on. Where
     // there is no memory for that disk, nothing is called.
-    ensures ran { IfSome (command_of (map string_bytes words.now.items)) (λ c. IsUnmade result source.old source.new port.old port.new ⊎ ((final : State) × Ran result c.kind (at_rest (fresh_world c.geometry (c.caps ∷ []))) final (2 ^ 40) (Came S.told (S.taken source.old) (S.taken source.new) (S.left_bytes source.old) (S.left_bytes source.new)) (IsAtEnd S.told (S.ended source.new) (S.left_bytes source.new)) P.told (P.view port.old).sent (P.view port.new).sent)) }
+    ensures ran { IfSome (built (command_of (map string_bytes words.now.items))) (λ c. IsUnmade result source.old source.new port.old port.new ⊎ ((final : State) × Ran result c.kind (at_rest (fresh_world c.geometry (c.caps ∷ []))) final (2 ^ 40) (Came S.told (S.taken source.old) (S.taken source.new) (S.left_bytes source.old) (S.left_bytes source.new)) (IsAtEnd S.told (S.ended source.new) (S.left_bytes source.new)) P.told (P.view port.old).sent (P.view port.new).sent)) }
     // Done comes only at the end of the input.
     ensures end { result ≡ Status.Done → S.told → S.left_bytes source.new ≡ [] }
     ensures ended { result ≡ Status.Done → S.ended source.new }
@@ -47,8 +49,8 @@ pub fn tsd<S: Source, P: Port>(
     ensures disk { KeepsDisk P.told (P.view port.old) (P.view port.new) }
 {
     match command(words) {
-        None => Status::Usage,
-        Some(fresh) => run_fresh(alloc, &fresh, source, port, places),
+        Some(Command::Fresh(fresh)) => run_fresh(alloc, &fresh, source, port, places),
+        _ => Status::Usage,
     }
 }
 

@@ -1,5 +1,6 @@
 use Rattle.std.proofs.Common.{◌++◌, subst, ap, refl, ◌∙◌}
-use Rattle.tsd_serve.specs.Answers.{IsAnswer, state_of}
+use Rattle.serving.specs.ModelRules.{IsAnswer}
+use Rattle.tsd_serve.specs.Answers.{state_of}
 use Rattle.tsd_serve.proofs.Replies.{served_next, stopped_put, stopped_memory, cut_reply}
 use Rattle.tsd_serve.proofs.Runs.{keeps_same, keeps_put}
 use Rattle.tsd_serve.proofs.serve.serve_line.Goals as goal

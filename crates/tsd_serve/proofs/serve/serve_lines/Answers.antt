@@ -1,7 +1,8 @@
 use Rattle.std.proofs.Common.{take, arith, refl, ◌∙◌}
 use Rattle.tsd_serve.specs.Answers.{state_of}
-use Rattle.tsd_serve.specs.Ran.{Came, IsAtEnd}
-use Rattle.tsd_serve.proofs.Runs.{at_end, came_first, came_more, came_none, goes_first, goes_more, keeps_joined, keeps_same, ran_end, ran_stopped, rose_same}
+use Rattle.serving.specs.Ran.{Came, IsAtEnd}
+use Rattle.serving.proofs.Inputs.{came_first, came_more, came_none}
+use Rattle.tsd_serve.proofs.Runs.{at_end, goes_first, goes_more, keeps_joined, keeps_same, ran_end, ran_stopped, rose_same}
 use Rattle.tsd_serve.proofs.serve.serve_lines.Goals as goal
 
 pub loop-taken-init : goal.loop-taken-init

@@ -1,6 +1,7 @@
 use Rattle.std.proofs.Common.{◌≡◌, ◌+◌, ◌-◌, ◌≤◌}
 use Rattle.tsd_serve.specs.Answers.{state_of}
-use Rattle.tsd_serve.specs.Ran.{Came, KeepsDisk, Goes}
+use Rattle.serving.specs.Ran.{Came}
+use Rattle.tsd_serve.specs.Ran.{KeepsDisk, Goes}
 use Rattle.tsd_serve.proofs.serve.serve_lines.Given as goal
 
 abbrev pub invariant-loop-taken : goal.invariant-loop-taken

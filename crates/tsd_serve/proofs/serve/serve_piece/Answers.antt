@@ -1,4 +1,4 @@
-use Rattle.std.proofs.Common.{◌++◌, ◌+◌, take, drop, arith, ◌∙◌, subst}
+use Rattle.std.proofs.Common.{◌++◌, ◌+◌, take, drop, ◌∙◌, subst}
 use Rattle.script_text.specs.Pieces.{lines}
 use Rattle.tsd_serve.specs.Answers.{state_of}
 use Rattle.tsd_serve.specs.Served.{Served, Stopped}

@@ -3,7 +3,7 @@ use Rattle.script_text.specs.Pieces.{lines, unended, all_lines}
 use Rattle.tsd_serve.specs.Answers.{state_of}
 use Rattle.tsd_serve.specs.Served.{Served, Stopped}
 use Rattle.tsd_serve.proofs.Lines.{one_rest}
-use Rattle.tsd_serve.proofs.Runs.{by_stopped, keeps_same}
+use Rattle.tsd_serve.proofs.Runs.{by_stopped}
 use Rattle.tsd_serve.proofs.serve.serve_rest.Goals as goal
 
 pub returns-in-Ok-clause-ends : goal.returns-in-Ok-clause-ends

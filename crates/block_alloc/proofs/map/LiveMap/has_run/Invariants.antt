@@ -7,7 +7,7 @@ use Rattle.block_alloc.proofs.map.LiveMap.has_run.Given as goal
 -- no run begins at a block that was passed
 abbrev pub invariant-loop-block : goal.invariant-loop-block
 invariant-loop-block l = record {
-  row : IsRow l.self.live l.block l.row;
+  row : IsRow l.self.unhidden l.block l.row;
   within : l.row + l.block ≤ l.blocks;
-  none : filter (is_free_run l.self.live l.count) (range_with_len l.block (l.blocks - l.block)) ≡ [];
+  none : filter (is_free_run l.self.unhidden l.count) (range_with_len l.block (l.blocks - l.block)) ≡ [];
 }

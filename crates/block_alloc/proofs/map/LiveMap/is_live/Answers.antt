@@ -6,7 +6,7 @@ use Rattle.block_alloc.proofs.map.LiveMap.is_live.Goals as goal
 
 pub returns : goal.returns
 returns c =
-    let bytes = c.self.inside.bytes.items in let blocks = c.self.inside.geometry.blocks in
+    let bytes = c.self.inside.unhidden.items in let blocks = c.self.inside.geometry.blocks in
     let within : c.args.block < blocks = rw (ap (λ m. m.geometry.blocks) c.self.view_is) c.requires in
     c.bit_in.ensures ∙ (ap (λ bs. bit_in bs c.args.block) c.deref.ensures.value
-    ∙ (sym (get-bits_of bytes blocks c.args.block within) ∙ ap (λ m. is_live m.live c.args.block) c.self.view_is))
+    ∙ (sym (get-bits_of bytes blocks c.args.block within) ∙ ap (λ m. is_live m.unhidden c.args.block) c.self.view_is))

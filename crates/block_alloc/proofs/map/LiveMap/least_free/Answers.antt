@@ -9,11 +9,11 @@ use Rattle.block_alloc.proofs.map.LiveMap.least_free.Goals as goal
 
 pub loop-block-preserved-then-not-is_live : goal.loop-block-preserved-then-not-is_live
 loop-block-preserved-then-not-is_live g c =
-    let live = c.args.self.now.live in let block = c.loop-block.block - 1 in let blocks = c.geometry-blocks.result.blocks in
+    let live = c.args.self.now.unhidden in let block = c.loop-block.block - 1 in let blocks = c.geometry-blocks.result.blocks in
     let rank = rank_of c.args.place.now.kind c.args.hint in
     let next : c.loop-block.block ≡ block + 1 = omega arith in
     let within : block < blocks = omega arith in
-    let inside : block < length live = omega (arith, c.geometry-blocks.ensures.table.each_block, ap (λ m. m.blocks) c.geometry-blocks.ensures.value) in
+    let inside : block < length live = omega (arith, c.geometry-blocks.ensures.table.each_unhidden, ap (λ m. m.blocks) c.geometry-blocks.ensures.value) in
     let free : is_free live block ≡ true = ap (λ t. t && not (is_live live block)) (lt-ltb block (length live) inside) ∙ ap not (sym c.is_live.ensures ∙ c.if-not-is_live.true) in
     let offered : Ranked = record { rank = c.rank.result; block = block } in
     let is : offered ≡ ranked rank block = ap (λ r. let s : Ranked = record { rank = r; block = block } in s) c.rank.ensures.value in

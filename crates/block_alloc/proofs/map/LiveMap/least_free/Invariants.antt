@@ -10,5 +10,5 @@ use Rattle.block_alloc.proofs.map.LiveMap.least_free.Given as goal
 abbrev pub invariant-loop-block : goal.invariant-loop-block
 invariant-loop-block g l = record {
   wanted : l.least.wanted ≡ l.count;
-  kept : l.least.kept.items ≡ least_of (rank_of l.place.kind l.hint) l.count (filter (is_free l.self.live) (range_with_len l.block (l.blocks - l.block)));
+  kept : l.least.kept.items ≡ least_of (rank_of l.place.kind l.hint) l.count (filter (is_free l.self.unhidden) (range_with_len l.block (l.blocks - l.block)));
 }

@@ -10,7 +10,7 @@ use Rattle.block_alloc.proofs.map.LiveMap.least_run.Goals as goal
 
 pub loop-block-preserved-then-count-row : goal.loop-block-preserved-then-count-row
 loop-block-preserved-then-count-row g c =
-    let live = c.args.self.now.live in let block = c.loop-block.block - 1 in let blocks = c.geometry-blocks.result.blocks in
+    let live = c.args.self.now.unhidden in let block = c.loop-block.block - 1 in let blocks = c.geometry-blocks.result.blocks in
     let rank = rank_of c.args.place.now.kind c.args.hint in let count = c.args.count in
     let next : c.loop-block.block ≡ block + 1 = omega arith in
     let within : block < blocks = omega arith in
@@ -29,7 +29,7 @@ loop-block-preserved-then-count-row g c =
 
 pub loop-block-preserved : goal.loop-block-preserved
 loop-block-preserved g c =
-    let live = c.args.self.now.live in let block = c.loop-block.block - 1 in let blocks = c.geometry-blocks.result.blocks in
+    let live = c.args.self.now.unhidden in let block = c.loop-block.block - 1 in let blocks = c.geometry-blocks.result.blocks in
     let rank = rank_of c.args.place.now.kind c.args.hint in let count = c.args.count in
     let next : c.loop-block.block ≡ block + 1 = omega arith in
     let within : block < blocks = omega arith in

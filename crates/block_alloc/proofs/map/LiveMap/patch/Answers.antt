@@ -14,7 +14,7 @@ returns-clause-bytes c =
     let read : (i : ℕ) → i < 512 → slice_index c.sector_from.result i ≡ slice_index bytes (512 * first + i) =
     λ i h. c.sector_from.ensures.bytes i h ∙ ap (λ bs. slice_index bs (512 * first + i)) c.deref.ensures.value in
     let P : List ℕ → Type 0 = λ bs. (i : ℕ) → slice_index bs i < 256 in
-    sector_is bytes c.sector_from.result blocks first c.sector_from.ensures.size read (subst P c.deref.ensures.value c.sector_from.ensures.fits) c.self.invariant.1.ends
+    sector_is bytes c.sector_from.result blocks first c.sector_from.ensures.size read (subst P c.deref.ensures.value c.sector_from.ensures.fits) c.self.invariant.1.bitmap.ends
     ∙ ap (λ m. bitmap_sector_bytes m.live first) c.self.view_is
 
 -- the sector stands where the format has it

@@ -1,0 +1,24 @@
+use Rattle.std.proofs.Common.{◌<◌, Bool, List, ◌∙◌, ap}
+use Rattle.std.specs.Prelude.{slice_set}
+use Rattle.block_alloc.specs.LiveMap.{LiveMap}
+use Rattle.block_alloc.proofs.BitLaws.{bits-changed, kept-put}
+use Rattle.block_alloc.proofs.map.LiveMap.set.Goals as goal
+
+pub invariant_of-self : goal.invariant_of-self
+invariant_of-self c =
+    let inside = c.self.inside in let seen = c.put_counted-self-inside in
+    let within : c.args.block < inside.geometry.blocks = rw (ap (λ m. m.geometry.blocks) c.self.view_is) c.requires.inside in (
+      c.self.invariant.0,
+      kept-put inside.geometry.blocks inside.bytes.items inside.unhidden.items c.put_bit.new.bytes.items seen.new.bytes.items c.args.block inside.free seen.result c.args.bit c.args.unhidden
+          c.self.invariant.1 within c.requires.live c.put_bit.ensures seen.ensures.put seen.ensures.counted,
+    )
+
+pub returns : goal.returns
+returns c =
+    let inside = c.self.inside in let seen = c.put_counted-self-inside in let b = c.args.block in let blocks = inside.geometry.blocks in
+    let within : b < blocks = rw (ap (λ m. m.geometry.blocks) c.self.view_is) c.requires.inside in
+    let raw = bits-changed inside.bytes.items c.put_bit.new.bytes.items blocks b c.args.bit within c.put_bit.ensures.same c.put_bit.ensures.others in
+    let rest = bits-changed inside.unhidden.items seen.new.bytes.items blocks b c.args.unhidden within seen.ensures.put.same seen.ensures.put.others in
+    let made : List Bool → List Bool → LiveMap = λ live unhidden. record { geometry = inside.geometry; live = live; unhidden = unhidden } in
+    let now : LiveMap → LiveMap = λ m. record m { live = slice_set m.live b c.args.bit; unhidden = slice_set m.unhidden b c.args.unhidden } in
+    (λ i. made (raw i) (rest i)) ∙ ap now c.self.view_is

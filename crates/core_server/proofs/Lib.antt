@@ -1,0 +1,2 @@
+pub mod StepForm
+pub mod Serving

@@ -1,0 +1,12 @@
+//! The disk as a handler of the serving loop.
+//!
+//! What it stands on: `tsd_core` applies requests, and `serving` says what a loop asks of what applies them.
+//!
+//! What it promises: each call's clauses are those of `serving::Handler`, where the states are those of the abstract disk, a
+//! state stands for the image of its world, and the work of requests but sweeps is counted: 460 writes a request and 5 for each
+//! block and pair that goes by it.
+#![tactic(auto)]
+
+mod server;
+
+pub use server::CoreServer;

@@ -1,0 +1,72 @@
+//! The core beside its placement.
+
+ghost use Rattle.std.specs.Prelude.{◌≡◌};
+ghost use Rattle.tsd_core.specs.Core.{IsReady, Holds};
+ghost use Rattle.tsd_core.specs.Work.{IsClosed};
+ghost use Rattle.volume_laws.specs.Writes.{due};
+ghost use Rattle.core_server.specs.Server.{disk_rules, disk_work, placed_on};
+
+use image_device::{Device, Failed};
+use place_policy::Placement;
+use serving::Handler;
+use tsd_core::Core;
+use tsd_model::{Reply, Request};
+
+/// A core with the placement by which it takes free blocks.
+#[derive(Drop)]
+pub struct CoreServer<'a> {
+    /// The disk.
+    pub core: Core,
+
+    /// In which order free blocks are taken.
+    pub place: &'a Placement,
+}
+
+impl<'a> CoreServer<'a> {
+    /// A core that takes free blocks by this placement.
+    pub fn new(core: Core, place: &'a Placement) -> CoreServer<'a>
+        ensures core { result.core ≡ core }
+        ensures place { result.place.now.kind ≡ place.now.kind }
+    {
+        CoreServer { core, place }
+    }
+
+    /// The core.
+    pub fn into_core(self) -> Core
+        ensures { result ≡ self.entry.core }
+    {
+        self.core
+    }
+}
+
+impl<'a> Handler for CoreServer<'a> {
+    ghost rules = { disk_rules };
+
+    ghost work = { disk_work };
+
+    ghost is_ready = { λ h. IsReady h.core };
+
+    ghost holds = { λ h x. Holds h.core x };
+
+    ghost state = { λ h x. placed_on h.place.now.kind h.core x };
+
+    ghost owed = { λ h x. due h.core.volume };
+
+    ghost is_closed = { IsClosed };
+
+    ghost stands_now = { λ h x held. record { good = held.good; world = refl } };
+
+    ghost given_form = { λ s q r t given. given.1 };
+
+    fn apply<D: Device>(&mut self, dev: &mut D, request: &Request) -> Result<Reply, Failed> {
+        self.core.apply(dev, self.place, request)
+    }
+
+    fn settle_some<D: Device>(&mut self, dev: &mut D) -> Result<bool, Failed> {
+        self.core.settle_some(dev)
+    }
+
+    fn close<D: Device>(&mut self, dev: &mut D) -> Result<(), Failed> {
+        self.core.close(dev)
+    }
+}

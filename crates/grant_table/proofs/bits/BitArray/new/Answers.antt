@@ -1,7 +1,0 @@
-use Rattle.std.proofs.Common.{◌∙◌, ap}
-use Rattle.grant_table.specs.Levels.{bits_of}
-use Rattle.grant_table.proofs.BitLaws.{no-bits}
-use Rattle.grant_table.proofs.bits.BitArray.new.Goals as goal
-
-pub returns : goal.returns
-returns c = ap (λ words. bits_of words c.args.len) (c.in_ok-words.ensures.items_if_clones_equal (λ y h. h)) ∙ no-bits c.div_ceil.result c.args.len

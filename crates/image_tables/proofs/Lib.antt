@@ -1,0 +1,4 @@
+pub mod EndLaws
+pub mod CountLaws
+pub mod TestLaws
+pub mod LoadLaws

@@ -1,0 +1,5 @@
+pub mod Faults
+pub mod Loaded
+pub mod Loading
+pub mod Tests
+pub mod Testing

@@ -1,0 +1,13 @@
+pub mod SidesView
+pub mod SideCalls
+pub mod Mirror
+pub mod MirrorLaws
+pub mod Copying
+pub mod Sending
+pub mod MemSide
+pub mod History
+pub mod Pair
+pub mod HistoryLaws
+pub mod Twins
+pub mod Numbers
+pub mod MemSides

@@ -1,0 +1,9 @@
+pub mod HeldLaws
+pub mod TargetLaws
+pub mod StepLaws
+pub mod CollectLaws
+pub mod CountingLaws
+pub mod TallyLaws
+pub mod HidingLaws
+pub mod PlaceLaws
+pub mod ToldLaws

@@ -1,0 +1,53 @@
+//! The next step of reclamation.
+
+ghost use Rattle.std.specs.Prelude.{◌≡◌, ◌⊎◌, true, length, ℕ, ◌&&◌, ◌==◌, not, [], IfSome, IsNone, IsTrue, ◌↔◌};
+ghost use Rattle.tsd_model.specs.World.{has_number};
+ghost use Rattle.tsd_model.specs.Doomed.{doomed};
+ghost use Rattle.reclaim.specs.Stepping.{MayStep, TakesAll, AreKeptBy};
+ghost use Rattle.reclaim.specs.Tables.{graph_of, AreTables, HaveCounts, HoldsLost};
+
+use crate::targets::{STEP_TARGETS, first_targets};
+use crate::work::Work;
+use block_alloc::LiveMap;
+use pointer_table::{OutStep, PointerTable};
+use ref_counts::RefCounts;
+
+/// The next step, at a block that waits: its first 16 targets, or all where it has no more, and then it is freed. A block
+/// that is freed waits no longer, one that isn't waits still. None exactly where nothing is doomed.
+///
+/// Carrying the step out means to take away the pairs from the block to these targets and, if it is freed, the block; and
+/// to push each target to which no pair is left.
+pub fn next_step(
+    pointers: &PointerTable,
+    counts: &RefCounts,
+    live: &LiveMap,
+    work: &mut Work,
+) -> Option<OutStep>
+    requires tables { AreTables pointers.now live.now }
+    requires counts { HaveCounts pointers.now live.now counts.now }
+    requires work { HoldsLost (graph_of pointers.now live.now) work.old }
+    ensures step { IfSome result (λ s. MayStep (graph_of pointers.now live.now) s) }
+
+    // It frees the block exactly where it has no other targets; else it takes 16.
+    ensures freed { IfSome result (λ s. IsTrue s.freed ↔ TakesAll (graph_of pointers.now live.now) s) }
+    ensures wide { IfSome result (λ s. (s.freed ≡ true) ⊎ (length s.targets ≡ 16)) }
+
+    // What a disk with this graph settles to is the same after the step, and less is doomed.
+    ensures kept { IfSome result (λ s. AreKeptBy (graph_of pointers.now live.now) s) }
+    ensures none { IsNone result ↔ (doomed (graph_of pointers.now live.now) ≡ []) }
+    ensures room { work.new.room ≡ work.old.room }
+    ensures idle { IsNone result → work.new ≡ work.old }
+    ensures work { IfSome result (λ s. (b : ℕ) → has_number work.new.blocks b ≡ (has_number work.old.blocks b && not (s.freed && (s.block == b)))) }
+{
+    let block = work.pop()?;
+    let all = pointers.targets_from(block, 0);
+    let freed = all.len() <= STEP_TARGETS;
+    if !freed {
+        work.push(block);
+    }
+    Some(OutStep {
+        block,
+        targets: first_targets(all.as_slice()),
+        freed,
+    })
+}

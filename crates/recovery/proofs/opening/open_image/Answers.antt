@@ -1,0 +1,152 @@
+use Rattle.std.proofs.Common.{◌∙◌, ap, sym, subst, arith}
+use Rattle.image_device.proofs.Moments.{uses_and}
+use Rattle.image_layout.specs.Image.{Image, is_open}
+use Rattle.recovery.proofs.OpenRuns.{synced, read_still, opened_start, opened_sync, opened_head, opened_replay, replayed, loaded, opened_load, stood, opened_finish, opened_err, opened_device, is_device, quiet_uses, quiet_finish, quiet_paid, owed_start, owed_sync, owed_head, owed_replay, owed_load, owed_finish, right_head}
+use Rattle.recovery.specs.Opening.{HasHead}
+use Rattle.recovery.proofs.opening.open_image.Goals as goal
+
+pub returns-in_err-ring-clause-any_moment : goal.returns-in_err-ring-clause-any_moment
+returns-in_err-ring-clause-any_moment g c told firm = opened_start _ (g.met.D.Device.sound c.args.dev.now told) firm
+
+pub returns-in_err-sync-clause-any_moment : goal.returns-in_err-sync-clause-any_moment
+returns-in_err-sync-clause-any_moment g c told firm = opened_sync _ _ (g.met.D.Device.sound c.args.dev.now told) firm (c.sync.ensures.settles told)
+
+pub returns-in_err-header-clause-any_moment : goal.returns-in_err-header-clause-any_moment
+returns-in_err-header-clause-any_moment g c told firm =
+    opened_head _ _ _ (opened_sync _ _ (g.met.D.Device.sound c.args.dev.now told) firm (c.sync.ensures.settles told)) (synced _ _ (c.in_ok-sync.ensures.firm told) (c.sync.ensures.settles told)) (c.read_head.ensures.rests told)
+
+pub returns-in_err-replay-clause-any_moment : goal.returns-in_err-replay-clause-any_moment
+returns-in_err-replay-clause-any_moment g c told firm =
+    let still = read_still _ _ _ (synced _ _ (c.in_ok-sync.ensures.firm told) (c.sync.ensures.settles told)) (c.read_head.ensures.rests told) in
+    opened_replay _ _ _ (opened_head _ _ _ (opened_sync _ _ (g.met.D.Device.sound c.args.dev.now told) firm (c.sync.ensures.settles told)) (synced _ _ (c.in_ok-sync.ensures.firm told) (c.sync.ensures.settles told)) (c.read_head.ensures.rests told)) still (c.replay.ensures.any_moment told)
+
+pub returns-in_err-replay-clause-unwritten : goal.returns-in_err-replay-clause-unwritten
+returns-in_err-replay-clause-unwritten g c told quiet =
+    let still = read_still _ _ _ (synced _ _ (c.in_ok-sync.ensures.firm told) (c.sync.ensures.settles told)) (c.read_head.ensures.rests told) in
+    quiet_uses _ _ _ _ still quiet c.sync.ensures.uses c.read_head.ensures.uses (c.replay.ensures.needed told)
+
+pub load-requires-clause-formatted : goal.load-requires-clause-formatted
+load-requires-clause-formatted g c told =
+    let still = read_still _ _ _ (synced _ _ (c.in_ok-sync.ensures.firm told) (c.sync.ensures.settles told)) (c.read_head.ensures.rests told) in
+    let done = replayed _ _ _ still (c.in_ok-replay.ensures.at told) (c.in_ok-replay.ensures.done told) (c.in_ok-replay.ensures.valid told) (c.in_ok-replay.ensures.firm told) (c.replay.ensures.sent told) in
+    done.agree.gate ∙ (ap (λ (r : Image). is_open (r 1)) (sym (c.sync.ensures.settles told).reads) ∙ (c.in_ok-header.ensures.head told).formatted)
+
+pub returns-in_err-volume-clause-read : goal.returns-in_err-volume-clause-read
+returns-in_err-volume-clause-read g c told =
+    let still = read_still _ _ _ (synced _ _ (c.in_ok-sync.ensures.firm told) (c.sync.ensures.settles told)) (c.read_head.ensures.rests told) in
+    let done = replayed _ _ _ still (c.in_ok-replay.ensures.at told) (c.in_ok-replay.ensures.done told) (c.in_ok-replay.ensures.valid told) (c.in_ok-replay.ensures.firm told) (c.replay.ensures.sent told) in
+    opened_err _ _ _ c.from_residual-in_err-volume.result c.from_residual-in_err-volume.ensures.1 done (c.in_err-volume.ensures.read told)
+
+pub returns-in_err-volume-clause-any_moment : goal.returns-in_err-volume-clause-any_moment
+returns-in_err-volume-clause-any_moment g c told firm =
+    let still = read_still _ _ _ (synced _ _ (c.in_ok-sync.ensures.firm told) (c.sync.ensures.settles told)) (c.read_head.ensures.rests told) in
+    let done = replayed _ _ _ still (c.in_ok-replay.ensures.at told) (c.in_ok-replay.ensures.done told) (c.in_ok-replay.ensures.valid told) (c.in_ok-replay.ensures.firm told) (c.replay.ensures.sent told) in
+    let far = opened_replay _ _ _ (opened_head _ _ _ (opened_sync _ _ (g.met.D.Device.sound c.args.dev.now told) firm (c.sync.ensures.settles told)) (synced _ _ (c.in_ok-sync.ensures.firm told) (c.sync.ensures.settles told)) (c.read_head.ensures.rests told)) still (c.replay.ensures.any_moment told) in
+    opened_load _ _ _ far done (c.load.ensures.rests told)
+
+pub returns-in_err-volume-clause-unwritten : goal.returns-in_err-volume-clause-unwritten
+returns-in_err-volume-clause-unwritten g c told quiet =
+    let still = read_still _ _ _ (synced _ _ (c.in_ok-sync.ensures.firm told) (c.sync.ensures.settles told)) (c.read_head.ensures.rests told) in
+    uses_and 0 0 0 _ _ _ (omega arith) (quiet_uses _ _ _ _ still quiet c.sync.ensures.uses c.read_head.ensures.uses (c.replay.ensures.needed told)) c.load.ensures.uses
+
+pub returns-in_err-finish-clause-any_moment : goal.returns-in_err-finish-clause-any_moment
+returns-in_err-finish-clause-any_moment g c told firm =
+    let still = read_still _ _ _ (synced _ _ (c.in_ok-sync.ensures.firm told) (c.sync.ensures.settles told)) (c.read_head.ensures.rests told) in
+    let done = replayed _ _ _ still (c.in_ok-replay.ensures.at told) (c.in_ok-replay.ensures.done told) (c.in_ok-replay.ensures.valid told) (c.in_ok-replay.ensures.firm told) (c.replay.ensures.sent told) in
+    let far = opened_replay _ _ _ (opened_head _ _ _ (opened_sync _ _ (g.met.D.Device.sound c.args.dev.now told) firm (c.sync.ensures.settles told)) (synced _ _ (c.in_ok-sync.ensures.firm told) (c.sync.ensures.settles told)) (c.read_head.ensures.rests told)) still (c.replay.ensures.any_moment told) in
+    let now = loaded _ _ _ done (c.load.ensures.rests told) in
+    opened_finish _ _ _ (opened_load _ _ _ far done (c.load.ensures.rests told)) now (c.in_ok-volume.ensures.at told).good (c.finish.ensures.any_moment told)
+
+pub returns-in_err-finish-clause-unwritten : goal.returns-in_err-finish-clause-unwritten
+returns-in_err-finish-clause-unwritten g c told quiet =
+    let still = read_still _ _ _ (synced _ _ (c.in_ok-sync.ensures.firm told) (c.sync.ensures.settles told)) (c.read_head.ensures.rests told) in
+    let done = replayed _ _ _ still (c.in_ok-replay.ensures.at told) (c.in_ok-replay.ensures.done told) (c.in_ok-replay.ensures.valid told) (c.in_ok-replay.ensures.firm told) (c.replay.ensures.sent told) in
+    let now = loaded _ _ _ done (c.load.ensures.rests told) in
+    quiet_finish _ _ _ _ quiet now (c.in_ok-volume.ensures.at told) c.in_ok-volume.ensures.ring (uses_and 0 0 0 _ _ _ (omega arith) (quiet_uses _ _ _ _ still quiet c.sync.ensures.uses c.read_head.ensures.uses (c.replay.ensures.needed told)) c.load.ensures.uses) c.finish.ensures.uses
+
+pub returns-clause-read : goal.returns-clause-read
+returns-clause-read g c told =
+    let still = read_still _ _ _ (synced _ _ (c.in_ok-sync.ensures.firm told) (c.sync.ensures.settles told)) (c.read_head.ensures.rests told) in
+    let done = replayed _ _ _ still (c.in_ok-replay.ensures.at told) (c.in_ok-replay.ensures.done told) (c.in_ok-replay.ensures.valid told) (c.in_ok-replay.ensures.firm told) (c.replay.ensures.sent told) in
+    let now = loaded _ _ _ done (c.load.ensures.rests told) in
+    (stood _ _ now (c.in_ok-volume.ensures.at told).good).good
+
+pub returns-clause-done : goal.returns-clause-done
+returns-clause-done g c told =
+    let still = read_still _ _ _ (synced _ _ (c.in_ok-sync.ensures.firm told) (c.sync.ensures.settles told)) (c.read_head.ensures.rests told) in
+    let done = replayed _ _ _ still (c.in_ok-replay.ensures.at told) (c.in_ok-replay.ensures.done told) (c.in_ok-replay.ensures.valid told) (c.in_ok-replay.ensures.firm told) (c.replay.ensures.sent told) in
+    let now = loaded _ _ _ done (c.load.ensures.rests told) in
+    c.in_ok-finish.ensures.done told ∙ (stood _ _ now (c.in_ok-volume.ensures.at told).good).world
+
+pub returns-clause-any_moment : goal.returns-clause-any_moment
+returns-clause-any_moment g c told firm =
+    let still = read_still _ _ _ (synced _ _ (c.in_ok-sync.ensures.firm told) (c.sync.ensures.settles told)) (c.read_head.ensures.rests told) in
+    let done = replayed _ _ _ still (c.in_ok-replay.ensures.at told) (c.in_ok-replay.ensures.done told) (c.in_ok-replay.ensures.valid told) (c.in_ok-replay.ensures.firm told) (c.replay.ensures.sent told) in
+    let far = opened_replay _ _ _ (opened_head _ _ _ (opened_sync _ _ (g.met.D.Device.sound c.args.dev.now told) firm (c.sync.ensures.settles told)) (synced _ _ (c.in_ok-sync.ensures.firm told) (c.sync.ensures.settles told)) (c.read_head.ensures.rests told)) still (c.replay.ensures.any_moment told) in
+    let now = loaded _ _ _ done (c.load.ensures.rests told) in
+    opened_finish _ _ _ (opened_load _ _ _ far done (c.load.ensures.rests told)) now (c.in_ok-volume.ensures.at told).good (c.finish.ensures.any_moment told)
+
+pub returns-clause-unwritten : goal.returns-clause-unwritten
+returns-clause-unwritten g c told quiet =
+    let still = read_still _ _ _ (synced _ _ (c.in_ok-sync.ensures.firm told) (c.sync.ensures.settles told)) (c.read_head.ensures.rests told) in
+    let done = replayed _ _ _ still (c.in_ok-replay.ensures.at told) (c.in_ok-replay.ensures.done told) (c.in_ok-replay.ensures.valid told) (c.in_ok-replay.ensures.firm told) (c.replay.ensures.sent told) in
+    let now = loaded _ _ _ done (c.load.ensures.rests told) in
+    quiet_finish _ _ _ _ quiet now (c.in_ok-volume.ensures.at told) c.in_ok-volume.ensures.ring (uses_and 0 0 0 _ _ _ (omega arith) (quiet_uses _ _ _ _ still quiet c.sync.ensures.uses c.read_head.ensures.uses (c.replay.ensures.needed told)) c.load.ensures.uses) c.finish.ensures.uses
+
+pub returns-in_err-finish-clause-read : goal.returns-in_err-finish-clause-read
+returns-in_err-finish-clause-read g c told = opened_device (g.D.Device.view c.args.dev.now) c.from_residual-in_err-finish.result c.from_residual-in_err-finish.ensures.1
+
+pub returns-in_err-ring-clause-any_owed : goal.returns-in_err-ring-clause-any_owed
+returns-in_err-ring-clause-any_owed g c told firm flag =
+    owed_start _ (g.met.D.Device.sound c.args.dev.now told) firm
+
+pub returns-in_err-sync-clause-any_owed : goal.returns-in_err-sync-clause-any_owed
+returns-in_err-sync-clause-any_owed g c told firm flag =
+    owed_sync _ _ (g.met.D.Device.sound c.args.dev.now told) firm (c.sync.ensures.settles told)
+
+pub returns-in_err-header-clause-any_owed : goal.returns-in_err-header-clause-any_owed
+returns-in_err-header-clause-any_owed g c told firm flag =
+    owed_head _ _ _ (owed_sync _ _ (g.met.D.Device.sound c.args.dev.now told) firm (c.sync.ensures.settles told)) (synced _ _ (c.in_ok-sync.ensures.firm told) (c.sync.ensures.settles told)) (c.read_head.ensures.rests told)
+
+pub returns-in_err-replay-clause-any_owed : goal.returns-in_err-replay-clause-any_owed
+returns-in_err-replay-clause-any_owed g c told firm flag =
+    let still = read_still _ _ _ (synced _ _ (c.in_ok-sync.ensures.firm told) (c.sync.ensures.settles told)) (c.read_head.ensures.rests told) in
+    let at_head = subst (λ (r : Image). HasHead r c.in_ok-header.header) (sym (c.read_head.ensures.rests told).reads) (c.in_ok-header.ensures.head told) in
+    let far = owed_replay _ _ _ c.in_ok-header.header (owed_head _ _ _ (owed_sync _ _ (g.met.D.Device.sound c.args.dev.now told) firm (c.sync.ensures.settles told)) (synced _ _ (c.in_ok-sync.ensures.firm told) (c.sync.ensures.settles told)) (c.read_head.ensures.rests told)) still at_head (c.replay.ensures.any_moment told) in
+    far
+
+pub returns-in_err-volume-clause-any_owed : goal.returns-in_err-volume-clause-any_owed
+returns-in_err-volume-clause-any_owed g c told firm flag =
+    let still = read_still _ _ _ (synced _ _ (c.in_ok-sync.ensures.firm told) (c.sync.ensures.settles told)) (c.read_head.ensures.rests told) in
+    let done = replayed _ _ _ still (c.in_ok-replay.ensures.at told) (c.in_ok-replay.ensures.done told) (c.in_ok-replay.ensures.valid told) (c.in_ok-replay.ensures.firm told) (c.replay.ensures.sent told) in
+    let at_head = subst (λ (r : Image). HasHead r c.in_ok-header.header) (sym (c.read_head.ensures.rests told).reads) (c.in_ok-header.ensures.head told) in
+    let far = owed_replay _ _ _ c.in_ok-header.header (owed_head _ _ _ (owed_sync _ _ (g.met.D.Device.sound c.args.dev.now told) firm (c.sync.ensures.settles told)) (synced _ _ (c.in_ok-sync.ensures.firm told) (c.sync.ensures.settles told)) (c.read_head.ensures.rests told)) still at_head (c.replay.ensures.any_moment told) in
+    owed_load _ _ _ (right_head _ _ c.in_ok-header.header still at_head) far done (c.load.ensures.rests told)
+
+pub returns-in_err-finish-clause-any_owed : goal.returns-in_err-finish-clause-any_owed
+returns-in_err-finish-clause-any_owed g c told firm flag =
+    let still = read_still _ _ _ (synced _ _ (c.in_ok-sync.ensures.firm told) (c.sync.ensures.settles told)) (c.read_head.ensures.rests told) in
+    let done = replayed _ _ _ still (c.in_ok-replay.ensures.at told) (c.in_ok-replay.ensures.done told) (c.in_ok-replay.ensures.valid told) (c.in_ok-replay.ensures.firm told) (c.replay.ensures.sent told) in
+    let at_head = subst (λ (r : Image). HasHead r c.in_ok-header.header) (sym (c.read_head.ensures.rests told).reads) (c.in_ok-header.ensures.head told) in
+    let far = owed_replay _ _ _ c.in_ok-header.header (owed_head _ _ _ (owed_sync _ _ (g.met.D.Device.sound c.args.dev.now told) firm (c.sync.ensures.settles told)) (synced _ _ (c.in_ok-sync.ensures.firm told) (c.sync.ensures.settles told)) (c.read_head.ensures.rests told)) still at_head (c.replay.ensures.any_moment told) in
+    let now = loaded _ _ _ done (c.load.ensures.rests told) in
+    owed_finish _ _ _ _ flag (owed_load _ _ _ (right_head _ _ c.in_ok-header.header still at_head) far done (c.load.ensures.rests told)) now (c.in_ok-volume.ensures.at told) (λ no_sweep. c.finish.ensures.any_owed no_sweep told)
+
+pub returns-clause-any_owed : goal.returns-clause-any_owed
+returns-clause-any_owed g c told firm flag =
+    let still = read_still _ _ _ (synced _ _ (c.in_ok-sync.ensures.firm told) (c.sync.ensures.settles told)) (c.read_head.ensures.rests told) in
+    let done = replayed _ _ _ still (c.in_ok-replay.ensures.at told) (c.in_ok-replay.ensures.done told) (c.in_ok-replay.ensures.valid told) (c.in_ok-replay.ensures.firm told) (c.replay.ensures.sent told) in
+    let at_head = subst (λ (r : Image). HasHead r c.in_ok-header.header) (sym (c.read_head.ensures.rests told).reads) (c.in_ok-header.ensures.head told) in
+    let far = owed_replay _ _ _ c.in_ok-header.header (owed_head _ _ _ (owed_sync _ _ (g.met.D.Device.sound c.args.dev.now told) firm (c.sync.ensures.settles told)) (synced _ _ (c.in_ok-sync.ensures.firm told) (c.sync.ensures.settles told)) (c.read_head.ensures.rests told)) still at_head (c.replay.ensures.any_moment told) in
+    let now = loaded _ _ _ done (c.load.ensures.rests told) in
+    owed_finish _ _ _ _ flag (owed_load _ _ _ (right_head _ _ c.in_ok-header.header still at_head) far done (c.load.ensures.rests told)) now (c.in_ok-volume.ensures.at told) (λ no_sweep. c.finish.ensures.any_owed no_sweep told)
+
+pub returns-clause-paid : goal.returns-clause-paid
+returns-clause-paid g c told quiet =
+    let still = read_still _ _ _ (synced _ _ (c.in_ok-sync.ensures.firm told) (c.sync.ensures.settles told)) (c.read_head.ensures.rests told) in
+    let done = replayed _ _ _ still (c.in_ok-replay.ensures.at told) (c.in_ok-replay.ensures.done told) (c.in_ok-replay.ensures.valid told) (c.in_ok-replay.ensures.firm told) (c.replay.ensures.sent told) in
+    let now = loaded _ _ _ done (c.load.ensures.rests told) in
+    quiet_paid (g.D.Device.view c.args.dev.now) (g.D.Device.view c.load.new.dev) (g.D.Device.view c.finish.new.dev) c.in_ok-volume.volume c.finish.new.self quiet now (c.in_ok-volume.ensures.at told) c.in_ok-volume.ensures.ring (uses_and 0 0 0 _ _ _ (omega arith) (quiet_uses _ _ _ _ still quiet c.sync.ensures.uses c.read_head.ensures.uses (c.replay.ensures.needed told)) c.load.ensures.uses) c.in_ok-finish.ensures.paid
+
+pub returns-in_err-finish-clause-faultless : goal.returns-in_err-finish-clause-faultless
+returns-in_err-finish-clause-faultless g c other = absurd (other (is_device c.from_residual-in_err-finish.result c.from_residual-in_err-finish.ensures.1))

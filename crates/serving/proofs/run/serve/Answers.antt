@@ -1,0 +1,108 @@
+use Rattle.std.proofs.Common.{inr, [], ◌++◌, refl, ◌∙◌, arith}
+use Rattle.serving.proofs.Inputs.{came_first, came_then, handed_first, asked_stopped}
+use Rattle.serving.proofs.Steps.{served_of, ends_now, goes_first, goes_next, ends_stopped, ends_done, ends_close_fault, ends_longer, ran_of}
+use Rattle.serving.proofs.run.serve.Goals as goal
+
+pub loop-request-init : goal.loop-request-init
+loop-request-init g c = record {
+  limit = c.new-intake.ensures.limit;
+  ready = c.requires.ready;
+  at = c.requires.at;
+  source_faults = refl;
+  faults = refl;
+  put_faults = refl;
+  goes = (
+    [],
+    [],
+    came_first g.S.Source.told _ _,
+    handed_first g.R.Protocol.spelling _ _ c.new-intake.result c.requires.fresh g.met.R.Protocol.lawful.none c.new-intake.ensures.taken c.new-intake.ensures.held c.new-intake.ensures.over,
+    λ told.
+        let at = c.requires.at told in
+        goes_first g.H.Server.service g.met.H.Server.counted g.H.Server.work _ _ (g.P.Device.view c.args.port.now) (g.met.P.Device.sound c.args.port.now told) at.0 (g.met.H.Server.stands_now c.args.server.now _ at.1),
+  );
+}
+
+pub loop-request-preserved : goal.loop-request-preserved
+loop-request-preserved g c =
+    let i = c.loop-request.invariant in
+    let was = i.goes in
+    let found = c.in-Request.ensures.found was.0 was.1 was.3 in
+    record {
+      limit = c.next.ensures.limit ∙ i.limit;
+      ready = c.in-Ok.ensures.ready;
+      at = c.in-Ok.ensures.at;
+      source_faults = omega (arith, i.source_faults, c.in-Request.ensures.no_source_fault (λ e. cc));
+      faults = omega (arith, i.faults, c.in-Ok.ensures.faultless);
+      put_faults = omega (arith, i.put_faults, c.in-Ok.ensures.put_faultless);
+      goes = (
+        was.0 ++ found.0,
+        _,
+        came_then g.S.Source.told _ _ _ _ _ _ was.0 found.0 was.2 found.1,
+        found.2,
+        λ told.
+            let a = c.in-Ok.ensures.answered told in
+            goes_next g.H.Server.service g.met.H.Server.counted g.H.Server.work _ _ (g.P.Device.view c.args.port.now) was.1 _ _ (g.P.Device.view c.loop-request.port) (was.4 told) _ (g.P.Device.view c.answer.new.port) (c.answer.ensures.any_moment told) (c.answer.ensures.debt told)
+            _ _ a.0 a.1 a.2 (c.in-Ok.ensures.less told) (c.in-Ok.ensures.paid told),
+      );
+    }
+
+pub returns-in-Err-clause-ran : goal.returns-in-Err-clause-ran
+returns-in-Err-clause-ran g c =
+    let i = c.loop-request.invariant in
+    let was = i.goes in
+    let found = c.in-Request.ensures.found was.0 was.1 was.3 in
+    let asked = asked_stopped g.R.Protocol.spelling g.met.R.Protocol.lawful c.in-Err.why _ _ c.next.new.self (was.0 ++ found.0) _ c.in-Err.ensures.stops found.2 in
+    ran_of c.in-Err.why g.H.Server.service g.H.Server.work g.R.Protocol.spelling _ _ c.args.limit c.next.new.self.limit _ _ _ _ (g.P.Device.view c.args.port.now) (g.P.Device.view c.answer.new.port) (was.0 ++ found.0) _ (c.next.ensures.limit ∙ i.limit)
+    (came_then g.S.Source.told _ _ _ _ _ _ was.0 found.0 was.2 found.1) asked.1
+    (λ told.
+    ends_longer g.H.Server.service g.H.Server.work _ _ _ (g.P.Device.view c.args.port.now) (g.P.Device.view c.answer.new.port) _ asked.0 c.in-Err.why c.in-Err.ensures.stops
+    (ends_stopped g.H.Server.service g.met.H.Server.counted g.H.Server.work _ _ (g.P.Device.view c.args.port.now) was.1 _ _ (g.P.Device.view c.loop-request.port) (was.4 told) _ (g.P.Device.view c.answer.new.port) (c.answer.ensures.any_moment told) (c.answer.ensures.debt told)
+    c.in-Err.why _ c.in-Err.ensures.stops (c.in-Err.ensures.left told) (c.answer.ensures.most told)))
+
+pub returns-in-Ok-close-clause-ran : goal.returns-in-Ok-close-clause-ran
+returns-in-Ok-close-clause-ran g c =
+    let i = c.loop-request.invariant in
+    let was = i.goes in
+    let found = c.in-End.ensures.found was.0 was.1 was.3 in
+    ran_of _ g.H.Server.service g.H.Server.work g.R.Protocol.spelling _ _ c.args.limit c.next.new.self.limit _ _ _ _ (g.P.Device.view c.args.port.now) (g.P.Device.view c.close.new.dev) (was.0 ++ found.0) was.1 (c.next.ensures.limit ∙ i.limit)
+    (came_then g.S.Source.told _ _ _ _ _ _ was.0 found.0 was.2 found.1) found.2
+    (λ told.
+    ends_done g.H.Server.service g.met.H.Server.counted g.H.Server.work _ _ (g.P.Device.view c.args.port.now) was.1 _ _ (g.P.Device.view c.loop-request.port) (was.4 told) (g.P.Device.view c.close.new.dev) (c.close.ensures.any_moment told) (c.close.ensures.debt told) (c.close.ensures.sent told) (c.close.ensures.most told)
+    _ (c.in-Ok-close.ensures.state told))
+
+pub returns-in-Err-close-clause-ran : goal.returns-in-Err-close-clause-ran
+returns-in-Err-close-clause-ran g c =
+    let i = c.loop-request.invariant in
+    let was = i.goes in
+    let found = c.in-End.ensures.found was.0 was.1 was.3 in
+    ran_of _ g.H.Server.service g.H.Server.work g.R.Protocol.spelling _ _ c.args.limit c.next.new.self.limit _ _ _ _ (g.P.Device.view c.args.port.now) (g.P.Device.view c.close.new.dev) (was.0 ++ found.0) was.1 (c.next.ensures.limit ∙ i.limit)
+    (came_then g.S.Source.told _ _ _ _ _ _ was.0 found.0 was.2 found.1) (inr (found.2.0, found.2.1, found.2.3))
+    (λ told.
+    ends_close_fault g.H.Server.service g.met.H.Server.counted g.H.Server.work _ _ (g.P.Device.view c.args.port.now) was.1 _ _ (g.P.Device.view c.loop-request.port) (was.4 told) (g.P.Device.view c.close.new.dev) (c.close.ensures.any_moment told) (c.close.ensures.debt told) (c.close.ensures.sent told) (c.close.ensures.most told) _)
+
+pub returns-in-CutOff-clause-ran : goal.returns-in-CutOff-clause-ran
+returns-in-CutOff-clause-ran g c =
+    let i = c.loop-request.invariant in
+    let was = i.goes in
+    let found = c.in-CutOff.ensures.found was.0 was.1 was.3 in
+    ran_of _ g.H.Server.service g.H.Server.work g.R.Protocol.spelling _ _ c.args.limit c.next.new.self.limit _ _ _ _ (g.P.Device.view c.args.port.now) (g.P.Device.view c.loop-request.port) (was.0 ++ found.0) was.1 (c.next.ensures.limit ∙ i.limit)
+    (came_then g.S.Source.told _ _ _ _ _ _ was.0 found.0 was.2 found.1) found.2
+    (λ told. ends_now g.H.Server.service g.H.Server.work _ _ (g.P.Device.view c.args.port.now) _ was.1 _ _ (g.P.Device.view c.loop-request.port) (was.4 told) (served_of g.H.Server.service g.H.Server.work _ _ (g.P.Device.view c.args.port.now) was.1 _ _ (g.P.Device.view c.loop-request.port) (was.4 told)))
+
+pub returns-in-Fault-clause-ran : goal.returns-in-Fault-clause-ran
+returns-in-Fault-clause-ran g c =
+    let i = c.loop-request.invariant in
+    let was = i.goes in
+    let found = c.in-Fault.ensures.found was.0 was.1 was.3 in
+    ran_of _ g.H.Server.service g.H.Server.work g.R.Protocol.spelling _ _ c.args.limit c.next.new.self.limit _ _ _ _ (g.P.Device.view c.args.port.now) (g.P.Device.view c.loop-request.port) (was.0 ++ found.0) was.1 (c.next.ensures.limit ∙ i.limit)
+    (came_then g.S.Source.told _ _ _ _ _ _ was.0 found.0 was.2 found.1) found.2
+    (λ told. ends_now g.H.Server.service g.H.Server.work _ _ (g.P.Device.view c.args.port.now) _ was.1 _ _ (g.P.Device.view c.loop-request.port) (was.4 told) (served_of g.H.Server.service g.H.Server.work _ _ (g.P.Device.view c.args.port.now) was.1 _ _ (g.P.Device.view c.loop-request.port) (was.4 told)))
+
+pub returns-in-TooLong-clause-ran : goal.returns-in-TooLong-clause-ran
+returns-in-TooLong-clause-ran g c =
+    let i = c.loop-request.invariant in
+    let was = i.goes in
+    let found = c.in-TooLong.ensures.found was.0 was.1 was.3 in
+    ran_of _ g.H.Server.service g.H.Server.work g.R.Protocol.spelling _ _ c.args.limit c.next.new.self.limit _ _ _ _ (g.P.Device.view c.args.port.now) (g.P.Device.view c.loop-request.port) (was.0 ++ found.0) was.1 (c.next.ensures.limit ∙ i.limit)
+    (came_then g.S.Source.told _ _ _ _ _ _ was.0 found.0 was.2 found.1) found.2
+    (λ told. ends_now g.H.Server.service g.H.Server.work _ _ (g.P.Device.view c.args.port.now) _ was.1 _ _ (g.P.Device.view c.loop-request.port) (was.4 told) (served_of g.H.Server.service g.H.Server.work _ _ (g.P.Device.view c.args.port.now) was.1 _ _ (g.P.Device.view c.loop-request.port) (was.4 told)))

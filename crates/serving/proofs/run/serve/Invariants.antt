@@ -1,0 +1,26 @@
+use Rattle.std.proofs.Common.{◌≡◌, ℕ, List}
+use Rattle.serving.specs.Goes.{Goes, Handed, left_in}
+use Rattle.serving.specs.Handling.{IsAt}
+use Rattle.serving.specs.Ran.{Came, IsAtEnd}
+use Rattle.serving.proofs.run.serve.Given as goal
+
+abbrev pub invariant-loop-request : goal.invariant-loop-request
+invariant-loop-request g l =
+    let view = g.P.Device.view in
+    let before = l.initial.source in
+    let start = view l.initial.port in
+    record {
+      limit : l.intake.limit ≡ l.limit;
+      ready : g.H.Server.is_ready l.server;
+      at : g.P.Device.told → IsAt (g.H.Server.holds l.server) (view l.port);
+      source_faults : g.S.Source.faults l.source ≡ g.S.Source.faults before;
+      faults : (view l.port).faults ≡ start.faults;
+      put_faults : (view l.port).put_faults ≡ start.put_faults;
+      goes : (bytes : List ℕ) × (qs : List g.row.R-Request.Denot)
+          × Came g.S.Source.told (g.S.Source.taken before) (g.S.Source.taken l.source) (g.S.Source.left_bytes before) (g.S.Source.left_bytes l.source) bytes
+          × Handed g.R.Protocol.spelling (λ x. g.R.Protocol.was_fed x l.protocol) (IsAtEnd g.S.Source.told (g.S.Source.ended l.source) (g.S.Source.left_bytes l.source)) l.intake bytes qs
+          × (g.P.Device.told → Goes g.H.Server.service g.H.Server.work (g.H.Server.state l.initial.server start.reads) (g.H.Server.owed l.initial.server start.reads) start qs (g.H.Server.state l.server (view l.port).reads) (g.H.Server.owed l.server (view l.port).reads) (view l.port));
+    }
+
+abbrev pub decreases-loop-request : goal.decreases-loop-request
+decreases-loop-request g l = left_in l.intake

@@ -1,0 +1,15 @@
+pub mod Work
+pub mod Handling
+pub mod Service
+pub mod Voice
+pub mod Input
+pub mod Runs
+pub mod Costs
+pub mod Debts
+pub mod Ran
+pub mod Goes
+pub mod LineSpelling
+pub mod LineLaws
+pub mod FrameSpelling
+pub mod FrameLaws
+pub mod ModelRules

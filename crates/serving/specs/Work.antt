@@ -1,0 +1,19 @@
+-- What work costs, and how much of it is left to be done.
+use Rattle.std.specs.Prelude.{ℕ, ◌+◌}
+use Rattle.image_device.specs.Image.{Image}
+use Rattle.image_device.specs.View.{View}
+
+-- How the work of requests is counted, where it is bounded.
+pub record Work (Q States : Type 0) : Type 1 where
+  -- the work of this request is bounded
+  pub bounded : Q → Type 0
+  -- how many writes it costs in a state
+  pub cost : States → Q → ℕ
+  -- how much it adds in a state to what is left to be done
+  pub made : States → Q → ℕ
+  -- how much is left to be done in an image
+  pub debt : Image → ℕ
+
+-- the writes so far, and those that are still owed
+abbrev pub used : ℕ → View → ℕ
+used owed v = v.writes + owed

@@ -1,0 +1,55 @@
+//! Frames as a protocol.
+
+ghost use Rattle.request_frames.specs.Cutting.{WasFed};
+ghost use Rattle.serving.specs.FrameSpelling.{frame_spelling, frame_voice};
+ghost use Rattle.serving.specs.FrameLaws.{frames_lawful, frames_apart};
+
+use crate::protocol::{Ending, Fed, Protocol};
+use crate::replies::Replies;
+use image_device::{Failed, Port, put_all};
+use request_frames::{FrameBuf, FrameCutter, decode_body, encode_reply};
+use tsd_model::{Reply, Request};
+
+impl Protocol for FrameCutter {
+    type Request = Request;
+
+    ghost spelling = { frame_spelling };
+
+    ghost was_fed = { WasFed };
+
+    ghost lawful = { frames_lawful };
+
+    fn feed(&mut self, piece: &[u8]) -> Fed<Request> {
+        let fed = FrameCutter::feed(self, piece);
+        if fed.whole {
+            let request = decode_body(self.body());
+            return Fed {
+                used: fed.used,
+                request: Some(request),
+            };
+        }
+        Fed {
+            used: fed.used,
+            request: None,
+        }
+    }
+
+    fn ending(&self) -> Ending<Request> {
+        if self.is_inside() {
+            return Ending::CutOff;
+        }
+        Ending::Nothing
+    }
+}
+
+impl Replies for FrameCutter {
+    ghost voice = { frame_voice };
+
+    ghost apart = { frames_apart };
+
+    fn put_reply<P: Port>(port: &mut P, reply: &Reply) -> Result<(), Failed> {
+        let mut frame = FrameBuf::new();
+        encode_reply(reply, &mut frame);
+        put_all(port, frame.as_slice())
+    }
+}

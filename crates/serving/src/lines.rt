@@ -1,0 +1,56 @@
+//! Lines as a protocol.
+
+ghost use Rattle.script_text.specs.Lines.{WasFed};
+ghost use Rattle.serving.specs.LineSpelling.{line_spelling, line_voice};
+ghost use Rattle.serving.specs.LineLaws.{lines_lawful, lines_apart};
+
+use crate::protocol::{Ending, Fed, Protocol};
+use crate::replies::Replies;
+use image_device::{Failed, Port, put_all};
+use script_text::{LineCutter, OutBuf, parse_line, print_reply};
+use tsd_model::{Reply, Request};
+
+impl Protocol for LineCutter {
+    type Request = Request;
+
+    ghost spelling = { line_spelling };
+
+    ghost was_fed = { WasFed };
+
+    ghost lawful = { lines_lawful };
+
+    fn feed(&mut self, piece: &[u8]) -> Fed<Request> {
+        let fed = LineCutter::feed(self, piece);
+        if fed.whole {
+            let request = parse_line(self.line());
+            return Fed {
+                used: fed.used,
+                request: Some(request),
+            };
+        }
+        Fed {
+            used: fed.used,
+            request: None,
+        }
+    }
+
+    fn ending(&self) -> Ending<Request> {
+        let rest = self.rest();
+        if rest.is_empty() {
+            return Ending::Nothing;
+        }
+        Ending::One(parse_line(rest))
+    }
+}
+
+impl Replies for LineCutter {
+    ghost voice = { line_voice };
+
+    ghost apart = { lines_apart };
+
+    fn put_reply<P: Port>(port: &mut P, reply: &Reply) -> Result<(), Failed> {
+        let mut text = OutBuf::new();
+        print_reply(reply, &mut text);
+        put_all(port, text.as_slice())
+    }
+}

@@ -1,0 +1,126 @@
+//! One request after another.
+
+ghost use Rattle.std.specs.Prelude.{◌≡◌, ◌≢◌, ◌≤◌, ◌<◌, ◌+◌, ◌-◌, ◌^◌, ◌++◌, [], ℕ, true, false, cond, List, min, IsSome, IsNone};
+ghost use Rattle.image_device.specs.Counts.{Rose};
+ghost use Rattle.serving.specs.Goes.{SameCounts, held, left_in, IsNextAtEnd, Handed, Reads, Found};
+ghost use Rattle.serving.specs.Input.{asked};
+ghost use Rattle.serving.specs.Ran.{Came, IsAtEnd};
+
+use crate::intake::{INPUT_MAX, Intake, Next, TAKE_MAX};
+use crate::protocol::{Ending, Protocol};
+use image_device::Source;
+
+impl Intake {
+    /// Nothing was taken. At most so many bytes are served.
+    pub fn new(limit: u64) -> Intake
+        requires { limit ≤ INPUT_MAX }
+        ensures limit { result.limit ≡ limit }
+        ensures taken { result.taken ≡ 0 }
+        ensures held { held result ≡ [] }
+        ensures over { result.over ≡ false }
+    {
+        Intake {
+            room: [0; TAKE_MAX],
+            from: 0,
+            to: 0,
+            taken: 0,
+            limit,
+            over: false,
+        }
+    }
+
+    /// What comes next. A request is handed out before more bytes are taken.
+    pub fn next<S: Source, R: Protocol>(
+        &mut self,
+        protocol: &mut R,
+        source: &mut S,
+    ) -> Next<R::Request>
+        ensures limit { self.new.limit ≡ self.old.limit }
+        ensures found { (bytes : List ℕ) (qs : List R.Request) → Handed R.spelling (λ x. R.was_fed x protocol.old) (IsAtEnd S.told (S.ended source.old) (S.left_bytes source.old)) self.old bytes qs →
+            (more : List ℕ) × Came S.told (S.taken source.old) (S.taken source.new) (S.left_bytes source.old) (S.left_bytes source.new) more
+            × Found R.spelling (λ x. R.was_fed x protocol.new) (IsAtEnd S.told (S.ended source.new) (S.left_bytes source.new)) self.new (bytes ++ more) qs result }
+        ensures less { (q : R.Request) → result ≡ Next.Request q → left_in self.new < left_in self.old }
+        ensures source_fault { result ≡ Next.Fault → Rose (S.faults source.old) (S.faults source.new) }
+        ensures no_source_fault { result ≢ Next.Fault → S.faults source.new ≡ S.faults source.old }
+    {
+        if self.over {
+            return Next::End;
+        }
+        loop {
+            match self.read_held::<R>(protocol) {
+                Some(request) => return Next::Request(request),
+                None => {}
+            }
+            if self.taken > self.limit {
+                return Next::TooLong;
+            }
+            match source.take(&mut self.room) {
+                Err(_) => return Next::Fault,
+                Ok(0) => return self.at_end(protocol.ending()),
+                Ok(count) => self.fill(count),
+            }
+        }
+    }
+
+    /// Reads the bytes that are held up to the end of their first request, or all of them.
+    fn read_held<R: Protocol>(&mut self, protocol: &mut R) -> Option<R::Request>
+        ensures counts { SameCounts self.old self.new }
+        ensures over { self.new.over ≡ self.old.over }
+        ensures to { self.new.to ≡ self.old.to }
+        ensures all { IsNone result → self.new.from ≡ self.new.to }
+        ensures some { IsSome result → self.old.from < self.new.from }
+        ensures later { self.old.from ≤ self.new.from }
+        ensures handed { (bytes : List ℕ) (qs : List R.Request) → Reads R.spelling (λ x. R.was_fed x protocol.old) self.old bytes qs →
+            Reads R.spelling (λ x. R.was_fed x protocol.new) self.new bytes (qs ++ asked result) }
+    {
+        let fed = protocol.feed(&self.room[self.from..self.to]);
+        self.from += fed.used;
+        fed.request
+    }
+
+    /// What the end of the input makes of what stands there.
+    fn at_end<Q: Drop>(&mut self, ending: Ending<Q>) -> Next<Q>
+        ensures counts { SameCounts self.old self.new }
+        ensures from { self.new.from ≡ self.old.from }
+        ensures to { self.new.to ≡ self.old.to }
+        ensures room { self.new.room ≡ self.old.room }
+        ensures next { IsNextAtEnd ending result self.new.over self.old.over }
+    {
+        match ending {
+            Ending::Nothing => Next::End,
+            Ending::CutOff => Next::CutOff,
+            Ending::One(request) => {
+                self.over = true;
+                Next::Request(request)
+            }
+        }
+    }
+
+    /// So many bytes were taken. Those within the limit are to be read.
+    fn fill(&mut self, count: usize)
+        requires some { 0 < count }
+        requires room { count ≤ 512 }
+        requires few { self.old.taken ≤ self.old.limit }
+        ensures limit { self.new.limit ≡ self.old.limit }
+        ensures taken { self.new.taken ≡ self.old.taken + count }
+        ensures from { self.new.from ≡ 0 }
+        ensures to { self.new.to ≡ min count (self.old.limit - self.old.taken) }
+        ensures room { self.new.room ≡ self.old.room }
+        ensures over { self.new.over ≡ self.old.over }
+    {
+        self.from = 0;
+        self.to = at_most(count, self.limit - self.taken);
+        self.taken += count as u64;
+    }
+}
+
+/// The lesser of two numbers.
+fn at_most(count: usize, left: u64) -> usize
+    ensures { result ≡ min count left }
+{
+    if left < count as u64 {
+        left as usize
+    } else {
+        count
+    }
+}

@@ -1,0 +1,62 @@
+//! The loop over an input.
+
+ghost use Rattle.std.specs.Prelude.{◌≡◌, ◌≢◌, ◌≤◌, [], ℕ, List};
+ghost use Rattle.image_device.specs.Counts.{Rose};
+ghost use Rattle.serving.specs.Handling.{IsAt};
+ghost use Rattle.serving.specs.Ran.{Came, IsAtEnd, Ran};
+
+use crate::intake::{INPUT_MAX, Intake, Next};
+use crate::protocol::Protocol;
+use crate::server::Server;
+use image_device::{Port, Source};
+use tsd_words::Status;
+
+/// Serves the requests of an input until it ends. Each answer is sent whole before the next request is carried out, and
+/// none waits for a further take. In the end all that is left to be done is done.
+///
+/// The status is Done, or SourceFault, DeviceFault or PutFault where that count rose, TooLong where a byte after the first
+/// `limit` came, or Truncated where the input ended inside a request.
+pub fn serve<S: Source, P: Port, R: Protocol, H: Server<R>>(
+    server: &mut H,
+    protocol: &mut R,
+    source: &mut S,
+    port: &mut P,
+    limit: u64,
+) -> Status
+    requires few { limit ≤ INPUT_MAX }
+    requires fresh { R.was_fed [] protocol.old }
+    requires ready { H.is_ready server.old }
+    requires at { P.told → IsAt (H.holds server.old) (P.view port.old) }
+    // What came in and what was sent, by status; and where the device tells, what a crash at any moment may have left, how
+    // many writes there were, and how much was left to be done.
+    ensures ran { Ran result H.service H.work R.spelling (H.state server.old (P.view port.old).reads) (H.state server.new (P.view port.new).reads) limit (Came S.told (S.taken source.old) (S.taken source.new) (S.left_bytes source.old) (S.left_bytes source.new)) (IsAtEnd S.told (S.ended source.new) (S.left_bytes source.new)) P.told (H.owed server.old (P.view port.old).reads) (P.view port.old) (P.view port.new) }
+    ensures ready { result ≡ Status.Done → H.is_ready server.new }
+    ensures at { result ≡ Status.Done → P.told → IsAt (H.holds server.new) (P.view port.new) }
+    ensures closed { result ≡ Status.Done → P.told → H.is_closed (P.view port.new).reads }
+    // A count of faults rose only where the status is that fault's.
+    ensures source_fault { result ≡ Status.SourceFault → Rose (S.faults source.old) (S.faults source.new) }
+    ensures device_fault { result ≡ Status.DeviceFault → Rose (P.view port.old).faults (P.view port.new).faults }
+    ensures put_fault { result ≡ Status.PutFault → Rose (P.view port.old).put_faults (P.view port.new).put_faults }
+    ensures no_source_fault { result ≢ Status.SourceFault → S.faults source.new ≡ S.faults source.old }
+    ensures no_device_fault { result ≢ Status.DeviceFault → (P.view port.new).faults ≡ (P.view port.old).faults }
+    ensures no_put_fault { result ≢ Status.PutFault → (P.view port.new).put_faults ≡ (P.view port.old).put_faults }
+{
+    let mut intake = Intake::new(limit);
+    loop {
+        match intake.next::<S, R>(protocol, source) {
+            Next::Request(request) => match server.answer(port, &request) {
+                Ok(()) => {}
+                Err(why) => return why,
+            },
+            Next::End => {
+                return match server.close(port) {
+                    Ok(()) => Status::Done,
+                    Err(_) => Status::DeviceFault,
+                };
+            }
+            Next::CutOff => return Status::Truncated,
+            Next::Fault => return Status::SourceFault,
+            Next::TooLong => return Status::TooLong,
+        }
+    }
+}

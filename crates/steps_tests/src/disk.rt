@@ -1,0 +1,140 @@
+//! A small disk whose tables are changed in memory, and the steps of reclamation on it.
+
+ghost use Rattle.std.specs.Prelude.{◌≡◌, [], OnOk, IfOk, IfSome, IfNone};
+ghost use Rattle.tsd_model.specs.Pairs.{with_pair, without_pair};
+ghost use Rattle.tsd_model.specs.Doomed.{doomed};
+ghost use Rattle.pointer_table.specs.Table.{pairs};
+ghost use Rattle.reclaim.specs.Stepping.{MayStep, after_step};
+ghost use Rattle.reclaim.specs.Tables.{graph_of, AreTables, HaveCounts};
+
+use crate::checks::{are_tables, have_counts};
+use block_alloc::LiveMap;
+use image_device::MemStation;
+use pointer_table::{OutStep, PointerTable};
+use reclaim::{Work, next_step};
+use ref_counts::RefCounts;
+use std::alloc::Global;
+use std::process::Abort;
+use std::test::Fail;
+use tsd_model::{Geometry, lawful};
+
+/// The three tables.
+#[derive(Drop)]
+pub struct Disk {
+    pub pointers: PointerTable,
+    pub counts: RefCounts,
+    pub live: LiveMap,
+}
+
+/// How large it is: one primary block.
+pub fn sized(blocks: u32) -> Geometry {
+    Geometry {
+        sectors: 1,
+        blocks,
+        primaries: 1,
+        slots: 128,
+    }
+}
+
+/// A disk on which the first so many blocks are live, with these pairs.
+pub fn disk_with(
+    rt: &impl Abort,
+    alloc: Global,
+    blocks: u32,
+    live: u32,
+    pairs: &[(u32, u32)],
+) -> Result<Disk, Fail> {
+    let geometry = sized(blocks);
+    assert!(rt; lawful(&geometry));
+    let mut station = MemStation::new(alloc, Vec::new(alloc));
+    let mut disk = Disk {
+        pointers: PointerTable::load(alloc, &mut station, &geometry)?,
+        counts: RefCounts::load(alloc, &mut station, &geometry)?,
+        live: LiveMap::load(alloc, &mut station, &geometry)?,
+    };
+    for block in 0..live {
+        assert!(rt; block < disk.live.geometry().blocks);
+        disk.live.set_live(block);
+    }
+    for (source, target) in pairs {
+        add(rt, &mut disk.pointers, &mut disk.counts, *source, *target)?;
+    }
+    Ok(disk)
+}
+
+/// Holds a pair that isn't held.
+pub fn add(
+    rt: &impl Abort,
+    pointers: &mut PointerTable,
+    counts: &mut RefCounts,
+    source: u32,
+    target: u32,
+) -> Result<(), Fail>
+    ensures geometry { OnOk result (pointers.new.geometry ≡ pointers.old.geometry) }
+    ensures pairs { OnOk result (pairs pointers.new ≡ with_pair (source, target) (pairs pointers.old)) }
+{
+    let size = pointers.geometry();
+    assert!(rt; source < size.blocks);
+    assert!(rt; size.primaries <= target);
+    assert!(rt; target < size.blocks);
+    assert!(rt; !pointers.has(source, target));
+    let patch = pointers.add(source, target)?;
+    let many = counts.geometry().blocks;
+    assert!(rt; target < many);
+    assert!(rt; counts.count(target) < many);
+    counts.raise(target);
+    Ok(())
+}
+
+/// Takes a pair away that is held.
+pub fn take(
+    rt: &impl Abort,
+    pointers: &mut PointerTable,
+    counts: &mut RefCounts,
+    source: u32,
+    target: u32,
+) -> Result<(), Fail>
+    ensures geometry { OnOk result (pointers.new.geometry ≡ pointers.old.geometry) }
+    ensures pairs { OnOk result (pairs pointers.new ≡ without_pair source target (pairs pointers.old)) }
+{
+    let patch = pointers.remove(source, target)?;
+    assert!(rt; target < counts.geometry().blocks);
+    assert!(rt; counts.count(target) > 0);
+    counts.lower(target);
+    Ok(())
+}
+
+/// The next step.
+pub fn next(rt: &impl Abort, alloc: Global, disk: &Disk) -> Result<Option<OutStep>, Fail>
+    ensures tables { OnOk result (AreTables disk.now.pointers disk.now.live) }
+    ensures counts { OnOk result (HaveCounts disk.now.pointers disk.now.live disk.now.counts) }
+    ensures step { IfOk result (λ found. IfSome found (λ s. MayStep (graph_of disk.now.pointers disk.now.live) s)) }
+    ensures none { IfOk result (λ found. IfNone found (doomed (graph_of disk.now.pointers disk.now.live) ≡ [])) }
+{
+    let size = disk.pointers.geometry();
+    assert!(rt; are_tables(&disk.pointers, &disk.live));
+    assert!(rt; have_counts(&disk.pointers, &disk.live, &disk.counts));
+    let mut work = Work::new(alloc, size.blocks)?;
+    work.collect(&disk.counts, &disk.live, size.primaries);
+    Ok(next_step(&disk.pointers, &disk.counts, &disk.live, &mut work))
+}
+
+/// Carries a step out.
+pub fn carry_out(rt: &impl Abort, disk: &mut Disk, step: &OutStep) -> Result<(), Fail>
+    ensures { OnOk result (graph_of disk.new.pointers disk.new.live ≡ after_step (graph_of disk.old.pointers disk.old.live) step.now) }
+{
+    for target in step.targets.as_slice() {
+        take(
+            rt,
+            &mut disk.pointers,
+            &mut disk.counts,
+            step.block,
+            *target,
+        )?;
+    }
+    if step.freed {
+        assert!(rt; step.block < disk.live.geometry().blocks);
+        disk.live.set_free(step.block);
+    }
+    Ok(())
+}

@@ -1,0 +1,289 @@
+-- From a request that was judged and carried out to what is said of it.
+use Rattle.std.proofs.Common.{◌≡◌, ◌⊎◌, ℕ, ◌+◌, ◌*◌, ◌≤◌, Bool, true, false, not, ◌||◌, List, length, refl, sym, ◌∙◌, ap, subst, arith, inl, inr, Option, Some, None}
+use Rattle.std.specs.Prelude.{Result, Ok, Err, OnOk, OnErr, IfOk, filter}
+use Rattle.tsd_model.specs.Pairs.{holds, without_pair}
+use Rattle.tsd_model.specs.World.{World, is_live, has_number}
+use Rattle.tsd_model.specs.ReplyForm.{HasForm}
+use Rattle.tsd_model.specs.Sessions.{Sessions, fitted, no_sessions}
+use Rattle.tsd_model.specs.Step.{State, Outcome, step, raised_by, without_pointer}
+use Rattle.tsd_model.specs.Run.{answer}
+use Rattle.tsd_model.specs.Verdict.{is_begin, verdict}
+use Rattle.tsd_model.specs.declared.replies.Reply.{Reply}
+use Rattle.tsd_model.specs.declared.replies.Reply.TheVariants as reply
+use Rattle.tsd_model.specs.declared.replies.Rule.{Rule}
+use Rattle.tsd_model.specs.declared.requests.PlaceKind.{PlaceKind}
+use Rattle.tsd_model.specs.declared.requests.Request.{Request}
+use Rattle.tsd_model.specs.declared.requests.Request.TheVariants as ask
+use Rattle.image_device.specs.View.{View, IsSound}
+use Rattle.image_device.specs.Runs.{LeavesOnly}
+use Rattle.image_device.specs.declared.device.Failed.{Failed}
+use Rattle.image_device.proofs.Moments.{leaves_both, weakened}
+use Rattle.image_layout.specs.Image.{Image}
+use Rattle.intent_journal.specs.Home.{home}
+use Rattle.image_world.specs.Tables.{tables_of}
+use Rattle.disk_laws.specs.Bytes.{AreLike}
+use Rattle.disk_laws.specs.Reclaiming.{is_sweep}
+use Rattle.disk_laws.proofs.LikeLaws.{doomed_like, fitted_like}
+use Rattle.disk_laws.proofs.FitLaws.{geometry-change}
+use Rattle.tsd_model.specs.declared.geometry.Geometry.{Geometry}
+use Rattle.graph_laws.specs.Counts.{doomed_pairs}
+use Rattle.grant_table.specs.Table.{Table, IsTable, IsMadeFor, with_sessions}
+use Rattle.core_laws.specs.Seen.{table_change, table_after, world_after, reply_to, is_read, IsOver, IsAnswer, IsStarved, state_over}
+use Rattle.core_laws.proofs.StepSeen.{step_over, verdict_over}
+use Rattle.core_laws.proofs.AnswerSeen.{refused_over, granted_over, starved_over, reply_like, without_like}
+use Rattle.core_laws.proofs.FormLaws.{refusal_fits}
+use Rattle.volume_laws.specs.Volume.{Volume, told_by, world_on}
+use Rattle.volume_laws.specs.Volume.{IsAt as IsVolumeAt}
+use Rattle.volume_laws.specs.Moments.{LeavesEither, LeavesOwed, owed, made}
+use Rattle.volume_laws.specs.Writes.{due}
+use Rattle.tsd_core.specs.Core.{Core, IsReady, IsAt, told_world, told_state, sessions_of, state_on}
+use Rattle.tsd_core.specs.Work.{debt, made_by, cost_of, write_limit}
+use Rattle.tsd_core.specs.Carrying.{IsKnown, IsOperation, IsChanged, IsCarriedOut}
+use Rattle.tsd_core.specs.Applying.{IsReplyLike, IsToldAnswer, is_refusal, asks_nothing, next_world, LeavesDebt, IsApplied}
+use Rattle.tsd_core.proofs.AtLaws.{at_volume, at_core, like_at}
+use Rattle.tsd_core.proofs.Likes.{like_itself}
+use Rattle.tsd_core.proofs.Operations.{then_ok, if_ok, if_both, if_map, if_kept, and_ok, and_ok3}
+use Rattle.tsd_core.proofs.Quiet.{still_stands, still_owes}
+
+-- ---- the core over a world
+
+over : (c : Core) (w : World) → IsReady c → IsKnown c.volume → IsTable c.grants → AreLike (told_world c) w → IsOver c.grants (told_world c) w
+over c w ready known table like = record {
+  like = like;
+  table = table;
+  made = ready.made;
+  each_block = known.sized.each_block;
+  sources = λ a b held. (known.ends a b held).0;
+}
+
+-- ---- what a deletion makes is the same by what is told
+
+doomed_pairs_like : (t w : World) → AreLike t w → doomed_pairs t ≡ doomed_pairs w
+doomed_pairs_like t w like = λ i. filter (λ (e : ℕ × ℕ). has_number (doomed_like t w like i) e.0) (like.pairs i)
+
+made_alike : (t w : World) (a b : ℕ) → AreLike t w → made t a b ≡ made w a b
+made_alike t w a b like =
+    let cut = without_like t w a b like in
+    λ i. length (doomed_like (without_pointer t a b) (without_pointer w a b) cut i) + length (doomed_pairs_like (without_pointer t a b) (without_pointer w a b) cut i) + 1
+
+pub made_like : (t w : World) (q : Request) → AreLike t w → made_by t q ≡ made_by w q
+made_like t w (ask.Delete s a shown b) like = made_alike t w a b like
+made_like t w ask.Bad like = refl
+made_like t w (ask.Begin s) like = refl
+made_like t w (ask.End s) like = refl
+made_like t w (ask.Read s b shown) like = refl
+made_like t w (ask.Write s b shown bytes) like = refl
+made_like t w (ask.Alloc s a shown h count) like = refl
+made_like t w (ask.Contig s a shown h count) like = refl
+made_like t w ask.GetFree like = refl
+made_like t w (ask.Create s a shown b) like = refl
+made_like t w (ask.SetCap s b shown caps) like = refl
+made_like t w (ask.Sweep s shown) like = refl
+made_like t w (ask.List s a shown start) like = refl
+
+-- ---- debts
+
+-- what is owed, and that nothing more is sent
+owes : (vol : Volume) (v w : View) (x : World) (few more : ℕ) → IsVolumeAt vol v → few ≡ more → LeavesOwed v w (owed vol.tables + few) → LeavesEither v w x → LeavesDebt v w more
+owes vol v w x few more at same owing either =
+    weakened v w _ _ (leaves_both v w _ _ owing either) (λ y f left.
+      (let here : owed (tables_of (home v.reads)) ≡ owed vol.tables = ap owed at.tables in omega (arith, left.0, here, same), left.1.1))
+
+-- ---- refused
+
+pub refused_applied : (told : Type 0) (kind : PlaceKind) (q : Request) (c : Core) (v : View) (r : Rule) → IsReady c → IsKnown c.volume → IsTable c.grants
+    → (told → IsSound v) → (told → IsAt c v) → verdict (told_world c) c.grants.sessions q ≡ Some r → IsApplied told kind q c c v v (Ok (reply.Refused r))
+refused_applied told kind q c v r ready known table sound at refusal = record {
+  ready = ready;
+  at = at;
+  form = refusal_fits (told_world c) c.grants.sessions q r known.sized refusal;
+  given = λ t. refused_over kind c.grants (told_world c) (world_on v) q r (over c (world_on v) ready known table (like_at c.volume v (at_volume c v (at t)))) refusal;
+  told_given = let here = refused_over kind c.grants (told_world c) (told_world c) q r (over c (told_world c) ready known table (like_itself (told_world c))) refusal in
+    record { want = here.want; reply = inl here.reply; world = subst (λ (s : State). AreLike (told_world c) s.world) here.state (like_itself (told_world c)); sessions = ap (λ s. s.sessions) here.state };
+  refused = λ e. refl;
+  size = record { geometry = refl; version = refl };
+  spent = tt;
+  sent = λ t. refl;
+  any_moment = λ t. still_stands c.volume v (next_world kind (state_on c v.reads) q) (sound t) (at_volume c v (at t));
+  debt = λ t b. owes c.volume v v (world_on v) (made_by (world_on v) q) (made_by (world_on v) q) (at_volume c v (at t)) refl
+    (still_owes c.volume v (made_by (world_on v) q) (sound t) (at_volume c v (at t))) (still_stands c.volume v (world_on v) (sound t) (at_volume c v (at t)));
+  paid = λ t b. omega arith;
+  most = λ t b. omega arith;
+  limit = λ b. omega arith;
+  works = record { clock = omega arith; faults = omega arith; put_faults = refl; writes = omega arith };
+  faultless = refl;
+  cause = tt;
+}
+
+-- ---- granted
+
+no_refusal : (kind : PlaceKind) (w : World) (q : Request) → is_refusal (reply_to kind w q) ≡ false
+no_refusal kind w ask.Bad = refl
+no_refusal kind w (ask.Begin s) = refl
+no_refusal kind w (ask.End s) = refl
+no_refusal kind w (ask.Read s b shown) = refl
+no_refusal kind w (ask.Write s b shown bytes) = refl
+no_refusal kind w (ask.Alloc s a shown h count) = refl
+no_refusal kind w (ask.Contig s a shown h count) = refl
+no_refusal kind w ask.GetFree = refl
+no_refusal kind w (ask.Create s a shown b) = refl
+no_refusal kind w (ask.Delete s a shown b) = refl
+no_refusal kind w (ask.SetCap s b shown caps) = refl
+no_refusal kind w (ask.Sweep s shown) = refl
+no_refusal kind w (ask.List s a shown start) = refl
+
+bytes_to : (kind : PlaceKind) (w : World) (q : Request) → is_read q ≡ true → (bytes : List ℕ) × (reply_to kind w q ≡ reply.Bytes bytes)
+bytes_to kind w (ask.Read s b shown) e = (_, refl)
+bytes_to kind w q e = absurd (cc)
+
+true_or_false : (t : Bool) → (t ≡ true) ⊎ (t ≡ false)
+true_or_false true = inl refl
+true_or_false false = inr refl
+
+never : false ≡ true → ⊥
+never e = cc
+
+-- a begin reads no bytes, makes no change to the world, and raises nothing
+begin_keeps : (kind : PlaceKind) (w : World) (v : Sessions) (q : Request) → is_begin q ≡ true → (world_after kind w q ≡ w) × (raised_by w v q ≡ v)
+begin_keeps kind w v (ask.Begin s) e = (refl, refl)
+begin_keeps kind w v q e = absurd (cc)
+
+begin_asks : (q : Request) → is_begin q ≡ true → asks_nothing q ≡ true
+begin_asks (ask.Begin s) e = refl
+begin_asks q e = absurd (cc)
+
+begin_or_read : (q : Request) → is_begin q ≡ true → is_read q ≡ true → ⊥
+begin_or_read (ask.Begin s) e f = cc
+begin_or_read q e f = cc
+
+-- the state doesn't depend on what was told of the world
+same_state : (t w u x : World) (g : Table) → AreLike t w → AreLike u x → x ≡ w → state_over u x g ≡ state_over t w g
+same_state t w u x g like now same =
+    (λ i. record { world = x; sessions = fitted_like u x now g.sessions i })
+    ∙ ((λ i. record { world = same i; sessions = fitted (same i) g.sessions })
+    ∙ sym (λ i. record { world = w; sessions = fitted_like t w like g.sessions i }))
+
+-- What a request that was carried out in memory gives, over a world that is like what is told.
+given_over : (kind : PlaceKind) (q : Request) (old : Core) (new : Table) (w u x : World) (r : Reply) → IsOver old.grants (told_world old) w → ◌≡◌ {A = Option Rule} (verdict (told_world old) old.grants.sessions q) None
+    → AreLike u x → x ≡ world_after kind w q
+    → (IsChanged kind (told_world old) (with_sessions old.grants (raised_by (told_world old) old.grants.sessions q)) q r new ⊎ IsStarved old.grants q r new)
+    → (is_read q ≡ true → r ≡ reply_to kind w q)
+    → IsAnswer kind (state_over (told_world old) w old.grants) q r (state_over u x new)
+given_over kind q old new w u x r here granted like world (inl changed) bytes =
+    granted_over kind old.grants new (told_world old) w u x q r here granted like world changed.table
+    (elim (true_or_false (is_read q)) [
+      | inl reads ↦ bytes reads
+      | inr other ↦ changed.reply other ∙ reply_like kind (told_world old) w q here.like other
+    ])
+given_over kind q old new w u x r here granted like world (inr starved) bytes =
+    subst (IsAnswer kind (state_over (told_world old) w old.grants) q r) (sym (same_state (told_world old) w u x new here.like like (world ∙ (begin_keeps kind w old.grants.sessions q starved.begin).0)))
+    (starved_over kind old.grants new (told_world old) w q r here granted starved)
+
+-- the table once levels have risen
+abbrev risen_in : Core → Request → Core
+risen_in c q = record { volume = c.volume; grants = with_sessions c.grants (raised_by (told_world c) c.grants.sessions q) }
+
+-- the kept table, where nothing was raised for a begin
+kept_in : (kind : PlaceKind) (old : Core) (q : Request) (r : Reply) (new : Table) → (IsChanged kind (told_world old) (risen_in old q).grants q r new ⊎ IsStarved (risen_in old q).grants q r new)
+    → (IsChanged kind (told_world old) (with_sessions old.grants (raised_by (told_world old) old.grants.sessions q)) q r new ⊎ IsStarved old.grants q r new)
+kept_in kind old q r new (inl changed) = inl changed
+kept_in kind old q r new (inr starved) = inr (record {
+  begin = starved.begin;
+  reply = starved.reply;
+  table = starved.table ∙ ap (with_sessions old.grants) (begin_keeps kind (told_world old) old.grants.sessions q starved.begin).1;
+})
+
+same_blocks : (kind : PlaceKind) (old : Core) (q : Request) (r : Reply) (new : Table) → (IsChanged kind (told_world old) (risen_in old q).grants q r new ⊎ IsStarved (risen_in old q).grants q r new)
+    → (new.blocks ≡ old.grants.blocks) × (new.primaries ≡ old.grants.primaries)
+same_blocks kind old q r new (inl changed) = (ap (λ (g : Table). g.blocks) changed.table, ap (λ (g : Table). g.primaries) changed.table)
+same_blocks kind old q r new (inr starved) = (ap (λ (g : Table). g.blocks) starved.table, ap (λ (g : Table). g.primaries) starved.table)
+
+made_after : (kind : PlaceKind) (old : Core) (q : Request) (u : World) (new : Table) → IsMadeFor (told_world old) old.grants → AreLike u (world_after kind (told_world old) q)
+    → (new.blocks ≡ old.grants.blocks) × (new.primaries ≡ old.grants.primaries) → IsMadeFor u new
+made_after kind old q u new made like same =
+    let size : (told_world old).geometry ≡ u.geometry = sym (geometry-change kind (told_world old) no_sessions q) ∙ sym like.geometry in
+    record {
+      blocks = same.0 ∙ (made.blocks ∙ ap (λ (g : Geometry). g.blocks) size);
+      primaries = same.1 ∙ (made.primaries ∙ ap (λ (g : Geometry). g.primaries) size);
+    }
+
+-- what is told of the answer
+told_answer : (kind : PlaceKind) (q : Request) (old new : Core) (r : Reply) → IsReady old → IsKnown old.volume → IsTable old.grants
+    → ◌≡◌ {A = Option Rule} (verdict (told_world old) old.grants.sessions q) None → AreLike (told_world new) (world_after kind (told_world old) q)
+    → (IsChanged kind (told_world old) (risen_in old q).grants q r new.grants ⊎ IsStarved (risen_in old q).grants q r new.grants)
+    → IsToldAnswer kind old q r new
+told_answer kind q old new r ready known table granted like kept =
+    let t = told_world old in
+    let here = over old t ready known table (like_itself t) in
+    elim (true_or_false (is_read q)) [
+      | inr other ↦
+          let got = given_over kind q old new.grants t (told_world new) (world_after kind t q) r here granted like refl (kept_in kind old q r new.grants kept) (λ e. absurd (never (sym other ∙ e))) in
+          record { want = got.want; reply = inl got.reply; world = subst (λ (s : State). AreLike (told_world new) s.world) got.state like; sessions = ap (λ (s : State). s.sessions) got.state }
+      | inl reads ↦ elim kept [
+        | inr starved ↦ absurd (begin_or_read q starved.begin reads)
+        | inl changed ↦
+            let got = granted_over kind old.grants new.grants t t (told_world new) (world_after kind t q) q (reply_to kind t q) here granted like refl changed.table refl in
+            let read = changed.read reads in
+            let would = bytes_to kind t q reads in
+            record {
+              want = got.want;
+              reply = inr (read.0, would.0, read.1, sym got.reply ∙ would.1);
+              world = subst (λ (s : State). AreLike (told_world new) s.world) got.state like;
+              sessions = ap (λ (s : State). s.sessions) got.state;
+            }
+      ]
+    ]
+
+-- a refusal after the verdict is want of memory alone
+refused_keeps : (kind : PlaceKind) (q : Request) (old new : Core) (r : Reply) → (IsChanged kind (told_world old) (risen_in old q).grants q r new.grants ⊎ IsStarved (risen_in old q).grants q r new.grants)
+    → (asks_nothing q ≡ true → new.volume ≡ old.volume) → is_refusal r ≡ true → new ≡ old
+refused_keeps kind q old new r (inl changed) stays e = elim (true_or_false (is_read q)) [
+  | inr other ↦ absurd (never (sym (ap is_refusal (changed.reply other) ∙ no_refusal kind (told_world old) q) ∙ e))
+  | inl reads ↦ absurd (never (sym (ap is_refusal (changed.read reads).1) ∙ e))
+]
+refused_keeps kind q old new r (inr starved) stays e =
+    let table : new.grants ≡ old.grants = starved.table ∙ ap (with_sessions old.grants) (begin_keeps kind (told_world old) old.grants.sessions q starved.begin).1 in
+    let volume : new.volume ≡ old.volume = stays (begin_asks q starved.begin) in
+    λ i. record { volume = volume i; grants = table i }
+
+granted_risen : (told : Type 0) (kind : PlaceKind) (q : Request) (old new : Core) (v w : View) (result : Result Reply Failed) → IsReady old → IsKnown old.volume → IsTable old.grants
+    → (told → IsAt old v) → ◌≡◌ {A = Option Rule} (verdict (told_world old) old.grants.sessions q) None
+    → IsCarriedOut told kind q (risen_in old q) new v w result → (asks_nothing q ≡ true → new.volume ≡ old.volume)
+    → IsApplied told kind q old new v w result
+granted_risen told kind q old new v w result ready known table at granted carried stays =
+    let op = carried.volume in
+    let t = told_world old in
+    let there : told → IsVolumeAt old.volume v = λ h. at_volume old v (at h) in
+    let like : told → AreLike t (world_on v) = λ h. like_at old.volume v (there h) in
+    let here : told → IsOver old.grants t (world_on v) = λ h. over old (world_on v) ready known table (like h) in
+    let same : told → made_by t q ≡ made_by (world_on v) q = λ h. made_like t (world_on v) q (like h) in
+    let next : told → world_after kind (world_on v) q ≡ next_world kind (state_on old v.reads) q = λ h. sym (ap (λ (o : Outcome). o.state.world) (step_over kind old.grants t (world_on v) q (here h) granted)) in
+    record {
+      ready = and_ok3 result (λ r kept a b like_new. record { volume = a; unspent = b; made = made_after kind old q (told_world new) new.grants ready.made like_new (same_blocks kind old q r new.grants kept) }) carried.kept op.ready op.unspent op.like;
+      at = λ h. then_ok result (at_core new w) (op.at h);
+      form = carried.form;
+      given = λ h. and_ok result (λ r kept bytes a done. given_over kind q old new.grants (world_on v) (told_world new) (world_on w) r (here h) granted (like_at new.volume w a) done (kept_in kind old q r new.grants kept) bytes) carried.kept (carried.bytes h) (op.at h) (op.done h);
+      told_given = if_kept result (λ r kept like_new. told_answer kind q old new r ready known table granted like_new kept) carried.kept op.like;
+      refused = if_map result (λ r kept e. refused_keeps kind q old new r kept stays e) carried.kept;
+      size = record { geometry = op.size.0; version = op.size.1 };
+      spent = op.spent;
+      sent = op.sent;
+      any_moment = λ h. subst (LeavesEither v w) (next h) (op.any_moment h);
+      debt = λ h b. owes old.volume v w (world_after kind (world_on v) q) (made_by t q) (made_by (world_on v) q) (there h) (same h) (op.any_owed h b) (op.any_moment h);
+      paid = λ h b. then_ok result (λ (p : w.writes + due new.volume ≤ v.writes + due old.volume + cost_of t q). omega (arith, p, same h)) (op.paid b);
+      most = λ h b. omega (arith, op.most b, same h);
+      limit = op.limit;
+      works = op.works;
+      faultless = op.faultless;
+      cause = op.cause;
+    }
+
+-- from the core once levels have risen
+pub granted_applied : (told : Type 0) (kind : PlaceKind) (q : Request) (old mid new : Core) (v w : View) (result : Result Reply Failed) → IsReady old → IsKnown old.volume → IsTable old.grants
+    → (told → IsAt old v) → ◌≡◌ {A = Option Rule} (verdict (told_world old) old.grants.sessions q) None
+    → mid.volume ≡ old.volume → mid.grants ≡ with_sessions old.grants (raised_by (told_world old) old.grants.sessions q)
+    → IsCarriedOut told kind q mid new v w result → (asks_nothing q ≡ true → new.volume ≡ mid.volume)
+    → IsApplied told kind q old new v w result
+granted_applied told kind q old mid new v w result ready known table at granted volume grants carried stays =
+    let risen : mid ≡ risen_in old q = λ i. record { volume = volume i; grants = grants i } in
+    granted_risen told kind q old new v w result ready known table at granted (subst (λ (m : Core). IsCarriedOut told kind q m new v w result) risen carried) (λ e. stays e ∙ volume)

@@ -1,0 +1,110 @@
+-- From a call on the volume to the request that it carries out.
+use Rattle.std.proofs.Common.{◌≡◌, ℕ, ◌+◌, ◌≤◌, true, false, List, refl, sym, ◌∙◌, ap, subst, arith, inl, inr}
+use Rattle.std.specs.Prelude.{Result, Ok, Err, OnOk, OnErr, IfOk}
+use Rattle.tsd_model.specs.World.{World}
+use Rattle.tsd_model.specs.ReplyForm.{HasForm}
+use Rattle.tsd_model.specs.declared.replies.Reply.{Reply}
+use Rattle.tsd_model.specs.declared.replies.Reply.TheVariants as reply
+use Rattle.tsd_model.specs.declared.requests.PlaceKind.{PlaceKind}
+use Rattle.tsd_model.specs.declared.requests.Request.{Request}
+use Rattle.image_device.specs.View.{View}
+use Rattle.image_device.specs.Calls.{Uses}
+use Rattle.image_device.specs.declared.device.Failed.{Failed}
+use Rattle.grant_table.specs.Table.{with_sessions}
+use Rattle.core_laws.specs.Seen.{table_change, world_after, reply_to, is_read}
+use Rattle.volume_laws.specs.Volume.{Volume, world_on}
+use Rattle.volume_laws.specs.Writes.{due, IsPaid, Works}
+use Rattle.tsd_core.specs.Core.{Core, told_world}
+use Rattle.tsd_core.specs.Carrying.{IsOperation, IsChanged, IsCarriedOut, replied}
+
+-- ---- outcomes
+
+pub then_ok : {T E P Q : Type 0} (r : Result T E) → (P → Q) → OnOk r P → OnOk r Q
+then_ok (Ok x) f p = f p
+then_ok (Err e) f p = tt
+
+pub if_ok : {T E : Type 0} {P : T → Type 0} (r : Result T E) → ((x : T) → P x) → IfOk r P
+if_ok (Ok x) h = h x
+if_ok (Err e) h = tt
+
+pub if_both : {T E P : Type 0} {Q R : T → Type 0} (r : Result T E) → ((x : T) → P → Q x → R x) → OnOk r P → IfOk r Q → IfOk r R
+if_both (Ok x) f p q = f x p q
+if_both (Err e) f p q = tt
+
+pub ok_if : {T E : Type 0} (P : Type 0) (r : Result T E) → OnOk r P → IfOk r (λ x. P)
+ok_if P (Ok x) p = p
+ok_if P (Err e) p = tt
+
+pub if_map : {T E : Type 0} {Q R : T → Type 0} (r : Result T E) → ((x : T) → Q x → R x) → IfOk r Q → IfOk r R
+if_map (Ok x) f q = f x q
+if_map (Err e) f q = tt
+
+pub if_kept : {T E P : Type 0} {Q R : T → Type 0} (r : Result T E) → ((x : T) → Q x → P → R x) → IfOk r Q → OnOk r P → IfOk r R
+if_kept (Ok x) f q p = f x q p
+if_kept (Err e) f q p = tt
+
+pub and_ok3 : {T E A B C P : Type 0} {Q : T → Type 0} (r : Result T E) → ((x : T) → Q x → A → B → C → P) → IfOk r Q → OnOk r A → OnOk r B → OnOk r C → OnOk r P
+and_ok3 (Ok x) f q a b c = f x q a b c
+and_ok3 (Err e) f q a b c = tt
+
+pub and_ok : {T E A B : Type 0} {P Q R : T → Type 0} (r : Result T E) → ((x : T) → P x → Q x → A → B → R x) → IfOk r P → IfOk r Q → OnOk r A → OnOk r B → IfOk r R
+and_ok (Ok x) f p q a b = f x p q a b
+and_ok (Err e) f p q a b = tt
+
+-- ---- counts
+
+pub counted : (most : ℕ) (v w : View) → Uses most v w → Works v w
+counted most v w uses = record { clock = uses.clock; faults = uses.faults; put_faults = uses.put_faults; writes = uses.writes }
+
+pub at_most : (few most : ℕ) (v w : View) → Uses few v w → few ≤ most → w.writes ≤ v.writes + most
+at_most few most v w uses less = omega (arith, uses.most, less)
+
+pub most_due : (few cost : ℕ) (old : Volume) (v w : View) → Uses few v w → few ≤ due old + cost → w.writes ≤ v.writes + due old + cost
+most_due few cost old v w uses less = omega (arith, uses.most, less)
+
+pub paid_more : (few most : ℕ) (old new : Volume) (v w : View) → few ≤ most → IsPaid few old v new w → IsPaid most old v new w
+paid_more few most old new v w less paid = omega (arith, paid, less)
+
+-- ---- the request
+
+operation_of : {T U : Type 0} (told : Type 0) (kind : PlaceKind) (q : Request) (old new : Volume) (v w : View) (r : Result T Failed) (f : T → U) → IsOperation told kind q old new v w r
+    → (s : Result U Failed) → ((P : Type 0) → OnOk r P → OnOk s P) → ((P : Type 0) → OnErr r P → OnErr s P) → IsOperation told kind q old new v w s
+operation_of told kind q old new v w r f op s ok err = record {
+  like = ok _ op.like;
+  ready = ok _ op.ready;
+  unspent = ok _ op.unspent;
+  spent = err _ op.spent;
+  size = op.size;
+  at = λ t. ok _ (op.at t);
+  done = λ t. ok _ (op.done t);
+  sent = op.sent;
+  any_moment = op.any_moment;
+  any_owed = op.any_owed;
+  paid = λ b. ok _ (op.paid b);
+  most = op.most;
+  limit = op.limit;
+  works = op.works;
+  faultless = ok _ op.faultless;
+  cause = err _ op.cause;
+}
+
+pub carried_out : {T : Type 0} (told : Type 0) (kind : PlaceKind) (q : Request) (old new : Core) (v w : View) (r : Result T Failed) (f : T → Reply)
+    → IsOperation told kind q old.volume new.volume v w r
+    → new.grants ≡ with_sessions old.grants (table_change kind (told_world old) old.grants.sessions q)
+    → IfOk r (λ x. is_read q ≡ false → f x ≡ reply_to kind (told_world old) q)
+    → ((x : T) → is_read q ≡ true → (bytes : List ℕ) × (f x ≡ reply.Bytes bytes))
+    → (told → IfOk r (λ x. is_read q ≡ true → f x ≡ reply_to kind (world_on v) q))
+    → IfOk r (λ x. HasForm (f x))
+    → IsCarriedOut told kind q old new v w (replied r f)
+carried_out told kind q old new v w (Ok x) f op table replies read bytes form = record {
+  kept = inl (record { table = table; reply = replies; read = read x });
+  bytes = bytes;
+  form = form;
+  volume = operation_of told kind q old.volume new.volume v w (Ok x) f op (Ok (f x)) (λ P p. p) (λ P p. p);
+}
+carried_out told kind q old new v w (Err e) f op table replies read bytes form = record {
+  kept = tt;
+  bytes = λ t. tt;
+  form = tt;
+  volume = operation_of told kind q old.volume new.volume v w (Err e) f op (Err e) (λ P p. p) (λ P p. p);
+}

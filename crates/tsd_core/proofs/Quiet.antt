@@ -1,0 +1,74 @@
+-- Requests that ask nothing of the device.
+use Rattle.std.proofs.Common.{◌≡◌, ◌⊎◌, ℕ, ◌+◌, ◌≤◌, true, false, refl, sym, ◌∙◌, ap, subst, arith, inl, inr}
+use Rattle.std.specs.Prelude.{Result, Ok}
+use Rattle.tsd_model.specs.World.{World}
+use Rattle.tsd_model.specs.ReplyForm.{HasForm}
+use Rattle.tsd_model.specs.declared.replies.Reply.{Reply}
+use Rattle.tsd_model.specs.declared.requests.PlaceKind.{PlaceKind}
+use Rattle.tsd_model.specs.declared.requests.Request.{Request}
+use Rattle.image_device.specs.View.{View, IsSound}
+use Rattle.image_device.proofs.Moments.{started, firm_image}
+use Rattle.image_layout.specs.Image.{Image}
+use Rattle.intent_journal.specs.Home.{home}
+use Rattle.image_world.specs.Tables.{tables_of}
+use Rattle.image_world.specs.Stands.{Stands}
+use Rattle.disk_laws.specs.Bytes.{AreLike}
+use Rattle.disk_laws.specs.Reclaiming.{is_sweep}
+use Rattle.core_laws.specs.Seen.{world_after, is_read, IsStarved}
+use Rattle.volume_laws.specs.Volume.{Volume, world_on, told_by}
+use Rattle.volume_laws.specs.Volume.{IsAt as IsVolumeAt}
+use Rattle.volume_laws.specs.Volume.{IsReady as IsVolumeReady}
+use Rattle.volume_laws.specs.Moments.{StandsForEither, LeavesEither, LeavesOwed, owed}
+use Rattle.volume_laws.specs.Writes.{due}
+use Rattle.tsd_core.specs.Core.{Core, IsReady, IsAt, told_world}
+use Rattle.tsd_core.specs.Work.{made_by, cost_of, write_limit}
+use Rattle.tsd_core.specs.Carrying.{IsOperation, IsChanged, IsCarriedOut}
+use Rattle.tsd_core.proofs.AtLaws.{at_volume, stands_at}
+use Rattle.tsd_core.proofs.Likes.{like_as}
+
+pub still_stands : (vol : Volume) (v : View) (x : World) → IsSound v → IsVolumeAt vol v → LeavesEither v v x
+still_stands vol v x sound at = started v (λ y f. StandsForEither (world_on v) x y × (f ≡ v.sent)) sound
+    (λ y f left. (inl (subst (λ (z : Image). Stands z (world_on v)) (sym (firm_image v at.firm y f left)) (stands_at vol v at)), left.1))
+
+pub still_owes : (vol : Volume) (v : View) (more : ℕ) → IsSound v → IsVolumeAt vol v → LeavesOwed v v (owed vol.tables + more)
+still_owes vol v more sound at = started v (λ y f. owed (tables_of (home y)) ≤ owed vol.tables + more) sound
+    (λ y f left. subst (λ (z : Image). owed (tables_of (home z)) ≤ owed vol.tables + more) (sym (firm_image v at.firm y f left))
+      (let same : owed (tables_of (home v.reads)) ≡ owed vol.tables = ap owed at.tables in omega (arith, same)))
+
+still_there : (told : Type 0) (kind : PlaceKind) (q : Request) (vol : Volume) (v : View) (r : Reply) → ((w : World) → world_after kind w q ≡ w)
+    → (told → IsSound v) → (told → IsVolumeAt vol v) → IsVolumeReady vol → vol.is_spent ≡ false
+    → IsOperation told kind q vol vol v v (Ok r)
+still_there told kind q vol v r same sound at ready unspent = record {
+  like = like_as (told_by vol) (world_after kind (told_by vol) q) (sym (same (told_by vol)));
+  ready = ready;
+  unspent = unspent;
+  spent = tt;
+  size = (refl, refl);
+  at = at;
+  done = λ t. sym (same (world_on v));
+  sent = λ t. refl;
+  any_moment = λ t. still_stands vol v (world_after kind (world_on v) q) (sound t) (at t);
+  any_owed = λ t b. still_owes vol v (made_by (told_by vol) q) (sound t) (at t);
+  paid = λ b. omega arith;
+  most = λ b. omega arith;
+  limit = λ b. omega arith;
+  works = record { clock = omega arith; faults = omega arith; put_faults = refl; writes = omega arith };
+  faultless = refl;
+  cause = tt;
+}
+
+-- the volume and the device stay as they are
+pub quiet : (told : Type 0) (kind : PlaceKind) (q : Request) (old new : Core) (v : View) (r : Reply) → ((w : World) → world_after kind w q ≡ w)
+    → (told → IsSound v) → (told → IsAt old v) → IsReady old → new.volume ≡ old.volume
+    → (IsChanged kind (told_world old) old.grants q r new.grants ⊎ IsStarved old.grants q r new.grants) → is_read q ≡ false → HasForm r
+    → IsCarriedOut told kind q old new v v (Ok r)
+quiet told kind q old new v r same sound at ready stays kept unread form = record {
+  kept = kept;
+  bytes = λ t e. absurd (clash (sym unread ∙ e));
+  form = form;
+  volume = subst (λ (x : Volume). IsOperation told kind q old.volume x v v (Ok r)) (sym stays)
+    (still_there told kind q old.volume v r same sound (λ t. at_volume old v (at t)) ready.volume ready.unspent);
+}
+  where
+    clash : false ≡ true → ⊥
+    clash k = cc

@@ -1,0 +1,33 @@
+-- What is left to be reclaimed, over calls that keep the world.
+use Rattle.std.proofs.Common.{◌≡◌, ◌⊎◌, ℕ, ◌+◌, ◌-◌, ◌≤◌, refl, sym, ◌∙◌, ap, subst, arith, inl, inr}
+use Rattle.image_device.specs.View.{View}
+use Rattle.image_device.specs.Runs.{LeavesOnly}
+use Rattle.image_device.proofs.Moments.{leaves_both, weakened, joined}
+use Rattle.intent_journal.specs.Home.{home}
+use Rattle.image_world.specs.Stands.{Stands}
+use Rattle.image_world.specs.Tables.{tables_of}
+use Rattle.volume_laws.specs.Volume.{Volume, world_on}
+use Rattle.volume_laws.specs.Volume.{IsAt as IsVolumeAt}
+use Rattle.volume_laws.specs.Moments.{LeavesWorld, LeavesOwed, owed}
+use Rattle.volume_laws.specs.Writes.{Works}
+use Rattle.tsd_core.specs.Work.{debt, LeavesNoDebt}
+
+pub debt_at : (vol : Volume) (v : View) → IsVolumeAt vol v → debt v.reads ≡ owed vol.tables
+debt_at vol v at = ap owed at.tables
+
+pub owes_no_more : (vol : Volume) (v w : View) → IsVolumeAt vol v → LeavesOwed v w (owed vol.tables) → LeavesWorld v w → LeavesNoDebt v w
+owes_no_more vol v w at owing world = weakened v w _ _ (leaves_both v w _ _ owing world) (λ y f left. (omega (arith, left.0, debt_at vol v at), left.1.1))
+
+pub owes_less : (old new : Volume) (v w : View) → IsVolumeAt old v → IsVolumeAt new w → (owed new.tables + 4 ≤ owed old.tables) ⊎ (owed new.tables ≡ 0) → debt w.reads ≤ debt v.reads - 4
+owes_less old new v w before after (inl four) = omega (arith, four, debt_at old v before, debt_at new w after)
+owes_less old new v w before after (inr none) = omega (arith, none, debt_at new w after)
+
+-- one call after another
+pub worlds_joined : (v m w : View) → LeavesWorld v m → LeavesWorld m w → world_on m ≡ world_on v → m.sent ≡ v.sent → LeavesWorld v w
+worlds_joined v m w one two same sent = joined v m w _ _ one two (λ x f left. (subst (λ y. Stands x y) same left.0, left.1 ∙ sent))
+
+pub owing_joined : (v m w : View) (few most : ℕ) → LeavesOwed v m most → LeavesOwed m w few → few ≤ most → LeavesOwed v w most
+owing_joined v m w few most one two less = joined v m w _ _ one two (λ x f left. omega (arith, left, less))
+
+pub works_joined : (v m w : View) → Works v m → Works m w → Works v w
+works_joined v m w one two = record { clock = omega (arith, one.clock, two.clock); faults = omega (arith, one.faults, two.faults); put_faults = two.put_faults ∙ one.put_faults; writes = omega (arith, one.writes, two.writes) }

@@ -1,0 +1,26 @@
+use Rattle.std.proofs.Common.{◌≡◌, ℕ, ◌≤◌, length, sym, ◌∙◌, ap, subst, arith}
+use Rattle.tsd_model.specs.Placing.{chosen}
+use Rattle.tsd_model.specs.declared.requests.Hint.TheVariants as hint
+use Rattle.tsd_model.specs.declared.requests.Request.TheVariants as ask
+use Rattle.volume_laws.specs.Volume.{told_by}
+use Rattle.tsd_core.specs.Core.{Core, told_world}
+use Rattle.tsd_core.specs.Growing.{AreNew}
+use Rattle.tsd_core.specs.Carrying.{IsCarriedOut}
+use Rattle.tsd_core.proofs.Choosing.{new_chosen}
+use Rattle.tsd_core.proofs.core.Core.alloc.Goals as goal
+
+pub grow-requires-clause-new : goal.grow-requires-clause-new
+grow-requires-clause-new g c =
+    let kind = c.args.place.now.kind in
+    let t = told_by c.self.inside.volume in
+    let picked : c.in-Ok.blocks ≡ chosen kind t c.args.hint.now c.args.count = c.in-Ok.ensures.chosen ∙ ap (λ b. chosen kind t (hint.At b) c.args.count) c.hint_block.ensures in
+    let same : length (chosen kind t c.args.hint.now c.args.count) ≡ c.args.count = sym (ap length picked) ∙ c.in-Ok.ensures.counted in
+    subst (λ (x : Core). AreNew (told_world x) c.in-Ok.blocks) c.self.view_is
+    (subst (AreNew t) (sym picked) (new_chosen kind t c.args.hint.now c.args.count c.requires.count.0 c.requires.count.1 same))
+
+pub returns-in-Ok : goal.returns-in-Ok
+returns-in-Ok g c = λ session shown.
+    let kind = c.args.place.now.kind in
+    let t = told_by c.self.inside.volume in
+    let picked : c.in-Ok.blocks ≡ chosen kind t c.args.hint.now c.args.count = c.in-Ok.ensures.chosen ∙ ap (λ b. chosen kind t (hint.At b) c.args.count) c.hint_block.ensures in
+    c.grow.ensures.alloc kind session shown c.args.hint.now c.args.count (subst (λ (x : Core). c.in-Ok.blocks ≡ chosen kind (told_world x) c.args.hint.now c.args.count) c.self.view_is picked)

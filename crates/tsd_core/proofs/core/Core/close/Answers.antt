@@ -1,0 +1,62 @@
+use Rattle.std.proofs.Common.{◌≡◌, ℕ, ◌+◌, ◌≤◌, [], sym, ◌∙◌, ap, subst, arith}
+use Rattle.std.specs.Prelude.{Result, Ok, Err, OnOk}
+use Rattle.volume_laws.specs.Volume.{Volume}
+use Rattle.volume_laws.specs.Volume.{IsAt as IsVolumeAt}
+use Rattle.volume_laws.specs.Moments.{owed}
+use Rattle.volume_laws.specs.Writes.{due, IsPaid}
+use Rattle.tsd_core.specs.Core.{Core, IsAt}
+use Rattle.tsd_core.specs.Work.{IsClosed}
+use Rattle.tsd_core.proofs.AtLaws.{at_volume}
+use Rattle.tsd_core.proofs.Operations.{then_ok}
+use Rattle.tsd_core.proofs.Settling.{debt_at, owes_no_more, worlds_joined, owing_joined}
+use Rattle.tsd_core.proofs.core.Core.close.Goals as goal
+
+all_ok : {T E A B C P : Type 0} (r : Result T E) → (A → B → C → P) → OnOk r A → OnOk r B → OnOk r C → OnOk r P
+all_ok (Ok x) f a b c = f a b c
+all_ok (Err e) f a b c = tt
+
+pub returns-in_err-settle_all-clause-debt : goal.returns-in_err-settle_all-clause-debt
+returns-in_err-settle_all-clause-debt g c = λ told.
+    let v = g.D.Device.view c.args.dev.now in
+    let old : Core = record { volume = c.self.inside.volume; grants = c.self.inside.grants } in
+    let at = at_volume old v (subst (λ (x : Core). IsAt x v) (sym c.self.view_is) (c.requires.at told)) in
+    owes_no_more c.self.inside.volume v (g.D.Device.view c.settle_all.new.dev) at (c.settle_all.ensures.any_owed told) (c.settle_all.ensures.any_moment told)
+
+pub returns-clause-closed : goal.returns-clause-closed
+returns-clause-closed g c = λ told.
+    let w = g.D.Device.view c.empty_ring.new.dev in
+    let mid = c.settle_all.new.self in
+    let new = c.empty_ring.new.self in
+    all_ok c.empty_ring.result (λ (at : IsVolumeAt new w) (same : new ≡ record mid { ring = [] }) closed. record { closed = closed; settled = debt_at new w at ∙ (ap (λ (x : Volume). owed x.tables) same ∙ c.in_ok-settle_all.ensures.settled) })
+    (c.empty_ring.ensures.at told) c.empty_ring.ensures.same (c.empty_ring.ensures.closed told)
+
+pub returns-clause-debt : goal.returns-clause-debt
+returns-clause-debt g c = λ told.
+    let v = g.D.Device.view c.args.dev.now in
+    let m = g.D.Device.view c.settle_all.new.dev in
+    let w = g.D.Device.view c.empty_ring.new.dev in
+    let old : Core = record { volume = c.self.inside.volume; grants = c.self.inside.grants } in
+    let at = at_volume old v (subst (λ (x : Core). IsAt x v) (sym c.self.view_is) (c.requires.at told)) in
+    let first = c.in_ok-settle_all.ensures in
+    let none : owed c.settle_all.new.self.tables ≡ 0 = first.settled in
+    owes_no_more c.self.inside.volume v w at
+      (owing_joined v m w (owed c.settle_all.new.self.tables) (owed c.self.inside.volume.tables) (first.any_owed told) (c.empty_ring.ensures.any_owed told) (omega (arith, none)))
+      (worlds_joined v m w (first.any_moment told) (c.empty_ring.ensures.any_moment told) (first.done told) (first.sent told))
+
+pub returns-clause-paid : goal.returns-clause-paid
+returns-clause-paid g c =
+    let v = g.D.Device.view c.args.dev.now in
+    let m = g.D.Device.view c.settle_all.new.dev in
+    let w = g.D.Device.view c.empty_ring.new.dev in
+    let before : due c.self.inside.volume ≡ due c.args.self.now.volume = ap (λ (x : Core). due x.volume) c.self.view_is in
+    let first : IsPaid 0 c.self.inside.volume v c.settle_all.new.self m = c.in_ok-settle_all.ensures.paid in
+    then_ok c.empty_ring.result (λ (second : IsPaid 0 c.settle_all.new.self m c.empty_ring.new.self w). omega (arith, first, second, before)) c.empty_ring.ensures.paid
+
+pub returns-clause-most : goal.returns-clause-most
+returns-clause-most g c =
+    let v = g.D.Device.view c.args.dev.now in
+    let m = g.D.Device.view c.settle_all.new.dev in
+    let before : due c.self.inside.volume ≡ due c.args.self.now.volume = ap (λ (x : Core). due x.volume) c.self.view_is in
+    let first : IsPaid 0 c.self.inside.volume v c.settle_all.new.self m = c.in_ok-settle_all.ensures.paid in
+    let uses = c.empty_ring.ensures.uses in
+    omega (arith, first, uses.most, before)

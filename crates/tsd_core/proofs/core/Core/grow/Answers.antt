@@ -1,0 +1,120 @@
+use Rattle.std.proofs.Common.{[], not, inl, inr, ◌^◌, ◌≡◌, ℕ, ◌+◌, ◌-◌, ◌*◌, ◌<◌, ◌≤◌, true, false, refl, sym, ◌∙◌, ap, subst, arith}
+use Rattle.std.specs.Prelude.{Result, Ok, Err, OnOk, IfOk, length, Some, unwrap_or}
+use Rattle.tsd_model.specs.Geometry.{block_len, IsLawful}
+use Rattle.tsd_model.specs.World.{World, contents, is_live, free_count, has_number}
+use Rattle.tsd_model.specs.Doomed.{doomed, settle}
+use Rattle.tsd_model.specs.Reach.{reach, swept}
+use Rattle.tsd_model.specs.Placing.{chosen, chosen_run}
+use Rattle.tsd_model.specs.Records.{kept}
+use Rattle.tsd_model.specs.ReplyForm.{HasForm}
+use Rattle.tsd_model.specs.Sessions.{dropped_from}
+use Rattle.tsd_model.specs.Step.{filled, run_at, with_contents, with_caps, with_pointer, without_pointer, with_new_blocks}
+use Rattle.tsd_model.specs.declared.replies.Reply.TheVariants as reply
+use Rattle.tsd_model.specs.declared.requests.Request.TheVariants as ask
+use Rattle.disk_laws.specs.Bytes.{AreLike}
+use Rattle.image_device.proofs.Outcomes.{on_ok}
+use Rattle.image_device.proofs.Moments.{weakened}
+use Rattle.intent_journal.specs.Ring.{checkpoint_writes}
+use Rattle.grant_table.specs.Table.{with_sessions}
+use Rattle.volume_laws.specs.Volume.{Volume, IsReady, told_by, world_on}
+use Rattle.volume_laws.specs.Volume.{IsAt as IsVolumeAt}
+use Rattle.volume_laws.specs.Moments.{LeavesEither, LeavesOwed, owed, made}
+use Rattle.volume_laws.specs.Writes.{batch_cost, due, IsPaid}
+use Rattle.core_laws.specs.Seen.{world_after}
+use Rattle.core_laws.proofs.StepSeen.{length-restricted}
+use Rattle.core_laws.proofs.FormLaws.{gone_fits, free_numbers}
+use Rattle.tsd_core.specs.Core.{Core, IsAt, told_world}
+use Rattle.tsd_core.specs.Work.{cost_of}
+use Rattle.tsd_core.specs.Carrying.{IsKnown, IsOperation, IsCarriedOut, replied}
+use Rattle.tsd_core.proofs.AtLaws.{at_volume, like_at}
+use Rattle.tsd_core.proofs.Likes.{like_as, like_back, sectors_most, sectors_of_blocks, block_size_of}
+use Rattle.tsd_core.proofs.Operations.{then_ok, if_ok, if_both, ok_if, if_map, counted, at_most, most_due, paid_more, carried_out}
+use Rattle.tsd_model.specs.ReplyForm.{AreNumbers}
+use Rattle.disk_laws.proofs.ByteLaws.{chosen_like, chosen_run_like}
+use Rattle.disk_laws.proofs.ChangeLaws.{chosen_are_free, chosen_run_is_free}
+use Rattle.core_laws.specs.Seen.{dropped_each}
+use Rattle.tsd_core.proofs.core.Core.grow.Goals as goal
+
+pub returns-clause-alloc : goal.returns-clause-alloc
+returns-clause-alloc g c = λ kind session shown h count picked.
+    let old : Core = record { volume = c.self.inside.volume; grants = c.self.inside.grants } in
+    let new : Core = record { volume = c.allocate-outcome.new.self; grants = c.drop_at.new.grants } in
+    let v = g.D.Device.view c.args.dev.now in
+    let w = g.D.Device.view c.allocate-outcome.new.dev in
+    let q = ask.Alloc session c.args.source shown h count in
+    let t = told_by old.volume in
+    let e = c.allocate-outcome.ensures in
+    let known : IsKnown old.volume = subst (λ (x : Core). IsKnown x.volume) (sym c.self.view_is) c.requires.known in
+    let like : g.D.Device.told → AreLike t (world_on v) = λ told. like_at old.volume v (at_volume old v (subst (λ (x : Core). IsAt x v) (sym c.self.view_is) (c.requires.at told))) in
+    let bs = c.args.new_blocks in
+    let pick : bs ≡ chosen kind t h count = subst (λ (x : Core). bs ≡ chosen kind (told_by x.volume) h count) (sym c.self.view_is) picked in
+    let there : g.D.Device.told → bs ≡ chosen kind (world_on v) h count = λ told. pick ∙ chosen_like t (world_on v) (like told) kind h count in
+    let lawful : IsLawful old.volume.tables.geometry = subst IsLawful known.geometry known.sized.lawful in
+    let fit = sectors_of_blocks old.volume.tables.geometry (length bs) lawful c.requires.new.few in
+    let size = old.volume.tables.geometry.sectors * length bs in
+    let bounds : size + batch_cost (3 * length bs) ≤ 460 = omega (arith, fit, c.requires.new.few) in
+    let n : ℕ = due old.volume + size + batch_cost (3 * length bs) in
+    let op : IsOperation g.D.Device.told kind q old.volume new.volume v w c.allocate-outcome.result = record {
+      like = then_ok c.allocate-outcome.result (λ (same : told_by new.volume ≡ with_new_blocks t c.args.source bs). like_as (told_by new.volume) (world_after kind t q) (same ∙ ap (with_new_blocks t c.args.source) pick)) e.told;
+      ready = e.ready;
+      unspent = e.unspent;
+      spent = e.spent;
+      size = e.size;
+      at = e.at;
+      done = λ told. then_ok c.allocate-outcome.result (λ (same : world_on w ≡ with_new_blocks (world_on v) c.args.source bs). same ∙ ap (with_new_blocks (world_on v) c.args.source) (there told)) (e.done told);
+      sent = e.sent;
+      any_moment = λ told. subst (λ cs. LeavesEither v w (with_new_blocks (world_on v) c.args.source cs)) (there told) (e.any_moment told);
+      any_owed = λ told b. subst (λ m. LeavesOwed v w m) (omega arith) (e.any_owed told);
+      paid = λ b. then_ok c.allocate-outcome.result (paid_more (size + batch_cost (3 * length bs)) (cost_of t q) old.volume new.volume v w (omega (arith, bounds))) e.paid;
+      most = λ b. most_due n (cost_of t q) old.volume v w e.uses (omega (arith, bounds));
+      limit = λ b. at_most n (600 + 12 * owed old.volume.tables) v w e.uses (omega (arith, bounds, known.ring));
+      works = counted n v w e.uses;
+      faultless = e.faultless;
+      cause = e.cause;
+    } in
+    subst (λ (x : Core). IsCarriedOut g.D.Device.told kind q x new v w c.blocks-2.result) c.self.view_is
+    (subst (IsCarriedOut g.D.Device.told kind q old new v w) (sym c.blocks-2.ensures)
+      (carried_out g.D.Device.told kind q old new v w c.allocate-outcome.result (λ x. reply.Blocks bs) op (c.drop_at.ensures ∙ ap (λ cs. with_sessions old.grants (dropped_each cs old.grants.sessions)) (c.as_slice.ensures.value ∙ pick))
+        (if_ok c.allocate-outcome.result (λ x e. ap reply.Blocks pick)) (λ x e. absurd (cc)) (λ told. if_ok c.allocate-outcome.result (λ x e. absurd (cc))) (if_ok c.allocate-outcome.result (λ x. record { body = (c.requires.new.some, c.requires.new.few); numbers = subst AreNumbers (sym pick) (free_numbers t (chosen kind t h count) known.sized (chosen_are_free kind t h count)) }))))
+
+pub returns-clause-contig : goal.returns-clause-contig
+returns-clause-contig g c = λ kind session shown h count picked.
+    let old : Core = record { volume = c.self.inside.volume; grants = c.self.inside.grants } in
+    let new : Core = record { volume = c.allocate-outcome.new.self; grants = c.drop_at.new.grants } in
+    let v = g.D.Device.view c.args.dev.now in
+    let w = g.D.Device.view c.allocate-outcome.new.dev in
+    let q = ask.Contig session c.args.source shown h count in
+    let t = told_by old.volume in
+    let e = c.allocate-outcome.ensures in
+    let known : IsKnown old.volume = subst (λ (x : Core). IsKnown x.volume) (sym c.self.view_is) c.requires.known in
+    let like : g.D.Device.told → AreLike t (world_on v) = λ told. like_at old.volume v (at_volume old v (subst (λ (x : Core). IsAt x v) (sym c.self.view_is) (c.requires.at told))) in
+    let bs = c.args.new_blocks in
+    let pick : bs ≡ run_at (chosen_run kind t h count) count = subst (λ (x : Core). bs ≡ run_at (chosen_run kind (told_by x.volume) h count) count) (sym c.self.view_is) picked in
+    let there : g.D.Device.told → bs ≡ run_at (chosen_run kind (world_on v) h count) count = λ told. pick ∙ ap (λ o. run_at o count) (chosen_run_like t (world_on v) (like told) kind h count) in
+    let lawful : IsLawful old.volume.tables.geometry = subst IsLawful known.geometry known.sized.lawful in
+    let fit = sectors_of_blocks old.volume.tables.geometry (length bs) lawful c.requires.new.few in
+    let size = old.volume.tables.geometry.sectors * length bs in
+    let bounds : size + batch_cost (3 * length bs) ≤ 460 = omega (arith, fit, c.requires.new.few) in
+    let n : ℕ = due old.volume + size + batch_cost (3 * length bs) in
+    let op : IsOperation g.D.Device.told kind q old.volume new.volume v w c.allocate-outcome.result = record {
+      like = then_ok c.allocate-outcome.result (λ (same : told_by new.volume ≡ with_new_blocks t c.args.source bs). like_as (told_by new.volume) (world_after kind t q) (same ∙ ap (with_new_blocks t c.args.source) pick)) e.told;
+      ready = e.ready;
+      unspent = e.unspent;
+      spent = e.spent;
+      size = e.size;
+      at = e.at;
+      done = λ told. then_ok c.allocate-outcome.result (λ (same : world_on w ≡ with_new_blocks (world_on v) c.args.source bs). same ∙ ap (with_new_blocks (world_on v) c.args.source) (there told)) (e.done told);
+      sent = e.sent;
+      any_moment = λ told. subst (λ cs. LeavesEither v w (with_new_blocks (world_on v) c.args.source cs)) (there told) (e.any_moment told);
+      any_owed = λ told b. subst (λ m. LeavesOwed v w m) (omega arith) (e.any_owed told);
+      paid = λ b. then_ok c.allocate-outcome.result (paid_more (size + batch_cost (3 * length bs)) (cost_of t q) old.volume new.volume v w (omega (arith, bounds))) e.paid;
+      most = λ b. most_due n (cost_of t q) old.volume v w e.uses (omega (arith, bounds));
+      limit = λ b. at_most n (600 + 12 * owed old.volume.tables) v w e.uses (omega (arith, bounds, known.ring));
+      works = counted n v w e.uses;
+      faultless = e.faultless;
+      cause = e.cause;
+    } in
+    subst (λ (x : Core). IsCarriedOut g.D.Device.told kind q x new v w c.blocks-2.result) c.self.view_is
+    (subst (IsCarriedOut g.D.Device.told kind q old new v w) (sym c.blocks-2.ensures)
+      (carried_out g.D.Device.told kind q old new v w c.allocate-outcome.result (λ x. reply.Blocks bs) op (c.drop_at.ensures ∙ ap (λ cs. with_sessions old.grants (dropped_each cs old.grants.sessions)) (c.as_slice.ensures.value ∙ pick))
+        (if_ok c.allocate-outcome.result (λ x e. ap reply.Blocks pick)) (λ x e. absurd (cc)) (λ told. if_ok c.allocate-outcome.result (λ x e. absurd (cc))) (if_ok c.allocate-outcome.result (λ x. record { body = (c.requires.new.some, c.requires.new.few); numbers = subst AreNumbers (sym pick) (free_numbers t (run_at (chosen_run kind t h count) count) known.sized (chosen_run_is_free kind t h count)) }))))

@@ -1,0 +1,22 @@
+use Rattle.std.proofs.Common.{◌≡◌, Some, None, Option, sym, ◌∙◌, subst}
+use Rattle.tsd_model.specs.Verdict.{verdict}
+use Rattle.tsd_model.specs.declared.replies.Rule.{Rule}
+use Rattle.volume_laws.specs.Volume.{Volume, told_by}
+use Rattle.tsd_core.specs.Core.{Core, told_world}
+use Rattle.tsd_core.proofs.Applied.{refused_applied, granted_applied}
+use Rattle.tsd_core.proofs.core.Core.judge.Goals as goal
+
+pub returns-in-Err-clause-applied : goal.returns-in-Err-clause-applied
+returns-in-Err-clause-applied g c =
+    refused_applied g.D.Device.told c.args.place.now.kind c.args.request.now c.args.self.now (g.D.Device.view c.args.dev.now) c.in-Err.rule
+    c.requires.ready c.check.ensures.volume c.check.ensures.table (g.met.D.Device.sound c.args.dev.now) c.requires.at
+    (subst (λ (x : Core). verdict (told_world x) x.grants.sessions c.args.request.now ≡ Some c.in-Err.rule) c.self.view_is
+    (subst (λ (x : Volume). verdict (told_by x) c.self.inside.grants.sessions c.args.request.now ≡ Some c.in-Err.rule) c.of.ensures c.in-Err.ensures.err))
+
+pub returns-in-Ok-clause-applied : goal.returns-in-Ok-clause-applied
+returns-in-Ok-clause-applied g c =
+    granted_applied g.D.Device.told c.args.place.now.kind c.args.request.now c.args.self.now c.raise.new.self c.carry_out.new.self (g.D.Device.view c.args.dev.now) (g.D.Device.view c.carry_out.new.dev) c.carry_out.result
+    c.requires.ready c.check.ensures.volume c.check.ensures.table c.requires.at
+    (subst (λ (x : Core). ◌≡◌ {A = Option Rule} (verdict (told_world x) x.grants.sessions c.args.request.now) None) c.self.view_is
+    (subst (λ (x : Volume). ◌≡◌ {A = Option Rule} (verdict (told_by x) c.self.inside.grants.sessions c.args.request.now) None) c.of.ensures c.in-Ok.ensures.ok))
+    c.raise.ensures.volume c.raise.ensures.grants c.carry_out.ensures.carried_out c.carry_out.ensures.volume

@@ -1,0 +1,70 @@
+use Rattle.std.proofs.Common.{[], not, inl, inr, ◌^◌, ◌≡◌, ℕ, ◌+◌, ◌-◌, ◌*◌, ◌<◌, ◌≤◌, true, false, refl, sym, ◌∙◌, ap, subst, arith}
+use Rattle.std.specs.Prelude.{Result, Ok, Err, OnOk, IfOk, length, Some, unwrap_or}
+use Rattle.tsd_model.specs.Geometry.{block_len, IsLawful}
+use Rattle.tsd_model.specs.World.{World, contents, is_live, free_count, has_number}
+use Rattle.tsd_model.specs.Doomed.{doomed, settle}
+use Rattle.tsd_model.specs.Reach.{reach, swept}
+use Rattle.tsd_model.specs.Placing.{chosen, chosen_run}
+use Rattle.tsd_model.specs.Records.{kept}
+use Rattle.tsd_model.specs.ReplyForm.{HasForm}
+use Rattle.tsd_model.specs.Sessions.{dropped_from}
+use Rattle.tsd_model.specs.Step.{filled, run_at, with_contents, with_caps, with_pointer, without_pointer, with_new_blocks}
+use Rattle.tsd_model.specs.declared.replies.Reply.TheVariants as reply
+use Rattle.tsd_model.specs.declared.requests.Request.TheVariants as ask
+use Rattle.disk_laws.specs.Bytes.{AreLike}
+use Rattle.image_device.proofs.Outcomes.{on_ok}
+use Rattle.image_device.proofs.Moments.{weakened}
+use Rattle.intent_journal.specs.Ring.{checkpoint_writes}
+use Rattle.grant_table.specs.Table.{with_sessions}
+use Rattle.volume_laws.specs.Volume.{Volume, IsReady, told_by, world_on}
+use Rattle.volume_laws.specs.Volume.{IsAt as IsVolumeAt}
+use Rattle.volume_laws.specs.Moments.{LeavesEither, LeavesOwed, owed, made}
+use Rattle.volume_laws.specs.Writes.{batch_cost, due, IsPaid}
+use Rattle.core_laws.specs.Seen.{world_after}
+use Rattle.core_laws.proofs.StepSeen.{length-restricted}
+use Rattle.core_laws.proofs.FormLaws.{gone_fits, free_numbers}
+use Rattle.tsd_core.specs.Core.{Core, IsAt, told_world}
+use Rattle.tsd_core.specs.Work.{cost_of}
+use Rattle.tsd_core.specs.Carrying.{IsKnown, IsOperation, IsCarriedOut, replied}
+use Rattle.tsd_core.proofs.AtLaws.{at_volume, like_at}
+use Rattle.tsd_core.proofs.Likes.{like_as, like_back, sectors_most, sectors_of_blocks, block_size_of}
+use Rattle.tsd_core.proofs.Operations.{then_ok, if_ok, if_both, ok_if, if_map, counted, at_most, most_due, paid_more, carried_out}
+use Rattle.tsd_core.proofs.core.Core.set_caps.Goals as goal
+
+pub returns : goal.returns
+returns g c = λ kind session shown.
+    let old : Core = record { volume = c.self.inside.volume; grants = c.self.inside.grants } in
+    let new : Core = record { volume = c.set_caps.new.self; grants = c.drop_from.new.self } in
+    let v = g.D.Device.view c.args.dev.now in
+    let w = g.D.Device.view c.set_caps.new.dev in
+    let q = ask.SetCap session c.args.block shown c.args.caps.now in
+    let t = told_by old.volume in
+    let e = c.set_caps.ensures in
+    let known : IsKnown old.volume = subst (λ (x : Core). IsKnown x.volume) (sym c.self.view_is) c.requires.known in
+    let like : g.D.Device.told → AreLike t (world_on v) = λ told. like_at old.volume v (at_volume old v (subst (λ (x : Core). IsAt x v) (sym c.self.view_is) (c.requires.at told))) in
+    let bounds = known.ring in
+    let version : g.D.Device.told → old.volume.tables.version ≡ (world_on v).version = λ told. sym known.version ∙ (like told).version in
+    let blocks : old.grants.blocks ≡ t.geometry.blocks = subst (λ (x : Core). x.grants.blocks ≡ (told_by x.volume).geometry.blocks) (sym c.self.view_is) c.requires.ready.made.blocks in
+    let n : ℕ = checkpoint_writes old.volume.ring + batch_cost 1 in
+    let op : IsOperation g.D.Device.told kind q old.volume new.volume v w c.set_caps.result = record {
+      like = then_ok c.set_caps.result (λ (same : told_by new.volume ≡ with_caps t c.args.block (kept old.volume.tables.version c.args.caps.now)). like_as (told_by new.volume) (with_caps t c.args.block (kept t.version c.args.caps.now)) (same ∙ ap (λ n. with_caps t c.args.block (kept n c.args.caps.now)) (sym known.version))) e.told;
+      ready = e.ready;
+      unspent = e.unspent;
+      spent = e.spent;
+      size = e.size;
+      at = e.at;
+      done = λ told. then_ok c.set_caps.result (λ (same : world_on w ≡ with_caps (world_on v) c.args.block (kept old.volume.tables.version c.args.caps.now)). same ∙ ap (λ n. with_caps (world_on v) c.args.block (kept n c.args.caps.now)) (version told)) (e.done told);
+      sent = e.sent;
+      any_moment = λ told. subst (λ n. LeavesEither v w (with_caps (world_on v) c.args.block (kept n c.args.caps.now))) (version told) (e.any_moment told);
+      any_owed = λ told b. subst (λ m. LeavesOwed v w m) (omega arith) (e.any_owed told);
+      paid = λ b. then_ok c.set_caps.result (paid_more (batch_cost 1) (cost_of t q) old.volume new.volume v w (omega arith)) e.paid;
+      most = λ b. most_due n (cost_of t q) old.volume v w e.uses (omega (arith, bounds));
+      limit = λ b. at_most n (600) v w e.uses (omega (arith, bounds, known.ring));
+      works = counted n v w e.uses;
+      faultless = e.faultless;
+      cause = e.cause;
+    } in
+    subst (λ (x : Core). IsCarriedOut g.D.Device.told kind q x new v w c.done.result) c.self.view_is
+    (subst (IsCarriedOut g.D.Device.told kind q old new v w) (sym c.done.ensures)
+      (carried_out g.D.Device.told kind q old new v w c.set_caps.result (λ x. reply.Done) op (c.drop_from.ensures ∙ (λ i. with_sessions old.grants (dropped_from (blocks i) c.args.block old.grants.sessions)))
+        (if_ok c.set_caps.result (λ x e. refl)) (λ x e. absurd (cc)) (λ told. if_ok c.set_caps.result (λ x e. absurd (cc))) (if_ok c.set_caps.result (λ x. record { body = tt; numbers = tt }))))

@@ -1,0 +1,77 @@
+-- A request, applied.
+use Rattle.std.specs.Prelude.{◌≡◌, ◌⊎◌, ℕ, ◌+◌, ◌≤◌, Bool, true, false, List, Result, OnOk, OnErr, IfOk}
+use Rattle.tsd_model.specs.World.{World}
+use Rattle.tsd_model.specs.ReplyForm.{HasForm}
+use Rattle.tsd_model.specs.Step.{State, step}
+use Rattle.tsd_model.specs.Run.{answer}
+use Rattle.tsd_model.specs.declared.replies.Reply.{Reply}
+use Rattle.tsd_model.specs.declared.replies.Reply.TheVariants as reply
+use Rattle.tsd_model.specs.declared.requests.PlaceKind.{PlaceKind}
+use Rattle.tsd_model.specs.declared.requests.Request.{Request}
+use Rattle.tsd_model.specs.declared.requests.Request.TheVariants as ask
+use Rattle.image_device.specs.View.{View}
+use Rattle.image_device.specs.Counts.{Rose}
+use Rattle.image_device.specs.Runs.{LeavesOnly}
+use Rattle.image_device.specs.declared.device.Failed.{Failed}
+use Rattle.disk_laws.specs.Bytes.{AreLike}
+use Rattle.disk_laws.specs.Reclaiming.{is_sweep}
+use Rattle.core_laws.specs.Seen.{IsAnswer}
+use Rattle.volume_laws.specs.Volume.{world_on}
+use Rattle.volume_laws.specs.Moments.{LeavesEither, owed}
+use Rattle.volume_laws.specs.Writes.{due, Works}
+use Rattle.tsd_core.specs.Core.{Core, IsReady, IsAt, told_world, told_state, sessions_of, state_on}
+use Rattle.tsd_core.specs.Work.{debt, made_by, cost_of, write_limit, SameSize}
+
+-- the same reply, or both are the bytes of a block
+abbrev pub IsReplyLike : Reply → Reply → Type 0
+IsReplyLike r s = (r ≡ s) ⊎ ((x : List ℕ) × (y : List ℕ) × (r ≡ reply.Bytes x) × (s ≡ reply.Bytes y))
+
+-- The answer by the rules of the disk, as far as memory tells it: all but the bytes of blocks. It holds for every device.
+pub record IsToldAnswer (kind : PlaceKind) (old : Core) (q : Request) (r : Reply) (new : Core) : Type 0 where
+  pub want : Bool
+  pub reply : IsReplyLike r (answer kind (told_state old) q want).reply
+  pub world : AreLike (told_world new) (answer kind (told_state old) q want).state.world
+  pub sessions : sessions_of new ≡ (answer kind (told_state old) q want).state.sessions
+
+-- it is refused, by a rule or for want of memory
+abbrev pub is_refusal : Reply → Bool
+is_refusal (reply.Refused r) = true
+is_refusal reply.NoMemory = true
+is_refusal r = false
+
+-- it opens or closes a session, or is answered from memory
+abbrev pub asks_nothing : Request → Bool
+asks_nothing ask.Bad = true
+asks_nothing (ask.Begin s) = true
+asks_nothing (ask.End s) = true
+asks_nothing ask.GetFree = true
+asks_nothing (ask.List s a shown start) = true
+asks_nothing q = false
+
+-- the world after the request, by the rules of the disk
+abbrev pub next_world : PlaceKind → State → Request → World
+next_world kind s q = (step kind s q).state.world
+
+-- a crash at any moment leaves at most what was to be reclaimed before and so much more, and nothing more is sent
+abbrev pub LeavesDebt : View → View → ℕ → Type 0
+LeavesDebt old new more = LeavesOnly old new (λ x f. (debt x ≤ debt old.reads + more) × (f ≡ old.sent))
+
+-- What a request does, between these devices.
+pub record IsApplied (told : Type 0) (kind : PlaceKind) (q : Request) (old new : Core) (v w : View) (result : Result Reply Failed) : Type 0 where
+  pub ready : OnOk result (IsReady new)
+  pub at : told → OnOk result (IsAt new w)
+  pub form : IfOk result HasForm
+  pub given : told → IfOk result (λ r. IsAnswer kind (state_on old v.reads) q r (state_on new w.reads))
+  pub told_given : IfOk result (λ r. IsToldAnswer kind old q r new)
+  pub refused : IfOk result (λ r. is_refusal r ≡ true → new ≡ old)
+  pub size : SameSize old new
+  pub spent : OnErr result (new.volume.is_spent ≡ true)
+  pub sent : told → w.sent ≡ v.sent
+  pub any_moment : told → LeavesEither v w (next_world kind (state_on old v.reads) q)
+  pub debt : told → is_sweep q ≡ false → LeavesDebt v w (made_by (world_on v) q)
+  pub paid : told → is_sweep q ≡ false → OnOk result (w.writes + due new.volume ≤ v.writes + due old.volume + cost_of (world_on v) q)
+  pub most : told → is_sweep q ≡ false → w.writes ≤ v.writes + due old.volume + cost_of (world_on v) q
+  pub limit : is_sweep q ≡ false → w.writes ≤ v.writes + write_limit old.volume q
+  pub works : Works v w
+  pub faultless : OnOk result (w.faults ≡ v.faults)
+  pub cause : OnErr result (Rose v.faults w.faults)

@@ -1,0 +1,50 @@
+-- How much work requests make: sectors written, and what is left to be reclaimed.
+use Rattle.std.specs.Prelude.{◌≡◌, ℕ, ◌+◌, ◌*◌, ◌<◌, ◌≤◌, false}
+use Rattle.tsd_model.specs.World.{World}
+use Rattle.tsd_model.specs.declared.requests.Request.{Request}
+use Rattle.tsd_model.specs.declared.requests.Request.TheVariants as ask
+use Rattle.image_device.specs.View.{View}
+use Rattle.image_device.specs.Runs.{LeavesOnly}
+use Rattle.image_layout.specs.Ring.{records}
+use Rattle.intent_journal.specs.Records.{is_open_gate}
+use Rattle.image_layout.specs.Image.{Image}
+use Rattle.intent_journal.specs.Home.{home}
+use Rattle.image_world.specs.Tables.{tables_of}
+use Rattle.volume_laws.specs.Moments.{owed, made}
+use Rattle.volume_laws.specs.Volume.{Volume}
+use Rattle.tsd_core.specs.Core.{Core}
+
+-- what is left to be reclaimed in an image: doomed blocks, and pairs from them
+abbrev pub debt : Image → ℕ
+debt x = owed (tables_of (home x))
+
+-- how many blocks and pairs go by a request that deletes a pointer, that pointer included
+abbrev pub made_by : World → Request → ℕ
+made_by w (ask.Delete s a shown b) = made w a b
+made_by w q = 0
+
+-- what a request costs in writes, those that it leaves for later included; a sweep has no bound
+abbrev pub cost_of : World → Request → ℕ
+cost_of w q = 460 + 5 * made_by w q
+
+-- how often one call writes at most: new blocks and a new pointer may have to wait for what is left to be reclaimed
+abbrev pub write_limit : Volume → Request → ℕ
+write_limit v (ask.Delete s a shown b) = 130
+write_limit v (ask.Alloc s a shown h count) = 600 + 12 * owed v.tables
+write_limit v (ask.Contig s a shown h count) = 600 + 12 * owed v.tables
+write_limit v (ask.Create s a shown b) = 600 + 12 * owed v.tables
+write_limit v q = 600
+
+-- the size and the version of the disk stay
+pub record SameSize (old new : Core) : Type 0 where
+  pub geometry : new.volume.tables.geometry ≡ old.volume.tables.geometry
+  pub version : new.volume.tables.version ≡ old.volume.tables.version
+
+-- A crash at any moment leaves no more to be reclaimed than before, and nothing more is sent.
+abbrev pub LeavesNoDebt : View → View → Type 0
+LeavesNoDebt old new = LeavesOnly old new (λ x f. (debt x ≤ debt old.reads) × (f ≡ old.sent))
+
+-- Nothing is left to be done: nothing is doomed, and all gates of the journal are closed.
+pub record IsClosed (x : Image) : Type 0 where
+  pub closed : (index : ℕ) → index < records → is_open_gate x index ≡ false
+  pub settled : debt x ≡ 0

@@ -1,0 +1,131 @@
+//! Allocation.
+
+ghost use Rattle.std.specs.Prelude.{◌≡◌, ℕ, ◌+◌, ◌<◌, ◌≤◌, true, false, length, Some, None, IfOk, IfSome, OnOk, slice_index_or, Ok};
+ghost use Rattle.tsd_model.specs.Geometry.{block_len};
+ghost use Rattle.tsd_model.specs.Pairs.{holds};
+ghost use Rattle.tsd_model.specs.World.{is_live};
+ghost use Rattle.tsd_model.specs.declared.caps.Shown.{Shown as AnyShown};
+ghost use Rattle.tsd_model.specs.declared.requests.PlaceKind.{PlaceKind};
+ghost use Rattle.tsd_model.specs.declared.requests.Request.TheVariants as ask;
+ghost use Rattle.tsd_core.specs.Core.{IsReady, IsAt, told_world};
+ghost use Rattle.tsd_core.specs.Carrying.{IsKnown, IsCarriedOut};
+
+ghost use Rattle.tsd_model.specs.Placing.{chosen, chosen_run, hint_block, runs};
+ghost use Rattle.tsd_model.specs.Step.{run_at};
+ghost use Rattle.tsd_model.specs.Verdict.{is_empty};
+ghost use Rattle.tsd_model.specs.World.{free_count, is_free};
+ghost use Rattle.tsd_model.specs.declared.requests.Hint.{Hint as AnyHint};
+ghost use Rattle.std.specs.Prelude.{slice_get};
+ghost use Rattle.std.specs.List.{range_with_len};
+ghost use Rattle.core_laws.specs.Seen.{dropped_each};
+ghost use Rattle.grant_table.specs.Table.{with_sessions};
+ghost use Rattle.tsd_core.specs.Growing.{AreNew};
+
+use crate::core::Core;
+use crate::outcome::blocks;
+use grant_table::Grants;
+use image_device::{Device, Failed};
+use place_policy::Placement;
+use block_alloc::RunRefusal;
+use tsd_model::{BlockList, Hint, Reply, Rule};
+use tsd_model::ranks::hint_block;
+
+impl Core {
+    /// Takes free blocks and points to them.
+    pub(crate) fn alloc<D: Device>(
+        &mut self,
+        dev: &mut D,
+        place: &Placement,
+        source: u32,
+        hint: &Hint,
+        count: u32,
+    ) -> Result<Reply, Failed>
+        requires source { is_live (told_world self.old) source ≡ true }
+        requires count { (1 ≤ count) × (count ≤ 32) }
+        requires enough { count ≤ free_count (told_world self.old) }
+        requires room { length (told_world self.old).pairs + count ≤ (told_world self.old).geometry.slots }
+        requires known { IsKnown self.old.volume }
+        requires ready { IsReady self.old }
+        requires at { D.told → IsAt self.old (D.view dev.old) }
+        ensures { (session : ℕ) (shown : AnyShown) → IsCarriedOut D.told place.now.kind (ask.Alloc session source shown hint.now count) self.old self.new (D.view dev.old) (D.view dev.new) result }
+    {
+        match self.volume.choose(place, hint_block(hint), count) {
+            Ok(blocks) => self.grow(dev, source, blocks),
+            Err(short) => Ok(Reply::Refused(Rule::Full {
+                free: short.free,
+                wanted: short.wanted,
+            })),
+        }
+    }
+
+    /// The same with blocks in a row.
+    pub(crate) fn contig<D: Device>(
+        &mut self,
+        dev: &mut D,
+        place: &Placement,
+        source: u32,
+        hint: &Hint,
+        count: u32,
+    ) -> Result<Reply, Failed>
+        requires source { is_live (told_world self.old) source ≡ true }
+        requires count { (1 ≤ count) × (count ≤ 32) }
+        requires enough { count ≤ free_count (told_world self.old) }
+        requires run { is_empty (runs (told_world self.old) count) ≡ false }
+        requires room { length (told_world self.old).pairs + count ≤ (told_world self.old).geometry.slots }
+        requires known { IsKnown self.old.volume }
+        requires ready { IsReady self.old }
+        requires at { D.told → IsAt self.old (D.view dev.old) }
+        ensures { (session : ℕ) (shown : AnyShown) → IsCarriedOut D.told place.now.kind (ask.Contig session source shown hint.now count) self.old self.new (D.view dev.old) (D.view dev.new) result }
+    {
+        match self.volume.choose_run(place, hint_block(hint), count) {
+            Ok(first) => self.grow(dev, source, run_of(first, count)),
+            Err(RunRefusal::Short { free, wanted }) => Ok(Reply::Refused(Rule::Full { free, wanted })),
+            Err(RunRefusal::NoRun { free, wanted }) => Ok(Reply::Refused(Rule::NoRun { free, wanted })),
+        }
+    }
+
+    /// Makes these free blocks live, and points to them. What sessions still hold at them ends first.
+    fn grow<D: Device>(
+        &mut self,
+        dev: &mut D,
+        source: u32,
+        new_blocks: BlockList,
+    ) -> Result<Reply, Failed>
+        requires source { is_live (told_world self.old) source ≡ true }
+        requires new { AreNew (told_world self.old) new_blocks }
+        requires room { length (told_world self.old).pairs + length new_blocks ≤ (told_world self.old).geometry.slots }
+        requires known { IsKnown self.old.volume }
+        requires ready { IsReady self.old }
+        requires at { D.told → IsAt self.old (D.view dev.old) }
+        ensures alloc { (kind : PlaceKind) (session : ℕ) (shown : AnyShown) (h : AnyHint) (count : ℕ) → new_blocks ≡ chosen kind (told_world self.old) h count →
+            IsCarriedOut D.told kind (ask.Alloc session source shown h count) self.old self.new (D.view dev.old) (D.view dev.new) result }
+        ensures contig { (kind : PlaceKind) (session : ℕ) (shown : AnyShown) (h : AnyHint) (count : ℕ) → new_blocks ≡ run_at (chosen_run kind (told_world self.old) h count) count →
+            IsCarriedOut D.told kind (ask.Contig session source shown h count) self.old self.new (D.view dev.old) (D.view dev.new) result }
+    {
+        drop_at(&mut self.grants, new_blocks.as_slice());
+        let outcome = self.volume.allocate(dev, source, &new_blocks);
+        blocks(outcome, new_blocks)
+    }
+}
+
+/// Nothing is held at these blocks any more, in any session.
+fn drop_at(grants: &mut Grants, blocks: &[u32])
+    ensures { grants.new ≡ with_sessions grants.old (dropped_each blocks.now grants.old.sessions) }
+{
+    for block in blocks {
+        grants.drop_in_all(*block);
+    }
+}
+
+/// So many blocks in a row.
+fn run_of(first: u32, count: u32) -> BlockList
+    requires few { count ≤ 32 }
+    requires fits { first + count ≤ 1048576 }
+    ensures { result ≡ range_with_len first count }
+{
+    let mut run = BlockList::new();
+    for block in first..first + count {
+        let _ = run.push(block);
+    }
+    run
+}

@@ -1,0 +1,21 @@
+//! The disk: one request at a time, crash or not.
+//!
+//! What it stands on: `volume` is a world on a device, and `grant_table` judges requests and holds what sessions may do.
+//!
+//! What it promises: a request is answered by the rules of the disk, and a crash at any moment leaves the world before it or
+//! the world after it.
+#![tactic(auto)]
+
+mod apply;
+mod blocks;
+mod carry;
+mod core;
+mod grow;
+mod outcome;
+mod pointers;
+mod raise;
+mod sessions;
+mod settle;
+mod told;
+
+pub use core::Core;

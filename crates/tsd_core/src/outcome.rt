@@ -1,0 +1,48 @@
+//! Outcomes of calls as outcomes of requests.
+
+ghost use Rattle.std.specs.Prelude.{◌≡◌};
+ghost use Rattle.tsd_model.specs.declared.replies.Reply.TheVariants as reply;
+ghost use Rattle.tsd_core.specs.Carrying.{replied};
+
+use image_device::Failed;
+use tsd_model::{BlockList, Data, Reply};
+
+/// The request is done.
+pub(crate) fn done(outcome: Result<(), Failed>) -> Result<Reply, Failed>
+    ensures { result ≡ replied outcome (λ x. reply.Done) }
+{
+    match outcome {
+        Ok(()) => Ok(Reply::Done),
+        Err(failed) => Err(failed),
+    }
+}
+
+/// So many blocks became free.
+pub(crate) fn gone(outcome: Result<u32, Failed>) -> Result<Reply, Failed>
+    ensures { result ≡ replied outcome (λ count. reply.Gone count) }
+{
+    match outcome {
+        Ok(count) => Ok(Reply::Gone(count)),
+        Err(failed) => Err(failed),
+    }
+}
+
+/// These bytes were read.
+pub(crate) fn bytes(outcome: Result<(), Failed>, bytes: Data) -> Result<Reply, Failed>
+    ensures { result ≡ replied outcome (λ x. reply.Bytes bytes) }
+{
+    match outcome {
+        Ok(()) => Ok(Reply::Bytes(bytes)),
+        Err(failed) => Err(failed),
+    }
+}
+
+/// These blocks are new.
+pub(crate) fn blocks(outcome: Result<(), Failed>, blocks: BlockList) -> Result<Reply, Failed>
+    ensures { result ≡ replied outcome (λ x. reply.Blocks blocks) }
+{
+    match outcome {
+        Ok(()) => Ok(Reply::Blocks(blocks)),
+        Err(failed) => Err(failed),
+    }
+}

@@ -1,0 +1,70 @@
+//! What the program is asked to do.
+
+use tsd_model::{CapPair, Geometry, PlaceKind};
+
+/// The bytes of a seed.
+pub const SEED_BYTES: usize = 32;
+
+/// The most requests of a load.
+pub const LOAD_MAX: u32 = 200_000;
+
+/// A disk to be made and then served.
+#[derive(Clone, Copy, Debug, PartialEq, Eq)]
+pub struct Fresh {
+    /// Its size. It has one primary block.
+    pub geometry: Geometry,
+
+    /// The capabilities of the primary block.
+    pub caps: CapPair,
+
+    /// In which order its free blocks are taken.
+    pub kind: PlaceKind,
+}
+
+/// A disk to be made.
+#[derive(Clone, Copy, Debug, PartialEq, Eq)]
+pub struct Format {
+    /// Its size.
+    pub geometry: Geometry,
+
+    /// What the capabilities of its primary blocks are drawn from.
+    pub seed: [u8; SEED_BYTES],
+}
+
+/// Requests to be drawn and carried out.
+#[derive(Clone, Copy, Debug, PartialEq, Eq)]
+pub struct Load {
+    /// What they are drawn from.
+    pub seed: [u8; SEED_BYTES],
+
+    /// How many they are, 1 to 200,000.
+    pub count: u32,
+
+    /// In which order free blocks are taken.
+    pub kind: PlaceKind,
+}
+
+/// A command, without the image's name.
+#[derive(Clone, Copy, Debug, PartialEq, Eq)]
+pub enum Command {
+    /// Makes a disk, and answers requests as lines.
+    Fresh(Fresh),
+
+    /// Makes a disk.
+    Format(Format),
+
+    /// Opens an image, and answers requests as lines. Free blocks are taken in this order.
+    Run(PlaceKind),
+
+    /// Opens an image, and answers requests as frames.
+    Serve(PlaceKind),
+
+    /// Opens an image, and tells how large its world is or what is wrong with it.
+    Check,
+
+    /// Opens an image, and carries out the requests of a seed.
+    Load(Load),
+
+    /// Opens an image, and keeps digests in place of its capabilities.
+    Upgrade,
+}

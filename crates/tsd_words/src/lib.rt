@@ -1,0 +1,20 @@
+//! The words that the program reads and writes apart from requests and replies: commands, how a run ends, and what is
+//! wrong with an image.
+//!
+//! What it stands on: the types of `tsd_model`, fields and lines of `script_text`, and the faults of an image of
+//! `image_layout`.
+//!
+//! What it promises: [`command`] answers a command exactly where the words spell one (`specs/Words.antt`);
+//! [`status_line`] and [`image_line`] leave exactly the text of a status and of a fault, and a line feed
+//! (`specs/StatusText.antt`).
+#![tactic(auto)]
+
+mod commands;
+mod image_text;
+mod status;
+mod words;
+
+pub use commands::{Command, Format, Fresh, LOAD_MAX, Load, SEED_BYTES};
+pub use image_text::image_line;
+pub use status::{Status, status_line};
+pub use words::command;

@@ -1,0 +1,4 @@
+pub mod Loaded
+pub mod FinishLaws
+pub mod SweepOps
+pub mod SweepRun

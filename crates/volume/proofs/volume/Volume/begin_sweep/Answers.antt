@@ -1,0 +1,74 @@
+use Rattle.std.proofs.Common.{◌≡◌, ℕ, List, [], ◌∷◌, true, false, inl, inr, refl, sym, ◌∙◌, ap, subst}
+use Rattle.std.proofs.lemmas.Bool.{cases_Bool}
+use Rattle.tsd_model.specs.Reach.{swept}
+use Rattle.tsd_model.specs.World.{World}
+use Rattle.image_layout.specs.declared.place.Patch.{Patch}
+use Rattle.intent_journal.specs.Ring.{commit_writes}
+use Rattle.image_layout.specs.Areas.{sweep_flag}
+use Rattle.image_world.specs.Sound.{AreSound}
+use Rattle.image_world.specs.Tables.{Tables}
+use Rattle.reclaim.specs.Ahead.{is_gone}
+use Rattle.volume_laws.specs.Moments.{owed}
+use Rattle.volume_laws.specs.Volume.{Volume, tables_in}
+use Rattle.volume_laws.proofs.AheadKept.{none_gone}
+use Rattle.volume_laws.proofs.Ops.{any_bytes, IsOp, op_at, op_done, op_told, op_moments}
+use Rattle.volume.proofs.SweepOps.{flag_patch, flag_alone, open_op, works_of}
+use Rattle.volume.proofs.volume.Volume.begin_sweep.Given
+use Rattle.volume.proofs.volume.Volume.begin_sweep.Goals as goal
+
+-- the volume then
+abbrev now : (g : Given.Over) → goal.After-self-3-1 g → Volume
+now g c = let i = c.self.inside in record { tables = tables_in i.header i.pointers i.counts i.live i.caps true; ring = c.commit-outcome.new.self; is_ready = false; is_spent = c.is_err-self-inside.result }
+
+this : (g : Given.Over) (c : goal.After-self-3-1 g) → IsOp any_bytes c.args.self.now (now g c).tables c.put.new.self 1 0 (λ w. swept w)
+this g c =
+    let is = ap (λ (w : Volume). w.tables) c.self.view_is in
+    let sound = subst (λ (t : Tables). AreSound t) is c.self.invariant.sound in
+    let one : c.put.new.self ≡ flag_patch true ∷ [] =
+    flag_alone c.put.result _ c.clear.new.self c.put.new.self (record { sector = sweep_flag; bytes = c.gate_bytes.result }) c.clear.ensures c.put.ensures.ok c.put.ensures.full
+    ∙ ap (λ (bytes : List ℕ). record { sector = sweep_flag; bytes = bytes } ∷ []) c.gate_bytes.ensures.value in
+    subst (λ (t : Tables). IsOp any_bytes c.args.self.now t c.put.new.self 1 0 (λ w. swept w)) (ap (λ (t : Tables). record t { is_sweeping = true }) (sym is))
+    (open_op c.args.self.now c.put.new.self sound c.requires.still c.requires.none one)
+
+pub invariant_of-self : goal.invariant_of-self
+invariant_of-self g c =
+    let i = c.self.inside in
+    let v = c.self.invariant in
+    let t = tables_in i.header i.pointers i.counts i.live i.caps i.is_sweeping in
+    let none : owed t ≡ 0 = ap (λ (w : Volume). owed w.tables) c.self.view_is ∙ c.requires.none in
+    record {
+      pointers = v.pointers;
+      counts = v.counts;
+      live = v.live;
+      kept_version = v.kept_version;
+      kept = v.kept;
+      waits = v.waits;
+      sound = (this g c).turns.sound;
+      counted = v.counted;
+      hidden = v.hidden;
+      ahead = λ never. absurd (cc);
+      begun = λ _. elim (cases_Bool i.is_ready) [
+        | inl is ↦ none_gone t i.ahead none (v.ahead is)
+        | inr not_yet ↦ v.begun not_yet
+      ];
+    }
+
+pub returns-clause-at : goal.returns-clause-at
+returns-clause-at g c told =
+    op_at c.commit-outcome.result any_bytes c.args.self.now (now g c) (g.D.Device.view c.args.dev.now) (g.D.Device.view c.commit-outcome.new.dev) c.put.new.self 1 0 (λ w. swept w) (this g c) (c.requires.at told) tt
+    (c.commit-outcome.ensures.done told) (c.commit-outcome.ensures.at told) (c.commit-outcome.ensures.firm told)
+
+pub returns-clause-done : goal.returns-clause-done
+returns-clause-done g c told =
+    op_done c.commit-outcome.result any_bytes c.args.self.now (now g c) (g.D.Device.view c.args.dev.now) (g.D.Device.view c.commit-outcome.new.dev) c.put.new.self 1 0 (λ w. swept w) (this g c) (c.requires.at told) tt
+    (c.commit-outcome.ensures.done told) (c.commit-outcome.ensures.at told) (c.commit-outcome.ensures.firm told)
+
+pub returns-clause-told : goal.returns-clause-told
+returns-clause-told g c = op_told c.commit-outcome.result any_bytes c.args.self.now (now g c) c.put.new.self 1 0 (λ w. swept w) (this g c)
+
+pub returns-clause-any_moment : goal.returns-clause-any_moment
+returns-clause-any_moment g c told =
+    op_moments any_bytes c.args.self.now (now g c) (g.D.Device.view c.args.dev.now) (g.D.Device.view c.commit-outcome.new.dev) c.put.new.self 1 0 (λ w. swept w) (this g c) (c.requires.at told) tt (c.commit-outcome.ensures.any_moment told)
+
+pub returns-clause-works : goal.returns-clause-works
+returns-clause-works g c = works_of (commit_writes c.self.inside.ring c.put.new.self) (g.D.Device.view c.args.dev.now) (g.D.Device.view c.commit-outcome.new.dev) c.commit-outcome.ensures.uses

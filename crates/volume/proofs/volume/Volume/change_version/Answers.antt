@@ -1,0 +1,82 @@
+use Rattle.std.proofs.Common.{◌≡◌, ℕ, ◌≤◌, inl, inr, List, [], length, refl, sym, ◌∙◌, ap, subst, arith, Ok}
+use Rattle.std.specs.Prelude.{OnOk, map}
+use Rattle.std.proofs.lemmas.Bool.{cases_eq}
+use Rattle.tsd_model.specs.Records.{upgraded, upgraded_record}
+use Rattle.tsd_model.specs.Geometry.{IsLawful}
+use Rattle.tsd_model.specs.declared.geometry.Geometry.{Geometry}
+use Rattle.tsd_model.specs.declared.records.Record.{Record}
+use Rattle.image_layout.specs.Header.{IsReading, header_bytes}
+use Rattle.image_layout.specs.Areas.{caps_start}
+use Rattle.image_layout.specs.Image.{Image}
+use Rattle.image_layout.specs.declared.header.Header.{Header}
+use Rattle.cap_store.specs.Store.{Store}
+use Rattle.cap_store.specs.Stored.{caps_sector_bytes}
+use Rattle.cap_store.specs.Stored.{IsStored as AreKept}
+use Rattle.image_world.specs.Changes.{upgraded_tables}
+use Rattle.image_world.specs.Sound.{AreSound}
+use Rattle.image_world.specs.Tables.{Tables}
+use Rattle.image_world.specs.Turns.{Turns}
+use Rattle.volume_laws.specs.Volume.{Volume, tables_in}
+use Rattle.volume_laws.proofs.Ops.{any_bytes, IsOp, op_at, op_done, op_told, op_moments, op_paid}
+use Rattle.volume_laws.proofs.StepOps.{op_owed}
+use Rattle.volume_laws.proofs.UpgradeLaws.{upgrade_turn, no_upgrade, upgraded_in, upgrade_op}
+use Rattle.volume.proofs.volume.Volume.change_version.Given
+use Rattle.volume.proofs.volume.Volume.change_version.Goals as goal
+
+-- the volume then
+abbrev now : (g : Given.Over) → goal.After-self-2-1 g → Volume
+now g c = let i = c.self.inside in record { tables = tables_in (record { version = 2; geometry = i.header.geometry }) i.pointers i.counts i.live c.upgrade.new.self i.is_sweeping; ring = c.commit-outcome.new.self; is_ready = i.is_ready; is_spent = c.is_err-self-inside.result }
+
+turns : (g : Given.Over) (c : goal.After-self-2-1 g) → Turns c.args.self.now.tables (upgraded_tables c.args.self.now.tables) c.put_upgrade.new.batch
+turns g c =
+    let i = c.self.inside in
+    let t = c.args.self.now.tables in
+    let is = ap (λ (w : Volume). w.tables) c.self.view_is in
+    let sound = subst (λ (u : Tables). AreSound u) is c.self.invariant.sound in
+    let records : i.caps.records ≡ t.records = ap (λ (u : Tables). u.records) is in
+    let size : i.header.geometry ≡ t.geometry = ap (λ (u : Tables). u.geometry) is in
+    let up : c.upgrade.new.self.records ≡ map upgraded_record t.records = ap (λ (s : Store). s.records) c.upgrade.ensures.upgraded ∙ ap (map upgraded_record) records in
+    elim (cases_eq i.header.version 2) [
+      | inl two ↦
+          let same : map upgraded_record i.caps.records ≡ i.caps.records = ap (λ (s : Store). s.records) (sym c.upgrade.ensures.upgraded ∙ c.upgrade.ensures.same (c.self.invariant.kept_version ∙ two)) in
+          no_upgrade t c.put_upgrade.new.batch sound (sym (ap (λ (u : Tables). u.version) is) ∙ two) (ap (map upgraded_record) (sym records) ∙ (same ∙ records)) (c.put_upgrade.ensures.none two)
+      | inr other ↦
+          upgrade_turn t c.put_upgrade.new.batch (header_bytes (record { version = 2; geometry = i.header.geometry })) (caps_sector_bytes 2 c.upgrade.new.self.records 0) (caps_sector_bytes 2 c.upgrade.new.self.records 1) sound
+          (subst (λ (k : Geometry). IsReading (header_bytes (record { version = 2; geometry = i.header.geometry })) (Ok (record { version = 2; geometry = k }))) size
+          (c.put_upgrade.ensures.header (inr refl) (subst (λ (k : Geometry). IsLawful k) (sym size) sound.slots.lawful)))
+          (λ y first second. subst (λ (rs : List Record). AreKept 2 rs y) up (c.upgrade.ensures.both y first second))
+          (c.put_upgrade.ensures.laid other)
+    ]
+
+this : (g : Given.Over) (c : goal.After-self-2-1 g) → IsOp any_bytes c.args.self.now (now g c).tables c.put_upgrade.new.batch 3 0 (λ w. upgraded w)
+this g c =
+    let i = c.self.inside in
+    upgrade_op c.args.self.now (now g c).tables c.put_upgrade.new.batch
+    (upgraded_in i.header i.pointers i.counts i.live i.caps c.upgrade.new.self i.is_sweeping c.args.self.now.tables c.upgrade.ensures.upgraded (ap (λ (w : Volume). w.tables) c.self.view_is))
+    (turns g c) c.put_upgrade.ensures.few
+
+pub returns-clause-at : goal.returns-clause-at
+returns-clause-at g c told =
+    op_at c.commit-outcome.result any_bytes c.args.self.now (now g c) (g.D.Device.view c.args.dev.now) (g.D.Device.view c.commit-outcome.new.dev) c.put_upgrade.new.batch 3 0 _ (this g c) (c.requires.at told) tt
+    (c.commit-outcome.ensures.done told) (c.commit-outcome.ensures.at told) (c.commit-outcome.ensures.firm told)
+
+pub returns-clause-done : goal.returns-clause-done
+returns-clause-done g c told =
+    op_done c.commit-outcome.result any_bytes c.args.self.now (now g c) (g.D.Device.view c.args.dev.now) (g.D.Device.view c.commit-outcome.new.dev) c.put_upgrade.new.batch 3 0 _ (this g c) (c.requires.at told) tt
+    (c.commit-outcome.ensures.done told) (c.commit-outcome.ensures.at told) (c.commit-outcome.ensures.firm told)
+
+pub returns-clause-told : goal.returns-clause-told
+returns-clause-told g c = op_told c.commit-outcome.result any_bytes c.args.self.now (now g c) c.put_upgrade.new.batch 3 0 _ (this g c)
+
+pub returns-clause-any_moment : goal.returns-clause-any_moment
+returns-clause-any_moment g c told =
+    op_moments any_bytes c.args.self.now (now g c) (g.D.Device.view c.args.dev.now) (g.D.Device.view c.commit-outcome.new.dev) c.put_upgrade.new.batch 3 0 _ (this g c) (c.requires.at told) tt (c.commit-outcome.ensures.any_moment told)
+
+pub returns-clause-any_owed : goal.returns-clause-any_owed
+returns-clause-any_owed g c told =
+    op_owed any_bytes c.args.self.now (g.D.Device.view c.args.dev.now) (g.D.Device.view c.commit-outcome.new.dev) (now g c).tables c.put_upgrade.new.batch 3 _ (this g c) (c.requires.at told) (c.commit-outcome.ensures.any_moment told)
+
+pub returns-clause-paid : goal.returns-clause-paid
+returns-clause-paid g c =
+    op_paid c.commit-outcome.result any_bytes c.args.self.now (now g c) c.self.inside.ring (g.D.Device.view c.args.dev.now) (g.D.Device.view c.commit-outcome.new.dev) c.put_upgrade.new.batch 3 0 _ (this g c)
+    (ap (λ (w : Volume). w.ring) c.self.view_is) c.commit-outcome.ensures.uses c.commit-outcome.ensures.records

@@ -1,0 +1,19 @@
+use Rattle.std.proofs.Common.{◌≡◌, false, not, length, refl, ◌∙◌, ap}
+use Rattle.block_alloc.specs.LiveMap.{LiveMap}
+use Rattle.image_world.specs.Raw.{blank_of}
+use Rattle.volume_laws.specs.Volume.{Volume, tables_in, told_by}
+use Rattle.volume_laws.proofs.QuestionLaws.{map_of}
+use Rattle.tsd_model.specs.Placing.{runs}
+use Rattle.tsd_model.specs.Verdict.{is_empty}
+use Rattle.block_alloc.proofs.WorldLaws.{runs_same}
+use Rattle.volume.proofs.volume.Volume.has_run.Goals as goal
+
+pub returns : goal.returns
+returns c =
+    let i = c.self.inside in
+    let v = c.self.invariant in
+    let t = tables_in i.header i.pointers i.counts i.live i.caps i.is_sweeping in
+    let still : i.is_sweeping ≡ false = ap (λ (w : Volume). w.tables.is_sweeping) c.self.view_is ∙ c.requires.ready.1 in
+    let ahead = v.ahead (ap (λ (w : Volume). w.is_ready) c.self.view_is ∙ c.requires.ready.0) in
+    let told = map_of t v.sound still i.live i.ahead refl v.hidden ahead (c.geometry-size.ensures.table.each_unhidden ∙ ap (λ g. g.blocks) v.live) in
+    c.has_run.ensures ∙ (ap (λ bs. not (is_empty bs)) (runs_same i.live.unhidden (blank_of t) told c.args.count) ∙ ap (λ (w : Volume). not (is_empty (runs (told_by w) c.args.count))) c.self.view_is)

@@ -1,0 +1,20 @@
+use Rattle.std.proofs.Common.{◌≡◌, ℕ, ◌==◌, true, List, length, sym, ◌∙◌, ap, arith}
+use Rattle.std.proofs.lemmas.List.{nil_from_length}
+use Rattle.std.proofs.lemmas.Bool.Decides.{nat_tests}
+use Rattle.tsd_model.specs.Doomed.{doomed}
+use Rattle.volume_laws.specs.Graphs.{graph_in}
+use Rattle.volume_laws.specs.Moments.{owed}
+use Rattle.volume_laws.specs.Volume.{Volume, tables_in}
+use Rattle.volume_laws.proofs.TableWorlds.{none_owed}
+use Rattle.volume.proofs.volume.Volume.is_settled.Goals as goal
+
+equal : (m n : ℕ) → (m == n) ≡ true → m ≡ n
+equal m n is = grind (arith, nat_tests)
+
+pub returns-then-self : goal.returns-then-self
+returns-then-self c = λ is.
+    let i = c.self.inside in
+    let t = tables_in i.header i.pointers i.counts i.live i.caps i.is_sweeping in
+    let none = equal c.doomed.result 0 is in
+    let told = c.doomed.ensures.told (graph_in t) (c.self.invariant.ahead c.if-self.true) in
+    sym (ap (λ (w : Volume). owed w.tables) c.self.view_is) ∙ (none_owed t).1 (nil_from_length (doomed (graph_in t)) (omega (arith, none, told)))

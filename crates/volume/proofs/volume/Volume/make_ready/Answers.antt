@@ -1,0 +1,36 @@
+use Rattle.std.proofs.Common.{◌≡◌, ℕ, true, false, inl, inr, ap, sym, ◌∙◌, subst}
+use Rattle.std.proofs.lemmas.Bool.{cases_Bool}
+use Rattle.image_world.specs.Tables.{Tables}
+use Rattle.reclaim.specs.Ahead.{IsAheadOf, is_gone}
+use Rattle.volume_laws.specs.Graphs.{graph_in}
+use Rattle.volume_laws.specs.Moments.{owed}
+use Rattle.volume_laws.specs.Volume.{Volume, tables_in}
+use Rattle.volume_laws.proofs.AheadKept.{none_gone, hides_same}
+use Rattle.volume_laws.proofs.TableWorlds.{none_owed}
+use Rattle.volume.proofs.volume.Volume.make_ready.Goals as goal
+
+pub invariant_of-self : goal.invariant_of-self
+invariant_of-self c =
+    let i = c.self.inside in
+    let v = c.self.invariant in
+    let t = tables_in i.header i.pointers i.counts i.live i.caps i.is_sweeping in
+    let none : owed t ≡ 0 = ap (λ (w : Volume). owed w.tables) c.self.view_is ∙ c.requires in
+    let k = c.reset.new.self in
+    let ahead : IsAheadOf (graph_in t) k = c.reset.ensures.ahead (graph_in t) (ap (λ g. g.blocks) (sym v.counts)) ((none_owed t).0 none) v.sound.counted in
+    let before : (b : ℕ) → is_gone i.ahead.gone b ≡ false = elim (cases_Bool i.is_ready) [
+      | inl is ↦ none_gone t i.ahead none (v.ahead is)
+      | inr not_yet ↦ v.begun not_yet
+    ] in
+    record {
+      pointers = v.pointers;
+      counts = v.counts;
+      live = v.live;
+      kept_version = v.kept_version;
+      kept = v.kept;
+      waits = v.waits;
+      sound = v.sound;
+      counted = ahead.counts_each;
+      hidden = hides_same i.live (is_gone i.ahead.gone) (is_gone k.gone) v.hidden (λ b. none_gone t k none ahead b ∙ sym (before b));
+      ahead = λ _. ahead;
+      begun = λ never. absurd (cc);
+    }

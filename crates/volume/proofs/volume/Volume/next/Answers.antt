@@ -1,0 +1,29 @@
+use Rattle.std.proofs.Common.{◌≡◌, ℕ, [], length, sym, ◌∙◌, ap, subst}
+use Rattle.tsd_model.specs.World.{World}
+use Rattle.tsd_model.specs.Doomed.{doomed}
+use Rattle.image_world.specs.Tables.{Tables}
+use Rattle.reclaim.specs.Tables.{graph_of}
+use Rattle.volume_laws.specs.Graphs.{graph_in}
+use Rattle.volume_laws.specs.Volume.{Volume}
+use Rattle.volume_laws.proofs.NextLaws.{same_graph, are_tables, have_counts}
+use Rattle.volume_laws.proofs.TableWorlds.{none_owed}
+use Rattle.volume.proofs.volume.Volume.next.Goals as goal
+
+pub next_step-requires-clause-tables : goal.next_step-requires-clause-tables
+next_step-requires-clause-tables c = let i = c.self.inside in are_tables i.header i.pointers i.counts i.live i.caps i.is_sweeping (i.work.room, length i.marks) i.ahead i.is_ready c.self.invariant
+
+pub next_step-requires-clause-work : goal.next_step-requires-clause-work
+next_step-requires-clause-work c =
+    let i = c.self.inside in
+    let v = c.self.invariant in
+    c.collect.ensures.lost i.pointers (are_tables i.header i.pointers i.counts i.live i.caps i.is_sweeping (i.work.room, length i.marks) i.ahead i.is_ready v) (have_counts i.header i.pointers i.counts i.live i.caps i.is_sweeping (i.work.room, length i.marks) i.ahead i.is_ready v)
+    (ap (λ g. g.primaries) (sym v.pointers))
+
+pub returns-clause-none : goal.returns-clause-none
+returns-clause-none c =
+    let i = c.self.inside in
+    let v = c.self.invariant in
+    let is = ap (λ (w : Volume). w.tables) c.self.view_is in
+    let same : doomed (graph_in c.args.self.now.tables) ≡ doomed (graph_of i.pointers i.live) = ap (λ (t : Tables). doomed (graph_in t)) (sym is) ∙ ap (λ (w : World). doomed w) (same_graph i.header i.pointers i.counts i.live i.caps i.is_sweeping (i.work.room, length i.marks) i.ahead i.is_ready v) in
+    let owes = none_owed c.args.self.now.tables in
+    (λ none. owes.1 (same ∙ c.next_step.ensures.none.0 none), λ none. c.next_step.ensures.none.1 (sym same ∙ owes.0 none))

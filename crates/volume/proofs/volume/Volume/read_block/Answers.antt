@@ -1,0 +1,53 @@
+use Rattle.std.proofs.Common.{◌≡◌, ◌<◌, true, List, length, refl, sym, ◌∙◌, ap, subst, Result, Some}
+use Rattle.std.specs.Prelude.{OnOk}
+use Rattle.tsd_model.specs.declared.geometry.Geometry.{Geometry}
+use Rattle.tsd_model.specs.Geometry.{IsLawful, block_len}
+use Rattle.tsd_model.specs.World.{contents}
+use Rattle.image_device.proofs.Outcomes.{on_ok}
+use Rattle.image_layout.specs.Image.{data_bytes}
+use Rattle.intent_journal.specs.Home.{home}
+use Rattle.intent_journal.specs.Records.{Record}
+use Rattle.intent_journal.specs.Ring.{IsAt as IsRingAt}
+use Rattle.image_world.specs.Sound.{AreSound}
+use Rattle.image_world.specs.Tables.{Tables}
+use Rattle.volume_laws.specs.Volume.{Volume, world_on}
+use Rattle.volume_laws.proofs.Committed.{ok_map, told_inside}
+use Rattle.volume_laws.proofs.ReadLaws.{rested_at, rested_world, rested_moments, rested_owed, read_bytes}
+use Rattle.volume.proofs.volume.Volume.read_block.Goals as goal
+
+pub read_parts-outcome-requires : goal.read_parts-outcome-requires
+read_parts-outcome-requires g c =
+    let size = c.of.ensures ∙ ap (λ (w : Volume). w.tables.geometry) c.self.view_is in
+    let is = ap (λ (w : Volume). w.tables) c.self.view_is in
+    record {
+      lawful = subst IsLawful (sym size) (subst (λ (t : Tables). AreSound t) is c.self.invariant.sound).slots.lawful;
+      inside = subst (λ (k : Geometry). c.args.block < k.blocks) (sym size) (told_inside c.args.self.now c.args.block c.requires.live);
+      at = λ told. subst (λ (rs : List Record). IsRingAt rs (g.D.Device.view c.args.dev.now)) (sym (ap (λ (w : Volume). w.ring) c.self.view_is)) (c.requires.at told).ring;
+    }
+
+pub returns-clause-at : goal.returns-clause-at
+returns-clause-at g c told = on_ok c.read_parts-outcome.result
+    (rested_at c.args.self.now _ (g.D.Device.view c.args.dev.now) (g.D.Device.view c.read_parts-outcome.new.dev) (ap (λ (w : Volume). w.ring) c.self.view_is) (ap (λ (w : Volume). w.tables) c.self.view_is) (c.requires.at told) (c.read_parts-outcome.ensures.rests told))
+
+pub returns-clause-done : goal.returns-clause-done
+returns-clause-done g c told = on_ok c.read_parts-outcome.result (rested_world (g.D.Device.view c.args.dev.now) (g.D.Device.view c.read_parts-outcome.new.dev) (c.read_parts-outcome.ensures.rests told))
+
+pub returns-clause-bytes : goal.returns-clause-bytes
+returns-clause-bytes g c told =
+    let v = g.D.Device.view c.args.dev.now in
+    let size = c.of.ensures ∙ ap (λ (w : Volume). w.tables.geometry) c.self.view_is in
+    ok_map c.read_parts-outcome.result _ _ (λ bytes. read_bytes c.args.self.now v c.args.block (c.requires.at told) c.requires.live
+    ∙ ap Some (sym (bytes ∙ ap (λ (k : Geometry). data_bytes (home v.reads) k c.args.block) size))) (c.read_parts-outcome.ensures.bytes told)
+
+pub returns-clause-full : goal.returns-clause-full
+returns-clause-full g c =
+    let size = c.of.ensures ∙ ap (λ (w : Volume). w.tables.geometry) c.self.view_is in
+    ok_map c.read_parts-outcome.result _ _ (λ long. long ∙ ap block_len size) c.read_parts-outcome.ensures.full
+
+pub returns-clause-any_moment : goal.returns-clause-any_moment
+returns-clause-any_moment g c told =
+    rested_moments c.args.self.now (g.D.Device.view c.args.dev.now) (g.D.Device.view c.read_parts-outcome.new.dev) (g.met.D.Device.sound c.args.dev.now told) (c.requires.at told) (c.read_parts-outcome.ensures.rests told)
+
+pub returns-clause-any_owed : goal.returns-clause-any_owed
+returns-clause-any_owed g c told =
+    rested_owed c.args.self.now (g.D.Device.view c.args.dev.now) (g.D.Device.view c.read_parts-outcome.new.dev) (g.met.D.Device.sound c.args.dev.now told) (c.requires.at told) (c.read_parts-outcome.ensures.rests told)

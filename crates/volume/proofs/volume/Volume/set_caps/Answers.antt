@@ -1,0 +1,92 @@
+use Rattle.std.proofs.Common.{◌≡◌, ℕ, Bool, List, [], ◌∷◌, length, sym, ◌∙◌, ap, subst, arith, Result}
+use Rattle.std.specs.Prelude.{OnOk, OnErr, slice_set}
+use Rattle.tsd_model.specs.Records.{kept}
+use Rattle.tsd_model.specs.Step.{with_caps}
+use Rattle.tsd_model.specs.declared.caps.CapPair.{CapPair}
+use Rattle.image_layout.specs.declared.header.Header.{Header}
+use Rattle.image_layout.specs.declared.place.Patch.{Patch}
+use Rattle.intent_journal.specs.Batch.{with_patch}
+use Rattle.pointer_table.specs.Table.{Table as Pointers}
+use Rattle.ref_counts.specs.Table.{Table as Counts}
+use Rattle.block_alloc.specs.LiveMap.{LiveMap}
+use Rattle.cap_store.specs.Store.{Store}
+use Rattle.cap_store.specs.Changes.{KeepsStored}
+use Rattle.image_world.specs.Tables.{Tables}
+use Rattle.image_world.specs.Raw.{left_of, world_with}
+use Rattle.volume_laws.specs.Volume.{Volume, tables_in}
+use Rattle.volume_laws.specs.Moments.{owed}
+use Rattle.volume_laws.proofs.BlockLaws.{put_ok}
+use Rattle.image_world.specs.Turns.{Turns}
+use Rattle.volume_laws.proofs.Ops.{any_bytes, IsOp, op_at, op_done, op_told, op_moments, op_paid}
+use Rattle.volume_laws.proofs.Kept.{caps_set, left_with_caps, owed_kept}
+use Rattle.image_world.specs.Sound.{AreSound}
+use Rattle.volume_laws.proofs.StepOps.{op_owed}
+use Rattle.volume.proofs.volume.Volume.set_caps.Given
+use Rattle.volume.proofs.volume.Volume.set_caps.Goals as goal
+
+-- the tables in memory are those with the record set
+now_tables : (h : Header) (p : Pointers) (c : Counts) (l : LiveMap) (old new : Store) (s : Bool) (t : Tables) (b : ℕ) (caps : CapPair) → old.version ≡ h.version → new ≡ record old { records = slice_set old.records b (kept old.version caps) } → tables_in h p c l old s ≡ t
+    → tables_in h p c l new s ≡ record t { records = slice_set t.records b (kept t.version caps) }
+now_tables h p c l old new s t b caps version set is =
+    ap (λ (x : Store). tables_in h p c l x s) set
+    ∙ (ap (λ (v : ℕ). record (tables_in h p c l old s) { records = slice_set old.records b (kept v caps) }) version
+    ∙ ap (λ (u : Tables). record u { records = slice_set u.records b (kept u.version caps) }) is)
+
+-- where the batch is the patch alone
+one_patch : {T E : Type 0} (r : Result T E) (A : Type 0) (ps new : List Patch) (p : Patch) → ps ≡ [] → OnOk r (new ≡ with_patch p ps) → OnErr r (A × (length ps ≡ 113)) → new ≡ p ∷ []
+one_patch r A ps new p none ok full =
+    put_ok r A (new ≡ with_patch p ps) (length ps) ok full (omega (arith, ap (λ (qs : List Patch). length qs) none)) ∙ ap (with_patch p) none
+
+op : (vol : Volume) (now : Tables) (b : ℕ) (caps : CapPair) (patch : Patch) (batch : List Patch)
+    → now ≡ record vol.tables { records = slice_set vol.tables.records b (kept vol.tables.version caps) } → batch ≡ patch ∷ []
+    → Turns vol.tables (record vol.tables { records = slice_set vol.tables.records b (kept vol.tables.version caps) }) (patch ∷ [])
+    → IsOp any_bytes vol now batch 1 0 (λ w. with_caps w b (kept vol.tables.version caps))
+op vol now b caps patch batch same one turns = record {
+  turns = subst (λ (ps : List Patch). Turns vol.tables now ps) (sym one) (subst (λ (t : Tables). Turns vol.tables t (patch ∷ [])) (sym same) turns);
+  zeros = tt;
+  world = λ c fits. ap (λ (t : Tables). left_of t (world_with t c)) same ∙ left_with_caps vol.tables b (kept vol.tables.version caps) c;
+  few = omega (arith, ap (λ (ps : List Patch). length ps) one);
+  owes = omega (arith, ap owed same, owed_kept vol.tables (slice_set vol.tables.records b (kept vol.tables.version caps)));
+}
+
+-- the volume then
+abbrev now : (g : Given.Over) → goal.After-self-1 g → Volume
+now g c = let i = c.self.inside in record { tables = tables_in i.header i.pointers i.counts i.live c.set.new.self i.is_sweeping; ring = c.commit-outcome.new.self; is_ready = i.is_ready; is_spent = c.is_err-self-inside.result }
+
+this : (g : Given.Over) (c : goal.After-self-1 g) → IsOp any_bytes c.args.self.now (now g c).tables c.put.new.self 1 0 (λ w. with_caps w c.args.block (kept c.args.self.now.tables.version c.args.caps.now))
+this g c =
+    let i = c.self.inside in
+    let p = c.patch-patch.result in
+    let is = ap (λ (w : Volume). w.tables) c.self.view_is in
+    let sound = subst (λ (t : Tables). AreSound t) is c.self.invariant.sound in
+    let set = c.set.ensures.set in
+    op c.args.self.now (now g c).tables c.args.block c.args.caps.now p c.put.new.self
+    (now_tables i.header i.pointers i.counts i.live i.caps c.set.new.self i.is_sweeping c.args.self.now.tables c.args.block c.args.caps.now c.self.invariant.kept_version set is)
+    (one_patch c.put.result _ c.clear.new.self c.put.new.self p c.clear.ensures c.put.ensures.ok c.put.ensures.full)
+    (caps_set c.args.self.now.tables i.caps c.set.new.self c.args.block c.args.caps.now p sound (c.self.invariant.kept_version ∙ ap (λ (t : Tables). t.version) is) (ap (λ (t : Tables). t.records) is) set
+    c.patch-patch.ensures.inside (subst (λ (q : Patch). KeepsStored i.caps c.set.new.self q) (sym c.patch-patch.ensures.value) c.set.ensures.stored))
+
+pub returns-clause-at : goal.returns-clause-at
+returns-clause-at g c told =
+    op_at c.commit-outcome.result any_bytes c.args.self.now (now g c) (g.D.Device.view c.args.dev.now) (g.D.Device.view c.commit-outcome.new.dev) c.put.new.self 1 0 _ (this g c) (c.requires.at told) tt
+    (c.commit-outcome.ensures.done told) (c.commit-outcome.ensures.at told) (c.commit-outcome.ensures.firm told)
+
+pub returns-clause-done : goal.returns-clause-done
+returns-clause-done g c told =
+    op_done c.commit-outcome.result any_bytes c.args.self.now (now g c) (g.D.Device.view c.args.dev.now) (g.D.Device.view c.commit-outcome.new.dev) c.put.new.self 1 0 _ (this g c) (c.requires.at told) tt
+    (c.commit-outcome.ensures.done told) (c.commit-outcome.ensures.at told) (c.commit-outcome.ensures.firm told)
+
+pub returns-clause-told : goal.returns-clause-told
+returns-clause-told g c = op_told c.commit-outcome.result any_bytes c.args.self.now (now g c) c.put.new.self 1 0 _ (this g c)
+
+pub returns-clause-any_moment : goal.returns-clause-any_moment
+returns-clause-any_moment g c told =
+    op_moments any_bytes c.args.self.now (now g c) (g.D.Device.view c.args.dev.now) (g.D.Device.view c.commit-outcome.new.dev) c.put.new.self 1 0 _ (this g c) (c.requires.at told) tt (c.commit-outcome.ensures.any_moment told)
+
+pub returns-clause-paid : goal.returns-clause-paid
+returns-clause-paid g c =
+    op_paid c.commit-outcome.result any_bytes c.args.self.now (now g c) c.self.inside.ring (g.D.Device.view c.args.dev.now) (g.D.Device.view c.commit-outcome.new.dev) c.put.new.self 1 0 _ (this g c)
+    (ap (λ (w : Volume). w.ring) c.self.view_is) c.commit-outcome.ensures.uses c.commit-outcome.ensures.records
+
+pub returns-clause-any_owed : goal.returns-clause-any_owed
+returns-clause-any_owed g c told = op_owed any_bytes c.args.self.now (g.D.Device.view c.args.dev.now) (g.D.Device.view c.commit-outcome.new.dev) (now g c).tables c.put.new.self 1 _ (this g c) (c.requires.at told) (c.commit-outcome.ensures.any_moment told)

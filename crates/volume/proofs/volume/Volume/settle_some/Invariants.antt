@@ -1,0 +1,13 @@
+use Rattle.std.proofs.Common.{◌+◌, ◌*◌, ◌≤◌}
+use Rattle.intent_journal.specs.Ring.{checkpoint_writes}
+use Rattle.volume_laws.specs.Moments.{owed}
+use Rattle.volume_laws.proofs.SettlingLaws.{IsSettling}
+use Rattle.volume.proofs.volume.Volume.settle_some.Given as goal
+
+-- each step so far took something away, and was no dearer than 69 writes
+abbrev pub invariant-loop-step : goal.invariant-loop-step
+invariant-loop-step g l = record {
+  settling : IsSettling g.D.Device.told l.fn.self (g.D.Device.view l.fn.dev) l.self (g.D.Device.view l.dev);
+  steps : owed l.self.tables + l._step ≤ owed l.fn.self.tables;
+  used : (g.D.Device.view l.dev).writes + checkpoint_writes l.self.ring ≤ (g.D.Device.view l.fn.dev).writes + checkpoint_writes l.fn.self.ring + l._step * 69;
+}

@@ -1,0 +1,187 @@
+//! New blocks.
+
+ghost use Rattle.std.specs.Prelude.{◌≡◌, ℕ, ◌+◌, ◌*◌, ◌<◌, ◌≤◌, true, false, length, slice_get, Some, OnOk, OnErr};
+ghost use Rattle.tsd_model.specs.Step.{with_new_blocks};
+ghost use Rattle.tsd_model.specs.World.{is_live, is_free};
+ghost use Rattle.image_device.specs.Calls.{Uses};
+ghost use Rattle.image_device.specs.Counts.{Rose};
+ghost use Rattle.intent_journal.specs.Ring.{checkpoint_writes};
+ghost use Rattle.volume_laws.specs.Volume.{IsAt, IsReady, told_by, world_on};
+ghost use Rattle.volume_laws.specs.Writes.{batch_cost, due, IsPaid};
+ghost use Rattle.volume_laws.specs.Moments.{LeavesEither, LeavesWorld, LeavesOwed, owed};
+ghost use Rattle.volume_laws.specs.Growing.{AreFree};
+ghost use Rattle.intent_journal.specs.Records.{patches_of};
+ghost use Rattle.volume_laws.specs.Zeroed.{IsZeroedAt, AreMissed};
+ghost use Rattle.image_world.specs.Tables.{pairs_of};
+
+use crate::growing::put_new;
+use crate::volume::Volume;
+use crate::zeroing::{holds_data, zero_blocks};
+use image_device::{Device, Failed};
+use image_layout::Layout;
+use tsd_model::BlockList;
+
+impl Volume {
+    /// Makes free blocks live, with zeros in them and a pointer to each from a source. What is lost is reclaimed first.
+    pub fn allocate<D: Device>(
+        &mut self,
+        dev: &mut D,
+        source: u32,
+        blocks: &BlockList,
+    ) -> Result<(), Failed>
+        requires source { is_live (told_by self.old) source ≡ true }
+        requires count { (1 ≤ length blocks.now) × (length blocks.now ≤ 32) }
+        requires free { (i b : ℕ) → slice_get blocks.now i ≡ Some b → is_free (told_by self.old) b ≡ true }
+        requires apart { (i j b : ℕ) → slice_get blocks.now i ≡ Some b → slice_get blocks.now j ≡ Some b → i ≡ j }
+        requires room { length (told_by self.old).pairs + length blocks.now ≤ self.old.tables.geometry.slots }
+        requires ready { IsReady self.old }
+        requires unspent { self.old.is_spent ≡ false }
+        requires at { D.told → IsAt self.old (D.view dev.old) }
+        ensures at { D.told → OnOk result (IsAt self.new (D.view dev.new)) }
+        ensures done { D.told → OnOk result (world_on (D.view dev.new) ≡ with_new_blocks (world_on (D.view dev.old)) source blocks.now) }
+        ensures told { OnOk result (told_by self.new ≡ with_new_blocks (told_by self.old) source blocks.now) }
+        ensures ready { OnOk result (IsReady self.new) }
+        ensures unspent { OnOk result (self.new.is_spent ≡ false) }
+        ensures spent { OnErr result (self.new.is_spent ≡ true) }
+        ensures size { (self.new.tables.geometry ≡ self.old.tables.geometry) × (self.new.tables.version ≡ self.old.tables.version) }
+        ensures sent { D.told → (D.view dev.new).sent ≡ (D.view dev.old).sent }
+        ensures any_moment { D.told → LeavesEither (D.view dev.old) (D.view dev.new) (with_new_blocks (world_on (D.view dev.old)) source blocks.now) }
+        ensures any_owed { D.told → LeavesOwed (D.view dev.old) (D.view dev.new) (owed self.old.tables) }
+        ensures paid { OnOk result (IsPaid (self.old.tables.geometry.sectors * length blocks.now + batch_cost (3 * length blocks.now)) self.old (D.view dev.old) self.new (D.view dev.new)) }
+        ensures uses { Uses (due self.old + self.old.tables.geometry.sectors * length blocks.now + batch_cost (3 * length blocks.now)) (D.view dev.old) (D.view dev.new) }
+        ensures faultless { OnOk result ((D.view dev.new).faults ≡ (D.view dev.old).faults) }
+        ensures cause { OnErr result (Rose (D.view dev.old).faults (D.view dev.new).faults) }
+    {
+        self.settle_all(dev)?;
+        self.grow(dev, source, blocks.as_slice())
+    }
+}
+
+impl Volume {
+    /// Makes free blocks live whose sectors have zeros, with a pointer to each from a source, where nothing is lost.
+    fn add_blocks<D: Device>(
+        &mut self,
+        dev: &mut D,
+        source: u32,
+        blocks: &[u32],
+    ) -> Result<(), Failed>
+        requires source { is_live (told_by self.old) source ≡ true }
+        requires most { length blocks.now ≤ 32 }
+        requires free { AreFree self.old.tables.live self.old.tables.geometry.blocks blocks.now }
+        requires room { length (pairs_of self.old.tables) + length blocks.now ≤ self.old.tables.geometry.slots }
+        requires settled { owed self.old.tables ≡ 0 }
+        requires ready { IsReady self.old }
+        requires at { D.told → IsZeroedAt self.old (D.view dev.old) blocks.now }
+        ensures at { D.told → OnOk result (IsAt self.new (D.view dev.new)) }
+        ensures done { D.told → OnOk result (world_on (D.view dev.new) ≡ with_new_blocks (world_on (D.view dev.old)) source blocks.now) }
+        ensures told { OnOk result (told_by self.new ≡ with_new_blocks (told_by self.old) source blocks.now) }
+        ensures settled { OnOk result (owed self.new.tables ≡ 0) }
+        ensures ready { OnOk result (IsReady self.new) }
+        ensures unspent { OnOk result (self.new.is_spent ≡ false) }
+        ensures spent { OnErr result (self.new.is_spent ≡ true) }
+        ensures size { (self.new.tables.geometry ≡ self.old.tables.geometry) × (self.new.tables.version ≡ self.old.tables.version) }
+        ensures sent { D.told → (D.view dev.new).sent ≡ (D.view dev.old).sent }
+        ensures any_moment { D.told → LeavesEither (D.view dev.old) (D.view dev.new) (with_new_blocks (world_on (D.view dev.old)) source blocks.now) }
+        ensures any_owed { D.told → LeavesOwed (D.view dev.old) (D.view dev.new) (owed self.old.tables) }
+        ensures paid { OnOk result (IsPaid (batch_cost (3 * length blocks.now)) self.old (D.view dev.old) self.new (D.view dev.new)) }
+        ensures uses { Uses (checkpoint_writes self.old.ring + batch_cost (3 * length blocks.now)) (D.view dev.old) (D.view dev.new) }
+        ensures faultless { OnOk result ((D.view dev.new).faults ≡ (D.view dev.old).faults) }
+        ensures cause { OnErr result (Rose (D.view dev.old).faults (D.view dev.new).faults) }
+    {
+        self.batch.clear();
+        put_new(
+            &mut self.batch,
+            &mut self.pointers,
+            &mut self.counts,
+            &mut self.live,
+            source,
+            blocks,
+        );
+        self.ahead.raise_all(blocks);
+        let outcome = self.ring.commit(dev, &self.batch);
+        self.is_spent = outcome.is_err();
+        outcome
+    }
+}
+
+impl Volume {
+    /// Empties the journal where it holds a data sector of these blocks: an older body could be replayed over what is written.
+    fn make_way<D: Device>(&mut self, dev: &mut D, blocks: &[u32]) -> Result<(), Failed>
+        requires free { AreFree self.old.tables.live self.old.tables.geometry.blocks blocks.now }
+        requires unspent { self.old.is_spent ≡ false }
+        requires at { D.told → IsAt self.old (D.view dev.old) }
+        ensures at { D.told → OnOk result (IsAt self.new (D.view dev.new)) }
+        ensures done { D.told → OnOk result (world_on (D.view dev.new) ≡ world_on (D.view dev.old)) }
+        ensures same { OnOk result (self.new ≡ record self.old { ring = self.new.ring }) }
+        ensures missed { OnOk result (AreMissed self.old.tables.geometry (patches_of self.new.ring) blocks.now) }
+        ensures spent { OnErr result (self.new.is_spent ≡ true) }
+        ensures size { (self.new.tables.geometry ≡ self.old.tables.geometry) × (self.new.tables.version ≡ self.old.tables.version) }
+        ensures sent { D.told → (D.view dev.new).sent ≡ (D.view dev.old).sent }
+        ensures any_moment { D.told → LeavesWorld (D.view dev.old) (D.view dev.new) }
+        ensures any_owed { D.told → LeavesOwed (D.view dev.old) (D.view dev.new) (owed self.old.tables) }
+        ensures paid { OnOk result (IsPaid 0 self.old (D.view dev.old) self.new (D.view dev.new)) }
+        ensures uses { Uses (checkpoint_writes self.old.ring) (D.view dev.old) (D.view dev.new) }
+        ensures faultless { OnOk result ((D.view dev.new).faults ≡ (D.view dev.old).faults) }
+        ensures cause { OnErr result (Rose (D.view dev.old).faults (D.view dev.new).faults) }
+    {
+        if holds_data(&self.ring, &Layout::of(&self.header.geometry), blocks) {
+            self.empty_ring(dev)
+        } else {
+            Ok(())
+        }
+    }
+
+    /// Writes zeros to the data sectors of free blocks that the journal doesn't hold. What they hold doesn't matter yet.
+    fn zero_new<D: Device>(&mut self, dev: &mut D, blocks: &[u32]) -> Result<(), Failed>
+        requires free { AreFree self.old.tables.live self.old.tables.geometry.blocks blocks.now }
+        requires missed { AreMissed self.old.tables.geometry (patches_of self.old.ring) blocks.now }
+        requires unspent { self.old.is_spent ≡ false }
+        requires at { D.told → IsAt self.old (D.view dev.old) }
+        ensures zeroed { D.told → OnOk result (IsZeroedAt self.new (D.view dev.new) blocks.now) }
+        ensures done { D.told → OnOk result (world_on (D.view dev.new) ≡ world_on (D.view dev.old)) }
+        ensures same { OnOk result (self.new ≡ self.old) }
+        ensures spent { OnErr result (self.new.is_spent ≡ true) }
+        ensures size { (self.new.tables.geometry ≡ self.old.tables.geometry) × (self.new.tables.version ≡ self.old.tables.version) }
+        ensures sent { D.told → (D.view dev.new).sent ≡ (D.view dev.old).sent }
+        ensures any_moment { D.told → LeavesWorld (D.view dev.old) (D.view dev.new) }
+        ensures any_owed { D.told → LeavesOwed (D.view dev.old) (D.view dev.new) (owed self.old.tables) }
+        ensures uses { Uses (self.old.tables.geometry.sectors * length blocks.now) (D.view dev.old) (D.view dev.new) }
+        ensures faultless { OnOk result ((D.view dev.new).faults ≡ (D.view dev.old).faults) }
+        ensures cause { OnErr result (Rose (D.view dev.old).faults (D.view dev.new).faults) }
+    {
+        let outcome = zero_blocks(dev, &Layout::of(&self.header.geometry), blocks);
+        self.is_spent = outcome.is_err();
+        outcome
+    }
+
+    /// Makes free blocks live, with zeros in them and a pointer to each from a source, where nothing is lost.
+    fn grow<D: Device>(&mut self, dev: &mut D, source: u32, blocks: &[u32]) -> Result<(), Failed>
+        requires source { is_live (told_by self.old) source ≡ true }
+        requires most { length blocks.now ≤ 32 }
+        requires free { AreFree self.old.tables.live self.old.tables.geometry.blocks blocks.now }
+        requires room { length (pairs_of self.old.tables) + length blocks.now ≤ self.old.tables.geometry.slots }
+        requires settled { owed self.old.tables ≡ 0 }
+        requires ready { IsReady self.old }
+        requires unspent { self.old.is_spent ≡ false }
+        requires at { D.told → IsAt self.old (D.view dev.old) }
+        ensures at { D.told → OnOk result (IsAt self.new (D.view dev.new)) }
+        ensures done { D.told → OnOk result (world_on (D.view dev.new) ≡ with_new_blocks (world_on (D.view dev.old)) source blocks.now) }
+        ensures told { OnOk result (told_by self.new ≡ with_new_blocks (told_by self.old) source blocks.now) }
+        ensures settled { OnOk result (owed self.new.tables ≡ 0) }
+        ensures ready { OnOk result (IsReady self.new) }
+        ensures unspent { OnOk result (self.new.is_spent ≡ false) }
+        ensures spent { OnErr result (self.new.is_spent ≡ true) }
+        ensures size { (self.new.tables.geometry ≡ self.old.tables.geometry) × (self.new.tables.version ≡ self.old.tables.version) }
+        ensures sent { D.told → (D.view dev.new).sent ≡ (D.view dev.old).sent }
+        ensures any_moment { D.told → LeavesEither (D.view dev.old) (D.view dev.new) (with_new_blocks (world_on (D.view dev.old)) source blocks.now) }
+        ensures any_owed { D.told → LeavesOwed (D.view dev.old) (D.view dev.new) (owed self.old.tables) }
+        ensures paid { OnOk result (IsPaid (self.old.tables.geometry.sectors * length blocks.now + batch_cost (3 * length blocks.now)) self.old (D.view dev.old) self.new (D.view dev.new)) }
+        ensures uses { Uses (checkpoint_writes self.old.ring + self.old.tables.geometry.sectors * length blocks.now + batch_cost (3 * length blocks.now)) (D.view dev.old) (D.view dev.new) }
+        ensures faultless { OnOk result ((D.view dev.new).faults ≡ (D.view dev.old).faults) }
+        ensures cause { OnErr result (Rose (D.view dev.old).faults (D.view dev.new).faults) }
+    {
+        self.make_way(dev, blocks)?;
+        self.zero_new(dev, blocks)?;
+        self.add_blocks(dev, source, blocks)
+    }
+}

@@ -1,0 +1,218 @@
+//! Reclaiming what no primary block leads to.
+
+ghost use Rattle.std.specs.Prelude.{◌≡◌, ◌-◌, ◌<◌, true, false, OnOk, OnErr, IfOk, IfSome, IsNone};
+ghost use Rattle.tsd_model.specs.Reach.{swept};
+ghost use Rattle.tsd_model.specs.World.{World, free_count};
+ghost use Rattle.cycle_sweep.specs.Sweep.{MaySweep, AreSweptBy};
+ghost use Rattle.graph_laws.specs.Graph.{HasGraphOf};
+ghost use Rattle.image_device.specs.Counts.{Rose};
+ghost use Rattle.volume.specs.Sweeping.{sweep_left};
+ghost use Rattle.volume_laws.specs.Graphs.{graph_in};
+ghost use Rattle.volume_laws.specs.Moments.{LeavesEither, LeavesWorld, owed};
+ghost use Rattle.volume_laws.specs.Volume.{IsAt, IsReady, told_by, world_on};
+ghost use Rattle.volume_laws.specs.Writes.{Works};
+
+use crate::steps::put_step;
+use crate::volume::Volume;
+use cycle_sweep::{mark, next_sweep_step};
+use image_device::{Device, Failed};
+use image_layout::gate_bytes;
+use image_layout::sectors::SWEEP_FLAG;
+use pointer_table::OutStep;
+
+impl Volume {
+    /// Reclaims what no primary block leads to, and tells how many blocks became free. What is lost is reclaimed first.
+    pub fn sweep<D: Device>(&mut self, dev: &mut D) -> Result<u32, Failed>
+        requires ready { IsReady self.old }
+        requires unspent { self.old.is_spent ≡ false }
+        requires at { D.told → IsAt self.old (D.view dev.old) }
+        ensures at { D.told → OnOk result (IsAt self.new (D.view dev.new)) }
+        ensures done { D.told → OnOk result (world_on (D.view dev.new) ≡ swept (world_on (D.view dev.old))) }
+        ensures told { OnOk result (told_by self.new ≡ swept (told_by self.old)) }
+        ensures count { IfOk result (λ count. count ≡ free_count (told_by self.new) - free_count (told_by self.old)) }
+        ensures settled { OnOk result (owed self.new.tables ≡ 0) }
+        ensures ready { OnOk result (IsReady self.new) }
+        ensures unspent { OnOk result (self.new.is_spent ≡ false) }
+        ensures spent { OnErr result (self.new.is_spent ≡ true) }
+        ensures size { (self.new.tables.geometry ≡ self.old.tables.geometry) × (self.new.tables.version ≡ self.old.tables.version) }
+        ensures sent { D.told → (D.view dev.new).sent ≡ (D.view dev.old).sent }
+        ensures any_moment { D.told → LeavesEither (D.view dev.old) (D.view dev.new) (swept (world_on (D.view dev.old))) }
+        ensures works { Works (D.view dev.old) (D.view dev.new) }
+        ensures faultless { OnOk result ((D.view dev.new).faults ≡ (D.view dev.old).faults) }
+        ensures cause { OnErr result (Rose (D.view dev.old).faults (D.view dev.new).faults) }
+    {
+        self.settle_lost(dev)?;
+        let before = self.raw_free_count();
+        self.begin_sweep(dev)?;
+        self.end_open_sweep(dev)?;
+        self.make_ready();
+        Ok(self.raw_free_count() - before)
+    }
+
+    /// Opens the sweep flag. Nothing is lost.
+    fn begin_sweep<D: Device>(&mut self, dev: &mut D) -> Result<(), Failed>
+        requires still { self.old.tables.is_sweeping ≡ false }
+        requires none { owed self.old.tables ≡ 0 }
+        requires at { D.told → IsAt self.old (D.view dev.old) }
+        ensures at { D.told → OnOk result (IsAt self.new (D.view dev.new)) }
+        ensures done { D.told → OnOk result (world_on (D.view dev.new) ≡ swept (world_on (D.view dev.old))) }
+        ensures told { OnOk result (told_by self.new ≡ swept (told_by self.old)) }
+        ensures sweeping { self.new.tables.is_sweeping ≡ true }
+        ensures unready { self.new.is_ready ≡ false }
+        ensures unspent { OnOk result (self.new.is_spent ≡ false) }
+        ensures spent { OnErr result (self.new.is_spent ≡ true) }
+        ensures size { (self.new.tables.geometry ≡ self.old.tables.geometry) × (self.new.tables.version ≡ self.old.tables.version) }
+        ensures sent { D.told → (D.view dev.new).sent ≡ (D.view dev.old).sent }
+        ensures any_moment { D.told → LeavesEither (D.view dev.old) (D.view dev.new) (swept (world_on (D.view dev.old))) }
+        ensures works { Works (D.view dev.old) (D.view dev.new) }
+        ensures faultless { OnOk result ((D.view dev.new).faults ≡ (D.view dev.old).faults) }
+        ensures cause { OnErr result (Rose (D.view dev.old).faults (D.view dev.new).faults) }
+    {
+        self.is_ready = false;
+        self.is_sweeping = true;
+        self.batch.clear();
+        let _ = self.batch.put(SWEEP_FLAG, &gate_bytes(true));
+        let outcome = self.ring.commit(dev, &self.batch);
+        self.is_spent = outcome.is_err();
+        outcome
+    }
+}
+
+impl Volume {
+    /// Makes all steps of a sweep that are left, and closes the sweep flag.
+    pub(crate) fn end_open_sweep<D: Device>(&mut self, dev: &mut D) -> Result<(), Failed>
+        requires sweeping { self.old.tables.is_sweeping ≡ true }
+        requires unready { self.old.is_ready ≡ false }
+        requires unspent { self.old.is_spent ≡ false }
+        requires at { D.told → IsAt self.old (D.view dev.old) }
+        ensures at { D.told → OnOk result (IsAt self.new (D.view dev.new)) }
+        ensures done { D.told → OnOk result (world_on (D.view dev.new) ≡ world_on (D.view dev.old)) }
+        ensures told { OnOk result (told_by self.new ≡ told_by self.old) }
+        ensures settled { OnOk result (owed self.new.tables ≡ 0) }
+        ensures still { OnOk result (self.new.tables.is_sweeping ≡ false) }
+        ensures unready { self.new.is_ready ≡ false }
+        ensures unspent { OnOk result (self.new.is_spent ≡ false) }
+        ensures spent { OnErr result (self.new.is_spent ≡ true) }
+        ensures size { (self.new.tables.geometry ≡ self.old.tables.geometry) × (self.new.tables.version ≡ self.old.tables.version) }
+        ensures sent { D.told → (D.view dev.new).sent ≡ (D.view dev.old).sent }
+        ensures any_moment { D.told → LeavesWorld (D.view dev.old) (D.view dev.new) }
+        ensures works { Works (D.view dev.old) (D.view dev.new) }
+        ensures faultless { OnOk result ((D.view dev.new).faults ≡ (D.view dev.old).faults) }
+        ensures cause { OnErr result (Rose (D.view dev.old).faults (D.view dev.new).faults) }
+    {
+        while self.sweep_step(dev)? {}
+        self.close_flag(dev)?;
+        Ok(())
+    }
+
+    /// Closes the sweep flag. Each live block is reached.
+    fn close_flag<D: Device>(&mut self, dev: &mut D) -> Result<(), Failed>
+        requires sweeping { self.old.tables.is_sweeping ≡ true }
+        requires whole { (r : World) → HasGraphOf (graph_in self.old.tables) r → swept r ≡ r }
+        requires unready { self.old.is_ready ≡ false }
+        requires at { D.told → IsAt self.old (D.view dev.old) }
+        ensures at { D.told → OnOk result (IsAt self.new (D.view dev.new)) }
+        ensures done { D.told → OnOk result (world_on (D.view dev.new) ≡ world_on (D.view dev.old)) }
+        ensures told { OnOk result (told_by self.new ≡ told_by self.old) }
+        ensures settled { OnOk result (owed self.new.tables ≡ 0) }
+        ensures still { OnOk result (self.new.tables.is_sweeping ≡ false) }
+        ensures unready { self.new.is_ready ≡ false }
+        ensures unspent { OnOk result (self.new.is_spent ≡ false) }
+        ensures spent { OnErr result (self.new.is_spent ≡ true) }
+        ensures size { (self.new.tables.geometry ≡ self.old.tables.geometry) × (self.new.tables.version ≡ self.old.tables.version) }
+        ensures sent { D.told → (D.view dev.new).sent ≡ (D.view dev.old).sent }
+        ensures any_moment { D.told → LeavesWorld (D.view dev.old) (D.view dev.new) }
+        ensures works { Works (D.view dev.old) (D.view dev.new) }
+        ensures faultless { OnOk result ((D.view dev.new).faults ≡ (D.view dev.old).faults) }
+        ensures cause { OnErr result (Rose (D.view dev.old).faults (D.view dev.new).faults) }
+    {
+        self.is_sweeping = false;
+        self.batch.clear();
+        let _ = self.batch.put(SWEEP_FLAG, &gate_bytes(false));
+        let outcome = self.ring.commit(dev, &self.batch);
+        self.is_spent = outcome.is_err();
+        outcome
+    }
+
+    /// Makes a step of a sweep, if one is left. Answers whether there was one.
+    fn sweep_step<D: Device>(&mut self, dev: &mut D) -> Result<bool, Failed>
+        requires sweeping { self.old.tables.is_sweeping ≡ true }
+        requires unready { self.old.is_ready ≡ false }
+        requires unspent { self.old.is_spent ≡ false }
+        requires at { D.told → IsAt self.old (D.view dev.old) }
+        ensures at { D.told → OnOk result (IsAt self.new (D.view dev.new)) }
+        ensures done { D.told → OnOk result (world_on (D.view dev.new) ≡ world_on (D.view dev.old)) }
+        ensures told { OnOk result (told_by self.new ≡ told_by self.old) }
+        ensures lowered { IfOk result (λ some. some ≡ true → sweep_left self.new.tables < sweep_left self.old.tables) }
+        ensures whole { IfOk result (λ some. some ≡ false → (r : World) → HasGraphOf (graph_in self.new.tables) r → swept r ≡ r) }
+        ensures sweeping { OnOk result (self.new.tables.is_sweeping ≡ true) }
+        ensures unready { self.new.is_ready ≡ false }
+        ensures unspent { OnOk result (self.new.is_spent ≡ false) }
+        ensures spent { OnErr result (self.new.is_spent ≡ true) }
+        ensures size { (self.new.tables.geometry ≡ self.old.tables.geometry) × (self.new.tables.version ≡ self.old.tables.version) }
+        ensures sent { D.told → (D.view dev.new).sent ≡ (D.view dev.old).sent }
+        ensures any_moment { D.told → LeavesWorld (D.view dev.old) (D.view dev.new) }
+        ensures works { Works (D.view dev.old) (D.view dev.new) }
+        ensures faultless { OnOk result ((D.view dev.new).faults ≡ (D.view dev.old).faults) }
+        ensures cause { OnErr result (Rose (D.view dev.old).faults (D.view dev.new).faults) }
+    {
+        match self.next_swept() {
+            Some(step) => {
+                self.make_sweep_step(dev, &step)?;
+                Ok(true)
+            }
+            None => Ok(false),
+        }
+    }
+
+    /// Makes a step of a sweep, in one batch.
+    fn make_sweep_step<D: Device>(&mut self, dev: &mut D, step: &OutStep) -> Result<(), Failed>
+        requires may { MaySweep (graph_in self.old.tables) step.now }
+        requires kept { AreSweptBy (graph_in self.old.tables) step.now }
+        requires sweeping { self.old.tables.is_sweeping ≡ true }
+        requires unready { self.old.is_ready ≡ false }
+        requires at { D.told → IsAt self.old (D.view dev.old) }
+        ensures at { D.told → OnOk result (IsAt self.new (D.view dev.new)) }
+        ensures done { D.told → OnOk result (world_on (D.view dev.new) ≡ world_on (D.view dev.old)) }
+        ensures told { OnOk result (told_by self.new ≡ told_by self.old) }
+        ensures lowered { OnOk result (sweep_left self.new.tables < sweep_left self.old.tables) }
+        ensures sweeping { OnOk result (self.new.tables.is_sweeping ≡ true) }
+        ensures unready { self.new.is_ready ≡ false }
+        ensures unspent { OnOk result (self.new.is_spent ≡ false) }
+        ensures spent { OnErr result (self.new.is_spent ≡ true) }
+        ensures size { (self.new.tables.geometry ≡ self.old.tables.geometry) × (self.new.tables.version ≡ self.old.tables.version) }
+        ensures sent { D.told → (D.view dev.new).sent ≡ (D.view dev.old).sent }
+        ensures any_moment { D.told → LeavesWorld (D.view dev.old) (D.view dev.new) }
+        ensures works { Works (D.view dev.old) (D.view dev.new) }
+        ensures faultless { OnOk result ((D.view dev.new).faults ≡ (D.view dev.old).faults) }
+        ensures cause { OnErr result (Rose (D.view dev.old).faults (D.view dev.new).faults) }
+    {
+        self.batch.clear();
+        put_step(
+            &mut self.batch,
+            &mut self.pointers,
+            &mut self.counts,
+            &mut self.live,
+            step,
+        );
+        let outcome = self.ring.commit(dev, &self.batch);
+        self.is_spent = outcome.is_err();
+        outcome
+    }
+
+    /// The next step of a sweep, if one is left. It marks again what is reached.
+    fn next_swept(&mut self) -> Option<OutStep>
+        ensures same { self.new ≡ self.old }
+        ensures step { IfSome result (λ s. MaySweep (graph_in self.old.tables) s) }
+        ensures kept { IfSome result (λ s. AreSweptBy (graph_in self.old.tables) s) }
+        ensures whole { IsNone result → (r : World) → HasGraphOf (graph_in self.old.tables) r → swept r ≡ r }
+    {
+        mark(
+            &self.pointers,
+            &self.live,
+            self.header.geometry.primaries,
+            &mut self.marks,
+        );
+        next_sweep_step(&self.pointers, &self.counts, &self.live, &self.marks)
+    }
+}

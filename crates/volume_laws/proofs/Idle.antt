@@ -1,0 +1,28 @@
+-- Where no call is made.
+use Rattle.std.proofs.Common.{◌≡◌, ℕ, ◌≤◌, refl, sym, ◌∙◌, ap, subst, arith}
+use Rattle.image_device.specs.View.{View, IsSound}
+use Rattle.image_device.proofs.Moments.{started, firm_image, joined}
+use Rattle.image_layout.specs.Image.{Image}
+use Rattle.intent_journal.specs.Home.{home}
+use Rattle.image_world.specs.Tables.{tables_of}
+use Rattle.image_world.specs.Stands.{Stands}
+use Rattle.volume_laws.specs.Volume.{Volume, IsAt, world_on}
+use Rattle.volume_laws.specs.Moments.{LeavesWorld, LeavesOwed, owed}
+
+here_stands : (vol : Volume) (v : View) → IsAt vol v → Stands v.reads (world_on v)
+here_stands vol v at = record { good = at.good; world = refl }
+
+pub idle_world : (vol : Volume) (v : View) → IsSound v → IsAt vol v → LeavesWorld v v
+idle_world vol v sound at = started v (λ x f. Stands x (world_on v) × (f ≡ v.sent)) sound (λ x f left. (subst (λ (y : Image). Stands y (world_on v)) (sym (firm_image v at.firm x f left)) (here_stands vol v at), left.1))
+
+pub idle_owed : (vol : Volume) (v : View) → IsSound v → IsAt vol v → LeavesOwed v v (owed vol.tables)
+idle_owed vol v sound at = started v (λ x f. owed (tables_of (home x)) ≤ owed vol.tables) sound (λ x f left.
+    subst (λ (y : Image). owed (tables_of (home y)) ≤ owed vol.tables) (sym (firm_image v at.firm x f left))
+    (let e : owed (tables_of (home v.reads)) ≡ owed vol.tables = ap owed at.tables in omega (arith, e)))
+
+-- one after the other
+pub world_joined : (old mid new : View) → LeavesWorld old mid → LeavesWorld mid new → world_on mid ≡ world_on old → mid.sent ≡ old.sent → LeavesWorld old new
+world_joined old mid new one two same sent = joined old mid new _ _ one two (λ x f left. (subst (λ w. Stands x w) same left.0, left.1 ∙ sent))
+
+pub owed_joined : (old mid new : View) (few most : ℕ) → LeavesOwed old mid most → LeavesOwed mid new few → few ≤ most → LeavesOwed old new most
+owed_joined old mid new few most one two less = joined old mid new _ _ one two (λ x f left. omega (arith, left, less))
