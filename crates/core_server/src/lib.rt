@@ -7,6 +7,8 @@
 //! block and pair that goes by it.
 #![tactic(auto)]
 
+mod run;
 mod server;
 
+pub use run::serve_core;
 pub use server::CoreServer;
