@@ -14,6 +14,7 @@ use tsd_core::Core;
 use tsd_model::{Reply, Request};
 
 /// A core with the placement by which it takes free blocks.
+#[derive(Drop)]
 pub struct CoreServer<'a> {
     /// The disk.
     pub core: &'a mut Core,

@@ -1,18 +1,23 @@
 -- What one run over an image did, from its start to its end.
-use Rattle.std.specs.Prelude.{◌≡◌, ◌⊎◌, ℕ, List, [], Result, Ok, Err, ⊤}
+use Rattle.std.specs.Prelude.{◌≡◌, ◌⊎◌, ℕ, ◌≤◌, false, List, [], Result, Ok, Err, ⊤, All}
 use Rattle.tsd_model.specs.World.{World}
 use Rattle.tsd_model.specs.Run.{at_rest}
 use Rattle.tsd_model.specs.declared.requests.PlaceKind.{PlaceKind}
 use Rattle.tsd_model.specs.declared.requests.Request.{Request}
 use Rattle.image_device.specs.View.{View}
 use Rattle.image_device.specs.Runs.{IsFirm, LeavesOnly}
-use Rattle.image_layout.specs.Image.{Image}
+use Rattle.image_layout.specs.Areas.{sweep_flag}
+use Rattle.image_layout.specs.Image.{Image, is_open}
+use Rattle.intent_journal.specs.Home.{home}
 use Rattle.image_world.specs.Faults.{IsGood, IsFirstFault}
 use Rattle.image_world.specs.Stands.{Stands, world_of}
+use Rattle.recovery.specs.Opening.{IsQuiet}
 use Rattle.recovery.specs.declared.fault.OpenFault.{OpenFault}
 use Rattle.recovery.specs.declared.fault.OpenFault.TheVariants as opening
 use Rattle.tsd_words.specs.declared.status.Status.{Status}
 use Rattle.tsd_words.specs.declared.status.Status.TheVariants as status
+use Rattle.serving.specs.Costs.{IsPaidFor}
+use Rattle.serving.specs.Debts.{HasDebt}
 use Rattle.serving.specs.Input.{Spelling}
 use Rattle.serving.specs.ModelRules.{Placed}
 use Rattle.serving.specs.Ran.{AskedBy, ByStatus}
@@ -20,8 +25,8 @@ use Rattle.serving.specs.Runs.{IsAcknowledged}
 use Rattle.serving.specs.Service.{Service}
 use Rattle.serving.specs.Voice.{Voice, spoken}
 use Rattle.tsd_core.specs.Core.{Core}
-use Rattle.tsd_core.specs.Work.{IsClosed}
-use Rattle.core_server.specs.Server.{disk_rules}
+use Rattle.tsd_core.specs.Work.{IsClosed, debt}
+use Rattle.core_server.specs.Server.{disk_rules, disk_work}
 
 -- ---- what a status says of the image at the start
 
@@ -74,11 +79,21 @@ pub record IsAtEase (v : View) (w : World) : Type 0 where
   pub stands : Stands v.reads w
   pub closed : IsClosed v.reads
 
+-- How much a crash may have left to be reclaimed: what the requests make of which replies were sent, less four a reply; or
+-- while nothing is sent, no more than at the start, where no sweep had begun there.
+abbrev pub IsOwed : Voice → PlaceKind → View → List Request → Image → List ℕ → Type 0
+IsOwed v kind old asked x f =
+    HasDebt (disk_service v) disk_work (start_of kind old.reads) old.sent 0 asked x f
+    ⊎ ((f ≡ old.sent) × (is_open (home old.reads sweep_flag) ≡ false → debt x ≤ debt old.reads))
+
 -- How a run over these requests ended: what was sent; where the disk was firm and stood for a world, what a crash at any
--- moment may have left; and after Done, what the disk is.
+-- moment may have left; how much of that is still to be reclaimed, with no sweep among the requests; how often was written,
+-- where nothing was left to be done at the start and there is no sweep; and after Done, what the disk is.
 pub record Ends (r : Status) (v : Voice) (kind : PlaceKind) (old new : View) (asked : List Request) (final : Placed) : Type 0 where
   pub sent : ByStatus r (disk_service v) (start_of kind old.reads) old.sent asked final new.sent
   pub any_moment : IsFirm old → (w : World) → Stands old.reads w → LeavesOnly old new (IsAcknowledged (disk_service v) (start_of kind old.reads) old.sent asked)
+  pub debt : IsFirm old → All disk_work.bounded asked → LeavesOnly old new (IsOwed v kind old asked)
+  pub writes : IsQuiet old.reads → IsPaidFor (disk_service v) disk_work (start_of kind old.reads) asked old.writes new.writes
   pub done : r ≡ status.Done → IsAtEase new final.state.world
 
 -- Bytes that came in, the requests that were asked by them, and how the run over these ended, where the device tells.

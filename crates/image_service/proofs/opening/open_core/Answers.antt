@@ -1,8 +1,10 @@
-use Rattle.std.proofs.Common.{◌≡◌, sym, ◌∙◌, ap, subst}
+use Rattle.std.proofs.Common.{◌≡◌, ◌≤◌, ◌+◌, sym, ◌∙◌, ap, subst, arith}
 use Rattle.std.specs.Prelude.{Err}
 use Rattle.recovery.specs.declared.fault.OpenFault.{OpenFault}
+use Rattle.volume_laws.specs.Moments.{owed}
 use Rattle.volume_laws.specs.Volume.{Volume}
 use Rattle.volume_laws.specs.Volume.{IsAt as IsVolumeAt}
+use Rattle.volume_laws.specs.Writes.{due}
 use Rattle.tsd_words.specs.declared.status.Status.{Status}
 use Rattle.tsd_core.proofs.AtLaws.{at_core}
 use Rattle.image_service.specs.Served.{IsJudged, IsUnopened}
@@ -60,3 +62,24 @@ returns-in-Err-clause-fault g c other = c.in-Err.ensures.faultless (λ e. other 
 
 pub returns-in-Err-clause-cause : goal.returns-in-Err-clause-cause
 returns-in-Err-clause-cause g c e = c.in-Err.ensures.cause (ap (λ (w : OpenFault). Err w) (device_of c.in-Err.why (sym c.status_of.ensures ∙ e)))
+
+pub returns-in-Ok-clause-any_debt : goal.returns-in-Ok-clause-any_debt
+returns-in-Ok-clause-any_debt g c = c.open_image.ensures.any_owed
+
+pub returns-in-Ok-clause-settled : goal.returns-in-Ok-clause-settled
+returns-in-Ok-clause-settled g c told = ap owed (c.in-Ok.ensures.at told).tables ∙ c.in-Ok.ensures.settled
+
+pub returns-in-Ok-clause-unwritten : goal.returns-in-Ok-clause-unwritten
+returns-in-Ok-clause-unwritten g c told quiet = omega (arith, (c.open_image.ensures.unwritten told quiet).most)
+
+pub returns-in-Ok-clause-paid : goal.returns-in-Ok-clause-paid
+returns-in-Ok-clause-paid g c told quiet =
+    let old = g.D.Device.view c.args.dev.now in
+    let now = g.D.Device.view c.open_image.new.dev in
+    subst (λ (v : Volume). now.writes + due v ≤ old.writes) (sym c.new.ensures.volume) (c.in-Ok.ensures.paid told quiet)
+
+pub returns-in-Err-clause-any_debt : goal.returns-in-Err-clause-any_debt
+returns-in-Err-clause-any_debt g c = c.open_image.ensures.any_owed
+
+pub returns-in-Err-clause-unwritten : goal.returns-in-Err-clause-unwritten
+returns-in-Err-clause-unwritten g c told quiet = omega (arith, (c.open_image.ensures.unwritten told quiet).most)
