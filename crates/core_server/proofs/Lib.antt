@@ -1,3 +1,2 @@
 pub mod StepForm
 pub mod Serving
-pub mod Kept

@@ -42,8 +42,10 @@ state_of_none c x w e none =
     same ∙ ap at_rest e
 
 -- the same beside a placement
-pub placed_at : (kind : PlaceKind) (c : Core) (x : Image) (w : World) → state_on c x ≡ at_rest w → placed_on kind c x ≡ record { kind = kind; state = at_rest w }
-placed_at kind c x w at = ap (λ (s : State). let p : Placed = record { kind = kind; state = s } in p) at
+pub placed_at : (kind other : PlaceKind) (c d : Core) (x : Image) (w : World) → other ≡ kind → d ≡ c → state_on c x ≡ at_rest w → placed_on other d x ≡ record { kind = kind; state = at_rest w }
+placed_at kind other c d x w same_kind same at =
+    ap (λ (k : PlaceKind). let p : Placed = record { kind = k; state = state_on d x } in p) same_kind
+    ∙ ap (λ (s : State). let p : Placed = record { kind = kind; state = s } in p) (ap (λ (e : Core). state_on e x) same ∙ at)
 
 -- with nothing answered, an image of the world at the start
 pub first_moment : (v : Voice) (s : Placed) (before : List ℕ) (qs : List Request) (x : Image) (f : List ℕ) → IsCounted (disk_service v) → Stands x s.state.world → f ≡ before

@@ -1,5 +1,7 @@
-use Rattle.std.proofs.Common.{◌≡◌, inl, inr, ℕ, [], refl, sym, ◌∙◌, subst, append-nil, arith}
+use Rattle.std.proofs.Common.{◌≡◌, inl, inr, ℕ, [], ◌+◌, ◌≤◌, refl, sym, ◌∙◌, subst, append-nil, arith, lit<}
 use Rattle.image_device.specs.Counts.{Rose}
+use Rattle.tsd_core.specs.Core.{Core, IsReady, IsAt}
+use Rattle.volume_laws.specs.Writes.{due}
 use Rattle.core_server.specs.Server.{disk_rules, placed_on}
 use Rattle.serving.specs.Voice.{spoken_counted}
 use Rattle.image_service.specs.Served.{start_of}
@@ -13,10 +15,15 @@ pub serve_core-requires-clause-fresh : goal.serve_core-requires-clause-fresh
 serve_core-requires-clause-fresh g c = c.requires.fresh
 
 pub serve_core-requires-clause-ready : goal.serve_core-requires-clause-ready
-serve_core-requires-clause-ready g c = c.in-Ok.ensures.ready
+serve_core-requires-clause-ready g c = subst (λ (d : Core). IsReady d) (sym c.new-server.ensures.core) c.in-Ok.ensures.ready
 
 pub serve_core-requires-clause-at : goal.serve_core-requires-clause-at
-serve_core-requires-clause-at g c = c.in-Ok.ensures.at
+serve_core-requires-clause-at g c told =
+    let mid = g.P.Device.view c.open_core.new.dev in
+    subst (λ (d : Core). IsAt d mid) (sym c.new-server.ensures.core) (c.in-Ok.ensures.at told)
+
+pub array_drop-server-requires : goal.array_drop-server-requires
+array_drop-server-requires g c = lit< tt
 
 pub returns-in-Ok-clause-read : goal.returns-in-Ok-clause-read
 returns-in-Ok-clause-read g c told =
@@ -34,15 +41,15 @@ returns-in-Ok-clause-ran g c =
       came_in = ran.came_in;
       asked = ran.asked;
       these = inr ran.these;
-      final = placed_on c.args.place.now.kind c.serve_core.new.core new.reads;
+      final = placed_on c.serve_core.new.server.place.now.kind c.serve_core.new.server.core new.reads;
       ends = λ told.
           ends_opened c.serve_core.result g.R.Replies.voice c.args.place.now.kind old mid new ran.asked _ _ _ (spoken_counted disk_rules g.R.Replies.voice (λ s q r t given. given.1) g.met.R.Replies.apart)
-          (placed_at c.args.place.now.kind c.in-Ok.core mid.reads _ (c.in-Ok.ensures.state told)) (c.in-Ok.ensures.settled told)
+          (placed_at c.args.place.now.kind _ c.in-Ok.core c.new-server.result.core mid.reads _ c.new-server.ensures.place c.new-server.ensures.core (c.in-Ok.ensures.state told)) (c.in-Ok.ensures.settled told)
           (record {
             sent = c.open_core.ensures.sent told;
             any_moment = c.open_core.ensures.any_moment told;
             any_debt = c.open_core.ensures.any_debt told;
-            writes = c.in-Ok.ensures.paid told;
+            writes = λ quiet. subst (λ (d : Core). mid.writes + due d.volume ≤ old.writes) (sym c.new-server.ensures.core) (c.in-Ok.ensures.paid told quiet);
           })
           (ran.ends told)
           (λ done. record {
