@@ -1,24 +1,23 @@
 -- A run after formatting, as one from the start.
-use Rattle.std.proofs.Common.{◌≡◌, ◌⊎◌, inl, inr, ℕ, List, [], ◌∷◌, ◌++◌, refl, sym, ◌∙◌, subst, append-nil}
+use Rattle.std.proofs.Common.{◌≡◌, ◌⊎◌, inl, inr, ℕ, List, [], refl, sym, ◌∙◌, subst, append-nil}
 use Rattle.tsd_model.specs.World.{World}
-use Rattle.tsd_model.specs.Run.{at_rest}
 use Rattle.tsd_model.specs.declared.requests.PlaceKind.{PlaceKind}
 use Rattle.tsd_model.specs.declared.requests.Request.{Request}
 use Rattle.image_device.specs.View.{View}
 use Rattle.image_device.specs.Runs.{IsFirm, LeavesOnly}
 use Rattle.image_device.proofs.Moments.{joined, weakened}
 use Rattle.image_layout.specs.Image.{Image}
-use Rattle.image_world.specs.Stands.{Stands, world_of}
+use Rattle.image_world.specs.Stands.{Stands}
 use Rattle.recovery.specs.Formatting.{IsFormatting}
 use Rattle.tsd_words.specs.declared.status.Status.{Status}
 use Rattle.tsd_words.specs.declared.status.Status.TheVariants as status
 use Rattle.serving.specs.Input.{Spelling}
 use Rattle.serving.specs.ModelRules.{Placed}
-use Rattle.serving.specs.Ran.{ByStatus, AskedBy}
+use Rattle.serving.specs.Ran.{ByStatus}
 use Rattle.serving.specs.Runs.{IsAcknowledged}
 use Rattle.serving.specs.Service.{IsCounted}
 use Rattle.serving.specs.Voice.{Voice}
-use Rattle.image_service.specs.Served.{disk_service, Ends, NotOpened, Ran}
+use Rattle.image_service.specs.Served.{disk_service, Ends, Ran}
 use Rattle.image_service.specs.Fresh.{fresh_start, FreshEnds, FreshRan}
 
 -- what formatting leaves, or what a run after it leaves

@@ -1,6 +1,6 @@
 -- A disk that was opened, and a run from there as one from the start.
-use Rattle.std.proofs.Common.{◌≡◌, inl, inr, ℕ, ◌≤◌, ◌+◌, Bool, true, false, List, [], refl, sym, ◌∙◌, ap, subst, append-nil, arith}
-use Rattle.std.specs.Prelude.{Result, Ok, Err, IfOk, All}
+use Rattle.std.proofs.Common.{◌≡◌, inl, inr, ℕ, ◌≤◌, Bool, true, false, List, [], refl, sym, ◌∙◌, ap, subst, append-nil, arith}
+use Rattle.std.specs.Prelude.{Result, Err, All}
 use Rattle.tsd_model.specs.World.{World}
 use Rattle.tsd_model.specs.Sessions.{Sessions, no_sessions, fitted}
 use Rattle.tsd_model.specs.Step.{State}
@@ -26,7 +26,7 @@ use Rattle.serving.specs.Input.{Spelling}
 use Rattle.serving.specs.ModelRules.{Placed}
 use Rattle.serving.specs.Ran.{Ends as Served, ByStatus, AskedBy}
 use Rattle.serving.specs.Runs.{IsAcknowledged}
-use Rattle.serving.specs.Service.{Service, IsCounted}
+use Rattle.serving.specs.Service.{IsCounted}
 use Rattle.serving.specs.Voice.{Voice}
 use Rattle.serving.specs.Work.{used}
 use Rattle.tsd_core.specs.Core.{Core, state_on, told_world}

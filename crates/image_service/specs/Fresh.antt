@@ -1,5 +1,5 @@
 -- What one run over an image did that was formatted first.
-use Rattle.std.specs.Prelude.{◌≡◌, ◌≢◌, ◌⊎◌, ℕ, List, [], ◌∷◌}
+use Rattle.std.specs.Prelude.{◌≡◌, ◌⊎◌, ℕ, List, [], ◌∷◌}
 use Rattle.tsd_model.specs.World.{World}
 use Rattle.tsd_model.specs.Run.{at_rest, fresh_world}
 use Rattle.tsd_model.specs.declared.caps.CapPair.{CapPair}

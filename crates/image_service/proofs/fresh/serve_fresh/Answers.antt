@@ -1,4 +1,4 @@
-use Rattle.std.proofs.Common.{◌≡◌, ℕ, List, [], refl, sym, subst, append-nil}
+use Rattle.std.proofs.Common.{◌≡◌, List, refl, sym, subst, append-nil}
 use Rattle.image_device.specs.Runs.{LeavesOnly}
 use Rattle.image_world.specs.Stands.{Stands}
 use Rattle.recovery.specs.Formatting.{IsFormatting}

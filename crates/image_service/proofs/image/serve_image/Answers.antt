@@ -1,4 +1,4 @@
-use Rattle.std.proofs.Common.{◌≡◌, inl, inr, ℕ, [], ◌+◌, ◌≤◌, refl, sym, ◌∙◌, subst, append-nil, arith, lit<}
+use Rattle.std.proofs.Common.{inl, inr, ℕ, [], ◌+◌, ◌≤◌, refl, sym, ◌∙◌, subst, append-nil, arith, lit<}
 use Rattle.image_device.specs.Counts.{Rose}
 use Rattle.tsd_core.specs.Core.{Core, IsReady, IsAt}
 use Rattle.volume_laws.specs.Writes.{due}
