@@ -111,7 +111,7 @@ refused_applied told kind q c v r ready known table sound at refusal = record {
   told_given = let here = refused_over kind c.grants (told_world c) (told_world c) q r (over c (told_world c) ready known table (like_itself (told_world c))) refusal in
       record { want = here.want; reply = inl here.reply; world = subst (λ (s : State). AreLike (told_world c) s.world) here.state (like_itself (told_world c)); sessions = ap (λ s. s.sessions) here.state };
   refused = λ e. refl;
-  refusal = subst (λ (x : Option Rule). IfSome x (λ rule. Ok {E = Failed} (reply.Refused r) ≡ Ok (reply.Refused rule))) (sym (told_verdict c q ready known table ∙ refusal)) refl;
+  refusal = subst (λ (x : Option Rule). IfSome x (λ rule. ◌≡◌ {A = Result Reply Failed} (Ok (reply.Refused r)) (Ok (reply.Refused rule)))) (sym (told_verdict c q ready known table ∙ refusal)) refl;
   answered = λ e. refl;
   size = record { geometry = refl; version = refl };
   spent = tt;
