@@ -1,12 +1,9 @@
 -- From a request that was judged and carried out to what is said of it.
-use Rattle.std.proofs.Common.{◌≡◌, ◌⊎◌, ℕ, ◌+◌, ◌*◌, ◌≤◌, Bool, true, false, not, ◌||◌, List, length, refl, sym, ◌∙◌, ap, subst, arith, inl, inr, Option, Some, None}
-use Rattle.std.specs.Prelude.{Result, Ok, Err, IsOk, OnOk, OnErr, IfOk, IfSome, is_none, cond, filter}
-use Rattle.tsd_model.specs.Pairs.{holds, without_pair}
-use Rattle.tsd_model.specs.World.{World, is_live, has_number}
-use Rattle.tsd_model.specs.ReplyForm.{HasForm}
+use Rattle.std.proofs.Common.{◌≡◌, ◌⊎◌, ℕ, ◌+◌, ◌≤◌, Bool, true, false, List, length, refl, sym, ◌∙◌, ap, subst, arith, inl, inr, Option, Some, None}
+use Rattle.std.specs.Prelude.{Result, Ok, IsOk, IfSome, is_none, cond, filter}
+use Rattle.tsd_model.specs.World.{World, has_number}
 use Rattle.tsd_model.specs.Sessions.{Sessions, fitted, no_sessions}
-use Rattle.tsd_model.specs.Step.{State, Outcome, step, raised_by, without_pointer}
-use Rattle.tsd_model.specs.Run.{answer}
+use Rattle.tsd_model.specs.Step.{State, Outcome, raised_by, without_pointer}
 use Rattle.tsd_model.specs.Verdict.{is_begin, verdict}
 use Rattle.tsd_model.specs.declared.replies.Reply.{Reply}
 use Rattle.tsd_model.specs.declared.replies.Reply.TheVariants as reply
@@ -15,34 +12,31 @@ use Rattle.tsd_model.specs.declared.requests.PlaceKind.{PlaceKind}
 use Rattle.tsd_model.specs.declared.requests.Request.{Request}
 use Rattle.tsd_model.specs.declared.requests.Request.TheVariants as ask
 use Rattle.image_device.specs.View.{View, IsSound}
-use Rattle.image_device.specs.Runs.{LeavesOnly}
 use Rattle.image_device.specs.declared.device.Failed.{Failed}
 use Rattle.image_device.proofs.Moments.{leaves_both, weakened}
-use Rattle.image_layout.specs.Image.{Image}
 use Rattle.intent_journal.specs.Home.{home}
 use Rattle.image_world.specs.Tables.{tables_of}
 use Rattle.disk_laws.specs.Bytes.{AreLike}
-use Rattle.disk_laws.specs.Reclaiming.{is_sweep}
 use Rattle.disk_laws.proofs.LikeLaws.{doomed_like, fitted_like}
 use Rattle.disk_laws.proofs.FitLaws.{geometry-change}
 use Rattle.tsd_model.specs.declared.geometry.Geometry.{Geometry}
 use Rattle.graph_laws.specs.Counts.{doomed_pairs}
 use Rattle.grant_table.specs.Table.{Table, IsTable, IsMadeFor, with_sessions}
-use Rattle.core_laws.specs.Seen.{table_change, table_after, world_after, reply_to, is_read, IsOver, IsAnswer, IsStarved, state_over}
+use Rattle.core_laws.specs.Seen.{world_after, reply_to, is_read, IsOver, IsAnswer, IsStarved, state_over}
 use Rattle.core_laws.proofs.StepSeen.{step_over, verdict_over}
 use Rattle.core_laws.proofs.AnswerSeen.{refused_over, granted_over, starved_over, reply_like, without_like}
 use Rattle.core_laws.proofs.FormLaws.{refusal_fits}
-use Rattle.volume_laws.specs.Volume.{Volume, told_by, world_on}
+use Rattle.volume_laws.specs.Volume.{Volume, world_on}
 use Rattle.volume_laws.specs.Volume.{IsAt as IsVolumeAt}
 use Rattle.volume_laws.specs.Moments.{LeavesEither, LeavesOwed, owed, made}
 use Rattle.volume_laws.specs.Writes.{due}
-use Rattle.tsd_core.specs.Core.{Core, IsReady, IsAt, told_world, told_state, sessions_of, state_on}
-use Rattle.tsd_core.specs.Work.{debt, made_by, made_in, cost_of, write_limit}
-use Rattle.tsd_core.specs.Carrying.{IsKnown, IsOperation, IsChanged, IsCarriedOut}
-use Rattle.tsd_core.specs.Applying.{IsReplyLike, IsToldAnswer, refuses, is_refusal, asks_nothing, next_world, LeavesDebt, IsApplied}
+use Rattle.tsd_core.specs.Core.{Core, IsReady, IsAt, told_world, sessions_of, state_on}
+use Rattle.tsd_core.specs.Work.{made_by, made_in, cost_of}
+use Rattle.tsd_core.specs.Carrying.{IsKnown, IsChanged, IsCarriedOut}
+use Rattle.tsd_core.specs.Applying.{IsToldAnswer, refuses, is_refusal, asks_nothing, next_world, LeavesDebt, IsApplied}
 use Rattle.tsd_core.proofs.AtLaws.{at_volume, at_core, like_at}
 use Rattle.tsd_core.proofs.Likes.{like_itself}
-use Rattle.tsd_core.proofs.Operations.{then_ok, if_ok, if_both, if_map, if_kept, and_ok, and_ok3}
+use Rattle.tsd_core.proofs.Operations.{then_ok, if_map, if_kept, and_ok, and_ok3}
 use Rattle.tsd_core.proofs.Quiet.{still_stands, still_owes}
 
 -- ---- the core over a world

@@ -1,10 +1,10 @@
 -- Each block that a deletion dooms lost a pair to it: so the cost of a request by the pairs that it removes.
-use Rattle.std.proofs.Common.{◌≡◌, ℕ, zero, suc, ◌+◌, ◌-◌, ◌*◌, ◌≤◌, Bool, true, false, not, cond, ◌&&◌, ◌||◌, ◌==◌, List, [], ◌∷◌, length, refl, sym, ◌∙◌, ap, subst, arith, inl, inr, Option, Some, None}
-use Rattle.std.proofs.lemmas.Bool.{eq-eqb, and_parts, and_from, both_ways, cases_Bool, ltb-false, ne_eqb, false_from_ne_true, not-true, not-false, or_left, or_right}
+use Rattle.std.proofs.Common.{◌≡◌, ℕ, zero, suc, ◌+◌, ◌-◌, ◌*◌, ◌≤◌, Bool, true, false, not, cond, ◌&&◌, ◌||◌, ◌==◌, List, [], ◌∷◌, length, refl, sym, ◌∙◌, ap, subst, arith, Option, Some, None}
+use Rattle.std.proofs.lemmas.Bool.{and_parts, and_from, both_ways, ltb-false, ne_eqb, false_from_ne_true, not-true, not-false}
 use Rattle.std.specs.Prelude.{filter, is_none}
 use Rattle.std.specs.List.{range_with_len}
 use Rattle.tsd_model.specs.Pairs.{is_pair, holds}
-use Rattle.tsd_model.specs.World.{World, is_live, all_blocks, has_number, free_count}
+use Rattle.tsd_model.specs.World.{World, has_number, free_count}
 use Rattle.tsd_model.specs.Doomed.{doomed, settle}
 use Rattle.tsd_model.specs.Valid.{IsValid}
 use Rattle.tsd_model.specs.Verdict.{verdict}
@@ -15,7 +15,7 @@ use Rattle.tsd_model.specs.declared.requests.PlaceKind.{PlaceKind}
 use Rattle.tsd_model.specs.declared.requests.Request.{Request}
 use Rattle.tsd_model.specs.declared.requests.Request.TheVariants as ask
 use Rattle.tsd_model.proofs.CountLaws.{filter_held, none_pass, count-without_pair}
-use Rattle.tsd_model.proofs.PairLaws.{holds-filter, is_pair_same, holds_first}
+use Rattle.tsd_model.proofs.PairLaws.{holds-filter, is_pair_same}
 use Rattle.tsd_model.proofs.SizeLaws.{length-filter_le}
 use Rattle.disk_laws.proofs.DoomLaws.{target_stays}
 use Rattle.disk_laws.proofs.ReclaimLaws.{doomed_is_live}
@@ -26,7 +26,6 @@ use Rattle.graph_laws.proofs.SettleLaws.{holds-settle}
 use Rattle.graph_laws.proofs.WeightLaws.{doomed_listed, free_count-settle}
 use Rattle.volume_laws.specs.Moments.{made}
 use Rattle.tsd_core.specs.Work.{made_by, made_in, cost_in}
-use Rattle.tsd_core.specs.Applying.{next_world}
 use Rattle.tsd_core.specs.Laws.{removed_by, reclaimed_by}
 
 -- ---- blocks that are each led to are no more than the pairs
@@ -137,9 +136,9 @@ granted_cost kind s q valid granted = omega arith
 pub costs_by_pairs : (kind : PlaceKind) (s : State) (q : Request) → IsValid s.world → cost_in s q ≤ 460 + 12 * removed_by kind s q
 costs_by_pairs kind s q valid = elim (verdict s.world s.sessions q) as (λ x. verdict s.world s.sessions q ≡ x
     → 460 + 5 * cond (is_none x) (made_by s.world q) 0 ≤ 460 + 12 * length (filter (λ e. not (holds (judged kind s q x).state.world.pairs e.0 e.1)) s.world.pairs)) [
-  | Some r ↦ λ e. omega arith
-  | None ↦ λ e. granted_cost kind s q valid e
-] refl
+      | Some r ↦ λ e. omega arith
+      | None ↦ λ e. granted_cost kind s q valid e
+    ] refl
 
 pub made_goes : (kind : PlaceKind) (s : State) (n a : ℕ) (shown : Shown) (b : ℕ) → IsValid s.world
     → made_in s (ask.Delete n a shown b) ≡ reclaimed_by kind s (ask.Delete n a shown b) + removed_by kind s (ask.Delete n a shown b)

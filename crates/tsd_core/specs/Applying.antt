@@ -18,7 +18,7 @@ use Rattle.image_device.specs.declared.device.Failed.{Failed}
 use Rattle.disk_laws.specs.Bytes.{AreLike}
 use Rattle.disk_laws.specs.Reclaiming.{is_sweep}
 use Rattle.core_laws.specs.Seen.{IsAnswer}
-use Rattle.volume_laws.specs.Moments.{LeavesEither, owed}
+use Rattle.volume_laws.specs.Moments.{LeavesEither}
 use Rattle.volume_laws.specs.Writes.{due, Works}
 use Rattle.tsd_core.specs.Core.{Core, IsReady, IsAt, told_world, told_state, sessions_of, state_on}
 use Rattle.tsd_core.specs.Work.{debt, made_in, cost_in, write_limit, SameSize}

@@ -1,4 +1,4 @@
-use Rattle.std.proofs.Common.{◌≡◌, Some, None, Option, sym, ◌∙◌, subst}
+use Rattle.std.proofs.Common.{◌≡◌, Some, None, Option, subst}
 use Rattle.tsd_model.specs.Verdict.{verdict}
 use Rattle.tsd_model.specs.declared.replies.Rule.{Rule}
 use Rattle.volume_laws.specs.Volume.{Volume, told_by}
