@@ -11,7 +11,7 @@ use Rattle.serving.specs.Handling.{DiskRules}
 use Rattle.serving.specs.ModelRules.{Placed, model_rules}
 use Rattle.serving.specs.Work.{Work}
 use Rattle.tsd_core.specs.Core.{Core, state_on}
-use Rattle.tsd_core.specs.Work.{debt, made_by, cost_of}
+use Rattle.tsd_core.specs.Work.{debt, made_in, cost_in}
 
 -- the abstract disk, where an image stands for its world
 abbrev pub disk_rules : DiskRules
@@ -21,8 +21,8 @@ disk_rules = model_rules Stands
 abbrev pub disk_work : Work Request Placed
 disk_work = record {
   bounded = λ q. is_sweep q ≡ false;
-  cost = λ s q. cost_of s.state.world q;
-  made = λ s q. made_by s.state.world q;
+  cost = λ s q. cost_in s.state q;
+  made = λ s q. made_in s.state q;
   debt = debt;
 }
 

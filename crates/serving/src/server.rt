@@ -1,6 +1,6 @@
 //! What answers requests.
 
-ghost use Rattle.std.specs.Prelude.{◌≡◌, ◌≢◌, ◌≤◌, ◌+◌, ◌-◌, ◌++◌, ◌⊎◌, ℕ, List, OnOk, OnErr, IfErr};
+ghost use Rattle.std.specs.Prelude.{◌≡◌, ◌≢◌, ◌≤◌, ◌+◌, ◌-◌, ◌++◌, ◌⊎◌, ℕ, List, Err, OnOk, OnErr, IfErr};
 ghost use Rattle.image_device.specs.Counts.{Rose};
 ghost use Rattle.image_device.specs.Image.{Image};
 ghost use Rattle.image_device.specs.Runs.{LeavesOnly};
@@ -41,8 +41,9 @@ pub trait Server<R: Protocol> {
     fn answer<P: Port>(&mut self, port: &mut P, request: &R::Request) -> Result<(), Status>
         requires ready { is_ready self.old }
         requires at { P.told → IsAt (holds self.old) (P.view port.old) }
-        ensures ready { OnOk result (is_ready self.new) }
-        ensures at { P.told → OnOk result (IsAt (holds self.new) (P.view port.new)) }
+        // Unless the device failed, it may be used again: also where the answer couldn't be sent whole.
+        ensures ready { result ≢ Err Status.DeviceFault → is_ready self.new }
+        ensures at { result ≢ Err Status.DeviceFault → P.told → IsAt (holds self.new) (P.view port.new) }
         ensures answered { P.told → OnOk result ((answer : List ℕ) × service.gives (state self.old (P.view port.old).reads) request.now answer (state self.new (P.view port.new).reads) × ((P.view port.new).sent ≡ (P.view port.old).sent ++ answer)) }
         ensures left { P.told → IfErr result (λ why. LeftBy why service (state self.old (P.view port.old).reads) request.now (P.view port.old).sent (P.view port.new).sent) }
         ensures any_moment { P.told → LeavesOnly (P.view port.old) (P.view port.new) (IsInAnswer service (state self.old (P.view port.old).reads) request.now (P.view port.old).sent) }

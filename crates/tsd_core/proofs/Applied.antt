@@ -1,12 +1,9 @@
 -- From a request that was judged and carried out to what is said of it.
-use Rattle.std.proofs.Common.{◌≡◌, ◌⊎◌, ℕ, ◌+◌, ◌*◌, ◌≤◌, Bool, true, false, not, ◌||◌, List, length, refl, sym, ◌∙◌, ap, subst, arith, inl, inr, Option, Some, None}
-use Rattle.std.specs.Prelude.{Result, Ok, Err, OnOk, OnErr, IfOk, filter}
-use Rattle.tsd_model.specs.Pairs.{holds, without_pair}
-use Rattle.tsd_model.specs.World.{World, is_live, has_number}
-use Rattle.tsd_model.specs.ReplyForm.{HasForm}
+use Rattle.std.proofs.Common.{◌≡◌, ◌⊎◌, ℕ, ◌+◌, ◌≤◌, Bool, true, false, List, length, refl, sym, ◌∙◌, ap, subst, arith, inl, inr, Option, Some, None}
+use Rattle.std.specs.Prelude.{Result, Ok, IsOk, IfSome, is_none, cond, filter}
+use Rattle.tsd_model.specs.World.{World, has_number}
 use Rattle.tsd_model.specs.Sessions.{Sessions, fitted, no_sessions}
-use Rattle.tsd_model.specs.Step.{State, Outcome, step, raised_by, without_pointer}
-use Rattle.tsd_model.specs.Run.{answer}
+use Rattle.tsd_model.specs.Step.{State, Outcome, raised_by, without_pointer}
 use Rattle.tsd_model.specs.Verdict.{is_begin, verdict}
 use Rattle.tsd_model.specs.declared.replies.Reply.{Reply}
 use Rattle.tsd_model.specs.declared.replies.Reply.TheVariants as reply
@@ -15,34 +12,31 @@ use Rattle.tsd_model.specs.declared.requests.PlaceKind.{PlaceKind}
 use Rattle.tsd_model.specs.declared.requests.Request.{Request}
 use Rattle.tsd_model.specs.declared.requests.Request.TheVariants as ask
 use Rattle.image_device.specs.View.{View, IsSound}
-use Rattle.image_device.specs.Runs.{LeavesOnly}
 use Rattle.image_device.specs.declared.device.Failed.{Failed}
 use Rattle.image_device.proofs.Moments.{leaves_both, weakened}
-use Rattle.image_layout.specs.Image.{Image}
 use Rattle.intent_journal.specs.Home.{home}
 use Rattle.image_world.specs.Tables.{tables_of}
 use Rattle.disk_laws.specs.Bytes.{AreLike}
-use Rattle.disk_laws.specs.Reclaiming.{is_sweep}
 use Rattle.disk_laws.proofs.LikeLaws.{doomed_like, fitted_like}
 use Rattle.disk_laws.proofs.FitLaws.{geometry-change}
 use Rattle.tsd_model.specs.declared.geometry.Geometry.{Geometry}
 use Rattle.graph_laws.specs.Counts.{doomed_pairs}
 use Rattle.grant_table.specs.Table.{Table, IsTable, IsMadeFor, with_sessions}
-use Rattle.core_laws.specs.Seen.{table_change, table_after, world_after, reply_to, is_read, IsOver, IsAnswer, IsStarved, state_over}
+use Rattle.core_laws.specs.Seen.{world_after, reply_to, is_read, IsOver, IsAnswer, IsStarved, state_over}
 use Rattle.core_laws.proofs.StepSeen.{step_over, verdict_over}
 use Rattle.core_laws.proofs.AnswerSeen.{refused_over, granted_over, starved_over, reply_like, without_like}
 use Rattle.core_laws.proofs.FormLaws.{refusal_fits}
-use Rattle.volume_laws.specs.Volume.{Volume, told_by, world_on}
+use Rattle.volume_laws.specs.Volume.{Volume, world_on}
 use Rattle.volume_laws.specs.Volume.{IsAt as IsVolumeAt}
 use Rattle.volume_laws.specs.Moments.{LeavesEither, LeavesOwed, owed, made}
 use Rattle.volume_laws.specs.Writes.{due}
-use Rattle.tsd_core.specs.Core.{Core, IsReady, IsAt, told_world, told_state, sessions_of, state_on}
-use Rattle.tsd_core.specs.Work.{debt, made_by, cost_of, write_limit}
-use Rattle.tsd_core.specs.Carrying.{IsKnown, IsOperation, IsChanged, IsCarriedOut}
-use Rattle.tsd_core.specs.Applying.{IsReplyLike, IsToldAnswer, is_refusal, asks_nothing, next_world, LeavesDebt, IsApplied}
+use Rattle.tsd_core.specs.Core.{Core, IsReady, IsAt, told_world, sessions_of, state_on}
+use Rattle.tsd_core.specs.Work.{made_by, made_in, cost_of}
+use Rattle.tsd_core.specs.Carrying.{IsKnown, IsChanged, IsCarriedOut}
+use Rattle.tsd_core.specs.Applying.{IsToldAnswer, refuses, is_refusal, asks_nothing, next_world, LeavesDebt, IsApplied}
 use Rattle.tsd_core.proofs.AtLaws.{at_volume, at_core, like_at}
 use Rattle.tsd_core.proofs.Likes.{like_itself}
-use Rattle.tsd_core.proofs.Operations.{then_ok, if_ok, if_both, if_map, if_kept, and_ok, and_ok3}
+use Rattle.tsd_core.proofs.Operations.{then_ok, if_map, if_kept, and_ok, and_ok3}
 use Rattle.tsd_core.proofs.Quiet.{still_stands, still_owes}
 
 -- ---- the core over a world
@@ -81,6 +75,16 @@ made_like t w (ask.SetCap s b shown caps) like = refl
 made_like t w (ask.Sweep s shown) like = refl
 made_like t w (ask.List s a shown start) like = refl
 
+-- the verdict by what is seen of the table is that by all of it
+told_verdict : (c : Core) (q : Request) → IsReady c → IsKnown c.volume → IsTable c.grants → refuses c q ≡ verdict (told_world c) c.grants.sessions q
+told_verdict c q ready known table = verdict_over c.grants (told_world c) (told_world c) q (over c (told_world c) ready known table (like_itself (told_world c)))
+
+-- what is granted makes what it makes in its world
+made_granted : (c : Core) (q : Request) (w : World) → IsOver c.grants (told_world c) w → ◌≡◌ {A = Option Rule} (verdict (told_world c) c.grants.sessions q) None
+    → made_by (told_world c) q ≡ made_in (record { world = w; sessions = sessions_of c }) q
+made_granted c q w here granted =
+    made_like (told_world c) w q here.like ∙ sym (ap (λ (x : Option Rule). cond (is_none x) (made_by w q) 0) (verdict_over c.grants (told_world c) w q here ∙ granted))
+
 -- ---- debts
 
 -- what is owed, and that nothing more is sent
@@ -101,12 +105,14 @@ refused_applied told kind q c v r ready known table sound at refusal = record {
   told_given = let here = refused_over kind c.grants (told_world c) (told_world c) q r (over c (told_world c) ready known table (like_itself (told_world c))) refusal in
       record { want = here.want; reply = inl here.reply; world = subst (λ (s : State). AreLike (told_world c) s.world) here.state (like_itself (told_world c)); sessions = ap (λ s. s.sessions) here.state };
   refused = λ e. refl;
+  refusal = subst (λ (x : Option Rule). IfSome x (λ rule. ◌≡◌ {A = Result Reply Failed} (Ok (reply.Refused r)) (Ok (reply.Refused rule)))) (sym (told_verdict c q ready known table ∙ refusal)) refl;
+  answered = λ e. refl;
   size = record { geometry = refl; version = refl };
   spent = tt;
   sent = λ t. refl;
   any_moment = λ t. still_stands c.volume v (next_world kind (state_on c v.reads) q) (sound t) (at_volume c v (at t));
-  debt = λ t b. owes c.volume v v (world_on v) (made_by (world_on v) q) (made_by (world_on v) q) (at_volume c v (at t)) refl
-      (still_owes c.volume v (made_by (world_on v) q) (sound t) (at_volume c v (at t))) (still_stands c.volume v (world_on v) (sound t) (at_volume c v (at t)));
+  debt = λ t b. owes c.volume v v (world_on v) (made_in (state_on c v.reads) q) (made_in (state_on c v.reads) q) (at_volume c v (at t)) refl
+      (still_owes c.volume v (made_in (state_on c v.reads) q) (sound t) (at_volume c v (at t))) (still_stands c.volume v (world_on v) (sound t) (at_volume c v (at t)));
   paid = λ t b. omega arith;
   most = λ t b. omega arith;
   limit = λ b. omega arith;
@@ -248,15 +254,15 @@ refused_keeps kind q old new r (inr starved) stays e =
 
 granted_risen : (told : Type 0) (kind : PlaceKind) (q : Request) (old new : Core) (v w : View) (result : Result Reply Failed) → IsReady old → IsKnown old.volume → IsTable old.grants
     → (told → IsAt old v) → ◌≡◌ {A = Option Rule} (verdict (told_world old) old.grants.sessions q) None
-    → IsCarriedOut told kind q (risen_in old q) new v w result → (asks_nothing q ≡ true → new.volume ≡ old.volume)
+    → IsCarriedOut told kind q (risen_in old q) new v w result → (asks_nothing q ≡ true → new.volume ≡ old.volume) → (asks_nothing q ≡ true → IsOk result)
     → IsApplied told kind q old new v w result
-granted_risen told kind q old new v w result ready known table at granted carried stays =
+granted_risen told kind q old new v w result ready known table at granted carried stays answered =
     let op = carried.volume in
     let t = told_world old in
     let there : told → IsVolumeAt old.volume v = λ h. at_volume old v (at h) in
     let like : told → AreLike t (world_on v) = λ h. like_at old.volume v (there h) in
     let here : told → IsOver old.grants t (world_on v) = λ h. over old (world_on v) ready known table (like h) in
-    let same : told → made_by t q ≡ made_by (world_on v) q = λ h. made_like t (world_on v) q (like h) in
+    let same : told → made_by t q ≡ made_in (state_on old v.reads) q = λ h. made_granted old q (world_on v) (here h) granted in
     let next : told → world_after kind (world_on v) q ≡ next_world kind (state_on old v.reads) q = λ h. sym (ap (λ (o : Outcome). o.state.world) (step_over kind old.grants t (world_on v) q (here h) granted)) in
     record {
       ready = and_ok3 result (λ r kept a b like_new. record { volume = a; unspent = b; made = made_after kind old q (told_world new) new.grants ready.made like_new (same_blocks kind old q r new.grants kept) }) carried.kept op.ready op.unspent op.like;
@@ -265,11 +271,13 @@ granted_risen told kind q old new v w result ready known table at granted carrie
       given = λ h. and_ok result (λ r kept bytes a done. given_over kind q old new.grants (world_on v) (told_world new) (world_on w) r (here h) granted (like_at new.volume w a) done (kept_in kind old q r new.grants kept) bytes) carried.kept (carried.bytes h) (op.at h) (op.done h);
       told_given = if_kept result (λ r kept like_new. told_answer kind q old new r ready known table granted like_new kept) carried.kept op.like;
       refused = if_map result (λ r kept e. refused_keeps kind q old new r kept stays e) carried.kept;
+      refusal = subst (λ (x : Option Rule). IfSome x (λ rule. result ≡ Ok (reply.Refused rule))) (sym (told_verdict old q ready known table ∙ granted)) tt;
+      answered = answered;
       size = record { geometry = op.size.0; version = op.size.1 };
       spent = op.spent;
       sent = op.sent;
       any_moment = λ h. subst (LeavesEither v w) (next h) (op.any_moment h);
-      debt = λ h b. owes old.volume v w (world_after kind (world_on v) q) (made_by t q) (made_by (world_on v) q) (there h) (same h) (op.any_owed h b) (op.any_moment h);
+      debt = λ h b. owes old.volume v w (world_after kind (world_on v) q) (made_by t q) (made_in (state_on old v.reads) q) (there h) (same h) (op.any_owed h b) (op.any_moment h);
       paid = λ h b. then_ok result (λ (p : w.writes + due new.volume ≤ v.writes + due old.volume + cost_of t q). omega (arith, p, same h)) (op.paid b);
       most = λ h b. omega (arith, op.most b, same h);
       limit = op.limit;
@@ -282,8 +290,8 @@ granted_risen told kind q old new v w result ready known table at granted carrie
 pub granted_applied : (told : Type 0) (kind : PlaceKind) (q : Request) (old mid new : Core) (v w : View) (result : Result Reply Failed) → IsReady old → IsKnown old.volume → IsTable old.grants
     → (told → IsAt old v) → ◌≡◌ {A = Option Rule} (verdict (told_world old) old.grants.sessions q) None
     → mid.volume ≡ old.volume → mid.grants ≡ with_sessions old.grants (raised_by (told_world old) old.grants.sessions q)
-    → IsCarriedOut told kind q mid new v w result → (asks_nothing q ≡ true → new.volume ≡ mid.volume)
+    → IsCarriedOut told kind q mid new v w result → (asks_nothing q ≡ true → new.volume ≡ mid.volume) → (asks_nothing q ≡ true → IsOk result)
     → IsApplied told kind q old new v w result
-granted_applied told kind q old mid new v w result ready known table at granted volume grants carried stays =
+granted_applied told kind q old mid new v w result ready known table at granted volume grants carried stays answered =
     let risen : mid ≡ risen_in old q = λ i. record { volume = volume i; grants = grants i } in
-    granted_risen told kind q old new v w result ready known table at granted (subst (λ (m : Core). IsCarriedOut told kind q m new v w result) risen carried) (λ e. stays e ∙ volume)
+    granted_risen told kind q old new v w result ready known table at granted (subst (λ (m : Core). IsCarriedOut told kind q m new v w result) risen carried) (λ e. stays e ∙ volume) answered

@@ -1,8 +1,7 @@
 -- A core at a device, and its volume there.
-use Rattle.std.proofs.Common.{◌≡◌, ℕ, refl, sym, ◌∙◌, ap, subst}
+use Rattle.std.proofs.Common.{refl, subst}
 use Rattle.image_device.specs.View.{View}
-use Rattle.intent_journal.specs.Home.{home}
-use Rattle.image_world.specs.Tables.{Tables, tables_of}
+use Rattle.image_world.specs.Tables.{Tables}
 use Rattle.image_world.specs.Raw.{blank_of}
 use Rattle.image_world.specs.Stands.{Stands, world_of}
 use Rattle.image_world.proofs.WorldLaws.{told_like}

@@ -1,9 +1,9 @@
 -- Chosen blocks may be given out.
-use Rattle.std.proofs.Common.{◌≡◌, ℕ, zero, suc, ◌+◌, ◌≤◌, Bool, true, false, List, [], ◌∷◌, length, refl, sym, ◌∙◌, ap, subst, arith, Option, Some, None}
+use Rattle.std.proofs.Common.{◌≡◌, ℕ, zero, suc, ◌+◌, ◌≤◌, Bool, true, false, List, [], ◌∷◌, length, ◌∙◌, subst, arith, Some, None}
 use Rattle.std.proofs.lemmas.List.{get_or-map, length-map}
-use Rattle.std.specs.Prelude.{map, is_some, slice_get, slice_index_or}
+use Rattle.std.specs.Prelude.{map, is_some, slice_get}
 use Rattle.std.specs.List.{range_with_len}
-use Rattle.tsd_model.specs.World.{World, contents, is_live, is_free}
+use Rattle.tsd_model.specs.World.{World, is_free}
 use Rattle.tsd_model.specs.Placing.{hint_block, chosen, chosen_run}
 use Rattle.tsd_model.specs.Step.{run_at}
 use Rattle.tsd_model.specs.declared.requests.Hint.{Hint}

@@ -6,3 +6,4 @@ pub mod Rising
 pub mod Quiet
 pub mod Applied
 pub mod Settling
+pub mod PairCosts

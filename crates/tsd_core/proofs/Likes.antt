@@ -1,7 +1,6 @@
 -- Worlds that are like, and what is told of them.
-use Rattle.std.proofs.Common.{◌≡◌, ℕ, ◌*◌, ◌≤◌, refl, sym, ◌∙◌, ap, subst, arith, inl, inr}
-use Rattle.std.specs.Prelude.{length}
-use Rattle.tsd_model.specs.World.{World, is_live}
+use Rattle.std.proofs.Common.{◌≡◌, ℕ, ◌*◌, ◌≤◌, refl, sym, subst, arith, inl, inr}
+use Rattle.tsd_model.specs.World.{World}
 use Rattle.tsd_model.specs.Geometry.{IsLawful, block_len}
 use Rattle.tsd_model.specs.ReplyForm.{IsBlockSize}
 use Rattle.tsd_model.specs.declared.geometry.Geometry.{Geometry}

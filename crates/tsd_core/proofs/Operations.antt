@@ -1,7 +1,6 @@
 -- From a call on the volume to the request that it carries out.
-use Rattle.std.proofs.Common.{◌≡◌, ℕ, ◌+◌, ◌≤◌, true, false, List, refl, sym, ◌∙◌, ap, subst, arith, inl, inr}
+use Rattle.std.proofs.Common.{◌≡◌, ℕ, ◌+◌, ◌≤◌, true, false, List, arith, inl}
 use Rattle.std.specs.Prelude.{Result, Ok, Err, OnOk, OnErr, IfOk}
-use Rattle.tsd_model.specs.World.{World}
 use Rattle.tsd_model.specs.ReplyForm.{HasForm}
 use Rattle.tsd_model.specs.declared.replies.Reply.{Reply}
 use Rattle.tsd_model.specs.declared.replies.Reply.TheVariants as reply
@@ -11,11 +10,11 @@ use Rattle.image_device.specs.View.{View}
 use Rattle.image_device.specs.Calls.{Uses}
 use Rattle.image_device.specs.declared.device.Failed.{Failed}
 use Rattle.grant_table.specs.Table.{with_sessions}
-use Rattle.core_laws.specs.Seen.{table_change, world_after, reply_to, is_read}
+use Rattle.core_laws.specs.Seen.{table_change, reply_to, is_read}
 use Rattle.volume_laws.specs.Volume.{Volume, world_on}
 use Rattle.volume_laws.specs.Writes.{due, IsPaid, Works}
 use Rattle.tsd_core.specs.Core.{Core, told_world}
-use Rattle.tsd_core.specs.Carrying.{IsOperation, IsChanged, IsCarriedOut, replied}
+use Rattle.tsd_core.specs.Carrying.{IsOperation, IsCarriedOut, replied}
 
 -- ---- outcomes
 

@@ -1,6 +1,6 @@
 -- Requests that ask nothing of the device.
-use Rattle.std.proofs.Common.{◌≡◌, ◌⊎◌, ℕ, ◌+◌, ◌≤◌, true, false, refl, sym, ◌∙◌, ap, subst, arith, inl, inr}
-use Rattle.std.specs.Prelude.{Result, Ok}
+use Rattle.std.proofs.Common.{◌≡◌, ◌⊎◌, ℕ, ◌+◌, ◌≤◌, true, false, refl, sym, ◌∙◌, ap, subst, arith, inl}
+use Rattle.std.specs.Prelude.{Ok}
 use Rattle.tsd_model.specs.World.{World}
 use Rattle.tsd_model.specs.ReplyForm.{HasForm}
 use Rattle.tsd_model.specs.declared.replies.Reply.{Reply}
@@ -12,16 +12,13 @@ use Rattle.image_layout.specs.Image.{Image}
 use Rattle.intent_journal.specs.Home.{home}
 use Rattle.image_world.specs.Tables.{tables_of}
 use Rattle.image_world.specs.Stands.{Stands}
-use Rattle.disk_laws.specs.Bytes.{AreLike}
-use Rattle.disk_laws.specs.Reclaiming.{is_sweep}
 use Rattle.core_laws.specs.Seen.{world_after, is_read, IsStarved}
 use Rattle.volume_laws.specs.Volume.{Volume, world_on, told_by}
 use Rattle.volume_laws.specs.Volume.{IsAt as IsVolumeAt}
 use Rattle.volume_laws.specs.Volume.{IsReady as IsVolumeReady}
 use Rattle.volume_laws.specs.Moments.{StandsForEither, LeavesEither, LeavesOwed, owed}
-use Rattle.volume_laws.specs.Writes.{due}
 use Rattle.tsd_core.specs.Core.{Core, IsReady, IsAt, told_world}
-use Rattle.tsd_core.specs.Work.{made_by, cost_of, write_limit}
+use Rattle.tsd_core.specs.Work.{made_by}
 use Rattle.tsd_core.specs.Carrying.{IsOperation, IsChanged, IsCarriedOut}
 use Rattle.tsd_core.proofs.AtLaws.{at_volume, stands_at}
 use Rattle.tsd_core.proofs.Likes.{like_as}

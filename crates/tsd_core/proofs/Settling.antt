@@ -1,11 +1,8 @@
 -- What is left to be reclaimed, over calls that keep the world.
-use Rattle.std.proofs.Common.{◌≡◌, ◌⊎◌, ℕ, ◌+◌, ◌-◌, ◌≤◌, refl, sym, ◌∙◌, ap, subst, arith, inl, inr}
+use Rattle.std.proofs.Common.{◌≡◌, ◌⊎◌, ℕ, ◌+◌, ◌-◌, ◌≤◌, ◌∙◌, ap, subst, arith, inl, inr}
 use Rattle.image_device.specs.View.{View}
-use Rattle.image_device.specs.Runs.{LeavesOnly}
 use Rattle.image_device.proofs.Moments.{leaves_both, weakened, joined}
-use Rattle.intent_journal.specs.Home.{home}
 use Rattle.image_world.specs.Stands.{Stands}
-use Rattle.image_world.specs.Tables.{tables_of}
 use Rattle.volume_laws.specs.Volume.{Volume, world_on}
 use Rattle.volume_laws.specs.Volume.{IsAt as IsVolumeAt}
 use Rattle.volume_laws.specs.Moments.{LeavesWorld, LeavesOwed, owed}

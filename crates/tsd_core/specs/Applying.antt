@@ -1,11 +1,13 @@
 -- A request, applied.
-use Rattle.std.specs.Prelude.{◌≡◌, ◌⊎◌, ℕ, ◌+◌, ◌≤◌, Bool, true, false, List, Result, OnOk, OnErr, IfOk}
+use Rattle.std.specs.Prelude.{◌≡◌, ◌⊎◌, ℕ, ◌+◌, ◌≤◌, Bool, true, false, List, Option, Result, Ok, IsOk, OnOk, OnErr, IfOk, IfSome}
 use Rattle.tsd_model.specs.World.{World}
 use Rattle.tsd_model.specs.ReplyForm.{HasForm}
 use Rattle.tsd_model.specs.Step.{State, step}
 use Rattle.tsd_model.specs.Run.{answer}
+use Rattle.tsd_model.specs.Verdict.{verdict}
 use Rattle.tsd_model.specs.declared.replies.Reply.{Reply}
 use Rattle.tsd_model.specs.declared.replies.Reply.TheVariants as reply
+use Rattle.tsd_model.specs.declared.replies.Rule.{Rule}
 use Rattle.tsd_model.specs.declared.requests.PlaceKind.{PlaceKind}
 use Rattle.tsd_model.specs.declared.requests.Request.{Request}
 use Rattle.tsd_model.specs.declared.requests.Request.TheVariants as ask
@@ -16,11 +18,10 @@ use Rattle.image_device.specs.declared.device.Failed.{Failed}
 use Rattle.disk_laws.specs.Bytes.{AreLike}
 use Rattle.disk_laws.specs.Reclaiming.{is_sweep}
 use Rattle.core_laws.specs.Seen.{IsAnswer}
-use Rattle.volume_laws.specs.Volume.{world_on}
-use Rattle.volume_laws.specs.Moments.{LeavesEither, owed}
+use Rattle.volume_laws.specs.Moments.{LeavesEither}
 use Rattle.volume_laws.specs.Writes.{due, Works}
 use Rattle.tsd_core.specs.Core.{Core, IsReady, IsAt, told_world, told_state, sessions_of, state_on}
-use Rattle.tsd_core.specs.Work.{debt, made_by, cost_of, write_limit, SameSize}
+use Rattle.tsd_core.specs.Work.{debt, made_in, cost_in, write_limit, SameSize}
 
 -- the same reply, or both are the bytes of a block
 abbrev pub IsReplyLike : Reply → Reply → Type 0
@@ -38,6 +39,10 @@ abbrev pub is_refusal : Reply → Bool
 is_refusal (reply.Refused r) = true
 is_refusal reply.NoMemory = true
 is_refusal r = false
+
+-- the rule that refuses the request, if one does, as far as memory tells it: that is all of it
+abbrev pub refuses : Core → Request → Option Rule
+refuses c q = verdict (told_world c) (sessions_of c) q
 
 -- it opens or closes a session, or is answered from memory
 abbrev pub asks_nothing : Request → Bool
@@ -64,13 +69,15 @@ pub record IsApplied (told : Type 0) (kind : PlaceKind) (q : Request) (old new :
   pub given : told → IfOk result (λ r. IsAnswer kind (state_on old v.reads) q r (state_on new w.reads))
   pub told_given : IfOk result (λ r. IsToldAnswer kind old q r new)
   pub refused : IfOk result (λ r. is_refusal r ≡ true → new ≡ old)
+  pub refusal : IfSome (refuses old q) (λ rule. result ≡ Ok (reply.Refused rule))
+  pub answered : asks_nothing q ≡ true → IsOk result
   pub size : SameSize old new
   pub spent : OnErr result (new.volume.is_spent ≡ true)
   pub sent : told → w.sent ≡ v.sent
   pub any_moment : told → LeavesEither v w (next_world kind (state_on old v.reads) q)
-  pub debt : told → is_sweep q ≡ false → LeavesDebt v w (made_by (world_on v) q)
-  pub paid : told → is_sweep q ≡ false → OnOk result (w.writes + due new.volume ≤ v.writes + due old.volume + cost_of (world_on v) q)
-  pub most : told → is_sweep q ≡ false → w.writes ≤ v.writes + due old.volume + cost_of (world_on v) q
+  pub debt : told → is_sweep q ≡ false → LeavesDebt v w (made_in (state_on old v.reads) q)
+  pub paid : told → is_sweep q ≡ false → OnOk result (w.writes + due new.volume ≤ v.writes + due old.volume + cost_in (state_on old v.reads) q)
+  pub most : told → is_sweep q ≡ false → w.writes ≤ v.writes + due old.volume + cost_in (state_on old v.reads) q
   pub limit : is_sweep q ≡ false → w.writes ≤ v.writes + write_limit old.volume q
   pub works : Works v w
   pub faultless : OnOk result (w.faults ≡ v.faults)

@@ -8,14 +8,14 @@ use Rattle.image_device.specs.Runs.{IsFirm}
 use Rattle.image_layout.specs.Image.{Image}
 use Rattle.image_layout.specs.Ring.{records}
 use Rattle.intent_journal.specs.Home.{home}
-use Rattle.intent_journal.specs.Records.{Record, open_records, is_open_gate}
+use Rattle.intent_journal.specs.Records.{open_records, is_open_gate}
 use Rattle.image_world.specs.Faults.{IsGood}
 use Rattle.image_world.specs.Stands.{world_of}
 use Rattle.image_world.specs.Tables.{tables_of}
 use Rattle.grant_table.specs.Table.{Table, IsMadeFor}
 use Rattle.volume_laws.specs.Volume.{Volume, told_by}
 use Rattle.volume_laws.specs.Volume.{IsReady as IsVolumeReady}
-use Rattle.std.specs.Prelude.{length, List}
+use Rattle.std.specs.Prelude.{length}
 
 pub record Core : Type 0 where
   pub volume : Volume

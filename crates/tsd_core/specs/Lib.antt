@@ -4,3 +4,4 @@ pub mod Carrying
 pub mod Growing
 pub mod Granted
 pub mod Applying
+pub mod Laws

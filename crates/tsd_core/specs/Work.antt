@@ -1,6 +1,8 @@
 -- How much work requests make: sectors written, and what is left to be reclaimed.
-use Rattle.std.specs.Prelude.{◌≡◌, ℕ, ◌+◌, ◌*◌, ◌<◌, ◌≤◌, false}
+use Rattle.std.specs.Prelude.{◌≡◌, ℕ, ◌+◌, ◌*◌, ◌<◌, ◌≤◌, false, cond}
 use Rattle.tsd_model.specs.World.{World}
+use Rattle.tsd_model.specs.Step.{State}
+use Rattle.tsd_model.specs.Verdict.{is_granted}
 use Rattle.tsd_model.specs.declared.requests.Request.{Request}
 use Rattle.tsd_model.specs.declared.requests.Request.TheVariants as ask
 use Rattle.image_device.specs.View.{View}
@@ -26,6 +28,13 @@ made_by w q = 0
 -- what a request costs in writes, those that it leaves for later included; a sweep has no bound
 abbrev pub cost_of : World → Request → ℕ
 cost_of w q = 460 + 5 * made_by w q
+
+-- the same in a state: where a rule refuses the request, nothing goes by it
+abbrev pub made_in : State → Request → ℕ
+made_in s q = cond (is_granted s.world s.sessions q) (made_by s.world q) 0
+
+abbrev pub cost_in : State → Request → ℕ
+cost_in s q = 460 + 5 * made_in s q
 
 -- how often one call writes at most: new blocks and a new pointer may have to wait for what is left to be reclaimed
 abbrev pub write_limit : Volume → Request → ℕ

@@ -1,16 +1,16 @@
 //! One request.
 
-ghost use Rattle.std.specs.Prelude.{◌≡◌, ◌+◌, ◌≤◌, ◌||◌, true, false, OnOk, OnErr, IfOk};
+ghost use Rattle.std.specs.Prelude.{◌≡◌, ◌+◌, ◌≤◌, ◌||◌, true, false, Ok, IsOk, OnOk, OnErr, IfOk, IfSome};
 ghost use Rattle.image_device.specs.Counts.{Rose};
 ghost use Rattle.tsd_model.specs.ReplyForm.{HasForm};
+ghost use Rattle.tsd_model.specs.declared.replies.Reply.TheVariants as reply;
 ghost use Rattle.disk_laws.specs.Reclaiming.{is_sweep};
 ghost use Rattle.core_laws.specs.Seen.{IsAnswer};
-ghost use Rattle.volume_laws.specs.Volume.{world_on};
 ghost use Rattle.volume_laws.specs.Moments.{LeavesEither};
 ghost use Rattle.volume_laws.specs.Writes.{due, Works};
 ghost use Rattle.tsd_core.specs.Core.{IsReady, IsAt, state_on};
-ghost use Rattle.tsd_core.specs.Work.{made_by, cost_of, write_limit, SameSize};
-ghost use Rattle.tsd_core.specs.Applying.{IsToldAnswer, is_refusal, asks_nothing, next_world, LeavesDebt, IsApplied};
+ghost use Rattle.tsd_core.specs.Work.{made_in, cost_in, write_limit, SameSize};
+ghost use Rattle.tsd_core.specs.Applying.{IsToldAnswer, refuses, is_refusal, asks_nothing, next_world, LeavesDebt, IsApplied};
 
 use crate::disk::Core;
 use crate::told::Told;
@@ -38,6 +38,10 @@ impl Core {
         // What memory tells of the answer holds for every device.
         ensures told { IfOk result (λ r. IsToldAnswer place.now.kind self.old request.now r self.new) }
 
+        // What a rule refuses is answered so, and what asks nothing of the device is answered, by every device.
+        ensures refusal { IfSome (refuses self.old request.now) (λ rule. result ≡ Ok (reply.Refused rule)) }
+        ensures answered { asks_nothing request.now ≡ true → IsOk result }
+
         // A refusal changes nothing, and asks nothing of the device.
         ensures refused { IfOk result (λ r. is_refusal r ≡ true → self.new ≡ self.old) }
         ensures asks_nothing { IfOk result (λ r. (is_refusal r || asks_nothing request.now) ≡ true → dev.new ≡ dev.old) }
@@ -49,9 +53,9 @@ impl Core {
         // A crash at any moment leaves the world before or the world after.
         ensures any_moment { D.told → LeavesEither (D.view dev.old) (D.view dev.new) (next_world place.now.kind (state_on self.old (D.view dev.old).reads) request.now) }
 
-        ensures debt { D.told → is_sweep request.now ≡ false → LeavesDebt (D.view dev.old) (D.view dev.new) (made_by (world_on (D.view dev.old)) request.now) }
-        ensures paid { D.told → is_sweep request.now ≡ false → OnOk result ((D.view dev.new).writes + due self.new.volume ≤ (D.view dev.old).writes + due self.old.volume + cost_of (world_on (D.view dev.old)) request.now) }
-        ensures most { D.told → is_sweep request.now ≡ false → (D.view dev.new).writes ≤ (D.view dev.old).writes + due self.old.volume + cost_of (world_on (D.view dev.old)) request.now }
+        ensures debt { D.told → is_sweep request.now ≡ false → LeavesDebt (D.view dev.old) (D.view dev.new) (made_in (state_on self.old (D.view dev.old).reads) request.now) }
+        ensures paid { D.told → is_sweep request.now ≡ false → OnOk result ((D.view dev.new).writes + due self.new.volume ≤ (D.view dev.old).writes + due self.old.volume + cost_in (state_on self.old (D.view dev.old).reads) request.now) }
+        ensures most { D.told → is_sweep request.now ≡ false → (D.view dev.new).writes ≤ (D.view dev.old).writes + due self.old.volume + cost_in (state_on self.old (D.view dev.old).reads) request.now }
         ensures limit { is_sweep request.now ≡ false → (D.view dev.new).writes ≤ (D.view dev.old).writes + write_limit self.old.volume request.now }
         ensures works { Works (D.view dev.old) (D.view dev.new) }
         ensures faultless { OnOk result ((D.view dev.new).faults ≡ (D.view dev.old).faults) }

@@ -1,6 +1,6 @@
 //! A request that no rule refuses.
 
-ghost use Rattle.std.specs.Prelude.{◌≡◌, true};
+ghost use Rattle.std.specs.Prelude.{◌≡◌, true, IsOk};
 ghost use Rattle.tsd_core.specs.Applying.{asks_nothing};
 ghost use Rattle.grant_table.specs.Table.{IsTable};
 ghost use Rattle.tsd_core.specs.Core.{IsReady, IsAt, told_world};
@@ -25,6 +25,7 @@ impl Core {
         requires at { D.told → IsAt self.old (D.view dev.old) }
         ensures carried_out { IsCarriedOut D.told place.now.kind request.now self.old self.new (D.view dev.old) (D.view dev.new) result }
         ensures asks_nothing { asks_nothing request.now ≡ true → dev.new ≡ dev.old }
+        ensures answered { asks_nothing request.now ≡ true → IsOk result }
         ensures volume { asks_nothing request.now ≡ true → self.new.volume ≡ self.old.volume }
     {
         self.check();

@@ -11,6 +11,7 @@ mod blocks;
 mod carry;
 mod disk;
 mod grow;
+mod laws;
 mod outcome;
 mod pointers;
 mod raise;
@@ -19,3 +20,4 @@ mod settle;
 mod told;
 
 pub use disk::Core;
+pub use laws::a_request_costs_by_the_pairs_that_it_removes;

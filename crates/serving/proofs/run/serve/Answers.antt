@@ -1,7 +1,11 @@
-use Rattle.std.proofs.Common.{inr, [], ◌++◌, refl, ◌∙◌, arith}
+use Rattle.std.proofs.Common.{◌≡◌, inr, [], ◌++◌, refl, ◌∙◌, arith}
+use Rattle.std.specs.Prelude.{Result, Ok, Err}
 use Rattle.serving.proofs.Inputs.{came_first, came_then, handed_first, asked_stopped}
 use Rattle.serving.proofs.Steps.{served_of, ends_now, goes_first, goes_next, ends_stopped, ends_done, ends_close_fault, ends_longer, ran_of}
 use Rattle.serving.proofs.run.serve.Goals as goal
+
+ok_not_err : {T E : Type 0} (r : Result T E) (x : T) (why : E) → r ≡ Ok x → r ≡ Err why → ⊥
+ok_not_err r x why ok err = cc
 
 pub loop-request-init : goal.loop-request-init
 loop-request-init g c = record {
@@ -29,8 +33,8 @@ loop-request-preserved g c =
     let found = c.in-Request.ensures.found was.0 was.1 was.3 in
     record {
       limit = c.next.ensures.limit ∙ i.limit;
-      ready = c.in-Ok.ensures.ready;
-      at = c.in-Ok.ensures.at;
+      ready = c.answer.ensures.ready (ok_not_err c.answer.result _ _ c.in-Ok.is);
+      at = c.answer.ensures.at (ok_not_err c.answer.result _ _ c.in-Ok.is);
       source_faults = omega (arith, i.source_faults, c.in-Request.ensures.no_source_fault (λ e. cc));
       faults = omega (arith, i.faults, c.in-Ok.ensures.faultless);
       put_faults = omega (arith, i.put_faults, c.in-Ok.ensures.put_faultless);

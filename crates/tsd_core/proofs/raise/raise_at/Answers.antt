@@ -1,4 +1,4 @@
-use Rattle.std.proofs.Common.{◌≡◌, ℕ, ◌<◌, Some, sym, ◌∙◌, ap, subst, arith, Option}
+use Rattle.std.proofs.Common.{◌≡◌, sym, ◌∙◌, ap, subst, arith, Option}
 use Rattle.std.specs.Prelude.{slice_index_or}
 use Rattle.tsd_model.specs.Attained.{attained_from}
 use Rattle.tsd_model.specs.declared.needs.Need.{Need}

@@ -1,11 +1,9 @@
-use Rattle.std.proofs.Common.{◌≡◌, ℕ, ◌≤◌, length, sym, ◌∙◌, ap, subst, arith}
+use Rattle.std.proofs.Common.{◌≡◌, length, sym, ◌∙◌, ap, subst}
 use Rattle.tsd_model.specs.Placing.{chosen}
 use Rattle.tsd_model.specs.declared.requests.Hint.TheVariants as hint
-use Rattle.tsd_model.specs.declared.requests.Request.TheVariants as ask
 use Rattle.volume_laws.specs.Volume.{told_by}
 use Rattle.tsd_core.specs.Core.{Core, told_world}
 use Rattle.tsd_core.specs.Growing.{AreNew}
-use Rattle.tsd_core.specs.Carrying.{IsCarriedOut}
 use Rattle.tsd_core.proofs.Choosing.{new_chosen}
 use Rattle.tsd_core.proofs.disk.Core.alloc.Goals as goal
 

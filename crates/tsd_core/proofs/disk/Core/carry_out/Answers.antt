@@ -1,10 +1,6 @@
-use Rattle.std.proofs.Common.{◌≡◌, ◌⊎◌, ℕ, inl, inr, true, false, refl, sym, ◌∙◌, ap, subst}
+use Rattle.std.proofs.Common.{inl, inr, refl, sym, subst}
 use Rattle.std.specs.Prelude.{Ok}
 use Rattle.tsd_model.specs.ReplyForm.{HasForm}
-use Rattle.tsd_model.specs.World.{World, free_count}
-use Rattle.tsd_model.specs.Step.{targets_from}
-use Rattle.tsd_model.specs.declared.replies.Reply.{Reply}
-use Rattle.tsd_model.specs.declared.replies.Reply.TheVariants as reply
 use Rattle.tsd_model.specs.declared.requests.Request.{Request}
 use Rattle.tsd_model.specs.declared.requests.Request.TheVariants as ask
 use Rattle.core_laws.proofs.FormLaws.{free_fits, targets_fit}

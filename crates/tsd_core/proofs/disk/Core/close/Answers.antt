@@ -1,11 +1,10 @@
-use Rattle.std.proofs.Common.{◌≡◌, ℕ, ◌+◌, ◌≤◌, [], sym, ◌∙◌, ap, subst, arith}
+use Rattle.std.proofs.Common.{◌≡◌, [], sym, ◌∙◌, ap, subst, arith}
 use Rattle.std.specs.Prelude.{Result, Ok, Err, OnOk}
 use Rattle.volume_laws.specs.Volume.{Volume}
 use Rattle.volume_laws.specs.Volume.{IsAt as IsVolumeAt}
 use Rattle.volume_laws.specs.Moments.{owed}
 use Rattle.volume_laws.specs.Writes.{due, IsPaid}
 use Rattle.tsd_core.specs.Core.{Core, IsAt}
-use Rattle.tsd_core.specs.Work.{IsClosed}
 use Rattle.tsd_core.proofs.AtLaws.{at_volume}
 use Rattle.tsd_core.proofs.Operations.{then_ok}
 use Rattle.tsd_core.proofs.Settling.{debt_at, owes_no_more, worlds_joined, owing_joined}

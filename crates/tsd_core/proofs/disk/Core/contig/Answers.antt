@@ -1,5 +1,4 @@
-use Rattle.std.proofs.Common.{◌≡◌, ℕ, ◌+◌, ◌≤◌, Some, length, sym, ◌∙◌, ap, subst, arith}
-use Rattle.std.specs.List.{range_with_len}
+use Rattle.std.proofs.Common.{◌≡◌, ℕ, Some, length, sym, ◌∙◌, ap, subst, arith}
 use Rattle.tsd_model.specs.Placing.{chosen_run, hint_block}
 use Rattle.tsd_model.specs.Step.{run_at}
 use Rattle.tsd_model.specs.World.{World}

@@ -1,34 +1,23 @@
-use Rattle.std.proofs.Common.{[], not, inl, inr, ◌^◌, ◌≡◌, ℕ, ◌+◌, ◌-◌, ◌*◌, ◌<◌, ◌≤◌, true, false, refl, sym, ◌∙◌, ap, subst, arith}
-use Rattle.std.specs.Prelude.{Result, Ok, Err, OnOk, IfOk, length, Some, unwrap_or}
-use Rattle.tsd_model.specs.Geometry.{block_len, IsLawful}
-use Rattle.tsd_model.specs.World.{World, contents, is_live, free_count, has_number}
-use Rattle.tsd_model.specs.Doomed.{doomed, settle}
-use Rattle.tsd_model.specs.Reach.{reach, swept}
+use Rattle.std.proofs.Common.{◌≡◌, ℕ, ◌+◌, ◌*◌, ◌≤◌, sym, ◌∙◌, ap, subst, arith}
+use Rattle.std.specs.Prelude.{length}
+use Rattle.tsd_model.specs.Geometry.{IsLawful}
 use Rattle.tsd_model.specs.Placing.{chosen, chosen_run}
-use Rattle.tsd_model.specs.Records.{kept}
-use Rattle.tsd_model.specs.ReplyForm.{HasForm}
-use Rattle.tsd_model.specs.Sessions.{dropped_from}
-use Rattle.tsd_model.specs.Step.{filled, run_at, with_contents, with_caps, with_pointer, without_pointer, with_new_blocks}
+use Rattle.tsd_model.specs.Step.{run_at, with_new_blocks}
 use Rattle.tsd_model.specs.declared.replies.Reply.TheVariants as reply
 use Rattle.tsd_model.specs.declared.requests.Request.TheVariants as ask
 use Rattle.disk_laws.specs.Bytes.{AreLike}
-use Rattle.image_device.proofs.Outcomes.{on_ok}
-use Rattle.image_device.proofs.Moments.{weakened}
-use Rattle.intent_journal.specs.Ring.{checkpoint_writes}
 use Rattle.grant_table.specs.Table.{with_sessions}
-use Rattle.volume_laws.specs.Volume.{Volume, IsReady, told_by, world_on}
-use Rattle.volume_laws.specs.Volume.{IsAt as IsVolumeAt}
-use Rattle.volume_laws.specs.Moments.{LeavesEither, LeavesOwed, owed, made}
-use Rattle.volume_laws.specs.Writes.{batch_cost, due, IsPaid}
+use Rattle.volume_laws.specs.Volume.{told_by, world_on}
+use Rattle.volume_laws.specs.Moments.{LeavesEither, LeavesOwed, owed}
+use Rattle.volume_laws.specs.Writes.{batch_cost, due}
 use Rattle.core_laws.specs.Seen.{world_after}
-use Rattle.core_laws.proofs.StepSeen.{length-restricted}
-use Rattle.core_laws.proofs.FormLaws.{gone_fits, free_numbers}
-use Rattle.tsd_core.specs.Core.{Core, IsAt, told_world}
+use Rattle.core_laws.proofs.FormLaws.{free_numbers}
+use Rattle.tsd_core.specs.Core.{Core, IsAt}
 use Rattle.tsd_core.specs.Work.{cost_of}
-use Rattle.tsd_core.specs.Carrying.{IsKnown, IsOperation, IsCarriedOut, replied}
+use Rattle.tsd_core.specs.Carrying.{IsKnown, IsOperation, IsCarriedOut}
 use Rattle.tsd_core.proofs.AtLaws.{at_volume, like_at}
-use Rattle.tsd_core.proofs.Likes.{like_as, like_back, sectors_most, sectors_of_blocks, block_size_of}
-use Rattle.tsd_core.proofs.Operations.{then_ok, if_ok, if_both, ok_if, if_map, counted, at_most, most_due, paid_more, carried_out}
+use Rattle.tsd_core.proofs.Likes.{like_as, sectors_of_blocks}
+use Rattle.tsd_core.proofs.Operations.{then_ok, if_ok, counted, at_most, most_due, paid_more, carried_out}
 use Rattle.tsd_model.specs.ReplyForm.{AreNumbers}
 use Rattle.disk_laws.proofs.ByteLaws.{chosen_like, chosen_run_like}
 use Rattle.disk_laws.proofs.ChangeLaws.{chosen_are_free, chosen_run_is_free}

@@ -1,4 +1,4 @@
-use Rattle.std.proofs.Common.{◌≡◌, Some, None, Option, sym, ◌∙◌, subst}
+use Rattle.std.proofs.Common.{◌≡◌, Some, None, Option, subst}
 use Rattle.tsd_model.specs.Verdict.{verdict}
 use Rattle.tsd_model.specs.declared.replies.Rule.{Rule}
 use Rattle.volume_laws.specs.Volume.{Volume, told_by}
@@ -19,4 +19,4 @@ returns-in-Ok-clause-applied g c =
     c.requires.ready c.check.ensures.volume c.check.ensures.table c.requires.at
     (subst (λ (x : Core). ◌≡◌ {A = Option Rule} (verdict (told_world x) x.grants.sessions c.args.request.now) None) c.self.view_is
     (subst (λ (x : Volume). ◌≡◌ {A = Option Rule} (verdict (told_by x) c.self.inside.grants.sessions c.args.request.now) None) c.of.ensures c.in-Ok.ensures.ok))
-    c.raise.ensures.volume c.raise.ensures.grants c.carry_out.ensures.carried_out c.carry_out.ensures.volume
+    c.raise.ensures.volume c.raise.ensures.grants c.carry_out.ensures.carried_out c.carry_out.ensures.volume c.carry_out.ensures.answered

@@ -1,8 +1,7 @@
-use Rattle.std.proofs.Common.{◌≡◌, ◌⊎◌, ℕ, ◌+◌, ◌≤◌, sym, subst, arith}
+use Rattle.std.proofs.Common.{◌+◌, ◌≤◌, sym, subst, arith}
 use Rattle.std.specs.Prelude.{Result, Ok, Err, OnOk}
 use Rattle.volume_laws.specs.Writes.{due, IsPaid}
 use Rattle.tsd_core.specs.Core.{Core, IsAt}
-use Rattle.tsd_core.specs.Work.{LeavesNoDebt}
 use Rattle.tsd_core.proofs.AtLaws.{at_volume}
 use Rattle.tsd_core.proofs.Operations.{then_ok}
 use Rattle.tsd_core.proofs.Settling.{owes_no_more, owes_less}
