@@ -11,14 +11,16 @@ ghost use Rattle.core_server.specs.Server.{disk_rules, disk_work, placed_on};
 
 use crate::server::CoreServer;
 use image_device::{Port, Source};
+use place_policy::Placement;
 use serving::{INPUT_MAX, Protocol, Replies, serve};
+use tsd_core::Core;
 use tsd_model::Request;
 use tsd_words::Status;
 
-/// Serves the requests of an input by a core until it ends, as `serving::serve` does.
-#[tactic(none)]
+/// Serves the requests of an input by a core until it ends, as `serving::serve` does. Free blocks are taken by `place`.
 pub fn serve_core<S: Source, P: Port, R: Protocol<Request = Request> + Replies>(
-    server: &mut CoreServer,
+    core: &mut Core,
+    place: &Placement,
     protocol: &mut R,
     source: &mut S,
     port: &mut P,
@@ -26,11 +28,12 @@ pub fn serve_core<S: Source, P: Port, R: Protocol<Request = Request> + Replies>(
 ) -> Status
     requires few { limit ≤ INPUT_MAX }
     requires fresh { R.was_fed [] protocol.old }
-    requires ready { IsReady server.old.core }
-    requires at { P.told → IsAt server.old.core (P.view port.old) }
-    ensures ran { Ran result (spoken disk_rules R.voice) disk_work R.spelling (placed_on server.old.place.now.kind server.old.core (P.view port.old).reads) (placed_on server.new.place.now.kind server.new.core (P.view port.new).reads) limit (Came S.told (S.taken source.old) (S.taken source.new) (S.left_bytes source.old) (S.left_bytes source.new)) (IsAtEnd S.told (S.ended source.new) (S.left_bytes source.new)) P.told (due server.old.core.volume) (P.view port.old) (P.view port.new) }
-    ensures ready { result ≡ Status.Done → IsReady server.new.core }
-    ensures at { result ≡ Status.Done → P.told → IsAt server.new.core (P.view port.new) }
+    requires ready { IsReady core.old }
+    requires at { P.told → IsAt core.old (P.view port.old) }
+    ensures ran { Ran result (spoken disk_rules R.voice) disk_work R.spelling (placed_on place.now.kind core.old (P.view port.old).reads) (placed_on place.now.kind core.new (P.view port.new).reads) limit (Came S.told (S.taken source.old) (S.taken source.new) (S.left_bytes source.old) (S.left_bytes source.new)) (IsAtEnd S.told (S.ended source.new) (S.left_bytes source.new)) P.told (due core.old.volume) (P.view port.old) (P.view port.new) }
+    // Unless the device failed, the core may be used again.
+    ensures ready { result ≢ Status.DeviceFault → IsReady core.new }
+    ensures at { result ≢ Status.DeviceFault → P.told → IsAt core.new (P.view port.new) }
     ensures closed { result ≡ Status.Done → P.told → IsClosed (P.view port.new).reads }
     // A count of faults rose only where the status is that fault's.
     ensures source_fault { result ≡ Status.SourceFault → Rose (S.faults source.old) (S.faults source.new) }
@@ -40,5 +43,6 @@ pub fn serve_core<S: Source, P: Port, R: Protocol<Request = Request> + Replies>(
     ensures no_device_fault { result ≢ Status.DeviceFault → (P.view port.new).faults ≡ (P.view port.old).faults }
     ensures no_put_fault { result ≢ Status.PutFault → (P.view port.new).put_faults ≡ (P.view port.old).put_faults }
 {
-    serve(server, protocol, source, port, limit)
+    let mut server = CoreServer { core, place };
+    serve(&mut server, protocol, source, port, limit)
 }
