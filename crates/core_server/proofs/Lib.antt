@@ -1,2 +1,3 @@
 pub mod StepForm
 pub mod Serving
+pub mod RunCosts

@@ -7,6 +7,8 @@
 //! block and pair that goes by it.
 #![tactic(auto)]
 
+mod laws;
 mod server;
 
+pub use laws::{runs_are_the_disks, runs_cost_by_the_pairs_that_they_remove};
 pub use server::CoreServer;
