@@ -1,8 +1,8 @@
 -- What the core promises, as a serving loop asks it.
-use Rattle.std.proofs.Common.{◌≡◌, ◌⊎◌, ℕ, ◌+◌, ◌≤◌, false, refl, sym, ◌∙◌, ap, subst, inl, inr}
+use Rattle.std.proofs.Common.{◌≡◌, false, refl, inl, inr}
 use Rattle.std.specs.Prelude.{Result, Ok, Err, IfOk}
 use Rattle.tsd_model.specs.ReplyForm.{HasForm}
-use Rattle.tsd_model.specs.Step.{State, step}
+use Rattle.tsd_model.specs.Step.{step}
 use Rattle.tsd_model.specs.declared.replies.Reply.{Reply}
 use Rattle.tsd_model.specs.declared.requests.PlaceKind.{PlaceKind}
 use Rattle.tsd_model.specs.declared.requests.Request.{Request}
@@ -10,7 +10,7 @@ use Rattle.image_device.specs.View.{View, IsSound}
 use Rattle.image_device.specs.Runs.{LeavesOnly}
 use Rattle.image_device.proofs.Moments.{weakened}
 use Rattle.image_layout.specs.Image.{Image}
-use Rattle.image_world.specs.Stands.{Stands, world_of}
+use Rattle.image_world.specs.Stands.{world_of}
 use Rattle.image_world.proofs.WorldLaws.{world_valid}
 use Rattle.core_laws.specs.Seen.{IsAnswer}
 use Rattle.volume_laws.specs.Moments.{LeavesEither}

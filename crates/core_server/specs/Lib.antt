@@ -1,2 +1,3 @@
 pub mod Server
 pub mod StandsLaws
+pub mod Laws

@@ -1,12 +1,10 @@
 -- The core with its placement as a disk by its rules.
-use Rattle.std.specs.Prelude.{◌≡◌, ℕ, false}
-use Rattle.tsd_model.specs.Step.{State}
+use Rattle.std.specs.Prelude.{◌≡◌, false}
 use Rattle.tsd_model.specs.declared.requests.PlaceKind.{PlaceKind}
 use Rattle.tsd_model.specs.declared.requests.Request.{Request}
 use Rattle.image_layout.specs.Image.{Image}
 use Rattle.image_world.specs.Stands.{Stands}
 use Rattle.disk_laws.specs.Reclaiming.{is_sweep}
-use Rattle.volume_laws.specs.Writes.{due}
 use Rattle.serving.specs.Handling.{DiskRules}
 use Rattle.serving.specs.ModelRules.{Placed, model_rules}
 use Rattle.serving.specs.Work.{Work}

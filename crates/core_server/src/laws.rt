@@ -1,0 +1,13 @@
+//! Runs by the rules of the disk.
+
+ghost use Rattle.core_server.specs.Laws.{RunsAreTheDisks, RunsCostByPairs};
+
+/// A run by the rules of the disk is one of the abstract disk.
+pub fn runs_are_the_disks()
+    ensures { RunsAreTheDisks }
+{}
+
+/// A run costs at most 460 writes for each request, and 12 for each pair that its requests remove.
+pub fn runs_cost_by_the_pairs_that_they_remove()
+    ensures { RunsCostByPairs }
+{}
