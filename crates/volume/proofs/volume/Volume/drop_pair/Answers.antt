@@ -148,6 +148,7 @@ invariant_of-self g c =
       hidden = c.lower-lost.ensures.hidden;
       ahead = λ e. ahead;
       begun = λ e n. absurd (both_ways i.is_ready e (ap (λ (w : Volume). w.is_ready) c.self.view_is ∙ c.requires.ready.0));
+      still = v.still;
     }
 
 -- the volume then
