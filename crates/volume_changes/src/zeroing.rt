@@ -57,11 +57,7 @@ fn zero_block<D: Device>(dev: &mut D, layout: &Layout, block: u32) -> Result<(),
 }
 
 /// Writes zeros to the data sectors of these blocks.
-pub fn zero_blocks<D: Device>(
-    dev: &mut D,
-    layout: &Layout,
-    blocks: &[u32],
-) -> Result<(), Failed>
+pub fn zero_blocks<D: Device>(dev: &mut D, layout: &Layout, blocks: &[u32]) -> Result<(), Failed>
     requires inside { (b : ℕ) → has_number blocks.now b ≡ true → b < layout.now.geometry.blocks }
     ensures zeroed { D.told → OnOk result ((b part : ℕ) → has_number blocks.now b ≡ true → part < layout.now.geometry.sectors → (D.view dev.new).reads (data_sector layout.now.geometry b part) ≡ zeros) }
     ensures confined { D.told → IsConfined (is_data layout.now.geometry blocks.now) (D.view dev.old) (D.view dev.new) }
