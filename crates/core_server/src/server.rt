@@ -2,7 +2,7 @@
 
 ghost use Rattle.std.specs.Prelude.{◌≡◌};
 ghost use Rattle.tsd_core.specs.Core.{IsReady, Holds};
-ghost use Rattle.tsd_core.specs.Work.{IsClosed};
+ghost use Rattle.volume_laws.specs.Quiet.{IsQuiet};
 ghost use Rattle.volume_laws.specs.Writes.{due};
 ghost use Rattle.core_server.specs.Server.{disk_rules, disk_work, placed_on};
 ghost use Rattle.core_server.specs.StandsLaws.{stands_here};
@@ -36,7 +36,7 @@ impl<'a> Handler for CoreServer<'a> {
 
     ghost owed = { λ h x. due h.core.now.volume };
 
-    ghost is_closed = { IsClosed };
+    ghost is_closed = { IsQuiet };
 
     ghost lender = { λ h. h.core.ghost_name };
 
