@@ -5,7 +5,7 @@ ghost use Rattle.image_device.specs.Counts.{Rose};
 ghost use Rattle.serving.specs.Ran.{Came, IsAtEnd, Ran};
 ghost use Rattle.serving.specs.Voice.{spoken};
 ghost use Rattle.tsd_core.specs.Core.{IsAt, IsReady};
-ghost use Rattle.tsd_core.specs.Work.{IsClosed};
+ghost use Rattle.volume_laws.specs.Quiet.{IsQuiet};
 ghost use Rattle.volume_laws.specs.Writes.{due};
 ghost use Rattle.core_server.specs.Server.{disk_rules, disk_work, placed_on};
 
@@ -34,7 +34,7 @@ pub fn serve_core<S: Source, P: Port, R: Protocol<Request = Request> + Replies>(
     // Unless the device failed, the core may be used again.
     ensures ready { result ≢ Status.DeviceFault → IsReady core.new }
     ensures at { result ≢ Status.DeviceFault → P.told → IsAt core.new (P.view port.new) }
-    ensures closed { result ≡ Status.Done → P.told → IsClosed (P.view port.new).reads }
+    ensures closed { result ≡ Status.Done → P.told → IsQuiet (P.view port.new).reads }
     // A count of faults rose only where the status is that fault's.
     ensures source_fault { result ≡ Status.SourceFault → Rose (S.faults source.old) (S.faults source.new) }
     ensures device_fault { result ≡ Status.DeviceFault → Rose (P.view port.old).faults (P.view port.new).faults }

@@ -10,11 +10,12 @@ use Rattle.tsd_model.specs.declared.requests.Request.{Request}
 use Rattle.image_device.specs.View.{View}
 use Rattle.image_device.specs.Runs.{IsFirm, LeavesOnly}
 use Rattle.image_device.proofs.Moments.{joined, weakened, leaves_both}
-use Rattle.image_layout.specs.Areas.{sweep_flag}
-use Rattle.image_layout.specs.Image.{Image, is_open}
+use Rattle.image_layout.specs.Image.{Image}
 use Rattle.intent_journal.specs.Home.{home}
 use Rattle.image_world.specs.Stands.{Stands, world_of}
-use Rattle.recovery.specs.Opening.{StandAlike, IsOpening, IsQuiet}
+use Rattle.image_world.specs.Tables.{tables_of}
+use Rattle.recovery.specs.Opening.{StandAlike, IsOpening}
+use Rattle.volume_laws.specs.Quiet.{IsQuiet}
 use Rattle.recovery.specs.declared.fault.OpenFault.{OpenFault}
 use Rattle.recovery.specs.declared.fault.OpenFault.TheVariants as opening
 use Rattle.image_world.specs.Faults.{IsGood}
@@ -42,10 +43,8 @@ state_of_none c x w e none =
     same ∙ ap at_rest e
 
 -- the same beside a placement
-pub placed_at : (kind other : PlaceKind) (c d : Core) (x : Image) (w : World) → other ≡ kind → d ≡ c → state_on c x ≡ at_rest w → placed_on other d x ≡ record { kind = kind; state = at_rest w }
-placed_at kind other c d x w same_kind same at =
-    ap (λ (k : PlaceKind). let p : Placed = record { kind = k; state = state_on d x } in p) same_kind
-    ∙ ap (λ (s : State). let p : Placed = record { kind = kind; state = s } in p) (ap (λ (e : Core). state_on e x) same ∙ at)
+pub placed_at : (kind : PlaceKind) (c : Core) (x : Image) (w : World) → state_on c x ≡ at_rest w → placed_on kind c x ≡ record { kind = kind; state = at_rest w }
+placed_at kind c x w at = ap (λ (s : State). let p : Placed = record { kind = kind; state = s } in p) at
 
 -- with nothing answered, an image of the world at the start
 pub first_moment : (v : Voice) (s : Placed) (before : List ℕ) (qs : List Request) (x : Image) (f : List ℕ) → IsCounted (disk_service v) → Stands x s.state.world → f ≡ before
@@ -75,11 +74,11 @@ opening_moments v kind old mid qs counted leaves w stands =
 -- how much a crash leaves to be reclaimed while an image is opened
 pub opening_debt : (v : Voice) (kind : PlaceKind) (old mid : View) (qs : List Request)
     → LeavesOnly old mid (λ x f. StandAlike old.reads x × (f ≡ old.sent))
-    → (is_open (home old.reads sweep_flag) ≡ false → LeavesOnly old mid (λ x f. debt x ≤ debt old.reads))
+    → ((tables_of (home old.reads)).is_sweeping ≡ false → LeavesOnly old mid (λ x f. debt x ≤ debt old.reads))
     → LeavesOnly old mid (IsOwed v kind old qs)
-opening_debt v kind old mid qs leaves owes = go (is_open (home old.reads sweep_flag)) refl
+opening_debt v kind old mid qs leaves owes = go ((tables_of (home old.reads)).is_sweeping) refl
   where
-    go : (b : Bool) → is_open (home old.reads sweep_flag) ≡ b → LeavesOnly old mid (IsOwed v kind old qs)
+    go : (b : Bool) → (tables_of (home old.reads)).is_sweeping ≡ b → LeavesOnly old mid (IsOwed v kind old qs)
     go true e = weakened old mid _ (IsOwed v kind old qs) leaves (λ x f p. inr (p.1, λ closed. absurd (cc)))
     go false e = weakened old mid _ (IsOwed v kind old qs) (leaves_both old mid _ _ leaves (owes e)) (λ x f p. inr (p.0.1, λ closed. p.1))
 
@@ -103,7 +102,7 @@ paid_nothing v s before now le = record { answered = []; rest = []; parts = refl
 pub record OpenedBy (old mid : View) (owed : ℕ) : Type 0 where
   pub sent : mid.sent ≡ old.sent
   pub any_moment : IsFirm old → LeavesOnly old mid (λ x f. StandAlike old.reads x × (f ≡ old.sent))
-  pub any_debt : IsFirm old → is_open (home old.reads sweep_flag) ≡ false → LeavesOnly old mid (λ x f. debt x ≤ debt old.reads)
+  pub any_debt : IsFirm old → (tables_of (home old.reads)).is_sweeping ≡ false → LeavesOnly old mid (λ x f. debt x ≤ debt old.reads)
   pub writes : IsQuiet old.reads → used owed mid ≤ old.writes
 
 -- The run after opening, as one from the start.

@@ -6,12 +6,12 @@ use Rattle.tsd_model.specs.declared.requests.PlaceKind.{PlaceKind}
 use Rattle.tsd_model.specs.declared.requests.Request.{Request}
 use Rattle.image_device.specs.View.{View}
 use Rattle.image_device.specs.Runs.{IsFirm, LeavesOnly}
-use Rattle.image_layout.specs.Areas.{sweep_flag}
-use Rattle.image_layout.specs.Image.{Image, is_open}
+use Rattle.image_layout.specs.Image.{Image}
 use Rattle.intent_journal.specs.Home.{home}
 use Rattle.image_world.specs.Faults.{IsGood, IsFirstFault}
 use Rattle.image_world.specs.Stands.{Stands, world_of}
-use Rattle.recovery.specs.Opening.{IsQuiet}
+use Rattle.image_world.specs.Tables.{tables_of}
+use Rattle.volume_laws.specs.Quiet.{IsQuiet}
 use Rattle.recovery.specs.declared.fault.OpenFault.{OpenFault}
 use Rattle.recovery.specs.declared.fault.OpenFault.TheVariants as opening
 use Rattle.tsd_words.specs.declared.status.Status.{Status}
@@ -25,7 +25,7 @@ use Rattle.serving.specs.Runs.{IsAcknowledged}
 use Rattle.serving.specs.Service.{Service}
 use Rattle.serving.specs.Voice.{Voice, spoken}
 use Rattle.tsd_core.specs.Core.{Core}
-use Rattle.tsd_core.specs.Work.{IsClosed, debt}
+use Rattle.tsd_core.specs.Work.{debt}
 use Rattle.core_server.specs.Server.{disk_rules, disk_work}
 
 -- ---- what a status says of the image at the start
@@ -77,14 +77,14 @@ pub record NotOpened (r : Status) (untouched tells : Type 0) (old new : View) (a
 pub record IsAtEase (v : View) (w : World) : Type 0 where
   pub firm : IsFirm v
   pub stands : Stands v.reads w
-  pub closed : IsClosed v.reads
+  pub quiet : IsQuiet v.reads
 
 -- How much a crash may have left to be reclaimed: what the requests make of which replies were sent, less four a reply; or
 -- while nothing is sent, no more than at the start, where no sweep had begun there.
 abbrev pub IsOwed : Voice → PlaceKind → View → List Request → Image → List ℕ → Type 0
 IsOwed v kind old asked x f =
     HasDebt (disk_service v) disk_work (start_of kind old.reads) old.sent 0 asked x f
-    ⊎ ((f ≡ old.sent) × (is_open (home old.reads sweep_flag) ≡ false → debt x ≤ debt old.reads))
+    ⊎ ((f ≡ old.sent) × ((tables_of (home old.reads)).is_sweeping ≡ false → debt x ≤ debt old.reads))
 
 -- How a run over these requests ended: what was sent; where the disk was firm and stood for a world, what a crash at any
 -- moment may have left; how much of that is still to be reclaimed, with no sweep among the requests; how often was written,

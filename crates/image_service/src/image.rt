@@ -6,7 +6,7 @@ ghost use Rattle.serving.specs.Ran.{Came, IsAtEnd};
 ghost use Rattle.image_service.specs.Served.{IsJudged, Ran};
 
 use crate::opening::open_core;
-use core_server::{CoreServer, serve_core};
+use core_server::serve_core;
 use image_device::{Port, Source};
 use place_policy::Placement;
 use serving::{INPUT_MAX, Protocol, Replies};
@@ -42,10 +42,7 @@ pub fn serve_image<S: Source, P: Port, R: Protocol<Request = Request> + Replies>
     ensures no_put_fault { result ≢ Status.PutFault → (P.view port.new).put_faults ≡ (P.view port.old).put_faults }
 {
     match open_core(alloc, port) {
-        Ok(core) => {
-            let mut server = CoreServer::new(core, place);
-            serve_core(&mut server, protocol, source, port, limit)
-        }
+        Ok(mut core) => serve_core(&mut core, place, protocol, source, port, limit),
         Err(why) => why,
     }
 }

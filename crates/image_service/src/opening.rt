@@ -3,14 +3,14 @@
 ghost use Rattle.std.specs.Prelude.{◌≡◌, ◌≢◌, ◌≤◌, ◌+◌, false, IfOk, OnOk, IfErr};
 ghost use Rattle.image_device.specs.Counts.{Rose};
 ghost use Rattle.image_device.specs.Runs.{IsFirm, LeavesOnly};
-ghost use Rattle.image_layout.specs.Areas.{sweep_flag};
-ghost use Rattle.image_layout.specs.Image.{is_open};
+ghost use Rattle.image_world.specs.Tables.{tables_of};
 ghost use Rattle.image_world.specs.Stands.{world_of};
 ghost use Rattle.intent_journal.specs.Home.{home};
 ghost use Rattle.tsd_model.specs.Run.{at_rest};
-ghost use Rattle.recovery.specs.Opening.{IsQuiet, StandAlike};
+ghost use Rattle.recovery.specs.Opening.{StandAlike};
 ghost use Rattle.tsd_core.specs.Core.{IsAt, IsReady, state_on};
 ghost use Rattle.tsd_core.specs.Work.{debt};
+ghost use Rattle.volume_laws.specs.Quiet.{IsQuiet};
 ghost use Rattle.volume_laws.specs.Writes.{due, Works};
 ghost use Rattle.image_service.specs.Served.{IsOpened, IsUnopened, status_of};
 
@@ -31,7 +31,7 @@ pub(crate) fn open_core<D: Device>(alloc: Global, dev: &mut D) -> Result<Core, S
     ensures sent { D.told → (D.view dev.new).sent ≡ (D.view dev.old).sent }
     ensures any_moment { D.told → IsFirm (D.view dev.old) → LeavesOnly (D.view dev.old) (D.view dev.new) (λ x f. StandAlike (D.view dev.old).reads x × (f ≡ (D.view dev.old).sent)) }
     // Where no sweep had begun, a crash leaves no more to be reclaimed than at the start; and in the end nothing is.
-    ensures any_debt { D.told → IsFirm (D.view dev.old) → is_open (home (D.view dev.old).reads sweep_flag) ≡ false → LeavesOnly (D.view dev.old) (D.view dev.new) (λ x f. debt x ≤ debt (D.view dev.old).reads) }
+    ensures any_debt { D.told → IsFirm (D.view dev.old) → (tables_of (home (D.view dev.old).reads)).is_sweeping ≡ false → LeavesOnly (D.view dev.old) (D.view dev.new) (λ x f. debt x ≤ debt (D.view dev.old).reads) }
     ensures settled { D.told → OnOk result (debt (D.view dev.new).reads ≡ 0) }
     // Where nothing was left to be done, nothing is written, and nothing is owed.
     ensures unwritten { D.told → IsQuiet (D.view dev.old).reads → (D.view dev.new).writes ≤ (D.view dev.old).writes }

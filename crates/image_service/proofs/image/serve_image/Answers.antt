@@ -15,15 +15,10 @@ pub serve_core-requires-clause-fresh : goal.serve_core-requires-clause-fresh
 serve_core-requires-clause-fresh g c = c.requires.fresh
 
 pub serve_core-requires-clause-ready : goal.serve_core-requires-clause-ready
-serve_core-requires-clause-ready g c = subst (λ (d : Core). IsReady d) (sym c.new-server.ensures.core) c.in-Ok.ensures.ready
+serve_core-requires-clause-ready g c = c.in-Ok.ensures.ready
 
 pub serve_core-requires-clause-at : goal.serve_core-requires-clause-at
-serve_core-requires-clause-at g c told =
-    let mid = g.P.Device.view c.open_core.new.dev in
-    subst (λ (d : Core). IsAt d mid) (sym c.new-server.ensures.core) (c.in-Ok.ensures.at told)
-
-pub array_drop-server-requires : goal.array_drop-server-requires
-array_drop-server-requires g c = lit< tt
+serve_core-requires-clause-at g c = c.in-Ok.ensures.at
 
 pub returns-in-Ok-clause-read : goal.returns-in-Ok-clause-read
 returns-in-Ok-clause-read g c told =
@@ -41,21 +36,23 @@ returns-in-Ok-clause-ran g c =
       came_in = ran.came_in;
       asked = ran.asked;
       these = inr ran.these;
-      final = placed_on c.serve_core.new.server.place.now.kind c.serve_core.new.server.core new.reads;
+      final = placed_on c.args.place.now.kind c.serve_core.new.core new.reads;
       ends = λ told.
           ends_opened c.serve_core.result g.R.Replies.voice c.args.place.now.kind old mid new ran.asked _ _ _ (spoken_counted disk_rules g.R.Replies.voice (λ s q r t given. given.1) g.met.R.Replies.apart)
-          (placed_at c.args.place.now.kind _ c.in-Ok.core c.new-server.result.core mid.reads _ c.new-server.ensures.place c.new-server.ensures.core (c.in-Ok.ensures.state told)) (c.in-Ok.ensures.settled told)
+          (placed_at c.args.place.now.kind c.in-Ok.core mid.reads _ (c.in-Ok.ensures.state told)) (c.in-Ok.ensures.settled told)
           (record {
             sent = c.open_core.ensures.sent told;
             any_moment = c.open_core.ensures.any_moment told;
             any_debt = c.open_core.ensures.any_debt told;
-            writes = λ quiet. subst (λ (d : Core). mid.writes + due d.volume ≤ old.writes) (sym c.new-server.ensures.core) (c.in-Ok.ensures.paid told quiet);
+            writes = c.in-Ok.ensures.paid told;
           })
           (ran.ends told)
-          (λ done. record {
-            firm = (c.serve_core.ensures.at done told).0;
-            stands = record { good = (c.serve_core.ensures.at done told).1.good; world = refl };
-            closed = c.serve_core.ensures.closed done told;
+          (λ done.
+          let at = c.serve_core.ensures.at (λ fault. cc) told in
+          record {
+            firm = at.0;
+            stands = record { good = at.1.good; world = refl };
+            quiet = c.serve_core.ensures.closed done told;
           });
     }
 
