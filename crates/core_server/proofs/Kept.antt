@@ -1,5 +1,5 @@
 -- The placement of a run is the one that it began with.
-use Rattle.std.proofs.Common.{◌≡◌, inl, inr, ℕ, List, [], ◌∷◌, refl, sym, ◌∙◌, ap, subst}
+use Rattle.std.proofs.Common.{◌≡◌, ℕ, List, [], ◌∷◌, sym, ◌∙◌, ap, subst}
 use Rattle.tsd_model.specs.Step.{State}
 use Rattle.tsd_model.specs.declared.requests.PlaceKind.{PlaceKind}
 use Rattle.tsd_model.specs.declared.requests.Request.{Request}
@@ -8,9 +8,8 @@ use Rattle.tsd_words.specs.declared.status.Status.{Status}
 use Rattle.tsd_words.specs.declared.status.Status.TheVariants as status
 use Rattle.serving.specs.Input.{Spelling}
 use Rattle.serving.specs.ModelRules.{Placed}
-use Rattle.serving.specs.Ran.{Ends, Ran, ByStatus}
+use Rattle.serving.specs.Ran.{Ran, ByStatus}
 use Rattle.serving.specs.Runs.{Run, Served}
-use Rattle.serving.specs.Service.{Service}
 use Rattle.serving.specs.Voice.{Voice, spoken}
 use Rattle.core_server.specs.Server.{disk_rules, disk_work}
 

@@ -10,7 +10,8 @@ use Rattle.tsd_model.specs.declared.requests.Request.{Request}
 use Rattle.image_device.specs.View.{View}
 use Rattle.image_device.specs.Runs.{IsFirm, LeavesOnly}
 use Rattle.image_device.proofs.Moments.{joined, weakened, leaves_both}
-use Rattle.image_layout.specs.Image.{Image}
+use Rattle.image_layout.specs.Areas.{sweep_flag}
+use Rattle.image_layout.specs.Image.{Image, is_open}
 use Rattle.intent_journal.specs.Home.{home}
 use Rattle.image_world.specs.Stands.{Stands, world_of}
 use Rattle.image_world.specs.Tables.{tables_of}
@@ -70,6 +71,11 @@ pub opening_moments : (v : Voice) (kind : PlaceKind) (old mid : View) (qs : List
 opening_moments v kind old mid qs counted leaves w stands =
     let own : Stands old.reads (world_of old.reads) = record { good = stands.good; world = refl } in
     weakened old mid _ _ leaves (λ x f left. first_moment v (start_of kind old.reads) old.sent qs x f counted ((left.0 (world_of old.reads)).0 own) left.1)
+
+-- the flag of a sweep, in the tables and on the image
+pub flag_of : (x : Image) → (tables_of x).is_sweeping ≡ is_open (x sweep_flag)
+unfolding tables_of
+flag_of x = refl
 
 -- how much a crash leaves to be reclaimed while an image is opened
 pub opening_debt : (v : Voice) (kind : PlaceKind) (old mid : View) (qs : List Request)

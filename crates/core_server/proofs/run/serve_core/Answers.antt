@@ -1,4 +1,4 @@
-use Rattle.std.proofs.Common.{◌≡◌, sym, subst}
+use Rattle.std.proofs.Common.{sym, subst}
 use Rattle.serving.specs.Ran.{Came, IsAtEnd, Ran}
 use Rattle.serving.specs.Voice.{spoken}
 use Rattle.tsd_core.specs.Core.{Core, IsAt, IsReady, state_on}

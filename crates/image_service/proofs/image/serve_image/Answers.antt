@@ -1,7 +1,5 @@
-use Rattle.std.proofs.Common.{inl, inr, ℕ, [], ◌+◌, ◌≤◌, refl, sym, ◌∙◌, subst, append-nil, arith, lit<}
+use Rattle.std.proofs.Common.{inl, inr, ℕ, [], refl, sym, ◌∙◌, subst, append-nil, arith, lit<}
 use Rattle.image_device.specs.Counts.{Rose}
-use Rattle.tsd_core.specs.Core.{Core, IsReady, IsAt}
-use Rattle.volume_laws.specs.Writes.{due}
 use Rattle.core_server.specs.Server.{disk_rules, placed_on}
 use Rattle.serving.specs.Voice.{spoken_counted}
 use Rattle.image_service.specs.Served.{start_of}
@@ -19,6 +17,9 @@ serve_core-requires-clause-ready g c = c.in-Ok.ensures.ready
 
 pub serve_core-requires-clause-at : goal.serve_core-requires-clause-at
 serve_core-requires-clause-at g c = c.in-Ok.ensures.at
+
+pub array_drop-core-inside-requires : goal.array_drop-core-inside-requires
+array_drop-core-inside-requires g c = lit< tt
 
 pub returns-in-Ok-clause-read : goal.returns-in-Ok-clause-read
 returns-in-Ok-clause-read g c told =

@@ -8,7 +8,8 @@ use Rattle.volume_laws.specs.Writes.{due}
 use Rattle.tsd_words.specs.declared.status.Status.{Status}
 use Rattle.tsd_core.proofs.AtLaws.{at_core}
 use Rattle.image_service.specs.Served.{IsJudged, IsUnopened}
-use Rattle.image_service.proofs.Opened.{state_of_none, judged_of, unopened_of, device_of, device_only}
+use Rattle.intent_journal.specs.Home.{home}
+use Rattle.image_service.proofs.Opened.{flag_of, state_of_none, judged_of, unopened_of, device_of, device_only}
 use Rattle.image_service.proofs.opening.open_core.Goals as goal
 
 pub new-requires : goal.new-requires
@@ -64,7 +65,7 @@ pub returns-in-Err-clause-cause : goal.returns-in-Err-clause-cause
 returns-in-Err-clause-cause g c e = c.in-Err.ensures.cause (ap (λ (w : OpenFault). Err w) (device_of c.in-Err.why (sym c.status_of.ensures ∙ e)))
 
 pub returns-in-Ok-clause-any_debt : goal.returns-in-Ok-clause-any_debt
-returns-in-Ok-clause-any_debt g c = c.open_image.ensures.any_owed
+returns-in-Ok-clause-any_debt g c told firm still = c.open_image.ensures.any_owed told firm (sym (flag_of (home (g.D.Device.view c.args.dev.now).reads)) ∙ still)
 
 pub returns-in-Ok-clause-settled : goal.returns-in-Ok-clause-settled
 returns-in-Ok-clause-settled g c told = ap owed (c.in-Ok.ensures.at told).tables ∙ c.in-Ok.ensures.settled
@@ -79,7 +80,7 @@ returns-in-Ok-clause-paid g c told quiet =
     subst (λ (v : Volume). now.writes + due v ≤ old.writes) (sym c.new.ensures.volume) (c.in-Ok.ensures.paid told quiet)
 
 pub returns-in-Err-clause-any_debt : goal.returns-in-Err-clause-any_debt
-returns-in-Err-clause-any_debt g c = c.open_image.ensures.any_owed
+returns-in-Err-clause-any_debt g c told firm still = c.open_image.ensures.any_owed told firm (sym (flag_of (home (g.D.Device.view c.args.dev.now).reads)) ∙ still)
 
 pub returns-in-Err-clause-unwritten : goal.returns-in-Err-clause-unwritten
 returns-in-Err-clause-unwritten g c told quiet = omega (arith, (c.open_image.ensures.unwritten told quiet).most)
