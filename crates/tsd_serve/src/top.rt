@@ -49,7 +49,7 @@ pub fn tsd<S: Source, P: Port>(
     match command(words) {
         Some(Command::Fresh(fresh)) => fresh_lines(alloc, &fresh, source, port, places),
         Some(Command::Run(kind)) => run_lines(alloc, kind, source, port, places),
-        Some(Command::Serve(kind)) => serve_frames(alloc, kind, source, port, places),
+        Some(Command::Serve(kind)) => run_frames(alloc, kind, source, port, places),
         _ => Status::Usage,
     }
 }
@@ -118,7 +118,7 @@ fn run_lines<S: Source, P: Port>(
 
 /// Opens an image and answers frames.
 #[tactic(auto, using(crate::proofs::Statuses::no_usage))]
-fn serve_frames<S: Source, P: Port>(
+fn run_frames<S: Source, P: Port>(
     alloc: Global,
     kind: PlaceKind,
     source: &mut S,
