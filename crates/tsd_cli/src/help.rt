@@ -38,6 +38,30 @@ commands
 
       printf '\\001\\000\\007' | tsd disk.img serve near | od -An -tu1
 
+  format BLOCKS SECTORS SLOTS PRIMARIES SEED
+      Makes a disk with PRIMARIES primary blocks (1 to 16) and room for SLOTS
+      pointers. Their capabilities come of SEED, 64 hexadecimal digits: for each
+      block a line with its number and its capabilities to read and to write.
+
+      tsd disk.img format 64 1 256 2 $(head -c 32 /dev/urandom | od -An -tx1 | tr -d ' \\n')
+
+  check
+      Tells how many blocks are live and free and how many pointers are held,
+      or the first thing that is wrong with the image.
+
+      tsd disk.img check
+
+  load SEED COUNT PLACE
+      Carries out COUNT requests drawn from SEED, and tells how many were granted.
+
+      tsd disk.img format 64 1 256 2 $(printf %064d 0)
+      tsd disk.img load $(printf %064d 0) 2000 zone
+
+  upgrade
+      Keeps digests in place of capabilities from then on.
+
+      tsd disk.img upgrade
+
 A reply is sent when the disk holds what it tells.
 
 request lines

@@ -17,8 +17,9 @@ use tsd_serve::{Status, status_line, tsd};
 /// The first word of a disk in memory.
 const MEMORY: &str = "-";
 
-/// The command that makes an image where there was none.
+/// The commands that make an image where there was none.
 const FRESH: &str = "fresh";
+const FORMAT: &str = "format";
 
 /// Does what the words say, and ends with a status. A status that isn't Done is told in a line of errors. Where a call on
 /// the image's file failed, a second line says why the first did that failed.
@@ -148,7 +149,7 @@ fn serve_file<S: Source, O: Write>(
     input: &mut S,
     output: &mut O,
 ) -> (Status, Option<Trouble>) {
-    let makes = first_of(command) == FRESH;
+    let makes = matches!(first_of(command), FRESH | FORMAT);
     let mut station = FileStation::new(rt, path, makes, output);
     let status = tsd(rt.alloc(), command, input, &mut station, book);
     (status, station.trouble())

@@ -4,11 +4,11 @@ ghost use Rattle.std.specs.Prelude.{◌≡◌, ◌≢◌, ◌↔◌, ◌⊎◌, 
 ghost use Rattle.image_device.specs.Counts.{Rose};
 ghost use Rattle.serving.specs.Ran.{Came, IsAtEnd};
 ghost use Rattle.tsd_model.specs.Geometry.{IsLawful};
-ghost use Rattle.tsd_serve.specs.Built.{built};
 ghost use Rattle.tsd_serve.specs.Did.{Did};
 ghost use Rattle.tsd_words.specs.Words.{command_of};
 ghost use Rattle.tsd_words.specs.declared.commands.Command.TheVariants as command;
 
+use crate::commands::{check, format, load, upgrade};
 use image_device::{Port, Source};
 use image_service::{serve_fresh, serve_image};
 use place_policy::PlaceBook;
@@ -20,8 +20,9 @@ use tsd_model::PlaceKind;
 use tsd_words::{Command, Fresh, Status, command};
 
 /// Does what the words say over the image beside the port: `fresh BLOCKS SECTORS READCAP WRITECAP PLACE` formats it and
-/// answers the lines of the input until it ends, `run PLACE` opens it and answers lines, and `serve PLACE` opens it and
-/// answers frames. No other command is built yet.
+/// answers the lines of the input until it ends, `run PLACE` opens it and answers lines, `serve PLACE` opens it and answers
+/// frames. `format BLOCKS SECTORS SLOTS PRIMARIES SEED` makes a disk, `check` tells what an image is, `load SEED COUNT PLACE`
+/// carries out the requests of a seed, and `upgrade` has an image keep digests in place of capabilities.
 ///
 /// Each reply is put whole before the next request is carried out.
 pub fn tsd<S: Source, P: Port>(
@@ -31,8 +32,8 @@ pub fn tsd<S: Source, P: Port>(
     port: &mut P,
     places: &PlaceBook,
 ) -> Status
-    // Usage comes exactly where the words are no command that is built, and before any call.
-    ensures usage { (result ≡ Status.Usage) ↔ (built (command_of (map string_bytes words.now.items)) ≡ None) }
+    // Usage comes exactly where the words are no command, and before any call.
+    ensures usage { (result ≡ Status.Usage) ↔ (command_of (map string_bytes words.now.items) ≡ None) }
     ensures untouched_source { result ≡ Status.Usage → source.new ≡ source.old }
     ensures untouched_port { result ≡ Status.Usage → port.new ≡ port.old }
     // By command and status: what came in, what was sent, what a crash at any moment may have left, and what the disk is
@@ -48,9 +49,13 @@ pub fn tsd<S: Source, P: Port>(
 {
     match command(words) {
         Some(Command::Fresh(fresh)) => fresh_lines(alloc, &fresh, source, port, places),
+        Some(Command::Format(words)) => format(&words, port),
         Some(Command::Run(kind)) => run_lines(alloc, kind, source, port, places),
         Some(Command::Serve(kind)) => run_frames(alloc, kind, source, port, places),
-        _ => Status::Usage,
+        Some(Command::Check) => check(alloc, port),
+        Some(Command::Load(words)) => load(alloc, &words, port, places),
+        Some(Command::Upgrade) => upgrade(alloc, port),
+        None => Status::Usage,
     }
 }
 
