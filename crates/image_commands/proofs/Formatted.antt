@@ -5,18 +5,18 @@ use Rattle.tsd_model.specs.declared.caps.CapPair.{CapPair}
 use Rattle.image_device.specs.View.{View, IsPart, IsLeftInPut}
 use Rattle.image_device.specs.Runs.{IsFirm, LeavesOnly}
 use Rattle.image_layout.specs.Image.{Image}
-use Rattle.image_world.specs.Fresh.{AreClosed}
 use Rattle.image_world.specs.Stands.{Stands}
 use Rattle.recovery.specs.Formatting.{IsFormatting}
+use Rattle.volume_laws.specs.Quiet.{IsQuiet}
 use Rattle.tsd_words.specs.declared.commands.Format.{Format}
 use Rattle.image_commands.specs.Format.{IsFormatted, IsLeftOfFormat, world_for, lines_for}
 use Rattle.image_commands.proofs.Saying.{put_over, still_firm}
 
-pub formatted_still : (words : Format) (mid new : View) → IsFirm mid → Stands mid.reads (world_for words) → AreClosed mid.reads → new.reads ≡ mid.reads → new.loose ≡ mid.loose → IsFormatted words new
-formatted_still words mid new firm stands closed reads loose = record {
+pub formatted_still : (words : Format) (mid new : View) → IsFirm mid → Stands mid.reads (world_for words) → IsQuiet mid.reads → new.reads ≡ mid.reads → new.loose ≡ mid.loose → IsFormatted words new
+formatted_still words mid new firm stands quiet reads loose = record {
   firm = still_firm mid new firm loose;
   stands = subst (λ (x : Image). Stands x (world_for words)) (sym reads) stands;
-  closed = subst (λ (x : Image). AreClosed x) (sym reads) closed;
+  quiet = subst (λ (x : Image). IsQuiet x) (sym reads) quiet;
 }
 
 pub format_moments : (words : Format) (old mid new : View) → IsFirm mid → Stands mid.reads (world_for words) → mid.sent ≡ old.sent

@@ -15,7 +15,7 @@ use Rattle.recovery.specs.Opening.{StandAlike}
 use Rattle.tsd_words.specs.declared.status.Status.{Status}
 use Rattle.tsd_words.specs.declared.status.Status.TheVariants as status
 use Rattle.tsd_core.specs.Core.{Core, IsAt, state_on, told_world}
-use Rattle.tsd_core.specs.Work.{IsClosed}
+use Rattle.volume_laws.specs.Quiet.{IsQuiet}
 use Rattle.tsd_core.proofs.AtLaws.{at_volume, like_at}
 use Rattle.command_text.specs.Lines.{line_of, load_words}
 use Rattle.command_text.specs.declared.lines.Summary.{Summary}
@@ -44,11 +44,11 @@ summed kind seed w count c new s granted refused free pointers had at state free
     }
 
 pub loaded_there : (kind : PlaceKind) (seed : List ℕ) (image : Image) (count : ℕ) (c : Core) (new : View) (s : State) (granted refused : ℕ) → HasApplied kind seed (world_of image) count s granted refused
-    → IsGood image → IsAt c new → state_on c new.reads ≡ s → IsClosed new.reads → IsLoaded kind seed image count new
-loaded_there kind seed image count c new s granted refused had good at state closed = record {
+    → IsGood image → IsAt c new → state_on c new.reads ≡ s → IsQuiet new.reads → IsLoaded kind seed image count new
+loaded_there kind seed image count c new s granted refused had good at state quiet = record {
   firm = at.0;
   load = record { good = good; stands = record { good = at.1.good; world = sym (ap (λ (u : State). u.world) (state ∙ had.state)) } };
-  closed = closed;
+  quiet = quiet;
 }
 
 -- ---- from the image that was opened
@@ -57,7 +57,7 @@ loaded_from : (kind : PlaceKind) (seed : List ℕ) (old mid : Image) (count : �
 loaded_from kind seed old mid count v good same is = record {
   firm = is.firm;
   load = record { good = good; stands = subst (λ (w : World). Stands v.reads (loaded kind seed w count).world) same is.load.stands };
-  closed = is.closed;
+  quiet = is.quiet;
 }
 
 pub loaded_on : {T : Type 0} → (kind : PlaceKind) (seed : List ℕ) (old mid : Image) (count : ℕ) (v : View) (result : Result T Status) → IsGood old → world_of mid ≡ world_of old
@@ -74,20 +74,20 @@ pub load_moments : (kind : PlaceKind) (seed : List ℕ) (count : ℕ) (old mid n
     → LeavesOnly old new (λ x f. (StandAlike old.reads x ⊎ ((n : ℕ) × (n ≤ count) × IsLoadedBy kind seed old.reads n x)) × (f ≡ old.sent))
 load_moments kind seed count old mid new good same sent opening run =
     joined old mid new (left_by kind seed count old) _ (weakened old mid _ (left_by kind seed count old) opening (λ x f left. (inl left.0, left.1))) run
-      (λ x f left. (
-        inr (left.0.0, left.0.1, record { good = good; stands = subst (λ (w : World). Stands x (loaded kind seed w left.0.0).world) same left.0.2 }),
-        left.1 ∙ sent,
-      ))
+    (λ x f left. (
+      inr (left.0.0, left.0.1, record { good = good; stands = subst (λ (w : World). Stands x (loaded kind seed w left.0.0).world) same left.0.2 }),
+      left.1 ∙ sent,
+    ))
 
 -- where no request was carried out
 still_alike : (kind : PlaceKind) (seed : List ℕ) (old mid new : View) → IsGood old.reads → world_of mid.reads ≡ world_of old.reads → mid.sent ≡ old.sent
     → LeavesOnly old mid (λ x f. StandAlike old.reads x × (f ≡ old.sent)) → LeavesRun kind seed 0 mid new → LeavesOnly old new (λ x f. StandAlike old.reads x × (f ≡ old.sent))
 still_alike kind seed old mid new good same sent opening run =
     joined old mid new (λ x f. StandAlike old.reads x × (f ≡ old.sent)) _ opening run
-      (λ x f left.
-        let none : left.0.0 ≡ 0 = omega (arith, left.0.1) in
-        let here : Stands x (world_of mid.reads) = subst (λ (n : ℕ). Stands x (loaded kind seed (world_of mid.reads) n).world) none left.0.2 in
-        (alike_of old.reads x good (subst (λ (w : World). Stands x w) same here), left.1 ∙ sent))
+    (λ x f left.
+    let none : left.0.0 ≡ 0 = omega (arith, left.0.1) in
+    let here : Stands x (world_of mid.reads) = subst (λ (n : ℕ). Stands x (loaded kind seed (world_of mid.reads) n).world) none left.0.2 in
+    (alike_of old.reads x good (subst (λ (w : World). Stands x w) same here), left.1 ∙ sent))
 
 pub starved_alike : {T : Type 0} → (kind : PlaceKind) (seed : List ℕ) (old mid new : View) (result : Result T Status) → IsGood old.reads → world_of mid.reads ≡ world_of old.reads → mid.sent ≡ old.sent
     → (IsFirm old → LeavesOnly old mid (λ x f. StandAlike old.reads x × (f ≡ old.sent))) → IfErr result (λ why. why ≡ status.NoMemory → LeavesRun kind seed 0 mid new)
@@ -145,7 +145,7 @@ pub loaded_still : (kind : PlaceKind) (seed : List ℕ) (image : Image) (count :
 loaded_still kind seed image count mid new is reads loose = record {
   firm = still_firm mid new is.firm loose;
   load = subst (λ (x : Image). IsLoadedBy kind seed image count x) (sym reads) is.load;
-  closed = subst (λ (x : Image). IsClosed x) (sym reads) is.closed;
+  quiet = subst (λ (x : Image). IsQuiet x) (sym reads) is.quiet;
 }
 
 pub line_moments : (kind : PlaceKind) (seed : List ℕ) (count : ℕ) (old mid new : View) → IsLoaded kind seed old.reads count mid → mid.sent ≡ old.sent
@@ -153,5 +153,5 @@ pub line_moments : (kind : PlaceKind) (seed : List ℕ) (count : ℕ) (old mid n
     → LeavesOnly mid new (IsLeftInPut (load_line kind seed old.reads count) mid) → LeavesOnly old new (IsLeftOfLoad kind seed count old)
 line_moments kind seed count old mid new is sent before putting =
     put_over old mid new (load_line kind seed old.reads count) (left_by kind seed count old) (IsLeftOfLoad kind seed count old) is.firm before putting
-      (λ x f left. inl left)
-      (λ f part. inr (is.load, subst (λ (b : List ℕ). IsPart b (load_line kind seed old.reads count) f) sent part))
+    (λ x f left. inl left)
+    (λ f part. inr (is.load, subst (λ (b : List ℕ). IsPart b (load_line kind seed old.reads count) f) sent part))

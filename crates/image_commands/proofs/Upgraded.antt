@@ -1,6 +1,6 @@
 -- A disk that was opened and upgraded, and its line put.
 use Rattle.std.proofs.Common.{◌≡◌, ◌⊎◌, inl, inr, ℕ, List, ◌++◌, refl, sym, ◌∙◌, ap, subst, ◌≤◌}
-use Rattle.std.specs.Prelude.{Result, Ok, Err, OnOk}
+use Rattle.std.specs.Prelude.{Result, Ok, Err, IfErr, OnOk}
 use Rattle.tsd_model.specs.World.{World}
 use Rattle.tsd_model.specs.Records.{upgraded}
 use Rattle.image_device.specs.Image.{zeros}
@@ -9,6 +9,7 @@ use Rattle.image_device.specs.Runs.{IsFirm, LeavesOnly}
 use Rattle.image_device.proofs.Moments.{joined, weakened}
 use Rattle.image_layout.specs.Image.{Image}
 use Rattle.image_world.specs.Faults.{IsGood}
+use Rattle.image_world.specs.Fresh.{AreClosed}
 use Rattle.image_world.specs.Stands.{Stands, world_of}
 use Rattle.recovery.specs.Opening.{StandAlike}
 use Rattle.tsd_words.specs.declared.status.Status.{Status}
@@ -49,6 +50,7 @@ pub upgraded_still : (image : Image) (mid new : View) → IsUpgraded image mid �
 upgraded_still image mid new is reads loose = record {
   firm = still_firm mid new is.firm loose;
   upgrade = subst (λ (x : Image). IsUpgradeOf image x) (sym reads) is.upgrade;
+  closed = subst (λ (x : Image). AreClosed x) (sym reads) is.closed;
   erased = subst (λ (x : Image). (n : ℕ) → 4 ≤ n → n ≤ 116 → x n ≡ zeros) (sym reads) is.erased;
 }
 
@@ -74,10 +76,16 @@ not_upgraded (status.RootDenied level) old new stops judged sent = absurd stops
 
 -- once the volume is upgraded, where it was opened
 pub upgraded_there : {T : Type 0} → (old mid new : View) (v : Volume) (result : Result T Status) → IsGood old.reads → world_on mid ≡ world_of old.reads → OnOk result (IsAt v new)
-    → OnOk result (world_on new ≡ upgraded (world_on mid)) → OnOk result ((n : ℕ) → 4 ≤ n → n ≤ 116 → new.reads n ≡ zeros) → OnOk result (IsUpgraded old.reads new)
-upgraded_there old mid new v (Ok u) good opened at done erased = record {
+    → OnOk result (world_on new ≡ upgraded (world_on mid)) → OnOk result (AreClosed new.reads) → OnOk result ((n : ℕ) → 4 ≤ n → n ≤ 116 → new.reads n ≡ zeros) → OnOk result (IsUpgraded old.reads new)
+upgraded_there old mid new v (Ok u) good opened at done closed erased = record {
   firm = at.firm;
   upgrade = record { good = good; stands = record { good = at.good; world = sym (done ∙ ap (λ (w : World). upgraded w) opened) } };
+  closed = closed;
   erased = erased;
 }
-upgraded_there old mid new v (Err why) good opened at done erased = tt
+upgraded_there old mid new v (Err why) good opened at done closed erased = tt
+
+-- a device that failed is no want of memory
+pub not_for_memory : {T : Type 0} → (P : Type 0) (result : Result T Status) → IfErr result (λ why. why ≡ status.DeviceFault) → IfErr result (λ why. why ≡ status.NoMemory → P)
+not_for_memory P (Ok u) failed = tt
+not_for_memory P (Err why) failed = λ memory. absurd (cc)

@@ -6,10 +6,10 @@ use Rattle.tsd_model.specs.declared.caps.CapPair.{CapPair}
 use Rattle.image_device.specs.View.{View, IsPart}
 use Rattle.image_device.specs.Runs.{IsFirm}
 use Rattle.image_layout.specs.Image.{Image}
-use Rattle.image_world.specs.Fresh.{AreClosed}
 use Rattle.image_world.specs.Stands.{Stands}
 use Rattle.cap_store.specs.Seeds.{seed_pairs}
 use Rattle.recovery.specs.Formatting.{IsFormatting}
+use Rattle.volume_laws.specs.Quiet.{IsQuiet}
 use Rattle.tsd_words.specs.declared.commands.Format.{Format}
 use Rattle.tsd_words.specs.declared.status.Status.{Status}
 use Rattle.tsd_words.specs.declared.status.Status.TheVariants as status
@@ -28,11 +28,11 @@ world_for words = fresh_world words.geometry (caps_of words)
 abbrev pub lines_for : Format → List ℕ
 lines_for words = cap_lines 0 (caps_of words)
 
--- nothing is loose, and the disk stands for the fresh world, with all gates of the journal closed
+-- nothing is loose, the disk stands for the fresh world, and nothing is left to be done
 pub record IsFormatted (words : Format) (v : View) : Type 0 where
   pub firm : IsFirm v
   pub stands : Stands v.reads (world_for words)
-  pub closed : AreClosed v.reads
+  pub quiet : IsQuiet v.reads
 
 -- What it has done by the time that it ended so: the disk is formatted, and the lines are sent whole or a proper front of them;
 -- or nothing is sent.

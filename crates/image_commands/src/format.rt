@@ -3,6 +3,7 @@
 ghost use Rattle.std.specs.Prelude.{◌≡◌, ◌≢◌, ◌≤◌, length, take};
 ghost use Rattle.tsd_model.specs.Geometry.{IsLawful};
 ghost use Rattle.image_device.specs.Counts.{Rose};
+ghost use Rattle.image_layout.specs.declared.fault.ImageFault.{ImageFault};
 ghost use Rattle.image_device.specs.Runs.{LeavesOnly};
 ghost use Rattle.image_commands.specs.Sending.{IsEnding};
 ghost use Rattle.image_commands.specs.Format.{HasFormatted, IsLeftOfFormat, caps_of};
@@ -21,6 +22,8 @@ use tsd_words::{Format, Status};
 pub fn format_image<P: Port>(port: &mut P, words: &Format) -> Status
     requires lawful { IsLawful words.now.geometry }
     ensures ending { IsEnding result }
+    // No image is opened, and no memory taken.
+    ensures image { (why : ImageFault) → result ≢ Status.NotImage why }
     ensures memory { result ≢ Status.NoMemory }
     ensures made { P.told → HasFormatted result words.now (P.view port.old) (P.view port.new) }
     // A crash at any moment leaves what formatting may, and wherever a byte was sent the fresh world.

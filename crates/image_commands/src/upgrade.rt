@@ -4,6 +4,7 @@ ghost use Rattle.std.specs.Prelude.{◌≡◌, ◌≢◌, ℕ, ◌≤◌, ◌⊎
 ghost use Rattle.image_device.specs.Counts.{Rose};
 ghost use Rattle.image_device.specs.Runs.{IsFirm, LeavesOnly};
 ghost use Rattle.image_device.specs.Image.{zeros};
+ghost use Rattle.image_world.specs.Fresh.{AreClosed};
 ghost use Rattle.tsd_model.specs.Records.{upgraded};
 ghost use Rattle.volume_laws.specs.Moments.{LeavesEither};
 ghost use Rattle.volume_laws.specs.Volume.{IsAt, IsReady, world_on};
@@ -30,6 +31,8 @@ pub fn upgrade_image<P: Port>(alloc: Global, port: &mut P) -> Status
     ensures upgraded { P.told → HasUpgraded result (P.view port.old) (P.view port.new) }
     // A crash at any moment leaves the world before or the upgraded one, and wherever a byte was sent the latter.
     ensures any_moment { P.told → IsFirm (P.view port.old) → LeavesOnly (P.view port.old) (P.view port.new) (IsLeftOfUpgrade (P.view port.old)) }
+    // Without memory nothing is upgraded.
+    ensures no_memory { P.told → result ≡ Status.NoMemory → IsFirm (P.view port.old) → LeavesOnly (P.view port.old) (P.view port.new) (λ x f. StandAlike (P.view port.old).reads x × (f ≡ (P.view port.old).sent)) }
     // A count of faults rose only where the status is that fault's.
     ensures device_fault { result ≡ Status.DeviceFault → Rose (P.view port.old).faults (P.view port.new).faults }
     ensures put_fault { result ≡ Status.PutFault → Rose (P.view port.old).put_faults (P.view port.new).put_faults }
@@ -52,6 +55,7 @@ fn upgrade<D: Device>(alloc: Global, dev: &mut D) -> Result<(), Status>
     ensures stops { IfErr result IsUnopened }
     ensures sent { D.told → (D.view dev.new).sent ≡ (D.view dev.old).sent }
     ensures any_moment { D.told → IsFirm (D.view dev.old) → LeavesOnly (D.view dev.old) (D.view dev.new) (λ x f. (StandAlike (D.view dev.old).reads x ⊎ IsUpgradeOf (D.view dev.old).reads x) × (f ≡ (D.view dev.old).sent)) }
+    ensures no_memory { D.told → IfErr result (λ why. why ≡ Status.NoMemory → IsFirm (D.view dev.old) → LeavesOnly (D.view dev.old) (D.view dev.new) (λ x f. StandAlike (D.view dev.old).reads x × (f ≡ (D.view dev.old).sent))) }
     ensures works { Works (D.view dev.old) (D.view dev.new) }
     ensures faultless { OnOk result ((D.view dev.new).faults ≡ (D.view dev.old).faults) }
     ensures fault { IfErr result (λ why. why ≢ Status.DeviceFault → (D.view dev.new).faults ≡ (D.view dev.old).faults) }
@@ -70,6 +74,7 @@ fn upgrade_at<D: Device>(volume: &mut Volume, dev: &mut D) -> Result<(), Status>
     requires at { D.told → IsAt volume.old (D.view dev.old) }
     ensures at { D.told → OnOk result (IsAt volume.new (D.view dev.new)) }
     ensures done { D.told → OnOk result (world_on (D.view dev.new) ≡ upgraded (world_on (D.view dev.old))) }
+    ensures closed { D.told → OnOk result (AreClosed (D.view dev.new).reads) }
     ensures erased { D.told → OnOk result ((n : ℕ) → 4 ≤ n → n ≤ 116 → (D.view dev.new).reads n ≡ zeros) }
     ensures failed { IfErr result (λ why. why ≡ Status.DeviceFault) }
     ensures sent { D.told → (D.view dev.new).sent ≡ (D.view dev.old).sent }

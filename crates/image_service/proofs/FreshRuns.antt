@@ -21,6 +21,8 @@ use Rattle.serving.specs.Runs.{IsAcknowledged}
 use Rattle.serving.specs.Service.{IsCounted}
 use Rattle.serving.specs.Voice.{Voice}
 use Rattle.image_service.specs.Served.{disk_service, Ends, IsOwed, Ran}
+use Rattle.image_opening.specs.Opened.{IsJudged}
+use Rattle.image_world.proofs.FaultLaws.{no_fault}
 use Rattle.image_service.specs.Fresh.{fresh_start, format_writes, FreshEnds, FreshRan}
 use Rattle.tsd_core.specs.Work.{debt}
 use Rattle.volume_laws.specs.Quiet.{IsQuiet}
@@ -35,12 +37,16 @@ left_by v kind w old asked x f = (IsFormatting old w x f × (f ≡ old.sent)) �
 abbrev owed_by : Voice → PlaceKind → World → View → List Request → Image → List ℕ → Type 0
 owed_by v kind w old asked x f = (IsFormatting old w x f × (f ≡ old.sent)) ⊎ HasDebt (disk_service v) disk_work (fresh_start kind w) old.sent 0 asked x f
 
+-- by the moment `now` the disk is formatted
+pub record IsFormatted (w : World) (old now : View) : Type 0 where
+  pub stands : Stands now.reads w
+  pub quiet : IsQuiet now.reads
+  pub firm : IsFirm now
+  pub sent : now.sent ≡ old.sent
+
 -- what formatting did: the disk stands for this world, with nothing left to be done
 pub record Formatted (w : World) (old mid : View) : Type 0 where
-  pub stands : Stands mid.reads w
-  pub quiet : IsQuiet mid.reads
-  pub firm : IsFirm mid
-  pub sent : mid.sent ≡ old.sent
+  pub formatted : IsFormatted w old mid
   pub leaves : LeavesOnly old mid (λ x f. IsFormatting old w x f × (f ≡ old.sent))
   pub uses : Uses (format_writes w.geometry) old mid
 
@@ -49,11 +55,11 @@ owed_fresh : (v : Voice) (kind : PlaceKind) (w : World) (old mid : View) (asked 
     → IsOwed v kind mid asked x f → HasDebt (disk_service v) disk_work (fresh_start kind w) old.sent 0 asked x f
 owed_fresh v kind w old mid asked x f counted done owed = elim owed [
   | inl has ↦
-      subst (λ (b : List ℕ). HasDebt (disk_service v) disk_work (fresh_start kind w) b 0 asked x f) done.sent
-      (subst (λ (u : World). HasDebt (disk_service v) disk_work (fresh_start kind u) mid.sent 0 asked x f) (sym done.stands.world) has)
+      subst (λ (b : List ℕ). HasDebt (disk_service v) disk_work (fresh_start kind w) b 0 asked x f) done.formatted.sent
+      (subst (λ (u : World). HasDebt (disk_service v) disk_work (fresh_start kind u) mid.sent 0 asked x f) (sym done.formatted.stands.world) has)
   | inr few ↦
-      let none : debt x ≤ debt mid.reads = few.1 done.quiet.still in
-      let settled : debt mid.reads ≡ 0 = done.quiet.settled in
+      let none : debt x ≤ debt mid.reads = few.1 done.formatted.quiet.still in
+      let settled : debt mid.reads ≡ 0 = done.formatted.quiet.settled in
       record {
         answered = [];
         rest = asked;
@@ -62,29 +68,31 @@ owed_fresh v kind w old mid asked x f counted done owed = elim owed [
         state = fresh_start kind w;
         run = refl;
         front = [];
-        sent = few.0 ∙ (done.sent ∙ sym (append-nil old.sent));
+        sent = few.0 ∙ (done.formatted.sent ∙ sym (append-nil old.sent));
         count = counted.nothing;
         few = omega (arith, none, settled);
       }
 ]
 
 pub ends_formatted : (r : Status) (v : Voice) (kind : PlaceKind) (w : World) (old mid new : View) (asked : List Request) (final : Placed) → IsCounted (disk_service v)
-    → Formatted w old mid → Ends r v kind mid new asked final → FreshEnds r v kind w old new asked final
-ends_formatted r v kind w old mid new asked final counted done ends =
-    let sent = done.sent in
-    let stands = done.stands in
+    → Formatted w old mid → IsJudged mid.reads r → Ends r v kind mid new asked final → FreshEnds r v kind w old new asked final
+ends_formatted r v kind w old mid new asked final counted done judged ends =
+    let sent = done.formatted.sent in
+    let stands = done.formatted.stands in
     let by : ByStatus r (disk_service v) (fresh_start kind w) old.sent asked final new.sent =
     subst (λ (b : List ℕ). ByStatus r (disk_service v) (fresh_start kind w) b asked final new.sent) sent
     (subst (λ (u : World). ByStatus r (disk_service v) (fresh_start kind u) mid.sent asked final new.sent) (sym stands.world) ends.sent) in
     let moments : LeavesOnly mid new (IsAcknowledged (disk_service v) (fresh_start kind w) old.sent asked) =
     subst (λ (b : List ℕ). LeavesOnly mid new (IsAcknowledged (disk_service v) (fresh_start kind w) b asked)) sent
-    (subst (λ (u : World). LeavesOnly mid new (IsAcknowledged (disk_service v) (fresh_start kind u) mid.sent asked)) (sym stands.world) (ends.any_moment done.firm w stands)) in
+    (subst (λ (u : World). LeavesOnly mid new (IsAcknowledged (disk_service v) (fresh_start kind u) mid.sent asked)) (sym stands.world) (ends.any_moment done.formatted.firm w stands)) in
     let most : IsPaidFor (disk_service v) disk_work (fresh_start kind w) asked mid.writes new.writes =
-    subst (λ (u : World). IsPaidFor (disk_service v) disk_work (fresh_start kind u) asked mid.writes new.writes) (sym stands.world) (ends.writes done.quiet) in
+    subst (λ (u : World). IsPaidFor (disk_service v) disk_work (fresh_start kind u) asked mid.writes new.writes) (sym stands.world) (ends.writes done.formatted.quiet) in
     record {
       sent = by;
       any_moment = joined old mid new (left_by v kind w old asked) _ (weakened old mid _ _ done.leaves (λ x f p. inl p)) moments (λ x f p. inr p);
-      debt = λ bounded. joined old mid new (owed_by v kind w old asked) _ (weakened old mid _ _ done.leaves (λ x f p. inl p)) (ends.debt done.firm bounded) (λ x f p. inr (owed_fresh v kind w old mid asked x f counted done p));
+      formatted = λ other. (mid.clock, done.uses.clock, moments.later, moments.each);
+      opens = λ why e. no_fault mid.reads why stands.good (subst (λ (t : Status). IsJudged mid.reads t) e judged);
+      debt = λ bounded. joined old mid new (owed_by v kind w old asked) _ (weakened old mid _ _ done.leaves (λ x f p. inl p)) (ends.debt done.formatted.firm bounded) (λ x f p. inr (owed_fresh v kind w old mid asked x f counted done p));
       writes = paid_from v (fresh_start kind w) asked mid.writes (old.writes + format_writes w.geometry) new.writes done.uses.most most;
       done = ends.done;
     }
@@ -95,6 +103,8 @@ pub ends_unformatted : (v : Voice) (kind : PlaceKind) (w : World) (old new : Vie
 ends_unformatted v kind w old new counted sent leaves uses = record {
   sent = inl (record { answered = []; rest = []; parts = refl; answers = []; state = fresh_start kind w; run = refl; sent = sent ∙ sym (append-nil old.sent); count = counted.nothing });
   any_moment = weakened old new _ (left_by v kind w old []) leaves (λ x f p. inl p);
+  formatted = λ other. absurd (other refl);
+  opens = λ why e. cc;
   debt = λ bounded. weakened old new _ (owed_by v kind w old []) leaves (λ x f p. inl p);
   writes = paid_nothing v (fresh_start kind w) (old.writes + format_writes w.geometry) new.writes uses.most;
   done = λ e. absurd (cc);
@@ -102,15 +112,15 @@ ends_unformatted v kind w old new counted sent leaves uses = record {
 
 -- A run after formatting.
 pub ran_formatted : (r : Status) (v : Voice) (p : Spelling Request) (kind : PlaceKind) (w : World) (limit : ℕ) (came : List ℕ → Type 0) (ended untouched tells : Type 0) (old mid new : View)
-    → IsCounted (disk_service v) → (tells → Formatted w old mid)
+    → IsCounted (disk_service v) → (tells → Formatted w old mid) → (tells → IsJudged mid.reads r)
     → Ran r v p kind limit came ended untouched tells mid new → FreshRan r v p kind w limit came ended untouched tells old new
-ran_formatted r v p kind w limit came ended untouched tells old mid new counted done ran = record {
+ran_formatted r v p kind w limit came ended untouched tells old mid new counted done judged ran = record {
   bytes = ran.bytes;
   came_in = ran.came_in;
   asked = ran.asked;
-  these = elim ran.these [ inl closed ↦ inl (record { why = closed.why; source = closed.source; none = closed.none; sent = λ told. closed.sent told ∙ (done told).sent }) | inr asked ↦ inr asked ];
+  these = elim ran.these [ inl closed ↦ inl (record { why = closed.why; source = closed.source; none = closed.none; sent = λ told. closed.sent told ∙ (done told).formatted.sent }) | inr asked ↦ inr asked ];
   final = ran.final;
-  ends = λ told. ends_formatted r v kind w old mid new ran.asked ran.final counted (done told) (ran.ends told);
+  ends = λ told. ends_formatted r v kind w old mid new ran.asked ran.final counted (done told) (judged told) (ran.ends told);
 }
 
 -- a run that ended in formatting

@@ -9,6 +9,7 @@ use Rattle.image_device.specs.Runs.{IsFirm, LeavesOnly}
 use Rattle.image_layout.specs.Image.{Image}
 use Rattle.intent_journal.specs.Home.{home}
 use Rattle.image_world.specs.Stands.{Stands, world_of}
+use Rattle.recovery.specs.Opening.{StandAlike}
 use Rattle.image_world.specs.Tables.{tables_of}
 use Rattle.volume_laws.specs.Quiet.{IsQuiet}
 use Rattle.tsd_words.specs.declared.status.Status.{Status}
@@ -33,12 +34,14 @@ disk_service v = spoken disk_rules v
 abbrev pub start_of : PlaceKind → Image → Placed
 start_of kind image = record { kind = kind; state = at_rest (world_of image) }
 
--- Nothing was opened: no request was asked, the source is as it was, and nothing was sent.
+-- Nothing was opened: no request was asked, the source is as it was, and nothing was sent. A crash at any moment leaves an image of
+-- the same world as the one at the start, or of none where that stands for none.
 pub record NotOpened (r : Status) (untouched tells : Type 0) (old new : View) (asked : List Request) : Type 0 where
   pub why : IsUnopened r
   pub source : untouched
   pub none : asked ≡ []
   pub sent : tells → new.sent ≡ old.sent
+  pub alike : tells → IsFirm old → LeavesOnly old new (λ x f. StandAlike old.reads x × (f ≡ old.sent))
 
 -- Nothing is loose, the disk stands for this world, and nothing is left to be done.
 pub record IsAtEase (v : View) (w : World) : Type 0 where
@@ -46,8 +49,9 @@ pub record IsAtEase (v : View) (w : World) : Type 0 where
   pub stands : Stands v.reads w
   pub quiet : IsQuiet v.reads
 
--- How much a crash may have left to be reclaimed: what the requests make of which replies were sent, less four a reply; or
--- while nothing is sent, no more than at the start, where no sweep had begun there.
+-- How much a crash may have left to be reclaimed. Each request adds what it makes, and after its reply four are taken off, or all:
+-- it is at most what was left so before the last request that was answered, and what that and the next one make. Or nothing was
+-- sent yet, and it is at most what it was at the start, where no sweep had begun there.
 abbrev pub IsOwed : Voice → PlaceKind → View → List Request → Image → List ℕ → Type 0
 IsOwed v kind old asked x f =
     HasDebt (disk_service v) disk_work (start_of kind old.reads) old.sent 0 asked x f

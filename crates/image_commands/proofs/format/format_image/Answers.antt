@@ -20,7 +20,7 @@ returns-in-Ok-put_all-clause-made g c told =
     let geometry = c.args.words.now.geometry in
     let text = c.as_slice.ensures.value ∙ c.cap_lines.ensures ∙ ap (λ (l : List CapPair). cap_lines 0 l) c.caps_of-caps.ensures.value in (
       formatted_still c.args.words.now mid new (c.in-Ok.ensures.firm told) (subst (λ (l : List CapPair). Stands mid.reads (fresh_world geometry l)) c.caps_of-caps.ensures.value (c.in-Ok.ensures.done told))
-          (c.in-Ok.ensures.closed told) (c.put_all.ensures.reads told) (c.put_all.ensures.loose told),
+          (c.in-Ok.ensures.quiet told) (c.put_all.ensures.reads told) (c.put_all.ensures.loose told),
       c.in-Ok-put_all.ensures.sent told ∙ ap (λ (b : List ℕ). b ++ c.as_slice.result.now) (c.format.ensures.sent told) ∙ ap (λ (t : List ℕ). old.sent ++ t) text,
     )
 
@@ -32,7 +32,7 @@ returns-in-Err-put_all-clause-made g c told =
     let geometry = c.args.words.now.geometry in
     let text = c.as_slice.ensures.value ∙ c.cap_lines.ensures ∙ ap (λ (l : List CapPair). cap_lines 0 l) c.caps_of-caps.ensures.value in (
       formatted_still c.args.words.now mid new (c.in-Ok.ensures.firm told) (subst (λ (l : List CapPair). Stands mid.reads (fresh_world geometry l)) c.caps_of-caps.ensures.value (c.in-Ok.ensures.done told))
-          (c.in-Ok.ensures.closed told) (c.put_all.ensures.reads told) (c.put_all.ensures.loose told),
+          (c.in-Ok.ensures.quiet told) (c.put_all.ensures.reads told) (c.put_all.ensures.loose told),
       subst (λ (t : List ℕ). IsCut old.sent t new.sent) text (cut_from old.sent mid.sent c.as_slice.result.now new.sent (c.format.ensures.sent told) (c.in-Err-put_all.ensures.part told)),
     )
 

@@ -46,3 +46,6 @@ returns-in-Err-clause-upgraded g c told =
 pub returns-in-Err-clause-any_moment : goal.returns-in-Err-clause-any_moment
 returns-in-Err-clause-any_moment g c told firm =
     weakened (g.P.Device.view c.args.port.now) (g.P.Device.view c.upgrade.new.dev) _ _ (c.upgrade.ensures.any_moment told firm) (λ x f left. inl left)
+
+pub returns-in-Err-clause-no_memory : goal.returns-in-Err-clause-no_memory
+returns-in-Err-clause-no_memory g c told = c.in-Err.ensures.no_memory told

@@ -19,13 +19,16 @@ returns-in-Ok-clause-ran g c =
     ran_formatted c.serve_image.result g.R.Replies.voice g.R.Protocol.spelling c.args.place.now.kind (single_world geometry c.args.caps.now) c.args.limit _ _ _ g.P.Device.told old mid new
     (spoken_counted disk_rules g.R.Replies.voice (λ s q r t given. given.1) g.met.R.Replies.apart)
     (λ told. record {
-      stands = subst (λ (l : List CapPair). Stands mid.reads (fresh_world geometry l)) c.one_pair.ensures (c.in-Ok.ensures.done told);
-      quiet = c.in-Ok.ensures.quiet told;
-      firm = c.in-Ok.ensures.firm told;
-      sent = c.format.ensures.sent told;
+      formatted = record {
+        stands = subst (λ (l : List CapPair). Stands mid.reads (fresh_world geometry l)) c.one_pair.ensures (c.in-Ok.ensures.done told);
+        quiet = c.in-Ok.ensures.quiet told;
+        firm = c.in-Ok.ensures.firm told;
+        sent = c.format.ensures.sent told;
+      };
       leaves = subst (λ (l : List CapPair). LeavesOnly old mid (λ x f. IsFormatting old (fresh_world geometry l) x f × (f ≡ old.sent))) c.one_pair.ensures (c.format.ensures.any_moment told);
       uses = c.format.ensures.uses;
     })
+    c.serve_image.ensures.read
     c.serve_image.ensures.ran
 
 pub returns-in-Err-clause-ran : goal.returns-in-Err-clause-ran

@@ -85,7 +85,7 @@ returns-in-Err-clause-ran g c =
       bytes = [];
       came_in = record { taken = λ tells. sym (append-nil _); left = λ tells. refl };
       asked = [];
-      these = inl (record { why = c.in-Err.ensures.stops; source = refl; none = refl; sent = c.open_core.ensures.sent });
+      these = inl (record { why = c.in-Err.ensures.stops; source = refl; none = refl; sent = c.open_core.ensures.sent; alike = c.open_core.ensures.any_moment });
       final = start_of c.args.place.now.kind old.reads;
       ends = λ told.
           ends_unopened c.in-Err.why g.R.Replies.voice c.args.place.now.kind old (g.P.Device.view c.open_core.new.dev) (spoken_counted disk_rules g.R.Replies.voice (λ s q r t given. given.1) g.met.R.Replies.apart)
