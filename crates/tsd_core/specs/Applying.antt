@@ -40,9 +40,9 @@ is_refusal (reply.Refused r) = true
 is_refusal reply.NoMemory = true
 is_refusal r = false
 
--- the rule that refuses the request, if one does, as far as memory tells it: that is all of it
-abbrev pub refuses : Core → Request → Option Rule
-refuses c q = verdict (told_world c) (sessions_of c) q
+-- the rule that refuses a request, if one does: memory tells it
+abbrev pub told_verdict : Core → Request → Option Rule
+told_verdict c q = verdict (told_world c) (sessions_of c) q
 
 -- it opens or closes a session, or is answered from memory
 abbrev pub asks_nothing : Request → Bool
@@ -69,7 +69,7 @@ pub record IsApplied (told : Type 0) (kind : PlaceKind) (q : Request) (old new :
   pub given : told → IfOk result (λ r. IsAnswer kind (state_on old v.reads) q r (state_on new w.reads))
   pub told_given : IfOk result (λ r. IsToldAnswer kind old q r new)
   pub refused : IfOk result (λ r. is_refusal r ≡ true → new ≡ old)
-  pub refusal : IfSome (refuses old q) (λ rule. result ≡ Ok (reply.Refused rule))
+  pub refusal : IfSome (told_verdict old q) (λ rule. result ≡ Ok (reply.Refused rule))
   pub answered : asks_nothing q ≡ true → IsOk result
   pub size : SameSize old new
   pub spent : OnErr result (new.volume.is_spent ≡ true)
