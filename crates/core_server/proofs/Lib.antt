@@ -1,3 +1,4 @@
 pub mod StepForm
 pub mod Serving
+pub mod Kept
 pub mod RunCosts

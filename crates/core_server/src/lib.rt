@@ -9,7 +9,9 @@
 #![tactic(auto)]
 
 mod laws;
+mod run;
 mod server;
 
 pub use laws::{runs_are_the_disks, runs_cost_by_the_pairs_that_they_remove};
+pub use run::serve_core;
 pub use server::CoreServer;

@@ -2,7 +2,7 @@
 
 ghost use Rattle.std.specs.Prelude.{◌≡◌};
 ghost use Rattle.tsd_core.specs.Core.{IsReady, Holds};
-ghost use Rattle.tsd_core.specs.Work.{IsClosed};
+ghost use Rattle.volume_laws.specs.Quiet.{IsQuiet};
 ghost use Rattle.volume_laws.specs.Writes.{due};
 ghost use Rattle.core_server.specs.Server.{disk_rules, disk_work, placed_on};
 ghost use Rattle.core_server.specs.StandsLaws.{stands_here};
@@ -17,27 +17,10 @@ use tsd_model::{Reply, Request};
 #[derive(Drop)]
 pub struct CoreServer<'a> {
     /// The disk.
-    pub core: Core,
+    pub core: &'a mut Core,
 
     /// In which order free blocks are taken.
     pub place: &'a Placement,
-}
-
-impl<'a> CoreServer<'a> {
-    /// A core that takes free blocks by this placement.
-    pub fn new(core: Core, place: &'a Placement) -> CoreServer<'a>
-        ensures core { result.core ≡ core }
-        ensures place { result.place.now.kind ≡ place.now.kind }
-    {
-        CoreServer { core, place }
-    }
-
-    /// The core.
-    pub fn into_core(self) -> Core
-        ensures { result ≡ self.entry.core }
-    {
-        self.core
-    }
 }
 
 impl<'a> Handler for CoreServer<'a> {
@@ -45,17 +28,19 @@ impl<'a> Handler for CoreServer<'a> {
 
     ghost work = { disk_work };
 
-    ghost is_ready = { λ h. IsReady h.core };
+    ghost is_ready = { λ h. IsReady h.core.now };
 
-    ghost holds = { λ h x. Holds h.core x };
+    ghost holds = { λ h x. Holds h.core.now x };
 
-    ghost state = { λ h x. placed_on h.place.now.kind h.core x };
+    ghost state = { λ h x. placed_on h.place.now.kind h.core.now x };
 
-    ghost owed = { λ h x. due h.core.volume };
+    ghost owed = { λ h x. due h.core.now.volume };
 
-    ghost is_closed = { IsClosed };
+    ghost is_closed = { IsQuiet };
 
-    ghost stands_now = { λ h x held. stands_here h.core x held };
+    ghost lender = { λ h. h.core.ghost_name };
+
+    ghost stands_now = { λ h x held. stands_here h.core.now x held };
 
     ghost given_form = { λ s q r t given. given.1 };
 

@@ -108,7 +108,9 @@ impl Ahead {
         self.tally.raise(target);
     }
 
-    /// Blocks were allocated: each of these, which were free, is live, and a pair to it was added.
+    /// Blocks were allocated: each of these, which were free, is live, and a pair to it was added. Nothing is doomed then: room
+    /// for blocks is made by reclaiming all first. So whichever block the pairs come from, none of the new blocks is doomed,
+    /// and there is no need to name it.
     pub fn raise_all(&mut self, targets: &[u32])
         requires told { (w : World) × IsGrowing w targets.now self.old }
         ensures ahead { (w : World) (a : ℕ) → IsGrowing w targets.now self.old → IsAheadOf (with_new_blocks w a targets.now) self.new }

@@ -28,12 +28,13 @@ use Rattle.volume.specs.Loading.{IsLoading}
 use Rattle.volume.specs.declared.fault.VolumeFault.{VolumeFault}
 use Rattle.volume.specs.declared.fault.VolumeFault.TheVariants as loading
 use Rattle.volume_laws.specs.Moments.{LeavesWorld, LeavesOwed, owed}
+use Rattle.volume_laws.specs.Quiet.{IsQuiet}
 use Rattle.volume_laws.specs.Volume.{Volume, IsAt, world_on}
 use Rattle.volume_laws.specs.Writes.{due, IsPaid}
 use Rattle.recovery.specs.declared.fault.OpenFault.{OpenFault}
 use Rattle.recovery.specs.declared.fault.OpenFault.TheVariants as fault
 use Rattle.recovery.specs.Faults.{of_volume}
-use Rattle.recovery.specs.Opening.{HasHead, IsOpening, StandAlike, IsQuiet}
+use Rattle.recovery.specs.Opening.{HasHead, IsOpening, StandAlike}
 
 -- what opening leaves: the world of the start, or none, and what was sent then
 abbrev pub Kept : View → Image → List ℕ → Type 0
@@ -126,15 +127,12 @@ opened_fault v0 v3 loading.NoMemory done p = tt
 opened_fault v0 v3 loading.Device done p = tt
 opened_fault v0 v3 (loading.Image why) done p = fault_alike v3.reads v0.reads (agree_back v0.reads v3.reads done.agree) why p
 
--- ---- an image with nothing open and nothing lost
+-- ---- an image on which nothing is left to be done
 pub quiet_replay : (x : Image) → AreClosed x → replay_writes x ≡ 0
 quiet_replay x closed =
     let none : distinct_homes (open_records x) ≡ 0 = ap distinct_homes (opened_none x (closed 0 (omega arith))).0 in
     let shut : open_gates x ≡ 0 = rw (closed 0 (omega arith), closed 1 (omega arith), closed 2 (omega arith), closed 3 (omega arith), closed 4 (omega arith), closed 5 (omega arith), closed 6 (omega arith), closed 7 (omega arith)) refl in
     omega (arith, none, shut)
-
-quiet_home : (x : Image) → AreClosed x → home x ≡ x
-quiet_home x closed = home_of_empty x (opened_none x (closed 0 (omega arith))).0
 
 pub same_tables : (v0 v4 : View) (vol : Volume) → IsReplayed v0 v4 → IsAt vol v4 → vol.tables ≡ tables_of (home v0.reads)
 same_tables v0 v4 vol done at =
@@ -142,10 +140,7 @@ same_tables v0 v4 vol done at =
     sym at.tables ∙ alike_tables (home v0.reads) (home v4.reads) good.header done.agree.homes
 
 pub quiet_flag : (v0 v4 : View) (vol : Volume) → IsQuiet v0.reads → IsReplayed v0 v4 → IsAt vol v4 → vol.tables.is_sweeping ≡ false
-unfolding tables_of
-quiet_flag v0 v4 vol quiet done at =
-    ap (λ (t : Tables). t.is_sweeping) (same_tables v0 v4 vol done at)
-    ∙ (ap (λ (x : Image). is_open (x 131)) (quiet_home v0.reads quiet.closed) ∙ quiet.still)
+quiet_flag v0 v4 vol quiet done at = ap (λ (t : Tables). t.is_sweeping) (same_tables v0 v4 vol done at) ∙ quiet.still
 
 pub quiet_due : (v0 v4 : View) (vol : Volume) → IsQuiet v0.reads → IsReplayed v0 v4 → IsAt vol v4 → vol.ring ≡ [] → due vol ≡ 0
 quiet_due v0 v4 vol quiet done at none =

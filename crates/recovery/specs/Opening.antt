@@ -1,16 +1,13 @@
 -- What opening answers, and what a crash leaves of it.
-use Rattle.std.specs.Prelude.{◌≡◌, ◌↔◌, false, Result, Ok, Err, ⊤}
+use Rattle.std.specs.Prelude.{◌↔◌, Result, Ok, Err, ⊤}
 use Rattle.tsd_model.specs.World.{World}
 use Rattle.image_layout.specs.declared.header.Header.{Header}
-use Rattle.image_layout.specs.Areas.{header_sector, sweep_flag}
+use Rattle.image_layout.specs.Areas.{header_sector}
 use Rattle.image_layout.specs.Header.{IsReading}
-use Rattle.image_layout.specs.Image.{Image, is_open}
+use Rattle.image_layout.specs.Image.{Image}
 use Rattle.intent_journal.specs.Home.{home}
 use Rattle.image_world.specs.Faults.{IsFormatted, HasJournal, IsGood, IsFirstFault}
-use Rattle.image_world.specs.Fresh.{AreClosed}
 use Rattle.image_world.specs.Stands.{Stands}
-use Rattle.image_world.specs.Tables.{tables_of}
-use Rattle.volume_laws.specs.Moments.{owed}
 use Rattle.volume_laws.specs.Volume.{Volume}
 use Rattle.recovery.specs.declared.fault.OpenFault.{OpenFault}
 use Rattle.recovery.specs.declared.fault.OpenFault.TheVariants as fault
@@ -39,9 +36,3 @@ IsOpening image (Err fault.NoMemory) = ⊤
 -- both stand for the same world, or for none
 abbrev pub StandAlike : Image → Image → Type 0
 StandAlike image x = (w : World) → Stands image w ↔ Stands x w
-
--- all gates and the sweep flag are closed, and nothing is lost: opening writes nothing
-pub record IsQuiet (image : Image) : Type 0 where
-  pub closed : AreClosed image
-  pub still : is_open (image sweep_flag) ≡ false
-  pub settled : owed (tables_of (home image)) ≡ 0

@@ -6,8 +6,8 @@ ghost use Rattle.tsd_model.specs.Run.{fresh_world};
 ghost use Rattle.image_device.specs.Calls.{Uses};
 ghost use Rattle.image_device.specs.Counts.{Rose};
 ghost use Rattle.image_device.specs.Runs.{IsFirm, LeavesOnly};
-ghost use Rattle.image_world.specs.Fresh.{AreClosed};
 ghost use Rattle.image_world.specs.Stands.{Stands};
+ghost use Rattle.volume_laws.specs.Quiet.{IsQuiet};
 ghost use Rattle.recovery.specs.Areas.{fresh_end};
 ghost use Rattle.recovery.specs.Formatting.{IsFormatting};
 
@@ -17,13 +17,14 @@ use image_layout::gate::gate_bytes;
 use image_layout::sectors::FORMAT_GATE;
 use tsd_model::{CapList, Geometry};
 
-/// Formats a disk of this size, with these capabilities of its primary blocks. `Failed` comes only where the device's count
-/// of faults rose. It takes no memory.
+/// Formats a disk of this size, with these capabilities of its primary blocks. Nothing is left to be done on it: all gates of
+/// the journal are closed, no sweep is open, and nothing is doomed. `Failed` comes only where the device's count of faults
+/// rose. It takes no memory.
 pub fn format<D: Device>(dev: &mut D, geometry: &Geometry, caps: &CapList) -> Result<(), Failed>
     requires lawful { IsLawful geometry.now }
     requires each { length caps.now ≡ geometry.now.primaries }
     ensures done { D.told → OnOk result (Stands (D.view dev.new).reads (fresh_world geometry.now caps.now)) }
-    ensures closed { D.told → OnOk result (AreClosed (D.view dev.new).reads) }
+    ensures quiet { D.told → OnOk result (IsQuiet (D.view dev.new).reads) }
     ensures firm { D.told → OnOk result (IsFirm (D.view dev.new)) }
     ensures sent { D.told → (D.view dev.new).sent ≡ (D.view dev.old).sent }
 

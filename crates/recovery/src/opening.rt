@@ -1,6 +1,7 @@
 //! Opening.
 
 ghost use Rattle.std.specs.Prelude.{◌≡◌, ◌+◌, ◌≤◌, false, IfOk, OnOk, IsErrOf};
+ghost use Rattle.image_layout.specs.declared.header.Header.{Header};
 ghost use Rattle.image_device.specs.Calls.{Uses};
 ghost use Rattle.image_device.specs.Counts.{Rose};
 ghost use Rattle.image_device.specs.Runs.{IsFirm, LeavesOnly};
@@ -10,9 +11,10 @@ ghost use Rattle.image_world.specs.Stands.{world_of};
 ghost use Rattle.image_world.specs.Tables.{tables_of};
 ghost use Rattle.intent_journal.specs.Home.{home};
 ghost use Rattle.volume_laws.specs.Moments.{LeavesOwed, owed};
+ghost use Rattle.volume_laws.specs.Quiet.{IsQuiet};
 ghost use Rattle.volume_laws.specs.Volume.{IsAt, IsReady, world_on};
 ghost use Rattle.volume_laws.specs.Writes.{due, Works};
-ghost use Rattle.recovery.specs.Opening.{IsOpening, IsQuiet, StandAlike};
+ghost use Rattle.recovery.specs.Opening.{HasHead, IsOpening, StandAlike};
 
 use crate::fault::OpenFault;
 use crate::head::read_head;
@@ -22,8 +24,9 @@ use std::alloc::Global;
 use volume::Volume;
 
 /// Opens an image: a sync, the tests that need no write, a replay of the journal, the other tests, and then the end of an
-/// open sweep and of what is lost. The answer is the volume of the world for which the image stands, with nothing lost. The
-/// fault `Image` comes exactly where it stands for none, `Device` only where the device's count of faults rose.
+/// open sweep and of what is doomed. The answer is the volume of the world for which the image stands, with nothing doomed. The
+/// fault `Image` comes exactly where it stands for none, `Device` only where the device's count of faults rose. Where nothing
+/// is left to be done on the image, nothing is written.
 pub fn open_image<D: Device>(alloc: Global, dev: &mut D) -> Result<Volume, OpenFault>
     ensures read { D.told → IsOpening (D.view dev.old).reads result }
     ensures at { D.told → IfOk result (λ v. IsAt v (D.view dev.new)) }
@@ -37,6 +40,9 @@ pub fn open_image<D: Device>(alloc: Global, dev: &mut D) -> Result<Volume, OpenF
     // an opening left, stopped anywhere and any number of times, opens the same world.
     ensures any_moment { D.told → IsFirm (D.view dev.old) → LeavesOnly (D.view dev.old) (D.view dev.new)
         (λ x f. StandAlike (D.view dev.old).reads x × (f ≡ (D.view dev.old).sent)) }
+
+    // Where one of the tests fails that need no write, nothing is written.
+    ensures untouched { D.told → ((h : Header) → ¬ HasHead (D.view dev.old).reads h) → Uses 0 (D.view dev.old) (D.view dev.new) }
 
     ensures unwritten { D.told → IsQuiet (D.view dev.old).reads → Uses 0 (D.view dev.old) (D.view dev.new) }
     ensures paid { D.told → IsQuiet (D.view dev.old).reads → IfOk result (λ v. (D.view dev.new).writes + due v ≤ (D.view dev.old).writes) }

@@ -8,6 +8,9 @@ use std::cell::Cell;
 pub struct Drip {
     /// Where the bytes go.
     pub inner: MemStation,
+
+    /// How many puts there were.
+    pub puts: u64,
 }
 
 impl Device for Drip {
@@ -34,6 +37,7 @@ impl Device for Drip {
 
 impl Port for Drip {
     fn put(&mut self, piece: &[u8]) -> Result<usize, Failed> {
+        self.puts = self.puts.saturating_add(1);
         self.inner.put(&piece[..1])
     }
 }

@@ -10,7 +10,7 @@ use std::test::Fail;
 use tsd_serve::Status;
 
 /// Words, input and output.
-const RUNS: [(&str, &str, &str); 21] = [
+const RUNS: [(&str, &str, &str); 20] = [
     ("fresh 8 1 R W near", "", ""),
     ("fresh 8 1 R W near", "open 1/read 1 0 R/", "ok/data -/"),
     (
@@ -103,11 +103,10 @@ const RUNS: [(&str, &str, &str); 21] = [
         "free//free",
         "free 7/no bad-request/free 7/",
     ),
-    ("fresh 1048576 1 R W low", "", ""),
 ];
 
-/// Words that are no command.
-const FAULTY: [&str; 16] = [
+/// Words that are no command, or none that is built.
+const FAULTY: [&str; 18] = [
     "",
     "fresh",
     "fresh 7 1 R W near",
@@ -123,7 +122,9 @@ const FAULTY: [&str; 16] = [
     "fresh 8 1 R W",
     "fresh 8 1 R W near near",
     "fresher 8 1 R W near",
-    "run near",
+    "run nearer",
+    "check",
+    "upgrade",
 ];
 
 /// One run, its input cut into pieces of this size.

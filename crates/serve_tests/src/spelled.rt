@@ -5,7 +5,7 @@
 
 ghost use Rattle.std.specs.Prelude.{◌<◌};
 
-use image_device::{MemSource, MemStation};
+use image_device::{MemSource, MemStation, Port};
 use place_policy::PlaceBook;
 use std::alloc::{AllocError, Global};
 use std::test::Fail;
@@ -74,4 +74,17 @@ pub fn run(
     let status = tsd(alloc, &words, &mut source, &mut port, book);
     let sent = port.sent().to_vec(alloc)?;
     Ok((status, sent))
+}
+
+/// The status of a run over an image that is there.
+pub fn run_over<P: Port>(
+    alloc: Global,
+    book: &PlaceBook,
+    texts: (&str, &str),
+    port: &mut P,
+) -> Result<Status, Fail> {
+    let input = spelled(alloc, texts.1)?;
+    let words = words(alloc, spelled(alloc, texts.0)?.as_slice())?;
+    let mut source = MemSource::new(input, 9, Vec::new(alloc));
+    Ok(tsd(alloc, &words, &mut source, port, book))
 }

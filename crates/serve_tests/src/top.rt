@@ -5,6 +5,7 @@ ghost use Rattle.tsd_model.specs.Rank.{rank_of, zones_after};
 ghost use Rattle.tsd_model.specs.declared.requests.PlaceKind.TheVariants.{Low, Near, Spread};
 
 use crate::faults::{faults, one_byte_puts, replies_before_takes};
+use crate::images::{framed, kept, refused, stops};
 use crate::runs::{all_runs, faulty_words};
 use place_policy::{PlaceBook, Placement, ZONE_TURNS, low_rank, near_rank, spread_rank, zone_rank};
 use std::test::Fail;
@@ -48,5 +49,9 @@ fn runs(rt: HostRuntime) -> Result<(), Fail> {
     faulty_words(&rt, alloc, &book)?;
     faults(&rt, alloc, &book)?;
     one_byte_puts(&rt, alloc, &book)?;
-    replies_before_takes(&rt, alloc, &book)
+    replies_before_takes(&rt, alloc, &book)?;
+    kept(&rt, alloc, &book)?;
+    refused(&rt, alloc, &book)?;
+    framed(&rt, alloc, &book)?;
+    stops(&rt, alloc, &book)
 }

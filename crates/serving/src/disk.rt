@@ -26,6 +26,8 @@ impl<R: Protocol<Request = Request> + Replies, H: Handler> Server<R> for H {
 
     ghost is_closed = { H.is_closed };
 
+    ghost lender = { H.lender };
+
     ghost stands_now = { H.stands_now };
 
     ghost counted = { spoken_counted H.rules R.voice H.given_form R.apart };

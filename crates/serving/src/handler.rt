@@ -36,11 +36,15 @@ pub trait Handler {
     /// Nothing is left to be done on a disk that reads so.
     ghost is_closed: { Image → Type 0 };
 
+    /// The name of the reference through which it holds its disk, where it borrows that.
+    ghost lender: { Self → ℕ };
+
     /// Carries out a request. A crash at any moment leaves the state before or the one after. `Failed` comes only where
     /// `faults` rose; else they are as they were.
     fn apply<D: Device>(&mut self, dev: &mut D, request: &Request) -> Result<Reply, Failed>
         requires ready { is_ready self.old }
         requires at { D.told → IsAt (holds self.old) (D.view dev.old) }
+        ensures lender { lender self.new ≡ lender self.old }
         ensures ready { OnOk result (is_ready self.new) }
         ensures at { D.told → OnOk result (IsAt (holds self.new) (D.view dev.new)) }
         ensures form { IfOk result HasForm }
@@ -59,6 +63,7 @@ pub trait Handler {
     fn settle_some<D: Device>(&mut self, dev: &mut D) -> Result<bool, Failed>
         requires ready { is_ready self.old }
         requires at { D.told → IsAt (holds self.old) (D.view dev.old) }
+        ensures lender { lender self.new ≡ lender self.old }
         ensures ready { OnOk result (is_ready self.new) }
         ensures at { D.told → OnOk result (IsAt (holds self.new) (D.view dev.new)) }
         ensures state { D.told → OnOk result (state self.new (D.view dev.new).reads ≡ state self.old (D.view dev.old).reads) }
@@ -78,6 +83,7 @@ pub trait Handler {
     fn close<D: Device>(&mut self, dev: &mut D) -> Result<(), Failed>
         requires ready { is_ready self.old }
         requires at { D.told → IsAt (holds self.old) (D.view dev.old) }
+        ensures lender { lender self.new ≡ lender self.old }
         ensures ready { OnOk result (is_ready self.new) }
         ensures at { D.told → OnOk result (IsAt (holds self.new) (D.view dev.new)) }
         ensures state { D.told → OnOk result (state self.new (D.view dev.new).reads ≡ state self.old (D.view dev.old).reads) }

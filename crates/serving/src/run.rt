@@ -30,6 +30,7 @@ pub fn serve<S: Source, P: Port, R: Protocol, H: Server<R>>(
     // What came in and what was sent, by status; and where the device tells, what a crash at any moment may have left, how
     // many writes there were, and how much was left to be done.
     ensures ran { Ran result H.service H.work R.spelling (H.state server.old (P.view port.old).reads) (H.state server.new (P.view port.new).reads) limit (Came S.told (S.taken source.old) (S.taken source.new) (S.left_bytes source.old) (S.left_bytes source.new)) (IsAtEnd S.told (S.ended source.new) (S.left_bytes source.new)) P.told (H.owed server.old (P.view port.old).reads) (P.view port.old) (P.view port.new) }
+    ensures lender { H.lender server.new ≡ H.lender server.old }
     // Unless the device failed, the server may be used again.
     ensures ready { result ≢ Status.DeviceFault → H.is_ready server.new }
     ensures at { result ≢ Status.DeviceFault → P.told → IsAt (H.holds server.new) (P.view port.new) }

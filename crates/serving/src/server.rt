@@ -36,11 +36,15 @@ pub trait Server<R: Protocol> {
     /// Nothing is left to be done on a disk that reads so.
     ghost is_closed: { Image → Type 0 };
 
+    /// The name of the reference through which it holds its disk, where it borrows that.
+    ghost lender: { Self → ℕ };
+
     /// Carries out a request and sends its answer whole, and may then do some of what is left to be done. The status is
     /// DeviceFault where `faults` rose, and PutFault where `put_faults` rose; else both are as they were.
     fn answer<P: Port>(&mut self, port: &mut P, request: &R::Request) -> Result<(), Status>
         requires ready { is_ready self.old }
         requires at { P.told → IsAt (holds self.old) (P.view port.old) }
+        ensures lender { lender self.new ≡ lender self.old }
         // Unless the device failed, it may be used again: also where the answer couldn't be sent whole.
         ensures ready { result ≢ Err Status.DeviceFault → is_ready self.new }
         ensures at { result ≢ Err Status.DeviceFault → P.told → IsAt (holds self.new) (P.view port.new) }
@@ -65,6 +69,7 @@ pub trait Server<R: Protocol> {
     fn close<D: Device>(&mut self, dev: &mut D) -> Result<(), Failed>
         requires ready { is_ready self.old }
         requires at { D.told → IsAt (holds self.old) (D.view dev.old) }
+        ensures lender { lender self.new ≡ lender self.old }
         ensures ready { OnOk result (is_ready self.new) }
         ensures at { D.told → OnOk result (IsAt (holds self.new) (D.view dev.new)) }
         ensures state { D.told → OnOk result (state self.new (D.view dev.new).reads ≡ state self.old (D.view dev.old).reads) }

@@ -37,6 +37,8 @@ impl<'a, H: Handler> Handler for Lent<'a, H> {
 
     ghost is_closed = { H.is_closed };
 
+    ghost lender = { H.lender };
+
     ghost stands_now = { λ h x e. H.stands_now h.handler.now x e };
 
     ghost given_form = { H.given_form };

@@ -26,6 +26,8 @@ impl Handler for Steady {
 
     ghost is_closed = { λ x. Unit {0} };
 
+    ghost lender = { λ h. 0 };
+
     ghost stands_now = { λ h x e. tt };
 
     ghost given_form = { λ s q r t e. done_form r e };

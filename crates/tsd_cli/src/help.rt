@@ -11,8 +11,9 @@ a capability or along a pointer from a block already granted.
 
 usage: tsd IMAGE COMMAND
 
-IMAGE is `-`, a disk in memory that is gone when the program ends. No image is
-kept in a file yet: with any other first word the command line is faulty.
+IMAGE is a file, or `-` for a disk in memory that is gone when the program ends.
+A file is open for one process at a time. Where it can't be read or written, or
+another process has it open, a second line on standard error says why.
 
 commands
 
@@ -20,10 +21,24 @@ commands
       Makes a disk of BLOCKS blocks (8 to 1048576) of SECTORS sectors (1, 2, 4
       or 8) of 512 bytes, with one primary block, 0, whose capabilities are
       READCAP and WRITECAP, 32 hexadecimal digits each. PLACE is low, near,
-      spread or zone. Then it answers the lines of standard input.
+      spread or zone. What the file held is lost; a missing file is made. Then
+      it answers the lines of standard input.
 
-      printf 'open 1\\nalloc 1 0 %032d - 2\\nfree\\n' 2 \\
-        | tsd - fresh 8 1 $(printf %032d 1) $(printf %032d 2) near
+      printf 'open 1\\nwrite 1 0 %032d 6869\\n' 2 \\
+        | tsd disk.img fresh 8 1 $(printf %032d 1) $(printf %032d 2) near
+
+  run PLACE
+      Opens the disk, which no session has open, and answers the lines of
+      standard input.
+
+      printf 'open 1\\nread 1 0 %032d\\n' 1 | tsd disk.img run near
+
+  serve PLACE
+      The same over frames: two bytes of length, the lower first, and a body.
+
+      printf '\\001\\000\\007' | tsd disk.img serve near | od -An -tu1
+
+A reply is sent when the disk holds what it tells.
 
 request lines
 
@@ -42,6 +57,7 @@ request lines
 
   CAP is a capability or `-`, HINT a block or `-`, DATA hexadecimal or `-`.
 
-exit status: 0 done, 2 faulty command line, 5 input fault, 6 output fault,
-7 input too long, 8 no memory
+exit status: 0 done, 2 faulty command line, 3 no image, 4 device fault,
+5 input fault, 6 output fault, 7 input too long, 8 no memory, 9 input ends
+inside a frame
 ";

@@ -32,7 +32,7 @@ fn main(rt: HostRuntime) -> ExitCode {
         Ok(words) => {
             let mut input = InputSource::new(rt.stdin());
             let mut output = io::writer(&rt);
-            run(rt.alloc(), words, &mut input, &mut output, &mut errors)
+            run(&rt, words, &mut input, &mut output, &mut errors)
         }
     };
     ExitCode::from(status.code())

@@ -4,6 +4,7 @@ ghost use Rattle.std.specs.Prelude.{◌≡◌, ◌≢◌, ◌<◌, ◌+◌, ◌*
 ghost use Rattle.tsd_model.specs.Rank.{rank_of, zones_after};
 ghost use Rattle.tsd_model.specs.declared.requests.PlaceKind.TheVariants.{Low, Near, Spread};
 
+use crate::file_station::{FileStation, Trouble};
 use crate::help::{HELP, VERSION};
 use image_device::{MemStation, Source};
 use place_policy::{PlaceBook, Placement, ZONE_TURNS, low_rank, near_rank, spread_rank, zone_rank};
@@ -16,9 +17,13 @@ use tsd_serve::{Status, status_line, tsd};
 /// The first word of a disk in memory.
 const MEMORY: &str = "-";
 
-/// Does what the words say, and ends with a status. A status that isn't Done is told in a line of errors.
+/// The command that makes an image where there was none.
+const FRESH: &str = "fresh";
+
+/// Does what the words say, and ends with a status. A status that isn't Done is told in a line of errors. Where a call on
+/// the image's file failed, a second line says why the first did that failed.
 pub fn run<S: Source, O: Write, E: Write>(
-    alloc: Global,
+    rt: &HostRuntime,
     words: Vec<String>,
     input: &mut S,
     output: &mut O,
@@ -27,13 +32,35 @@ pub fn run<S: Source, O: Write, E: Write>(
     let status = match first_of(&words) {
         "--help" => put_out(output, HELP.as_bytes()),
         "--version" => put_out(output, VERSION.as_bytes()),
-        _ => match serve(alloc, words, input, output) {
-            Ok(status) => status,
+        _ => match serve(rt, words, input, output) {
+            Ok(ended) => return tell_ended(errors, ended),
             Err(_) => Status::NoMemory,
         },
     };
     tell(errors, &status);
     status
+}
+
+/// How a run over an image ended.
+#[derive(Drop)]
+struct Ended {
+    status: Status,
+
+    /// Where the image is.
+    image: String,
+
+    /// Why a call on the image's file failed.
+    trouble: Option<Trouble>,
+}
+
+/// Tells how a run ended.
+fn tell_ended<E: Write>(errors: &mut E, ended: Ended) -> Status {
+    tell(errors, &ended.status);
+    if let Some(trouble) = ended.trouble {
+        let image = ended.image.as_str();
+        let _told = writeln!(errors, "tsd: {image}: {trouble}");
+    }
+    ended.status
 }
 
 /// The first word, or none.
@@ -44,26 +71,30 @@ fn first_of(words: &Vec<String>) -> &str {
     }
 }
 
-/// The words after the image's. Where the image isn't in memory there are none, which is no command: no image is kept in
-/// a file yet.
-fn command_words(alloc: Global, words: Vec<String>) -> Result<Vec<String>, AllocError> {
-    let is_memory = first_of(&words) == MEMORY;
+/// The image's word, and those after it. Where there is none, neither is there a command.
+fn parted(alloc: Global, words: Vec<String>) -> Result<(String, Vec<String>), AllocError> {
+    let mut image = String::new(alloc);
     let mut command = Vec::new(alloc);
-    if is_memory {
-        for word in words.into_iter().skip(1) {
+    let mut is_first = true;
+    for word in words {
+        if is_first {
+            image = word;
+            is_first = false;
+        } else {
             command.push(word)?;
         }
     }
-    Ok(command)
+    Ok((image, command))
 }
 
 /// Makes the placements and serves.
 fn serve<S: Source, O: Write>(
-    alloc: Global,
+    rt: &HostRuntime,
     words: Vec<String>,
     input: &mut S,
     output: &mut O,
-) -> Result<Status, AllocError> {
+) -> Result<Ended, AllocError> {
+    let alloc = rt.alloc();
     let turns = ZONE_TURNS;
     let low = Box::new(
         alloc,
@@ -95,8 +126,32 @@ fn serve<S: Source, O: Write>(
         Placement::new(PlaceKind::Spread, spread),
         Placement::new(PlaceKind::Zone, zone),
     );
-    let command = command_words(alloc, words)?;
-    Ok(serve_memory(alloc, &command, &book, input, output))
+    let (image, command) = parted(alloc, words)?;
+    let (status, trouble) = if image.as_str() == MEMORY {
+        (serve_memory(alloc, &command, &book, input, output), None)
+    } else {
+        serve_file(rt, image.as_str(), &command, &book, input, output)
+    };
+    Ok(Ended {
+        status,
+        image,
+        trouble,
+    })
+}
+
+/// Serves an image in a file. Each reply is written to the output as soon as it is made.
+fn serve_file<S: Source, O: Write>(
+    rt: &HostRuntime,
+    path: &str,
+    command: &Vec<String>,
+    book: &PlaceBook,
+    input: &mut S,
+    output: &mut O,
+) -> (Status, Option<Trouble>) {
+    let makes = first_of(command) == FRESH;
+    let mut station = FileStation::new(rt, path, makes, output);
+    let status = tsd(rt.alloc(), command, input, &mut station, book);
+    (status, station.trouble())
 }
 
 /// Serves a disk in memory. What it sent is written to the output at the end.

@@ -5,7 +5,8 @@ ghost use Rattle.std.specs.Prelude.{◌<◌};
 use crate::help::{HELP, VERSION};
 use crate::run::run;
 use image_device::MemSource;
-use std::alloc::Global;
+use image_layout::ImageFault;
+use std::fs;
 use std::test::Fail;
 use tsd_serve::Status;
 
@@ -18,7 +19,8 @@ struct Ended {
 }
 
 /// A run with these words, parted by spaces, and this input. The take of this number fails.
-fn ran(alloc: Global, text: &str, input: &str, failing: u64) -> Result<Ended, Fail> {
+fn ran(rt: &HostRuntime, text: &str, input: &str, failing: u64) -> Result<Ended, Fail> {
+    let alloc = rt.alloc();
     let mut words = Vec::new(alloc);
     for word in text.split(' ') {
         words.push(String::from_str(alloc, word)?)?;
@@ -27,7 +29,7 @@ fn ran(alloc: Global, text: &str, input: &str, failing: u64) -> Result<Ended, Fa
     let mut source = MemSource::new(bytes, 7, vec![in alloc; failing]?);
     let mut output = Vec::new(alloc);
     let mut errors = Vec::new(alloc);
-    let status = run(alloc, words, &mut source, &mut output, &mut errors);
+    let status = run(rt, words, &mut source, &mut output, &mut errors);
     Ok(Ended {
         status,
         output,
@@ -43,7 +45,7 @@ const FRESH: &str =
     "- fresh 8 1 aaaaaaaaaaaaaaaaaaaaaaaaaaaaaaaa bbbbbbbbbbbbbbbbbbbbbbbbbbbbbbbb near";
 
 /// The words, the input and the take that fails; the status, the output and the errors.
-const RUNS: [(&str, &str, u64, Status, &str, &str); 7] = [
+const RUNS: [(&str, &str, u64, Status, &str, &str); 8] = [
     ("--help", "free\n", NEVER, Status::Done, HELP, ""),
     ("--version", "free\n", NEVER, Status::Done, VERSION, ""),
     (
@@ -79,16 +81,55 @@ const RUNS: [(&str, &str, u64, Status, &str, &str); 7] = [
         "",
         "tsd: usage\n",
     ),
+    (
+        "- run near",
+        "free\n",
+        NEVER,
+        Status::NotImage(ImageFault::NotFormatted),
+        "",
+        "tsd: not an image: not-formatted\n",
+    ),
 ];
 
 #[test]
 fn runs(rt: HostRuntime) -> Result<(), Fail> {
     for (words, input, failing, status, output, errors) in RUNS {
-        let end = ran(rt.alloc(), words, input, failing)?;
+        let end = ran(&rt, words, input, failing)?;
         assert_eq!(rt; end.status, status, "{words}");
         assert_eq!(rt; end.output.as_slice(), output.as_bytes(), "{words}");
         assert_eq!(rt; end.errors.as_slice(), errors.as_bytes(), "{words}");
     }
+    Ok(())
+}
+
+/// A small disk in a file.
+const FILE: &str =
+    "tests_run.img fresh 8 1 aaaaaaaaaaaaaaaaaaaaaaaaaaaaaaaa bbbbbbbbbbbbbbbbbbbbbbbbbbbbbbbb near";
+
+/// A run over a file, and one more.
+#[test]
+fn runs_over_a_file(rt: HostRuntime) -> Result<(), Fail> {
+    let _none_left = fs::remove_file(&rt, "tests_run.img");
+    let missing = ran(&rt, "tests_run.img run near", "free\n", NEVER)?;
+    assert_eq!(rt; missing.status, Status::DeviceFault);
+    assert!(rt;
+        missing
+            .errors
+            .starts_with(b"tsd: device fault\ntsd: tests_run.img: ")
+    );
+    assert!(rt; missing.output.is_empty());
+
+    let input = "open 1\nwrite 1 0 bbbbbbbbbbbbbbbbbbbbbbbbbbbbbbbb 6869\n";
+    let first = ran(&rt, FILE, input, NEVER)?;
+    assert_eq!(rt; first.status, Status::Done);
+    assert_eq!(rt; first.output.as_slice(), b"ok\nok\n".as_slice());
+
+    let input = "open 1\nread 1 0 aaaaaaaaaaaaaaaaaaaaaaaaaaaaaaaa\n";
+    let second = ran(&rt, "tests_run.img run near", input, NEVER)?;
+    assert_eq!(rt; second.status, Status::Done);
+    assert_eq!(rt; second.output.as_slice(), b"ok\ndata 6869\n".as_slice());
+    assert!(rt; second.errors.is_empty());
+    fs::remove_file(&rt, "tests_run.img")?;
     Ok(())
 }
 

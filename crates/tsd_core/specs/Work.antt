@@ -1,5 +1,5 @@
 -- How much work requests make: sectors written, and what is left to be reclaimed.
-use Rattle.std.specs.Prelude.{◌≡◌, ℕ, ◌+◌, ◌*◌, ◌<◌, ◌≤◌, false, cond}
+use Rattle.std.specs.Prelude.{◌≡◌, ℕ, ◌+◌, ◌*◌, ◌≤◌, cond}
 use Rattle.tsd_model.specs.World.{World}
 use Rattle.tsd_model.specs.Step.{State}
 use Rattle.tsd_model.specs.Verdict.{is_granted}
@@ -7,8 +7,6 @@ use Rattle.tsd_model.specs.declared.requests.Request.{Request}
 use Rattle.tsd_model.specs.declared.requests.Request.TheVariants as ask
 use Rattle.image_device.specs.View.{View}
 use Rattle.image_device.specs.Runs.{LeavesOnly}
-use Rattle.image_layout.specs.Ring.{records}
-use Rattle.intent_journal.specs.Records.{is_open_gate}
 use Rattle.image_layout.specs.Image.{Image}
 use Rattle.intent_journal.specs.Home.{home}
 use Rattle.image_world.specs.Tables.{tables_of}
@@ -52,8 +50,3 @@ pub record SameSize (old new : Core) : Type 0 where
 -- A crash at any moment leaves no more to be reclaimed than before, and nothing more is sent.
 abbrev pub LeavesNoDebt : View → View → Type 0
 LeavesNoDebt old new = LeavesOnly old new (λ x f. (debt x ≤ debt old.reads) × (f ≡ old.sent))
-
--- Nothing is left to be done: nothing is doomed, and all gates of the journal are closed.
-pub record IsClosed (x : Image) : Type 0 where
-  pub closed : (index : ℕ) → index < records → is_open_gate x index ≡ false
-  pub settled : debt x ≡ 0

@@ -3,9 +3,10 @@
 ghost use Rattle.std.specs.Prelude.{◌≡◌, ◌↔◌, ◌+◌, ◌-◌, ◌<◌, ◌≤◌, true, OnOk, OnErr, IfOk, IsTrue};
 ghost use Rattle.image_device.specs.Counts.{Rose};
 ghost use Rattle.volume_laws.specs.Moments.{LeavesWorld, owed};
+ghost use Rattle.volume_laws.specs.Quiet.{IsQuiet};
 ghost use Rattle.volume_laws.specs.Writes.{due, Works};
 ghost use Rattle.tsd_core.specs.Core.{IsReady, IsAt, state_on, told_state};
-ghost use Rattle.tsd_core.specs.Work.{debt, IsClosed, LeavesNoDebt, SameSize};
+ghost use Rattle.tsd_core.specs.Work.{debt, LeavesNoDebt, SameSize};
 
 use crate::disk::Core;
 use image_device::{Device, Failed};
@@ -48,8 +49,8 @@ impl Core {
         ensures state { D.told → OnOk result (state_on self.new (D.view dev.new).reads ≡ state_on self.old (D.view dev.old).reads) }
         ensures told { OnOk result (told_state self.new ≡ told_state self.old) }
 
-        // Nothing is doomed, and all gates of the journal are closed.
-        ensures closed { D.told → OnOk result (IsClosed (D.view dev.new).reads) }
+        // Nothing is doomed, no sweep is open, and all gates of the journal are closed.
+        ensures closed { D.told → OnOk result (IsQuiet (D.view dev.new).reads) }
 
         ensures size { SameSize self.old self.new }
         ensures spent { OnErr result (self.new.volume.is_spent ≡ true) }

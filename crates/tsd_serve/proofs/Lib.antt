@@ -1,3 +1,1 @@
-pub mod Replies
-pub mod Lines
-pub mod Runs
+pub mod Statuses

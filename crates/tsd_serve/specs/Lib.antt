@@ -1,4 +1,2 @@
 pub mod Built
-pub mod Answers
-pub mod Served
-pub mod Ran
+pub mod Did

@@ -1,4 +1,4 @@
--- The disk as it is, and what is left of it once nothing is lost.
+-- The disk as it is, and what is left of it once nothing is doomed.
 use Rattle.std.proofs.Common.{◌≡◌, ℕ, ◌≤◌, Bool, true, false, not, cond, List, [], ◌∷◌, length, refl, sym, ◌∙◌, ap, arith}
 use Rattle.std.proofs.Common.{Option, None}
 use Rattle.std.specs.Prelude.{count_by, is_none, map}

@@ -97,4 +97,5 @@ parts_fit h t s room marks k fit waits marked new =
       hidden = none_hidden t.live k fit.none_hidden none;
       ahead = λ yes. absurd (cc);
       begun = λ no. none;
+      still = λ yes. absurd (cc);
     }

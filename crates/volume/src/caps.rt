@@ -15,7 +15,8 @@ use image_device::{Device, Failed};
 use tsd_model::CapPair;
 
 impl Volume {
-    /// A primary block has these capabilities from now on.
+    /// A primary block has these capabilities from now on. `Failed` comes only where the device's count of faults rose; the
+    /// volume is then spent.
     pub fn set_caps<D: Device>(
         &mut self,
         dev: &mut D,

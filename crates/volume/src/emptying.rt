@@ -13,7 +13,8 @@ use crate::volume::Volume;
 use image_device::{Device, Failed};
 
 impl Volume {
-    /// Puts all records of the journal in place and closes its gates.
+    /// Puts all records of the journal in place and closes its gates. `Failed` comes only where the device's count of faults
+    /// rose; the volume is then spent.
     pub fn empty_ring<D: Device>(&mut self, dev: &mut D) -> Result<(), Failed>
         requires unspent { self.old.is_spent ≡ false }
         requires at { D.told → IsAt self.old (D.view dev.old) }

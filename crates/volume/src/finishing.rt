@@ -28,9 +28,9 @@ fn count_free(live: &LiveMap) -> u32
 }
 
 impl Volume {
-    /// Ends a sweep and a cascade that the image holds, and tells how many blocks were reclaimed.
+    /// Ends a sweep and a cascade that the image holds, and tells how many blocks were reclaimed. `Failed` comes only where the
+    /// device's count of faults rose; the volume is then spent.
     pub fn finish<D: Device>(&mut self, dev: &mut D) -> Result<u32, Failed>
-        requires begun { self.old.is_ready ≡ true → self.old.tables.is_sweeping ≡ false }
         requires unspent { self.old.is_spent ≡ false }
         requires at { D.told → IsAt self.old (D.view dev.old) }
         ensures at { D.told → OnOk result (IsAt self.new (D.view dev.new)) }
@@ -53,14 +53,13 @@ impl Volume {
     {
         let before = self.raw_free_count();
         self.end_sweep(dev)?;
-        self.settle_lost(dev)?;
+        self.settle_doomed(dev)?;
         self.make_ready();
         Ok(self.raw_free_count() - before)
     }
 
     /// Ends a sweep that has begun, where one has.
     fn end_sweep<D: Device>(&mut self, dev: &mut D) -> Result<(), Failed>
-        requires begun { self.old.is_ready ≡ true → self.old.tables.is_sweeping ≡ false }
         requires unspent { self.old.is_spent ≡ false }
         requires at { D.told → IsAt self.old (D.view dev.old) }
         ensures at { D.told → OnOk result (IsAt self.new (D.view dev.new)) }
@@ -88,16 +87,17 @@ impl Volume {
         }
     }
 
-    /// Where nothing is lost, what is kept ahead of reclamation is right from now on.
+    /// Where nothing is doomed and no sweep is open, what is kept ahead of reclamation is right from now on.
     pub(crate) fn make_ready(&mut self)
-        requires { owed self.old.tables ≡ 0 }
+        requires settled { owed self.old.tables ≡ 0 }
+        requires still { self.old.tables.is_sweeping ≡ false }
         ensures { self.new ≡ record self.old { is_ready = true } }
     {
         self.ahead.reset(&self.counts);
         self.is_ready = true;
     }
 
-    /// How many blocks are free on the disk as it is: what is lost and not reclaimed yet counts as live.
+    /// How many blocks are free on the disk as it is: what is doomed and not reclaimed yet counts as live.
     pub(crate) fn raw_free_count(&self) -> u32
         ensures { result ≡ free_count (world_with self.now.tables (zeros_of self.now.tables)) }
     {

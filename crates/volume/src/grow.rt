@@ -14,15 +14,15 @@ ghost use Rattle.intent_journal.specs.Records.{patches_of};
 ghost use Rattle.volume_laws.specs.Zeroed.{IsZeroedAt, AreMissed};
 ghost use Rattle.image_world.specs.Tables.{pairs_of};
 
-use crate::growing::put_new;
 use crate::volume::Volume;
-use crate::zeroing::{holds_data, zero_blocks};
 use image_device::{Device, Failed};
 use image_layout::Layout;
 use tsd_model::BlockList;
+use volume_changes::{holds_data, put_new, zero_blocks};
 
 impl Volume {
-    /// Makes free blocks live, with zeros in them and a pointer to each from a source. What is lost is reclaimed first.
+    /// Makes free blocks live, with zeros in them and a pointer to each from a source. What is doomed is reclaimed first, so
+    /// that nothing is doomed afterwards. `Failed` comes only where the device's count of faults rose; the volume is then spent.
     pub fn allocate<D: Device>(
         &mut self,
         dev: &mut D,
@@ -40,6 +40,7 @@ impl Volume {
         ensures at { D.told → OnOk result (IsAt self.new (D.view dev.new)) }
         ensures done { D.told → OnOk result (world_on (D.view dev.new) ≡ with_new_blocks (world_on (D.view dev.old)) source blocks.now) }
         ensures told { OnOk result (told_by self.new ≡ with_new_blocks (told_by self.old) source blocks.now) }
+        ensures settled { OnOk result (owed self.new.tables ≡ 0) }
         ensures ready { OnOk result (IsReady self.new) }
         ensures unspent { OnOk result (self.new.is_spent ≡ false) }
         ensures spent { OnErr result (self.new.is_spent ≡ true) }
@@ -58,7 +59,7 @@ impl Volume {
 }
 
 impl Volume {
-    /// Makes free blocks live whose sectors have zeros, with a pointer to each from a source, where nothing is lost.
+    /// Makes free blocks live whose sectors have zeros, with a pointer to each from a source, where nothing is doomed.
     fn add_blocks<D: Device>(
         &mut self,
         dev: &mut D,
@@ -154,7 +155,7 @@ impl Volume {
         outcome
     }
 
-    /// Makes free blocks live, with zeros in them and a pointer to each from a source, where nothing is lost.
+    /// Makes free blocks live, with zeros in them and a pointer to each from a source, where nothing is doomed.
     fn grow<D: Device>(&mut self, dev: &mut D, source: u32, blocks: &[u32]) -> Result<(), Failed>
         requires source { is_live (told_by self.old) source ≡ true }
         requires most { length blocks.now ≤ 32 }

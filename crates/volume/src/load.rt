@@ -38,7 +38,9 @@ fn read_flag<D: Device>(dev: &mut D) -> Result<bool, Failed>
 }
 
 impl Volume {
-    /// Loads the tables of a disk and tests them. The device is only read. This takes all room that later calls need.
+    /// Loads the tables of a disk and tests them. The device is only read. This takes all room that later calls need, and no
+    /// later call takes any: `NoMemory` comes only where there was too little. `Device` comes only where the device's count of
+    /// faults rose, and `Image` only where the image stands for no world, with the first test that it fails.
     pub fn load<D: Device>(
         alloc: Global,
         dev: &mut D,

@@ -20,7 +20,8 @@ use crate::volume::Volume;
 use image_device::{Device, Failed};
 
 impl Volume {
-    /// Holds a pointer that isn't held. What is lost is reclaimed first, exactly where its pairs take the last slots.
+    /// Holds a pointer that isn't held. What is doomed is reclaimed first exactly where the pairs on the disk, those from doomed
+    /// blocks included, take all slots. `Failed` comes only where the device's count of faults rose; the volume is then spent.
     pub fn add_pointer<D: Device>(
         &mut self,
         dev: &mut D,
@@ -46,19 +47,22 @@ impl Volume {
         ensures any_moment { D.told → LeavesEither (D.view dev.old) (D.view dev.new) (with_pointer (world_on (D.view dev.old)) source target) }
         ensures any_owed { D.told → LeavesOwed (D.view dev.old) (D.view dev.new) (owed self.old.tables) }
         ensures paid { OnOk result (IsPaid (batch_cost 2) self.old (D.view dev.old) self.new (D.view dev.new)) }
+        ensures settled { length (pairs_of self.old.tables) ≡ self.old.tables.geometry.slots → OnOk result (owed self.new.tables ≡ 0) }
+        ensures unsettled { length (pairs_of self.old.tables) < self.old.tables.geometry.slots → OnOk result (owed self.new.tables ≡ owed self.old.tables) }
         ensures uses { Uses (due self.old + batch_cost 2) (D.view dev.old) (D.view dev.new) }
+        ensures uses_few { length (pairs_of self.old.tables) < self.old.tables.geometry.slots → Uses (checkpoint_writes self.old.ring + batch_cost 2) (D.view dev.old) (D.view dev.new) }
         ensures faultless { OnOk result ((D.view dev.new).faults ≡ (D.view dev.old).faults) }
         ensures cause { OnErr result (Rose (D.view dev.old).faults (D.view dev.new).faults) }
     {
         if self.pointers.len() == self.header.geometry.slots {
-            // What is lost may hold the last slots.
+            // Doomed blocks have pairs in some of the slots.
             self.settle_all(dev)?;
         }
         self.add_pair(dev, source, target)
     }
 
-    /// Takes a pointer away, in one batch, and tells how many blocks are lost by it. They are free from now on; their
-    /// reclamation follows later.
+    /// Takes a pointer away, in one batch, and tells how many blocks are doomed by it. They are free from now on; their
+    /// reclamation follows later. `Failed` comes only where the device's count of faults rose; the volume is then spent.
     pub fn drop_pointer<D: Device>(
         &mut self,
         dev: &mut D,
@@ -120,6 +124,7 @@ impl Volume {
         ensures sent { D.told → (D.view dev.new).sent ≡ (D.view dev.old).sent }
         ensures any_moment { D.told → LeavesEither (D.view dev.old) (D.view dev.new) (with_pointer (world_on (D.view dev.old)) source target) }
         ensures any_owed { D.told → LeavesOwed (D.view dev.old) (D.view dev.new) (owed self.old.tables) }
+        ensures owes { owed self.new.tables ≡ owed self.old.tables }
         ensures paid { OnOk result (IsPaid (batch_cost 2) self.old (D.view dev.old) self.new (D.view dev.new)) }
         ensures uses { Uses (checkpoint_writes self.old.ring + batch_cost 2) (D.view dev.old) (D.view dev.new) }
         ensures faultless { OnOk result ((D.view dev.new).faults ≡ (D.view dev.old).faults) }
@@ -139,7 +144,7 @@ impl Volume {
 }
 
 impl Volume {
-    /// Takes a pointer away, in one batch. What is lost by it stays on the disk, and is hidden.
+    /// Takes a pointer away, in one batch. What is doomed by it stays on the disk, and is hidden.
     fn drop_pair<D: Device>(&mut self, dev: &mut D, source: u32, target: u32) -> Result<(), Failed>
         requires held { holds (told_by self.old).pairs source target ≡ true }
         requires ready { IsReady self.old }
@@ -167,7 +172,7 @@ impl Volume {
         self.counts.lower(target);
         let count = self.counts.patch(target);
         let _ = self.batch.put(count.sector, &count.bytes);
-        let _lost = self.ahead.lower(&self.pointers, &mut self.live, target);
+        let _doomed = self.ahead.lower(&self.pointers, &mut self.live, target);
         let outcome = self.ring.commit(dev, &self.batch);
         self.is_spent = outcome.is_err();
         outcome

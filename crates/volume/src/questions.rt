@@ -1,4 +1,4 @@
-//! What a volume tells from memory, by the settled world: what is lost counts as gone.
+//! What a volume tells from memory, by the settled world: what is doomed counts as gone.
 
 ghost use Rattle.std.specs.Prelude.{◌≡◌, ℕ, ◌<◌, ◌≤◌, not, true, length, Some, IfOk, IfErr, OnOk};
 ghost use Rattle.tsd_model.specs.Next.{IsNextSource};
@@ -58,8 +58,8 @@ impl Volume {
         ensures { result ≡ holds (told_by self.now).pairs source target }
     {
         let is_held = self.pointers.has(source, target);
-        let is_lost = self.ahead.is_doomed(source);
-        is_held && !is_lost
+        let is_doomed = self.ahead.is_doomed(source);
+        is_held && !is_doomed
     }
 
     /// The least 64 targets of a block's pointers that are not below `start`, ascending.

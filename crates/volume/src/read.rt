@@ -8,11 +8,11 @@ ghost use Rattle.image_device.specs.Counts.{Rose};
 ghost use Rattle.volume_laws.specs.Volume.{IsAt, IsReady, told_by, world_on};
 ghost use Rattle.volume_laws.specs.Moments.{LeavesWorld, LeavesOwed, owed};
 
-use crate::parts::read_parts;
 use crate::volume::Volume;
 use image_device::{Device, Failed};
 use image_layout::Layout;
 use tsd_model::Data;
+use volume_changes::read_parts;
 
 impl Volume {
     /// Reads a live block. `Failed` comes only where the device's count of faults rose; the volume is then spent.

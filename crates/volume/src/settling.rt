@@ -1,4 +1,4 @@
-//! Reclaiming what is lost.
+//! Reclaiming what is doomed.
 
 ghost use Rattle.std.specs.Prelude.{◌≡◌, ◌⊎◌, ◌↔◌, ◌+◌, ◌-◌, ◌≤◌, ◌<◌, ◌*◌, true, false, OnOk, OnErr, IfOk, IfSome, IsTrue, IsNone};
 ghost use Rattle.tsd_model.specs.Reach.{swept};
@@ -12,17 +12,18 @@ ghost use Rattle.volume_laws.specs.Writes.{batch_cost, due, IsPaid, Works};
 ghost use Rattle.volume_laws.specs.Moments.{LeavesEither, LeavesWorld, LeavesOwed, owed};
 ghost use Rattle.volume_laws.specs.Graphs.{IsNext};
 
-use crate::steps::{note_step, put_step};
 use crate::volume::Volume;
 use image_device::{Device, Failed};
 use pointer_table::OutStep;
 use reclaim::next_step;
+use volume_changes::{note_step, put_step};
 
-/// How many steps a request makes before it is carried out.
+/// How many steps of reclamation one call of `settle_some` makes at most.
 const STEPS: u32 = 4;
 
 impl Volume {
-    /// Makes four steps of reclamation, or as many as are left. Answers whether something lost remains.
+    /// Makes four steps of reclamation, or as many as are left. Answers whether doomed blocks remain. `Failed` comes only where the
+    /// device's count of faults rose; the volume is then spent.
     pub fn settle_some<D: Device>(&mut self, dev: &mut D) -> Result<bool, Failed>
         requires ready { IsReady self.old }
         requires unspent { self.old.is_spent ≡ false }
@@ -53,7 +54,8 @@ impl Volume {
         Ok(self.is_owed())
     }
 
-    /// Makes all steps of reclamation that are left.
+    /// Makes all steps of reclamation that are left. `Failed` comes only where the device's count of faults rose; the volume is
+    /// then spent.
     pub fn settle_all<D: Device>(&mut self, dev: &mut D) -> Result<(), Failed>
         requires ready { IsReady self.old }
         requires unspent { self.old.is_spent ≡ false }
@@ -74,7 +76,7 @@ impl Volume {
         ensures faultless { OnOk result ((D.view dev.new).faults ≡ (D.view dev.old).faults) }
         ensures cause { OnErr result (Rose (D.view dev.old).faults (D.view dev.new).faults) }
     {
-        self.settle_lost(dev)
+        self.settle_doomed(dev)
     }
 }
 
@@ -154,7 +156,7 @@ impl Volume {
     }
 
     /// Makes all steps of reclamation that are left, whether the volume is ready or not.
-    pub(crate) fn settle_lost<D: Device>(&mut self, dev: &mut D) -> Result<(), Failed>
+    pub(crate) fn settle_doomed<D: Device>(&mut self, dev: &mut D) -> Result<(), Failed>
         requires still { self.old.tables.is_sweeping ≡ false }
         requires unspent { self.old.is_spent ≡ false }
         requires at { D.told → IsAt self.old (D.view dev.old) }

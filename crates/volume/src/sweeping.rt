@@ -1,4 +1,4 @@
-//! Reclaiming what no primary block leads to.
+//! Reclaiming the unreached blocks, to which no primary block leads.
 
 ghost use Rattle.std.specs.Prelude.{◌≡◌, ◌-◌, ◌<◌, true, false, OnOk, OnErr, IfOk, IfSome, IsNone};
 ghost use Rattle.tsd_model.specs.Reach.{swept};
@@ -12,16 +12,17 @@ ghost use Rattle.volume_laws.specs.Moments.{LeavesEither, LeavesWorld, owed};
 ghost use Rattle.volume_laws.specs.Volume.{IsAt, IsReady, told_by, world_on};
 ghost use Rattle.volume_laws.specs.Writes.{Works};
 
-use crate::steps::put_step;
 use crate::volume::Volume;
 use cycle_sweep::{mark, next_sweep_step};
 use image_device::{Device, Failed};
 use image_layout::gate_bytes;
 use image_layout::sectors::SWEEP_FLAG;
 use pointer_table::OutStep;
+use volume_changes::put_step;
 
 impl Volume {
-    /// Reclaims what no primary block leads to, and tells how many blocks became free. What is lost is reclaimed first.
+    /// Reclaims the blocks that aren't reached from a primary block, and tells how many became free. What is doomed is reclaimed
+    /// first. `Failed` comes only where the device's count of faults rose; the volume is then spent.
     pub fn sweep<D: Device>(&mut self, dev: &mut D) -> Result<u32, Failed>
         requires ready { IsReady self.old }
         requires unspent { self.old.is_spent ≡ false }
@@ -41,7 +42,7 @@ impl Volume {
         ensures faultless { OnOk result ((D.view dev.new).faults ≡ (D.view dev.old).faults) }
         ensures cause { OnErr result (Rose (D.view dev.old).faults (D.view dev.new).faults) }
     {
-        self.settle_lost(dev)?;
+        self.settle_doomed(dev)?;
         let before = self.raw_free_count();
         self.begin_sweep(dev)?;
         self.end_open_sweep(dev)?;
@@ -49,7 +50,7 @@ impl Volume {
         Ok(self.raw_free_count() - before)
     }
 
-    /// Opens the sweep flag. Nothing is lost.
+    /// Opens the sweep flag. Nothing is doomed.
     fn begin_sweep<D: Device>(&mut self, dev: &mut D) -> Result<(), Failed>
         requires still { self.old.tables.is_sweeping ≡ false }
         requires none { owed self.old.tables ≡ 0 }

@@ -1,78 +1,25 @@
 //! Upgrading to digests.
 
-ghost use Rattle.std.specs.Prelude.{◌≡◌, ◌≢◌, ℕ, ◌+◌, ◌≤◌, [], true, false, length, Ok, OnOk, OnErr};
+ghost use Rattle.std.specs.Prelude.{◌≡◌, ℕ, ◌+◌, ◌≤◌, [], true, false, OnOk, OnErr};
 ghost use Rattle.tsd_model.specs.Records.{upgraded};
 ghost use Rattle.image_device.specs.Calls.{Uses};
 ghost use Rattle.image_device.specs.Counts.{Rose};
-ghost use Rattle.image_device.specs.Image.{Image, put_at, zeros};
-ghost use Rattle.image_layout.specs.Areas.{caps_start};
-ghost use Rattle.image_layout.specs.Header.{header_bytes, IsReading, IsVersion};
-ghost use Rattle.tsd_model.specs.Geometry.{IsLawful};
-ghost use Rattle.intent_journal.specs.Home.{overlaid};
+ghost use Rattle.image_device.specs.Image.{zeros};
+ghost use Rattle.image_world.specs.Fresh.{AreClosed};
 ghost use Rattle.intent_journal.specs.Ring.{checkpoint_writes};
-ghost use Rattle.cap_store.specs.Stored.{caps_sector_bytes};
 ghost use Rattle.volume_laws.specs.Volume.{IsAt, IsReady, told_by, world_on};
 ghost use Rattle.volume_laws.specs.Writes.{batch_cost, due, IsPaid};
 ghost use Rattle.volume_laws.specs.Moments.{LeavesEither, LeavesWorld, LeavesOwed, owed};
 
-use crate::erasing::erase_bodies;
-use crate::growing::put_patch;
 use crate::volume::Volume;
-use cap_store::CapStore;
 use image_device::{Device, Failed};
-use image_layout::header::{DIGEST_VERSION, write_header};
-use image_layout::sectors::{CAPS_START, HEADER_SECTOR, SECTOR_BYTES};
-use image_layout::{Header, Patch};
-use intent_journal::Batch;
-
-/// How many records of version 2 a sector has.
-const DIGESTS: u32 = 8;
-
-/// The second sector of the records in version 2: zeros where the first has all.
-fn second_sector(primaries: u32, caps: &CapStore) -> Patch
-    requires size { primaries ≡ caps.now.geometry.primaries }
-    requires version { caps.now.version ≡ 2 }
-    requires empty { caps.now.geometry.primaries ≤ 8 → caps_sector_bytes 2 caps.now.records 1 ≡ zeros }
-    ensures sector { result.sector ≡ caps_start + 1 }
-    ensures bytes { result.bytes ≡ caps_sector_bytes 2 caps.now.records 1 }
-{
-    if primaries <= DIGESTS {
-        Patch {
-            sector: CAPS_START + 1,
-            bytes: [0; SECTOR_BYTES],
-        }
-    } else {
-        caps.patch(DIGESTS)
-    }
-}
-
-/// Puts the header and the records of version 2 into an empty batch, if there was another version.
-fn put_upgrade(batch: &mut Batch, was: u32, header: &Header, caps: &CapStore)
-    requires none { batch.old ≡ [] }
-    requires version { caps.now.version ≡ 2 }
-    requires size { header.now.geometry ≡ caps.now.geometry }
-    requires some { 1 ≤ caps.now.geometry.primaries }
-    requires empty { caps.now.geometry.primaries ≤ 8 → caps_sector_bytes 2 caps.now.records 1 ≡ zeros }
-    ensures none { was ≡ 2 → batch.new ≡ [] }
-    ensures header { IsVersion header.now.version → IsLawful header.now.geometry → IsReading (header_bytes header.now) (Ok header.now) }
-    ensures few { length batch.new ≤ 3 }
-    ensures laid { was ≢ 2 → (x : Image) (n : ℕ) → overlaid batch.new x n ≡ put_at (caps_start + 1) (caps_sector_bytes 2 caps.now.records 1) (put_at caps_start (caps_sector_bytes 2 caps.now.records 0) (put_at 0 (header_bytes header.now) x)) n }
-{
-    let bytes = write_header(header);
-    if was != DIGEST_VERSION {
-        let first = Patch {
-            sector: HEADER_SECTOR,
-            bytes,
-        };
-        put_patch(batch, &first);
-        put_patch(batch, &caps.patch(0));
-        put_patch(batch, &second_sector(header.geometry.primaries, caps));
-    }
-}
+use image_layout::header::DIGEST_VERSION;
+use volume_changes::{erase_bodies, put_upgrade};
 
 impl Volume {
-    /// Keeps of each capability only its digest from now on, and erases what the journal held of earlier ones. A volume of
-    /// version 2 makes no batch and does the rest.
+    /// Keeps of each capability only its digest from now on, and erases what the journal held of earlier ones: its gates are
+    /// closed, and its bodies read as zeros. A volume of version 2 makes no batch and does the rest. `Failed` comes only where the
+    /// device's count of faults rose; the volume is then spent.
     pub fn upgrade<D: Device>(&mut self, dev: &mut D) -> Result<(), Failed>
         requires ready { IsReady self.old }
         requires unspent { self.old.is_spent ≡ false }
@@ -80,6 +27,8 @@ impl Volume {
         ensures at { D.told → OnOk result (IsAt self.new (D.view dev.new)) }
         ensures done { D.told → OnOk result (world_on (D.view dev.new) ≡ upgraded (world_on (D.view dev.old))) }
         ensures told { OnOk result (told_by self.new ≡ upgraded (told_by self.old)) }
+        ensures ring { OnOk result (self.new.ring ≡ []) }
+        ensures closed { D.told → OnOk result (AreClosed (D.view dev.new).reads) }
         ensures erased { D.told → OnOk result ((n : ℕ) → 4 ≤ n → n ≤ 116 → (D.view dev.new).reads n ≡ zeros) }
         ensures ready { OnOk result (IsReady self.new) }
         ensures unspent { OnOk result (self.new.is_spent ≡ false) }
@@ -134,6 +83,7 @@ impl Volume {
         ensures at { D.told → OnOk result (IsAt self.new (D.view dev.new)) }
         ensures done { D.told → OnOk result (world_on (D.view dev.new) ≡ world_on (D.view dev.old)) }
         ensures same { OnOk result (self.new ≡ record self.old { is_spent = false }) }
+        ensures closed { D.told → OnOk result (AreClosed (D.view dev.new).reads) }
         ensures erased { D.told → OnOk result ((n : ℕ) → 4 ≤ n → n ≤ 116 → (D.view dev.new).reads n ≡ zeros) }
         ensures spent { OnErr result (self.new.is_spent ≡ true) }
         ensures size { (self.new.tables.geometry ≡ self.old.tables.geometry) × (self.new.tables.version ≡ self.old.tables.version) }

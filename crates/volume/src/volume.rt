@@ -29,13 +29,13 @@ pub struct Volume {
     pub(crate) live: LiveMap,
     pub(crate) caps: CapStore,
 
-    /// Room for the blocks that are lost. Between calls they don't matter.
+    /// Room for the blocks to which no pair leads. Between calls they don't matter.
     pub(crate) work: Work,
 
     /// Room for the marks of a sweep. Between calls they don't matter.
     pub(crate) marks: Marks,
 
-    /// What is lost on the disk and not reclaimed yet. It is right once the volume is ready.
+    /// What is doomed on the disk and not reclaimed yet. It is right once the volume is ready.
     pub(crate) ahead: Ahead,
 
     /// A sweep has begun and not ended.

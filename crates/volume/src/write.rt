@@ -10,11 +10,11 @@ ghost use Rattle.volume_laws.specs.Volume.{IsAt, IsReady, told_by, world_on};
 ghost use Rattle.volume_laws.specs.Moments.{LeavesEither, LeavesOwed, owed, written_world};
 ghost use Rattle.volume_laws.specs.Writes.{batch_cost, IsPaid};
 
-use crate::blocks::put_block;
 use crate::volume::Volume;
 use image_device::{Device, Failed};
 use image_layout::Layout;
 use tsd_model::Data;
+use volume_changes::put_block;
 
 impl Volume {
     /// Gives a live block these bytes, and zeros behind them. `Failed` comes only where the device's count of faults rose; the volume is

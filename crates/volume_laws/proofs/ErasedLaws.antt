@@ -14,6 +14,7 @@ use Rattle.intent_journal.specs.Records.{Record}
 use Rattle.intent_journal.specs.Ring.{IsAt as IsRingAt}
 use Rattle.intent_journal.proofs.Opened.{home_of_empty}
 use Rattle.intent_journal.proofs.Uses.{at_closed, at_valid}
+use Rattle.image_world.specs.Fresh.{AreClosed}
 use Rattle.image_world.specs.Stands.{Stands}
 use Rattle.image_world.specs.Tables.{tables_of}
 use Rattle.image_world.proofs.AlikeLaws.{alike_tables}
@@ -73,11 +74,15 @@ module _ (vol : Volume) (old : View) (at : IsAt vol old) (none : vol.ring ≡ []
   erased_owed new run = weakened old new (IsLeftWithin is_body old) (λ x f. owed (tables_of (home x)) ≤ owed vol.tables) run.leaves
       (λ x f left. let e : owed (tables_of (home x)) ≡ owed vol.tables = ap owed (tables_there x (λ n out. left.0.agrees n (or_false (is_body n) (old.loose n) out (at.firm n)))) in omega (arith, e))
 
+  -- the gates stay closed
+  pub erased_closed : (new : View) → IsConfined is_body old new → AreClosed new.reads
+  erased_closed new run = λ index less. ap is_open (run.reads (gate_sector index) (gate_out index less)) ∙ ring_old.others_closed index (omega arith) less
+
   -- the device then
   pub erased_new : (now : Volume) (new : View) → now.ring ≡ [] → now.tables ≡ vol.tables → IsConfined is_body old new → IsFirm new → IsAt now new × (world_on new ≡ world_on old)
   erased_new now new empty kept run firm =
       same_new vol now old new at (home_there new.reads run.reads)
-      (subst (λ (rs : List Record). IsRingAt rs new) (sym empty) (at_closed new (λ index less. ap is_open (run.reads (gate_sector index) (gate_out index less)) ∙ ring_old.others_closed index (omega arith) less) (λ n inside. firm n)))
+      (subst (λ (rs : List Record). IsRingAt rs new) (sym empty) (at_closed new (erased_closed new run) (λ n inside. firm n)))
       firm kept
 
 pub erased_ok : {T E : Type 0} (r : Result T E) (vol now : Volume) (old new : View) → IsAt vol old → vol.ring ≡ [] → now.ring ≡ [] → now.tables ≡ vol.tables → IsConfined is_body old new → OnOk r (IsFirm new) → OnOk r (IsAt now new × (world_on new ≡ world_on old))

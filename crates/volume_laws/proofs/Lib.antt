@@ -29,3 +29,4 @@ pub mod OwedLaws
 pub mod ReadLaws
 pub mod ErasedLaws
 pub mod UpgradeLaws
+pub mod QuietLaws

@@ -6,3 +6,4 @@ pub mod Graphs
 pub mod Growing
 pub mod Zeroed
 pub mod Erased
+pub mod Quiet

@@ -35,7 +35,7 @@ abbrev pub pairs_without : List (ℕ × ℕ) → ℕ → List ℕ → List (ℕ 
 pairs_without es a [] = es
 pairs_without es a (b ∷ bs) = pairs_without (without_pair a b es) a bs
 
--- The tables lost these pairs, and the batch does the same to an image that has them.
+-- The tables have these pairs no more, and the batch does the same to an image that has them.
 pub record IsTaken (t : Tables) (a : ℕ) (bs : List ℕ) (now : Tables) (batch : List Patch) : Type 0 where
   pub pairs : pairs_of now ≡ pairs_without (pairs_of t) a bs
   pub turns : Turns t now batch

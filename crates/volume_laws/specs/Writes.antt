@@ -1,5 +1,5 @@
 -- How often is written. What is written is paid for when it becomes due: a batch is written again when the ring is emptied, and
--- what is lost is reclaimed in later calls. So a call's cost counts all three.
+-- what is doomed is reclaimed in later calls. So a call's cost counts all three.
 use Rattle.std.specs.Prelude.{◌≡◌, ℕ, ◌+◌, ◌*◌, ◌≤◌}
 use Rattle.image_device.specs.View.{View}
 use Rattle.intent_journal.specs.Ring.{checkpoint_writes}
@@ -10,7 +10,7 @@ use Rattle.volume_laws.specs.Volume.{Volume}
 abbrev pub batch_cost : ℕ → ℕ
 batch_cost homes = 2 * homes + 3
 
--- a lost block, and a pair from one, cost at most so much
+-- a doomed block, and a pair from one, cost at most so much
 abbrev pub lost_cost : ℕ
 lost_cost = 5
 

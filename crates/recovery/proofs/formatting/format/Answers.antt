@@ -4,6 +4,7 @@ use Rattle.image_layout.specs.Image.{is_open}
 use Rattle.image_device.proofs.Outcomes.{on_ok}
 use Rattle.image_world.proofs.FreshLaws.{fresh_stands}
 use Rattle.recovery.proofs.Formatted.{formatted_moments}
+use Rattle.recovery.proofs.FreshQuiet.{fresh_quiet}
 use Rattle.recovery.proofs.formatting.format.Goals as goal
 
 ok_map : {T E : Type 0} (r : Result T E) (P Q : Type 0) → (P → Q) → OnOk r P → OnOk r Q
@@ -18,10 +19,11 @@ returns-clause-done g c told =
     (c.in_ok-write_areas.ensures.written told new.reads (c.write_through-2.ensures.confined told).reads) (ap is_open written ∙ c.gate_bytes-2.ensures.reads_back))
     (c.write_through-2.ensures.written told)
 
-pub returns-clause-closed : goal.returns-clause-closed
-returns-clause-closed g c told =
+pub returns-clause-quiet : goal.returns-clause-quiet
+returns-clause-quiet g c told =
     let new = g.D.Device.view c.write_through-2.new.dev in
-    on_ok c.write_through-2.result (c.in_ok-write_areas.ensures.written told new.reads (c.write_through-2.ensures.confined told).reads).closed
+    on_ok c.write_through-2.result
+    (fresh_quiet c.args.geometry.now c.args.caps.now new.reads c.requires.lawful c.requires.each (c.in_ok-write_areas.ensures.written told new.reads (c.write_through-2.ensures.confined told).reads))
 
 pub returns-clause-any_moment : goal.returns-clause-any_moment
 returns-clause-any_moment g c told =

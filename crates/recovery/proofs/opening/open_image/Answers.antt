@@ -150,3 +150,19 @@ returns-clause-paid g c told quiet =
 
 pub returns-in_err-finish-clause-faultless : goal.returns-in_err-finish-clause-faultless
 returns-in_err-finish-clause-faultless g c other = absurd (other (is_device c.from_residual-in_err-finish.result c.from_residual-in_err-finish.ensures.1))
+
+pub returns-in_err-replay-clause-untouched : goal.returns-in_err-replay-clause-untouched
+returns-in_err-replay-clause-untouched g c told none =
+    absurd (none c.in_ok-header.header (subst (λ (r : Image). HasHead r c.in_ok-header.header) (c.sync.ensures.settles told).reads (c.in_ok-header.ensures.head told)))
+
+pub returns-in_err-volume-clause-untouched : goal.returns-in_err-volume-clause-untouched
+returns-in_err-volume-clause-untouched g c told none =
+    absurd (none c.in_ok-header.header (subst (λ (r : Image). HasHead r c.in_ok-header.header) (c.sync.ensures.settles told).reads (c.in_ok-header.ensures.head told)))
+
+pub returns-in_err-finish-clause-untouched : goal.returns-in_err-finish-clause-untouched
+returns-in_err-finish-clause-untouched g c told none =
+    absurd (none c.in_ok-header.header (subst (λ (r : Image). HasHead r c.in_ok-header.header) (c.sync.ensures.settles told).reads (c.in_ok-header.ensures.head told)))
+
+pub returns-clause-untouched : goal.returns-clause-untouched
+returns-clause-untouched g c told none =
+    absurd (none c.in_ok-header.header (subst (λ (r : Image). HasHead r c.in_ok-header.header) (c.sync.ensures.settles told).reads (c.in_ok-header.ensures.head told)))

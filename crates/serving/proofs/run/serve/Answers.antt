@@ -10,6 +10,7 @@ ok_not_err r x why ok err = cc
 pub loop-request-init : goal.loop-request-init
 loop-request-init g c = record {
   limit = c.new-intake.ensures.limit;
+  lender = refl;
   ready = c.requires.ready;
   at = c.requires.at;
   source_faults = refl;
@@ -33,6 +34,7 @@ loop-request-preserved g c =
     let found = c.in-Request.ensures.found was.0 was.1 was.3 in
     record {
       limit = c.next.ensures.limit ∙ i.limit;
+      lender = c.answer.ensures.lender ∙ i.lender;
       ready = c.answer.ensures.ready (ok_not_err c.answer.result _ _ c.in-Ok.is);
       at = c.answer.ensures.at (ok_not_err c.answer.result _ _ c.in-Ok.is);
       source_faults = omega (arith, i.source_faults, c.in-Request.ensures.no_source_fault (λ e. cc));

@@ -11,6 +11,7 @@ invariant-loop-request g l =
     let start = view l.initial.port in
     record {
       limit : l.intake.limit ≡ l.limit;
+      lender : g.H.Server.lender l.server ≡ g.H.Server.lender l.initial.server;
       ready : g.H.Server.is_ready l.server;
       at : g.P.Device.told → IsAt (g.H.Server.holds l.server) (view l.port);
       source_faults : g.S.Source.faults l.source ≡ g.S.Source.faults before;

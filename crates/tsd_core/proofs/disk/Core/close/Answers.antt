@@ -4,10 +4,11 @@ use Rattle.volume_laws.specs.Volume.{Volume}
 use Rattle.volume_laws.specs.Volume.{IsAt as IsVolumeAt}
 use Rattle.volume_laws.specs.Moments.{owed}
 use Rattle.volume_laws.specs.Writes.{due, IsPaid}
+use Rattle.volume_laws.proofs.QuietLaws.{quiet_at}
 use Rattle.tsd_core.specs.Core.{Core, IsAt}
 use Rattle.tsd_core.proofs.AtLaws.{at_volume}
 use Rattle.tsd_core.proofs.Operations.{then_ok}
-use Rattle.tsd_core.proofs.Settling.{debt_at, owes_no_more, worlds_joined, owing_joined}
+use Rattle.tsd_core.proofs.Settling.{owes_no_more, worlds_joined, owing_joined}
 use Rattle.tsd_core.proofs.disk.Core.close.Goals as goal
 
 all_ok : {T E A B C P : Type 0} (r : Result T E) → (A → B → C → P) → OnOk r A → OnOk r B → OnOk r C → OnOk r P
@@ -26,7 +27,9 @@ returns-clause-closed g c = λ told.
     let w = g.D.Device.view c.empty_ring.new.dev in
     let mid = c.settle_all.new.self in
     let new = c.empty_ring.new.self in
-    all_ok c.empty_ring.result (λ (at : IsVolumeAt new w) (same : new ≡ record mid { ring = [] }) closed. record { closed = closed; settled = debt_at new w at ∙ (ap (λ (x : Volume). owed x.tables) same ∙ c.in_ok-settle_all.ensures.settled) })
+    all_ok c.empty_ring.result
+    (λ (at : IsVolumeAt new w) (same : new ≡ record mid { ring = [] }) closed.
+    quiet_at new w at closed (ap (λ (x : Volume). x.tables.is_sweeping) same ∙ c.in_ok-settle_all.ensures.ready.1) (ap (λ (x : Volume). owed x.tables) same ∙ c.in_ok-settle_all.ensures.settled))
     (c.empty_ring.ensures.at told) c.empty_ring.ensures.same (c.empty_ring.ensures.closed told)
 
 pub returns-clause-debt : goal.returns-clause-debt

@@ -120,6 +120,7 @@ invariant_of-self g c =
       hidden = none_hides c.put_new.new.live (is_gone c.raise_all.new.self.gone) (c.put_new.ensures.shown (hides_none i.live (is_gone i.ahead.gone) v.hidden none)) gone;
       ahead = λ e. ahead;
       begun = λ e b. gone b;
+      still = v.still;
     }
 
 pub returns-clause-at : goal.returns-clause-at

@@ -122,6 +122,7 @@ invariant_of-self g c =
       hidden = hides_same i.live (is_gone i.ahead.gone) (is_gone c.raise-2.new.self.gone) v.hidden (gone_added t a b i.ahead c.raise-2.new.self o old then);
       ahead = λ e. ahead;
       begun = λ e n. absurd (both_ways i.is_ready e ready);
+      still = v.still;
     }
 
 -- the volume then
@@ -166,3 +167,10 @@ returns-clause-paid g c =
 
 pub returns-clause-any_owed : goal.returns-clause-any_owed
 returns-clause-any_owed g c told = op_owed any_bytes c.args.self.now (g.D.Device.view c.args.dev.now) (g.D.Device.view c.commit-outcome.new.dev) (now g c).tables c.put-2.new.self 2 _ (this g c) (c.requires.at told) (c.commit-outcome.ensures.any_moment told)
+
+pub returns-clause-owes : goal.returns-clause-owes
+returns-clause-owes g c =
+    let t = c.args.self.now.tables in
+    let all = these g c in
+    ap owed all.tables
+    ∙ owed_pointer t all.slots c.args.source c.args.target (open_to c.args.self.now c.args.source c.args.target c.requires.ready.1 c.requires.source c.requires.target c.requires.apart c.requires.absent) all.pairs

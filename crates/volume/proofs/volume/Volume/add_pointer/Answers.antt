@@ -1,4 +1,4 @@
-use Rattle.std.proofs.Common.{◌≡◌, ◌<◌, ℕ, List, length, sym, ap, subst, arith}
+use Rattle.std.proofs.Common.{◌≡◌, ◌<◌, ℕ, List, length, sym, ◌∙◌, ap, subst, arith}
 use Rattle.image_world.specs.Tables.{pairs_of}
 use Rattle.tsd_model.specs.World.{World}
 use Rattle.tsd_model.specs.declared.geometry.Geometry.{Geometry}
@@ -9,6 +9,7 @@ use Rattle.std.proofs.Common.{ℕ, sym}
 use Rattle.image_device.specs.View.{View}
 use Rattle.volume_laws.specs.Moments.{LeavesOwed}
 use Rattle.volume_laws.specs.Writes.{due}
+use Rattle.image_device.proofs.Outcomes.{on_ok}
 use Rattle.volume_laws.proofs.Committed.{ok_map}
 use Rattle.volume_laws.proofs.Idle.{owed_joined}
 use Rattle.volume.proofs.volume.Volume.add_pointer.Goals as goal
@@ -71,3 +72,15 @@ returns-clause-paid g c = ok_map c.add_pair.result _ _ (λ then.
           let self = ap due w.self-is in
           omega (arith, dev, self, then)
     ]) c.add_pair.ensures.paid
+
+pub returns-clause-unsettled : goal.returns-clause-unsettled
+returns-clause-unsettled g c few = elim c.if-len-self.branch [
+  | then-len-self+in_ok-settle_all w ↦
+      let slots = ap (λ (v : Volume). v.tables.geometry.slots) c.self.view_is in
+      let long = ap (λ (v : Volume). length (pairs_of v.tables)) c.self.view_is in
+      let size = ap (λ (k : Geometry). k.slots) c.self.invariant.pointers in
+      let value = c.len.ensures.value in
+      let full = w.if-len-self.true in
+      absurd (omega (arith, few, slots, long, size, value, full))
+  | else-len-self w ↦ on_ok c.add_pair.result (c.add_pair.ensures.owes ∙ ap (λ (v : Volume). owed v.tables) w.self-is)
+]

@@ -48,6 +48,7 @@ invariant_of-self g c =
         | inl is ↦ none_gone t i.ahead none (v.ahead is)
         | inr not_yet ↦ v.begun not_yet
       ];
+      still = λ never. absurd (cc);
     }
 
 pub returns-clause-at : goal.returns-clause-at

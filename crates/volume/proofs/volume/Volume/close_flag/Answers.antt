@@ -1,4 +1,4 @@
-use Rattle.std.proofs.Common.{◌≡◌, ℕ, List, [], ◌∷◌, false, sym, ◌∙◌, ap, subst}
+use Rattle.std.proofs.Common.{◌≡◌, ℕ, List, [], ◌∷◌, false, refl, sym, ◌∙◌, ap, subst}
 use Rattle.image_device.proofs.Outcomes.{on_ok}
 use Rattle.tsd_model.specs.Doomed.{doomed}
 use Rattle.intent_journal.specs.Ring.{commit_writes}
@@ -45,6 +45,7 @@ invariant_of-self g c =
       hidden = v.hidden;
       ahead = v.ahead;
       begun = v.begun;
+      still = λ _. refl;
     }
 
 pub returns-clause-at : goal.returns-clause-at

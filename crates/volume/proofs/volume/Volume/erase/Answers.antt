@@ -1,7 +1,8 @@
 use Rattle.std.proofs.Common.{◌∙◌, ap}
+use Rattle.image_device.proofs.Outcomes.{on_ok}
 use Rattle.volume_laws.specs.Volume.{Volume}
 use Rattle.volume_laws.proofs.Committed.{ok_map}
-use Rattle.volume_laws.proofs.ErasedLaws.{erased_ok, erased_moments, erased_owed}
+use Rattle.volume_laws.proofs.ErasedLaws.{erased_ok, erased_moments, erased_owed, erased_closed}
 use Rattle.volume.proofs.volume.Volume.erase.Goals as goal
 
 pub returns-clause-at : goal.returns-clause-at
@@ -21,3 +22,8 @@ returns-clause-any_moment g c told = erased_moments c.args.self.now (g.D.Device.
 
 pub returns-clause-any_owed : goal.returns-clause-any_owed
 returns-clause-any_owed g c told = erased_owed c.args.self.now (g.D.Device.view c.args.dev.now) (c.requires.at told) c.requires.emptied (g.D.Device.view c.erase_bodies-outcome.new.dev) (c.erase_bodies-outcome.ensures.confined told)
+
+pub returns-clause-closed : goal.returns-clause-closed
+returns-clause-closed g c told =
+    on_ok c.erase_bodies-outcome.result
+    (erased_closed c.args.self.now (g.D.Device.view c.args.dev.now) (c.requires.at told) c.requires.emptied (g.D.Device.view c.erase_bodies-outcome.new.dev) (c.erase_bodies-outcome.ensures.confined told))

@@ -18,7 +18,7 @@ returns-then-is_held c =
     let t = tables_in i.header i.pointers i.counts i.live i.caps i.is_sweeping in
     let still : i.is_sweeping ≡ false = ap (λ (w : Volume). w.tables.is_sweeping) c.self.view_is ∙ c.requires.ready.1 in
     let ahead = v.ahead (ap (λ (w : Volume). w.is_ready) c.self.view_is ∙ c.requires.ready.0) in
-    (both c.has-is_held.result c.is_doomed-is_lost.result _ _ _ (holds_told t v.sound still i.live i.ahead refl v.hidden ahead c.args.source c.args.target) c.has-is_held.ensures c.is_doomed-is_lost.ensures.value).0 c.if-is_held.true
+    (both c.has-is_held.result c.is_doomed-is_doomed.result _ _ _ (holds_told t v.sound still i.live i.ahead refl v.hidden ahead c.args.source c.args.target) c.has-is_held.ensures c.is_doomed-is_doomed.ensures.value).0 c.if-is_held.true
     ∙ ap (λ (w : Volume). holds (told_by w).pairs c.args.source c.args.target) c.self.view_is
 
 pub returns-else-is_held : goal.returns-else-is_held
@@ -28,5 +28,5 @@ returns-else-is_held c =
     let t = tables_in i.header i.pointers i.counts i.live i.caps i.is_sweeping in
     let still : i.is_sweeping ≡ false = ap (λ (w : Volume). w.tables.is_sweeping) c.self.view_is ∙ c.requires.ready.1 in
     let ahead = v.ahead (ap (λ (w : Volume). w.is_ready) c.self.view_is ∙ c.requires.ready.0) in
-    c.if-is_held.false ∙ (both c.has-is_held.result c.is_doomed-is_lost.result _ _ _ (holds_told t v.sound still i.live i.ahead refl v.hidden ahead c.args.source c.args.target) c.has-is_held.ensures c.is_doomed-is_lost.ensures.value).1 c.if-is_held.false
+    c.if-is_held.false ∙ (both c.has-is_held.result c.is_doomed-is_doomed.result _ _ _ (holds_told t v.sound still i.live i.ahead refl v.hidden ahead c.args.source c.args.target) c.has-is_held.ensures c.is_doomed-is_doomed.ensures.value).1 c.if-is_held.false
     ∙ ap (λ (w : Volume). holds (told_by w).pairs c.args.source c.args.target) c.self.view_is

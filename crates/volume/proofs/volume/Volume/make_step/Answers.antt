@@ -76,6 +76,7 @@ invariant_of-self g c =
       hidden = hides_stepped i.live c.put_step.new.live s.block s.freed (is_gone i.ahead.gone) (is_gone c.note_step.new.ahead.gone) (stepped g c).live c.put_step.ensures.shown v.hidden gone;
       ahead = ahead_then (was g c) (now g c).tables s i.ahead c.note_step.new.ahead i.is_ready next (stepped g c) v.ahead n.ahead n.same;
       begun = λ e b. ap (λ (m : Kept). is_gone m.gone b) (n.same e) ∙ v.begun e b;
+      still = v.still;
     }
 
 pub note_step-requires : goal.note_step-requires

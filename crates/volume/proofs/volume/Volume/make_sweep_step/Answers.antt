@@ -92,6 +92,7 @@ invariant_of-self g c =
       hidden = hides_stepped i.live c.put_step.new.live s.block s.freed (is_gone i.ahead.gone) (is_gone i.ahead.gone) (stepped g c).live c.put_step.ensures.shown v.hidden (λ b out. refl);
       ahead = λ never. let not_yet = unready in absurd (cc);
       begun = v.begun;
+      still = v.still;
     }
 
 pub returns-clause-at : goal.returns-clause-at

@@ -1,0 +1,106 @@
+-- What one run over an image did, from its start to its end.
+use Rattle.std.specs.Prelude.{◌≡◌, ◌⊎◌, ℕ, ◌≤◌, false, List, [], Result, Ok, Err, ⊤, All}
+use Rattle.tsd_model.specs.World.{World}
+use Rattle.tsd_model.specs.Run.{at_rest}
+use Rattle.tsd_model.specs.declared.requests.PlaceKind.{PlaceKind}
+use Rattle.tsd_model.specs.declared.requests.Request.{Request}
+use Rattle.image_device.specs.View.{View}
+use Rattle.image_device.specs.Runs.{IsFirm, LeavesOnly}
+use Rattle.image_layout.specs.Image.{Image}
+use Rattle.intent_journal.specs.Home.{home}
+use Rattle.image_world.specs.Faults.{IsGood, IsFirstFault}
+use Rattle.image_world.specs.Stands.{Stands, world_of}
+use Rattle.image_world.specs.Tables.{tables_of}
+use Rattle.volume_laws.specs.Quiet.{IsQuiet}
+use Rattle.recovery.specs.declared.fault.OpenFault.{OpenFault}
+use Rattle.recovery.specs.declared.fault.OpenFault.TheVariants as opening
+use Rattle.tsd_words.specs.declared.status.Status.{Status}
+use Rattle.tsd_words.specs.declared.status.Status.TheVariants as status
+use Rattle.serving.specs.Costs.{IsPaidFor}
+use Rattle.serving.specs.Debts.{HasDebt}
+use Rattle.serving.specs.Input.{Spelling}
+use Rattle.serving.specs.ModelRules.{Placed}
+use Rattle.serving.specs.Ran.{AskedBy, ByStatus}
+use Rattle.serving.specs.Runs.{IsAcknowledged}
+use Rattle.serving.specs.Service.{Service}
+use Rattle.serving.specs.Voice.{Voice, spoken}
+use Rattle.tsd_core.specs.Core.{Core}
+use Rattle.tsd_core.specs.Work.{debt}
+use Rattle.core_server.specs.Server.{disk_rules, disk_work}
+
+-- ---- what a status says of the image at the start
+
+-- the status that says why an image wasn't opened
+abbrev pub status_of : OpenFault → Status
+status_of (opening.Image why) = status.NotImage why
+status_of opening.Device = status.DeviceFault
+status_of opening.NoMemory = status.NoMemory
+
+-- Where neither memory nor the device is at fault, NotImage comes exactly where the image has that first fault, and the
+-- others exactly where it has none, since no two of these lines hold together.
+abbrev pub IsJudged : Image → Status → Type 0
+IsJudged image (status.NotImage why) = IsFirstFault image why
+IsJudged image status.DeviceFault = ⊤
+IsJudged image status.NoMemory = ⊤
+IsJudged image r = IsGood image
+
+-- the same of a disk that was opened, or of why it wasn't
+abbrev pub IsOpened : Image → Result Core Status → Type 0
+IsOpened image (Ok c) = IsGood image
+IsOpened image (Err why) = IsJudged image why
+
+-- a disk may not have been opened
+abbrev pub IsUnopened : Status → Type 0
+IsUnopened (status.NotImage why) = ⊤
+IsUnopened status.DeviceFault = ⊤
+IsUnopened status.NoMemory = ⊤
+IsUnopened r = ⊥
+
+-- ---- the run
+
+-- what is served: the disk by its rules, with its replies as they are sent
+abbrev pub disk_service : Voice → Service Request
+disk_service v = spoken disk_rules v
+
+-- where a run begins: the world for which the image stands, with no session open
+abbrev pub start_of : PlaceKind → Image → Placed
+start_of kind image = record { kind = kind; state = at_rest (world_of image) }
+
+-- Nothing was opened: no request was asked, the source is as it was, and nothing was sent.
+pub record NotOpened (r : Status) (untouched tells : Type 0) (old new : View) (asked : List Request) : Type 0 where
+  pub why : IsUnopened r
+  pub source : untouched
+  pub none : asked ≡ []
+  pub sent : tells → new.sent ≡ old.sent
+
+-- Nothing is loose, the disk stands for this world, and nothing is left to be done.
+pub record IsAtEase (v : View) (w : World) : Type 0 where
+  pub firm : IsFirm v
+  pub stands : Stands v.reads w
+  pub quiet : IsQuiet v.reads
+
+-- How much a crash may have left to be reclaimed: what the requests make of which replies were sent, less four a reply; or
+-- while nothing is sent, no more than at the start, where no sweep had begun there.
+abbrev pub IsOwed : Voice → PlaceKind → View → List Request → Image → List ℕ → Type 0
+IsOwed v kind old asked x f =
+    HasDebt (disk_service v) disk_work (start_of kind old.reads) old.sent 0 asked x f
+    ⊎ ((f ≡ old.sent) × ((tables_of (home old.reads)).is_sweeping ≡ false → debt x ≤ debt old.reads))
+
+-- How a run over these requests ended: what was sent; where the disk was firm and stood for a world, what a crash at any
+-- moment may have left; how much of that is still to be reclaimed, with no sweep among the requests; how often was written,
+-- where nothing was left to be done at the start and there is no sweep; and after Done, what the disk is.
+pub record Ends (r : Status) (v : Voice) (kind : PlaceKind) (old new : View) (asked : List Request) (final : Placed) : Type 0 where
+  pub sent : ByStatus r (disk_service v) (start_of kind old.reads) old.sent asked final new.sent
+  pub any_moment : IsFirm old → (w : World) → Stands old.reads w → LeavesOnly old new (IsAcknowledged (disk_service v) (start_of kind old.reads) old.sent asked)
+  pub debt : IsFirm old → All disk_work.bounded asked → LeavesOnly old new (IsOwed v kind old asked)
+  pub writes : IsQuiet old.reads → IsPaidFor (disk_service v) disk_work (start_of kind old.reads) asked old.writes new.writes
+  pub done : r ≡ status.Done → IsAtEase new final.state.world
+
+-- Bytes that came in, the requests that were asked by them, and how the run over these ended, where the device tells.
+pub record Ran (r : Status) (v : Voice) (p : Spelling Request) (kind : PlaceKind) (limit : ℕ) (came : List ℕ → Type 0) (ended untouched tells : Type 0) (old new : View) : Type 0 where
+  pub bytes : List ℕ
+  pub came_in : came bytes
+  pub asked : List Request
+  pub these : NotOpened r untouched tells old new asked ⊎ AskedBy r p limit bytes ended asked
+  pub final : Placed
+  pub ends : tells → Ends r v kind old new asked final

@@ -1,0 +1,59 @@
+//! The disk of an image.
+
+ghost use Rattle.std.specs.Prelude.{◌≡◌, ◌≢◌, ◌≤◌, ◌+◌, false, IfOk, OnOk, IfErr};
+ghost use Rattle.image_device.specs.Counts.{Rose};
+ghost use Rattle.image_device.specs.Runs.{IsFirm, LeavesOnly};
+ghost use Rattle.image_world.specs.Tables.{tables_of};
+ghost use Rattle.image_world.specs.Stands.{world_of};
+ghost use Rattle.intent_journal.specs.Home.{home};
+ghost use Rattle.tsd_model.specs.Run.{at_rest};
+ghost use Rattle.recovery.specs.Opening.{StandAlike};
+ghost use Rattle.tsd_core.specs.Core.{IsAt, IsReady, state_on};
+ghost use Rattle.tsd_core.specs.Work.{debt};
+ghost use Rattle.volume_laws.specs.Quiet.{IsQuiet};
+ghost use Rattle.volume_laws.specs.Writes.{due, Works};
+ghost use Rattle.image_service.specs.Served.{IsOpened, IsUnopened, status_of};
+
+use image_device::Device;
+use recovery::{OpenFault, open_image};
+use std::alloc::Global;
+use tsd_core::Core;
+use tsd_words::Status;
+
+#[tactic(none)]
+/// Opens the disk of an image, with no session open. What is wrong comes as the status that says so.
+pub(crate) fn open_core<D: Device>(alloc: Global, dev: &mut D) -> Result<Core, Status>
+    ensures read { D.told → IsOpened (D.view dev.old).reads result }
+    ensures stops { IfErr result IsUnopened }
+    ensures ready { IfOk result IsReady }
+    ensures at { D.told → IfOk result (λ c. IsAt c (D.view dev.new)) }
+    ensures state { D.told → IfOk result (λ c. state_on c (D.view dev.new).reads ≡ at_rest (world_of (D.view dev.old).reads)) }
+    ensures sent { D.told → (D.view dev.new).sent ≡ (D.view dev.old).sent }
+    ensures any_moment { D.told → IsFirm (D.view dev.old) → LeavesOnly (D.view dev.old) (D.view dev.new) (λ x f. StandAlike (D.view dev.old).reads x × (f ≡ (D.view dev.old).sent)) }
+    // Where no sweep had begun, a crash leaves no more to be reclaimed than at the start; and in the end nothing is.
+    ensures any_debt { D.told → IsFirm (D.view dev.old) → (tables_of (home (D.view dev.old).reads)).is_sweeping ≡ false → LeavesOnly (D.view dev.old) (D.view dev.new) (λ x f. debt x ≤ debt (D.view dev.old).reads) }
+    ensures settled { D.told → OnOk result (debt (D.view dev.new).reads ≡ 0) }
+    // Where nothing was left to be done, nothing is written, and nothing is owed.
+    ensures unwritten { D.told → IsQuiet (D.view dev.old).reads → (D.view dev.new).writes ≤ (D.view dev.old).writes }
+    ensures paid { D.told → IsQuiet (D.view dev.old).reads → IfOk result (λ c. (D.view dev.new).writes + due c.volume ≤ (D.view dev.old).writes) }
+    ensures works { Works (D.view dev.old) (D.view dev.new) }
+    ensures faultless { OnOk result ((D.view dev.new).faults ≡ (D.view dev.old).faults) }
+    ensures fault { IfErr result (λ why. why ≢ Status.DeviceFault → (D.view dev.new).faults ≡ (D.view dev.old).faults) }
+    ensures cause { IfErr result (λ why. why ≡ Status.DeviceFault → Rose (D.view dev.old).faults (D.view dev.new).faults) }
+{
+    match open_image(alloc, dev) {
+        Ok(volume) => Ok(Core::new(alloc, volume)),
+        Err(why) => Err(status_of(why)),
+    }
+}
+
+/// The status that says why an image wasn't opened.
+fn status_of(why: OpenFault) -> Status
+    ensures { result ≡ status_of why }
+{
+    match why {
+        OpenFault::Image(fault) => Status::NotImage(fault),
+        OpenFault::Device => Status::DeviceFault,
+        OpenFault::NoMemory => Status::NoMemory,
+    }
+}

@@ -1,0 +1,142 @@
+//! Runs one after another over one image, and runs that are stopped.
+
+use crate::spelled::{run_over, spelled, words};
+use image_device::{FuseStation, MemSource, MemStation, Pick};
+use place_policy::PlaceBook;
+use std::alloc::Global;
+use std::process::Abort;
+use std::test::Fail;
+use tsd_serve::{Status, tsd};
+
+/// A run over the image, which is done, and all that was sent by its end.
+fn done_over(
+    rt: &impl Abort,
+    alloc: Global,
+    book: &PlaceBook,
+    port: &mut MemStation,
+    texts: (&str, &str, &str),
+) -> Result<(), Fail> {
+    let status = run_over(alloc, book, (texts.0, texts.1), port)?;
+    let output = spelled(alloc, texts.2)?;
+    assert_eq!(rt; status, Status::Done);
+    assert_eq!(rt; port.sent(), output.as_slice());
+    Ok(())
+}
+
+/// What one run writes the next reads. No session stays open.
+pub fn kept(rt: &impl Abort, alloc: Global, book: &PlaceBook) -> Result<(), Fail> {
+    let mut port = MemStation::new(alloc, Vec::new(alloc));
+    let first = (
+        "fresh 8 1 R W near",
+        "open 1/write 1 0 W 6869/alloc 1 0 W - 2/",
+        "ok/ok/blocks 1 2/",
+    );
+    done_over(rt, alloc, book, &mut port, first)?;
+    let second = (
+        "run near",
+        "read 1 0 R/open 1/read 1 0 R/list 1 0 W 0/free/",
+        "ok/ok/blocks 1 2/no not-open/ok/data 6869/list 1 2/free 5/",
+    );
+    done_over(rt, alloc, book, &mut port, second)
+}
+
+/// An image that was never formatted is refused, and nothing is sent.
+pub fn refused(rt: &impl Abort, alloc: Global, book: &PlaceBook) -> Result<(), Fail> {
+    let mut port = MemStation::new(alloc, Vec::new(alloc));
+    let status = run_over(alloc, book, ("run near", "free/"), &mut port)?;
+    assert!(rt; matches!(status, Status::NotImage(_)));
+    assert!(rt; port.sent().is_empty());
+    Ok(())
+}
+
+/// Frames: session 1 is opened, and the free blocks are asked for; and then a byte of a frame that doesn't come.
+const FRAMES: [u8; 11] = *b"\x05\0\x01\x01\0\0\0\x01\0\x07\x05";
+
+/// The frames of the replies: done, and 7 are free.
+const ANSWERS: [u8; 10] = *b"\x01\0\x01\x05\0\x04\x07\0\0\0";
+
+/// Requests in frames, whole, and with one that is cut off.
+pub fn framed(rt: &impl Abort, alloc: Global, book: &PlaceBook) -> Result<(), Fail> {
+    for (count, wanted) in [(10, Status::Done), (11, Status::Truncated)] {
+        let mut port = MemStation::new(alloc, Vec::new(alloc));
+        assert_eq!(rt;
+            run_over(alloc, book, ("fresh 8 1 R W near", ""), &mut port)?,
+            Status::Done
+        );
+        let words = words(alloc, b"serve near".as_slice())?;
+        let mut source = MemSource::new(FRAMES[..count].to_vec(alloc)?, 3, Vec::new(alloc));
+        let status = tsd(alloc, &words, &mut source, &mut port, book);
+        assert_eq!(rt; status, wanted);
+        assert_eq!(rt; port.sent(), ANSWERS.as_slice());
+    }
+    Ok(())
+}
+
+/// A chain of three blocks from the primary block.
+const CHAIN: (&str, &str) = (
+    "fresh 8 1 R W near",
+    "open 1/alloc 1 0 W - 1/alloc 1 1 - - 1/alloc 1 2 - - 1/",
+);
+
+/// Reclaims the chain.
+const DELETE: (&str, &str) = ("run near", "open 1/delete 1 0 W 1/");
+
+/// More calls than a run makes.
+const CALLS_MAX: u64 = 10_000;
+
+/// How many calls lie between two stops.
+const STRIDE: u64 = 7;
+
+/// A run of a delete that is stopped after some calls, and opened again: the blocks of the chain are free, all or none, and
+/// all where the reply was sent whole. Whether the run was done.
+fn stopped(
+    rt: &impl Abort,
+    alloc: Global,
+    book: &PlaceBook,
+    passes: u64,
+    pick: Pick,
+) -> Result<bool, Fail> {
+    let mut port = MemStation::new(alloc, Vec::new(alloc));
+    assert_eq!(rt; run_over(alloc, book, CHAIN, &mut port)?, Status::Done);
+    let before = port.sent().len();
+    let mut fuse = FuseStation::new(port, passes, pick);
+    let status = run_over(alloc, book, DELETE, &mut fuse)?;
+    let whole = spelled(alloc, "ok/gone 3/")?.len();
+    let answered = fuse.sent().len() == before.saturating_add(whole);
+    let mut image = fuse.into_image();
+    assert_eq!(rt;
+        run_over(alloc, book, ("run near", "free/"), &mut image)?,
+        Status::Done
+    );
+    let all = spelled(alloc, "free 7/")?;
+    let none = spelled(alloc, "free 4/")?;
+    let is_all = image.sent() == all.as_slice();
+    assert!(rt;
+        is_all || (!answered && image.sent() == none.as_slice()),
+        "{passes}"
+    );
+    assert!(rt;
+        matches!(
+            status,
+            Status::Done | Status::DeviceFault | Status::PutFault
+        ),
+        "{passes}"
+    );
+    Ok(status == Status::Done)
+}
+
+/// Stops of a delete, from its first call until it is done.
+pub fn stops(rt: &impl Abort, alloc: Global, book: &PlaceBook) -> Result<(), Fail> {
+    for turn in 0..CALLS_MAX / STRIDE {
+        let pick = match turn % 3 {
+            0 => Pick::Old,
+            1 => Pick::New,
+            _ => Pick::Torn(7),
+        };
+        if stopped(rt, alloc, book, turn * STRIDE, pick)? {
+            return Ok(());
+        }
+    }
+    assert!(rt; false, "it is never done");
+    Ok(())
+}

@@ -1,0 +1,20 @@
+-- What a run's status isn't.
+use Rattle.std.specs.Prelude.{ℕ, List}
+use Rattle.std.proofs.Common.{inl, inr}
+use Rattle.tsd_model.specs.World.{World}
+use Rattle.tsd_model.specs.declared.requests.PlaceKind.{PlaceKind}
+use Rattle.tsd_model.specs.declared.requests.Request.{Request}
+use Rattle.image_device.specs.View.{View}
+use Rattle.tsd_words.specs.declared.status.Status.TheVariants as status
+use Rattle.serving.specs.Input.{Spelling}
+use Rattle.serving.specs.Voice.{Voice}
+use Rattle.image_service.specs.Served.{Ran}
+use Rattle.image_service.specs.Fresh.{FreshRan}
+
+-- The words of a run were a command.
+pub no_usage : (v : Voice) (p : Spelling Request) (kind : PlaceKind) (limit : ℕ) (came : List ℕ → Type 0) (ended untouched tells : Type 0) (old new : View) → Ran status.Usage v p kind limit came ended untouched tells old new → ⊥
+no_usage v p kind limit came ended untouched tells old new ran = elim ran.these [ inl closed ↦ closed.why | inr asked ↦ asked ]
+
+-- nor was it none where the disk was made first
+pub no_usage_fresh : (v : Voice) (p : Spelling Request) (kind : PlaceKind) (w : World) (limit : ℕ) (came : List ℕ → Type 0) (ended untouched tells : Type 0) (old new : View) → FreshRan status.Usage v p kind w limit came ended untouched tells old new → ⊥
+no_usage_fresh v p kind w limit came ended untouched tells old new ran = elim ran.these [ inl closed ↦ closed.why | inr asked ↦ asked ]

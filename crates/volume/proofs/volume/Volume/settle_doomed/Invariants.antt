@@ -1,0 +1,9 @@
+use Rattle.volume_laws.specs.Moments.{owed}
+use Rattle.volume_laws.proofs.SettlingLaws.{IsSettling}
+use Rattle.volume.proofs.volume.Volume.settle_doomed.Given as goal
+
+abbrev pub invariant-loop : goal.invariant-loop
+invariant-loop g l = record { settling : IsSettling g.D.Device.told l.fn.self (g.D.Device.view l.fn.dev) l.self (g.D.Device.view l.dev) }
+
+abbrev pub decreases-loop : goal.decreases-loop
+decreases-loop g l = owed l.self.tables
