@@ -31,9 +31,9 @@ use Rattle.volume_laws.specs.Volume.{IsAt as IsVolumeAt}
 use Rattle.volume_laws.specs.Moments.{LeavesEither, LeavesOwed, owed, made}
 use Rattle.volume_laws.specs.Writes.{due}
 use Rattle.tsd_core.specs.Core.{Core, IsReady, IsAt, told_world, sessions_of, state_on}
-use Rattle.tsd_core.specs.Work.{made_by, made_in, cost_of}
+use Rattle.tsd_core.specs.Work.{made_by, made_in, cost_of, LeavesDebt}
 use Rattle.tsd_core.specs.Carrying.{IsKnown, IsChanged, IsCarriedOut}
-use Rattle.tsd_core.specs.Applying.{IsToldAnswer, told_verdict, is_refusal, asks_nothing, next_world, LeavesDebt, IsApplied}
+use Rattle.tsd_core.specs.Applying.{IsToldAnswer, told_verdict, is_refusal, asks_nothing, next_world, IsApplied}
 use Rattle.tsd_core.proofs.AtLaws.{at_volume, at_core, like_at}
 use Rattle.tsd_core.proofs.Likes.{like_itself}
 use Rattle.tsd_core.proofs.Operations.{then_ok, if_map, if_kept, and_ok, and_ok3}

@@ -13,7 +13,6 @@ use Rattle.tsd_model.specs.declared.requests.Request.{Request}
 use Rattle.tsd_model.specs.declared.requests.Request.TheVariants as ask
 use Rattle.image_device.specs.View.{View}
 use Rattle.image_device.specs.Counts.{Rose}
-use Rattle.image_device.specs.Runs.{LeavesOnly}
 use Rattle.image_device.specs.declared.device.Failed.{Failed}
 use Rattle.disk_laws.specs.Bytes.{AreLike}
 use Rattle.disk_laws.specs.Reclaiming.{is_sweep}
@@ -21,7 +20,7 @@ use Rattle.core_laws.specs.Seen.{IsAnswer}
 use Rattle.volume_laws.specs.Moments.{LeavesEither}
 use Rattle.volume_laws.specs.Writes.{due, Works}
 use Rattle.tsd_core.specs.Core.{Core, IsReady, IsAt, told_world, told_state, sessions_of, state_on}
-use Rattle.tsd_core.specs.Work.{debt, made_in, cost_in, write_limit, SameSize}
+use Rattle.tsd_core.specs.Work.{made_in, cost_in, write_limit, LeavesDebt, SameSize}
 
 -- the same reply, or both are the bytes of a block
 abbrev pub IsReplyLike : Reply → Reply → Type 0
@@ -56,10 +55,6 @@ asks_nothing q = false
 -- the world after the request, by the rules of the disk
 abbrev pub next_world : PlaceKind → State → Request → World
 next_world kind s q = (step kind s q).state.world
-
--- a crash at any moment leaves at most what was to be reclaimed before and so much more, and nothing more is sent
-abbrev pub LeavesDebt : View → View → ℕ → Type 0
-LeavesDebt old new more = LeavesOnly old new (λ x f. (debt x ≤ debt old.reads + more) × (f ≡ old.sent))
 
 -- What a request does, between these devices.
 pub record IsApplied (told : Type 0) (kind : PlaceKind) (q : Request) (old new : Core) (v w : View) (result : Result Reply Failed) : Type 0 where

@@ -9,8 +9,8 @@ ghost use Rattle.core_laws.specs.Seen.{IsAnswer};
 ghost use Rattle.volume_laws.specs.Moments.{LeavesEither};
 ghost use Rattle.volume_laws.specs.Writes.{due, Works};
 ghost use Rattle.tsd_core.specs.Core.{IsReady, IsAt, state_on};
-ghost use Rattle.tsd_core.specs.Work.{made_in, cost_in, write_limit, SameSize};
-ghost use Rattle.tsd_core.specs.Applying.{IsToldAnswer, told_verdict, is_refusal, asks_nothing, next_world, LeavesDebt, IsApplied};
+ghost use Rattle.tsd_core.specs.Work.{made_in, cost_in, write_limit, LeavesDebt, SameSize};
+ghost use Rattle.tsd_core.specs.Applying.{IsToldAnswer, told_verdict, is_refusal, asks_nothing, next_world, IsApplied};
 
 use crate::disk::Core;
 use crate::told::Told;
