@@ -1,8 +1,7 @@
 -- A disk that was opened, and a run from there as one from the start.
 use Rattle.std.proofs.Common.{◌≡◌, inl, inr, ℕ, ◌≤◌, Bool, true, false, List, [], refl, sym, ◌∙◌, ap, subst, append-nil, arith}
-use Rattle.std.specs.Prelude.{Result, Err, All}
+use Rattle.std.specs.Prelude.{All}
 use Rattle.tsd_model.specs.World.{World}
-use Rattle.tsd_model.specs.Sessions.{Sessions, no_sessions, fitted}
 use Rattle.tsd_model.specs.Step.{State}
 use Rattle.tsd_model.specs.Run.{at_rest}
 use Rattle.tsd_model.specs.declared.requests.PlaceKind.{PlaceKind}
@@ -10,15 +9,12 @@ use Rattle.tsd_model.specs.declared.requests.Request.{Request}
 use Rattle.image_device.specs.View.{View}
 use Rattle.image_device.specs.Runs.{IsFirm, LeavesOnly}
 use Rattle.image_device.proofs.Moments.{joined, weakened, leaves_both}
-use Rattle.image_layout.specs.Areas.{sweep_flag}
-use Rattle.image_layout.specs.Image.{Image, is_open}
+use Rattle.image_layout.specs.Image.{Image}
 use Rattle.intent_journal.specs.Home.{home}
 use Rattle.image_world.specs.Stands.{Stands, world_of}
 use Rattle.image_world.specs.Tables.{tables_of}
-use Rattle.recovery.specs.Opening.{StandAlike, IsOpening}
+use Rattle.recovery.specs.Opening.{StandAlike}
 use Rattle.volume_laws.specs.Quiet.{IsQuiet}
-use Rattle.recovery.specs.declared.fault.OpenFault.{OpenFault}
-use Rattle.recovery.specs.declared.fault.OpenFault.TheVariants as opening
 use Rattle.image_world.specs.Faults.{IsGood}
 use Rattle.tsd_words.specs.declared.status.Status.{Status}
 use Rattle.tsd_words.specs.declared.status.Status.TheVariants as status
@@ -31,19 +27,13 @@ use Rattle.serving.specs.Runs.{IsAcknowledged}
 use Rattle.serving.specs.Service.{IsCounted}
 use Rattle.serving.specs.Voice.{Voice}
 use Rattle.serving.specs.Work.{used}
-use Rattle.tsd_core.specs.Core.{Core, state_on, told_world}
+use Rattle.tsd_core.specs.Core.{Core, state_on}
 use Rattle.tsd_core.specs.Work.{debt}
 use Rattle.core_server.specs.Server.{disk_work, placed_on}
-use Rattle.image_service.specs.Served.{disk_service, start_of, IsAtEase, IsOwed, Ends, IsUnopened, IsJudged, status_of}
+use Rattle.image_opening.specs.Opened.{IsUnopened, IsJudged}
+use Rattle.image_service.specs.Served.{disk_service, start_of, IsAtEase, IsOwed, Ends}
 
--- a disk with no session open, of this world
-pub state_of_none : (c : Core) (x : Image) (w : World) → world_of x ≡ w → c.grants.sessions ≡ no_sessions → state_on c x ≡ at_rest w
-state_of_none c x w e none =
-    let same : state_on c x ≡ record { world = world_of x; sessions = fitted (told_world c) no_sessions } =
-    ap (λ (v : Sessions). let s : State = record { world = world_of x; sessions = fitted (told_world c) v } in s) none in
-    same ∙ ap at_rest e
-
--- the same beside a placement
+-- a disk beside a placement
 pub placed_at : (kind : PlaceKind) (c : Core) (x : Image) (w : World) → state_on c x ≡ at_rest w → placed_on kind c x ≡ record { kind = kind; state = at_rest w }
 placed_at kind c x w at = ap (λ (s : State). let p : Placed = record { kind = kind; state = s } in p) at
 
@@ -71,11 +61,6 @@ pub opening_moments : (v : Voice) (kind : PlaceKind) (old mid : View) (qs : List
 opening_moments v kind old mid qs counted leaves w stands =
     let own : Stands old.reads (world_of old.reads) = record { good = stands.good; world = refl } in
     weakened old mid _ _ leaves (λ x f left. first_moment v (start_of kind old.reads) old.sent qs x f counted ((left.0 (world_of old.reads)).0 own) left.1)
-
--- the flag of a sweep, in the tables and on the image
-pub flag_of : (x : Image) → (tables_of x).is_sweeping ≡ is_open (x sweep_flag)
-unfolding tables_of
-flag_of x = refl
 
 -- how much a crash leaves to be reclaimed while an image is opened
 pub opening_debt : (v : Voice) (kind : PlaceKind) (old mid : View) (qs : List Request)
@@ -161,28 +146,6 @@ ends_unopened r v kind old new counted why opened =
     by (status.RootDenied level) h = absurd h
 
 -- ---- statuses
-
--- why an image wasn't opened, as a status
-pub judged_of : (image : Image) (why : OpenFault) → IsOpening image (Err why) → IsJudged image (status_of why)
-judged_of image (opening.Image reason) h = h
-judged_of image opening.Device h = tt
-judged_of image opening.NoMemory h = tt
-
-pub unopened_of : (why : OpenFault) → IsUnopened (status_of why)
-unopened_of (opening.Image reason) = tt
-unopened_of opening.Device = tt
-unopened_of opening.NoMemory = tt
-
-pub device_of : (why : OpenFault) → status_of why ≡ status.DeviceFault → why ≡ opening.Device
-device_of (opening.Image reason) e = absurd (cc)
-device_of opening.Device e = refl
-device_of opening.NoMemory e = absurd (cc)
-
--- a fault of the device has that status alone
-pub device_only : {T : Type 0} (why : OpenFault) → ◌≡◌ {A = Result T OpenFault} (Err why) (Err opening.Device) → status_of why ≡ status.DeviceFault
-device_only (opening.Image reason) e = absurd (cc)
-device_only opening.Device e = refl
-device_only opening.NoMemory e = absurd (cc)
 
 -- a loop's status comes of a disk that was opened
 pub judged_by : (image : Image) (r : Status) (p : Spelling Request) (limit : ℕ) (bytes : List ℕ) (ended : Type 0) (qs : List Request) → AskedBy r p limit bytes ended qs → IsGood image → IsJudged image r

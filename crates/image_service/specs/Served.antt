@@ -1,5 +1,5 @@
 -- What one run over an image did, from its start to its end.
-use Rattle.std.specs.Prelude.{◌≡◌, ◌⊎◌, ℕ, ◌≤◌, false, List, [], Result, Ok, Err, ⊤, All}
+use Rattle.std.specs.Prelude.{◌≡◌, ◌⊎◌, ℕ, ◌≤◌, false, List, [], All}
 use Rattle.tsd_model.specs.World.{World}
 use Rattle.tsd_model.specs.Run.{at_rest}
 use Rattle.tsd_model.specs.declared.requests.PlaceKind.{PlaceKind}
@@ -8,12 +8,9 @@ use Rattle.image_device.specs.View.{View}
 use Rattle.image_device.specs.Runs.{IsFirm, LeavesOnly}
 use Rattle.image_layout.specs.Image.{Image}
 use Rattle.intent_journal.specs.Home.{home}
-use Rattle.image_world.specs.Faults.{IsGood, IsFirstFault}
 use Rattle.image_world.specs.Stands.{Stands, world_of}
 use Rattle.image_world.specs.Tables.{tables_of}
 use Rattle.volume_laws.specs.Quiet.{IsQuiet}
-use Rattle.recovery.specs.declared.fault.OpenFault.{OpenFault}
-use Rattle.recovery.specs.declared.fault.OpenFault.TheVariants as opening
 use Rattle.tsd_words.specs.declared.status.Status.{Status}
 use Rattle.tsd_words.specs.declared.status.Status.TheVariants as status
 use Rattle.serving.specs.Costs.{IsPaidFor}
@@ -24,39 +21,9 @@ use Rattle.serving.specs.Ran.{AskedBy, ByStatus}
 use Rattle.serving.specs.Runs.{IsAcknowledged}
 use Rattle.serving.specs.Service.{Service}
 use Rattle.serving.specs.Voice.{Voice, spoken}
-use Rattle.tsd_core.specs.Core.{Core}
 use Rattle.tsd_core.specs.Work.{debt}
+use Rattle.image_opening.specs.Opened.{IsUnopened}
 use Rattle.core_server.specs.Server.{disk_rules, disk_work}
-
--- ---- what a status says of the image at the start
-
--- the status that says why an image wasn't opened
-abbrev pub status_of : OpenFault → Status
-status_of (opening.Image why) = status.NotImage why
-status_of opening.Device = status.DeviceFault
-status_of opening.NoMemory = status.NoMemory
-
--- Where neither memory nor the device is at fault, NotImage comes exactly where the image has that first fault, and the
--- others exactly where it has none, since no two of these lines hold together.
-abbrev pub IsJudged : Image → Status → Type 0
-IsJudged image (status.NotImage why) = IsFirstFault image why
-IsJudged image status.DeviceFault = ⊤
-IsJudged image status.NoMemory = ⊤
-IsJudged image r = IsGood image
-
--- the same of a disk that was opened, or of why it wasn't
-abbrev pub IsOpened : Image → Result Core Status → Type 0
-IsOpened image (Ok c) = IsGood image
-IsOpened image (Err why) = IsJudged image why
-
--- a disk may not have been opened
-abbrev pub IsUnopened : Status → Type 0
-IsUnopened (status.NotImage why) = ⊤
-IsUnopened status.DeviceFault = ⊤
-IsUnopened status.NoMemory = ⊤
-IsUnopened r = ⊥
-
--- ---- the run
 
 -- what is served: the disk by its rules, with its replies as they are sent
 abbrev pub disk_service : Voice → Service Request

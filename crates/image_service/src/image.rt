@@ -3,11 +3,12 @@
 ghost use Rattle.std.specs.Prelude.{◌≡◌, ◌≢◌, ◌≤◌, []};
 ghost use Rattle.image_device.specs.Counts.{Rose};
 ghost use Rattle.serving.specs.Ran.{Came, IsAtEnd};
-ghost use Rattle.image_service.specs.Served.{IsJudged, Ran};
+ghost use Rattle.image_opening.specs.Opened.{IsJudged};
+ghost use Rattle.image_service.specs.Served.{Ran};
 
-use crate::opening::open_core;
 use core_server::serve_core;
 use image_device::{Port, Source};
+use image_opening::open_core;
 use place_policy::Placement;
 use serving::{INPUT_MAX, Protocol, Replies};
 use std::alloc::Global;

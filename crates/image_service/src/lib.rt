@@ -1,7 +1,7 @@
 //! An image opened and served.
 //!
-//! What it stands on: `recovery` opens an image, `tsd_core` is the disk that it stands for, `core_server` hands requests to
-//! that, and `serving` is the loop over an input. The outside is `image_device`, statuses are of `tsd_words`.
+//! What it stands on: `image_opening` opens an image and `recovery` formats one, `core_server` serves the disk that it stands
+//! for by the loop of `serving` over an input. The outside is `image_device`, statuses are of `tsd_words`.
 //!
 //! What it promises, of one call from its start to its end (`specs/Served.antt`): by its status, which bytes came in, which
 //! requests they hold, and what of the replies was sent, from the world for which the image stood and with no session open.
@@ -16,7 +16,6 @@
 
 mod fresh;
 mod image;
-mod opening;
 
 pub use fresh::serve_fresh;
 pub use image::serve_image;

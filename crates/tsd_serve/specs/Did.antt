@@ -12,7 +12,8 @@ use Rattle.serving.specs.Input.{Spelling}
 use Rattle.serving.specs.LineSpelling.{line_spelling, line_voice}
 use Rattle.serving.specs.Voice.{Voice}
 use Rattle.image_service.specs.Fresh.{FreshRan, single_world}
-use Rattle.image_service.specs.Served.{IsJudged, Ran}
+use Rattle.image_opening.specs.Opened.{IsJudged}
+use Rattle.image_service.specs.Served.{Ran}
 
 -- An image was opened and served, at most 2^40 bytes of it, and a refusal says what is wrong with it.
 pub record Opened (r : Status) (v : Voice) (p : Spelling Request) (kind : PlaceKind) (came : List ℕ → Type 0) (ended untouched tells : Type 0) (old new : View) : Type 0 where
