@@ -26,8 +26,12 @@ pub const fn sized(blocks: u32, primaries: u32, slots: u32) -> Geometry {
 /// A pair of capabilities, each of sixteen equal bytes.
 pub fn pair(bytes: (u8, u8)) -> CapPair {
     CapPair {
-        read: Cap { bytes: [bytes.0; 16] },
-        write: Cap { bytes: [bytes.1; 16] },
+        read: Cap {
+            bytes: [bytes.0; 16],
+        },
+        write: Cap {
+            bytes: [bytes.1; 16],
+        },
     }
 }
 

@@ -8,10 +8,16 @@
 #[cfg(test)]
 mod asking;
 #[cfg(test)]
+mod beside;
+#[cfg(test)]
 mod disks;
+#[cfg(test)]
+mod drawing;
 #[cfg(test)]
 mod rows;
 #[cfg(test)]
 mod stops;
+#[cfg(test)]
+mod worlds;
 #[cfg(test)]
 mod writes;

@@ -221,12 +221,28 @@ fn check(
         upgrade(alloc, &mut station)?;
     }
     let mut core = opened(alloc, &mut station)?;
-    expect(rt, alloc, &mut core, &mut station, place, first, way.settles)?;
+    expect(
+        rt,
+        alloc,
+        &mut core,
+        &mut station,
+        place,
+        first,
+        way.settles,
+    )?;
     if way.closes {
         core.close(&mut station)?;
     }
     let mut core = opened(alloc, &mut station)?;
-    expect(rt, alloc, &mut core, &mut station, place, second, way.settles)
+    expect(
+        rt,
+        alloc,
+        &mut core,
+        &mut station,
+        place,
+        second,
+        way.settles,
+    )
 }
 
 /// A row in each way.

@@ -269,8 +269,16 @@ fn try_call(
     let (is_old, is_new) = judge(alloc, place, case, &mut image)?;
     assert_eq!(rt; is_done, passes == ends.1);
     assert!(rt; is_old || is_new, "{} then {passes} {pick:?}", case.before);
-    assert!(rt; is_old || passes != ends.0, "{} then {passes} {pick:?}", case.before);
-    assert!(rt; is_new || !is_done, "{} then {passes} {pick:?}", case.before);
+    assert!(rt;
+        is_old || passes != ends.0,
+        "{} then {passes} {pick:?}",
+        case.before
+    );
+    assert!(rt;
+        is_new || !is_done,
+        "{} then {passes} {pick:?}",
+        case.before
+    );
     Ok(())
 }
 

@@ -47,7 +47,16 @@ fn a_ninth_record_wants_a_checkpoint(rt: HostRuntime) -> Result<(), Fail> {
     let mut station = formatted(alloc, &sized(8, 1, 32))?;
     let formatted = station.write_calls();
     let mut core = opened(alloc, &mut station)?;
-    assert_eq!(rt; writes(alloc, &mut core, &mut station, &place, "open 1/write 1 0 R 01/free")?, 0);
+    assert_eq!(rt;
+        writes(
+            alloc,
+            &mut core,
+            &mut station,
+            &place,
+            "open 1/write 1 0 R 01/free"
+        )?,
+        0
+    );
     for wanted in [3, 3, 3, 3, 3, 3, 3, 3, 12] {
         let count = writes(alloc, &mut core, &mut station, &place, "write 1 0 W 01")?;
         assert_eq!(rt; count, wanted);
@@ -70,12 +79,28 @@ fn a_deletion_and_four_steps(rt: HostRuntime) -> Result<(), Fail> {
     let place = Placement::new(PlaceKind::Near, near);
     let mut station = formatted(alloc, &sized(64, 1, 256))?;
     let mut core = opened(alloc, &mut station)?;
-    ask_all(alloc, &mut core, &mut station, &place, chain(alloc, 40)?.as_str(), true)?;
+    ask_all(
+        alloc,
+        &mut core,
+        &mut station,
+        &place,
+        chain(alloc, 40)?.as_str(),
+        true,
+    )?;
     core.close(&mut station)?;
     let closed = station.write_calls();
     let mut core = opened(alloc, &mut station)?;
     assert_eq!(rt; station.write_calls(), closed);
-    assert_eq!(rt; writes(alloc, &mut core, &mut station, &place, "open 1/delete 1 0 W 1")?, 4);
+    assert_eq!(rt;
+        writes(
+            alloc,
+            &mut core,
+            &mut station,
+            &place,
+            "open 1/delete 1 0 W 1"
+        )?,
+        4
+    );
     assert!(rt; core.settle_some(&mut station)?);
     assert_eq!(rt; station.write_calls().saturating_sub(closed), 24);
     Ok(())

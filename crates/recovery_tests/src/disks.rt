@@ -78,7 +78,10 @@ pub fn filled<D: Device>(dev: &mut D, number: u32) -> Result<Option<u8>, Failed>
 pub fn allocated(alloc: Global) -> Result<MemStation, Fail> {
     let mut station = MemStation::new(alloc, Vec::new(alloc));
     format_small(&mut station)?;
-    station.poke(134, &begins(&[0, 0, 0, 0, 1, 0, 0, 0, 1, 0, 0, 0, 1, 0, 0, 0]))?;
+    station.poke(
+        134,
+        &begins(&[0, 0, 0, 0, 1, 0, 0, 0, 1, 0, 0, 0, 1, 0, 0, 0]),
+    )?;
     station.poke(135, &begins(&[15]))?;
     station.poke(136, &slots(&[(1, 1), (1, 2), (1, 3)]))?;
     station.poke(138, &[0xc1; 512])?;

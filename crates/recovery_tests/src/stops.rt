@@ -88,7 +88,11 @@ fn try_all(rt: &impl Abort, alloc: Global, left: Left) -> Result<(), Fail> {
                 break;
             }
             let (whole, mut image) = stopped(alloc, left, passes, pick)?;
-            assert_eq!(rt; open(alloc, &mut image), Ok(left.opened()), "{left:?} at {passes}");
+            assert_eq!(rt;
+                open(alloc, &mut image),
+                Ok(left.opened()),
+                "{left:?} at {passes}"
+            );
             if left == Left::Records {
                 assert_eq!(rt; filled(&mut image, 138)?, Some(8), "at {passes}");
             }
