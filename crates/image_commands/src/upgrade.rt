@@ -1,0 +1,62 @@
+//! `upgrade`: an image that keeps digests in place of capabilities.
+
+ghost use Rattle.std.specs.Prelude.{◌≡◌, ◌≢◌, ◌⊎◌, OnOk, IfErr};
+ghost use Rattle.image_device.specs.Counts.{Rose};
+ghost use Rattle.image_device.specs.Runs.{IsFirm, LeavesOnly};
+ghost use Rattle.volume_laws.specs.Writes.{Works};
+ghost use Rattle.recovery.specs.Opening.{StandAlike};
+ghost use Rattle.image_commands.specs.Sending.{IsEnding};
+ghost use Rattle.image_commands.specs.Upgrade.{HasUpgraded, IsLeftOfUpgrade, IsUpgradeOf, IsUpgraded};
+ghost use Rattle.image_opening.specs.Opened.{IsJudged, IsUnopened};
+
+use command_text::upgrade_line;
+use image_device::{Device, Port, put_all};
+use image_opening::open_volume;
+use std::alloc::Global;
+use tsd_words::Status;
+
+/// Opens an image, keeps only the digest of each capability from then on, erases what the journal held of earlier ones, and puts
+/// one line. An image that keeps digests already is left so.
+///
+/// The status is Done, NotImage where the image stands for no world, DeviceFault or PutFault where that count rose, or NoMemory
+/// where none was found to open the image.
+pub fn upgrade_image<P: Port>(alloc: Global, port: &mut P) -> Status
+    ensures ending { IsEnding result }
+    ensures upgraded { P.told → HasUpgraded result (P.view port.old) (P.view port.new) }
+    // A crash at any moment leaves the world before or the upgraded one, and wherever a byte was sent the latter.
+    ensures any_moment { P.told → IsFirm (P.view port.old) → LeavesOnly (P.view port.old) (P.view port.new) (IsLeftOfUpgrade (P.view port.old)) }
+    // A count of faults rose only where the status is that fault's.
+    ensures device_fault { result ≡ Status.DeviceFault → Rose (P.view port.old).faults (P.view port.new).faults }
+    ensures put_fault { result ≡ Status.PutFault → Rose (P.view port.old).put_faults (P.view port.new).put_faults }
+    ensures no_device_fault { result ≢ Status.DeviceFault → (P.view port.new).faults ≡ (P.view port.old).faults }
+    ensures no_put_fault { result ≢ Status.PutFault → (P.view port.new).put_faults ≡ (P.view port.old).put_faults }
+{
+    match upgrade(alloc, port) {
+        Ok(()) => match put_all(port, upgrade_line().as_slice()) {
+            Ok(()) => Status::Done,
+            Err(_) => Status::PutFault,
+        },
+        Err(why) => why,
+    }
+}
+
+/// Opens an image and upgrades it.
+fn upgrade<D: Device>(alloc: Global, dev: &mut D) -> Result<(), Status>
+    ensures upgraded { D.told → OnOk result (IsUpgraded (D.view dev.old).reads (D.view dev.new)) }
+    ensures judged { D.told → IfErr result (IsJudged (D.view dev.old).reads) }
+    ensures stops { IfErr result IsUnopened }
+    ensures sent { D.told → (D.view dev.new).sent ≡ (D.view dev.old).sent }
+    ensures any_moment { D.told → IsFirm (D.view dev.old) → LeavesOnly (D.view dev.old) (D.view dev.new) (λ x f. (StandAlike (D.view dev.old).reads x ⊎ IsUpgradeOf (D.view dev.old).reads x) × (f ≡ (D.view dev.old).sent)) }
+    ensures works { Works (D.view dev.old) (D.view dev.new) }
+    ensures faultless { OnOk result ((D.view dev.new).faults ≡ (D.view dev.old).faults) }
+    ensures fault { IfErr result (λ why. why ≢ Status.DeviceFault → (D.view dev.new).faults ≡ (D.view dev.old).faults) }
+    ensures cause { IfErr result (λ why. why ≡ Status.DeviceFault → Rose (D.view dev.old).faults (D.view dev.new).faults) }
+{
+    match open_volume(alloc, dev) {
+        Ok(mut volume) => match volume.upgrade(dev) {
+            Ok(()) => Ok(()),
+            Err(_) => Err(Status::DeviceFault),
+        },
+        Err(why) => Err(why),
+    }
+}
