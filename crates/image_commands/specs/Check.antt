@@ -17,7 +17,6 @@ IsFound image status.Done text = IsGood image × (text ≡ clean_line (world_of 
 IsFound image (status.NotImage why) text = IsFirstFault image why × (text ≡ fault_text why ++ 10 ∷ [])
 IsFound image r text = ⊥
 
-
 -- something was found
 abbrev pub IsFinding : Status → Type 0
 IsFinding status.Done = ⊤

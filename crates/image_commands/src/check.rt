@@ -4,7 +4,9 @@ ghost use Rattle.std.specs.Prelude.{◌≡◌, ◌≢◌, IfOk, IfErr, OnOk};
 ghost use Rattle.image_device.specs.Counts.{Rose};
 ghost use Rattle.image_device.specs.Runs.{IsFirm, LeavesOnly};
 ghost use Rattle.recovery.specs.Opening.{StandAlike};
+ghost use Rattle.volume_laws.specs.Volume.{IsReady, told_by};
 ghost use Rattle.volume_laws.specs.Writes.{Works};
+ghost use Rattle.command_text.specs.Lines.{clean_line};
 ghost use Rattle.image_commands.specs.Sending.{IsEnding, IsStopped};
 ghost use Rattle.image_commands.specs.Check.{HasChecked, IsFinding, IsFound, IsSaying};
 
@@ -14,6 +16,7 @@ use image_opening::open_volume;
 use script_text::OutBuf;
 use std::alloc::Global;
 use tsd_words::{Status, image_line};
+use volume::Volume;
 
 /// Opens an image and puts one line: how many blocks of its world are live and how many free, and how many pointers are held;
 /// or, where it stands for no world, the first test that it fails.
@@ -55,8 +58,7 @@ fn judge<D: Device>(alloc: Global, dev: &mut D, line: &mut OutBuf) -> Result<Sta
 {
     match open_volume(alloc, dev) {
         Ok(volume) => {
-            let free = volume.free_count();
-            *line = clean_line(volume.geometry().blocks - free, free, volume.pointers());
+            *line = world_line(&volume);
             Ok(Status::Done)
         }
         Err(Status::NotImage(fault)) => {
@@ -65,4 +67,14 @@ fn judge<D: Device>(alloc: Global, dev: &mut D, line: &mut OutBuf) -> Result<Sta
         }
         Err(why) => Err(why),
     }
+}
+
+/// The line of a volume's world.
+fn world_line(volume: &Volume) -> OutBuf
+    requires { IsReady volume.now }
+    ensures { result ≡ clean_line (told_by volume.now) }
+{
+    let size = volume.geometry();
+    let free = volume.free_count();
+    clean_line(size.blocks - free, free, volume.pointers())
 }
