@@ -1,12 +1,12 @@
 -- A line that is put once all work is done.
-use Rattle.std.proofs.Common.{◌≡◌, ◌⊎◌, inl, inr, ℕ, ◌-◌, List, ◌++◌, length, refl, sym, ◌∙◌, ap, subst}
+use Rattle.std.proofs.Common.{◌≡◌, ◌⊎◌, inl, inr, ℕ, Bool, ◌-◌, List, ◌++◌, length, refl, sym, ◌∙◌, ap, subst}
 use Rattle.tsd_model.specs.World.{World, free_count}
 use Rattle.tsd_model.specs.declared.geometry.Geometry.{Geometry}
 use Rattle.disk_laws.specs.Bytes.{AreLike}
 use Rattle.disk_laws.proofs.ByteLaws.{free_count_like}
 use Rattle.image_device.specs.View.{View, IsPart, IsSound, IsLeftInPut}
-use Rattle.image_device.specs.Runs.{LeavesOnly}
-use Rattle.image_device.proofs.Moments.{joined, weakened, leaves_now}
+use Rattle.image_device.specs.Runs.{IsFirm, LeavesOnly}
+use Rattle.image_device.proofs.Moments.{joined, weakened, leaves_now, firm_image}
 use Rattle.image_layout.specs.Image.{Image}
 use Rattle.recovery.specs.Opening.{StandAlike}
 use Rattle.tsd_words.specs.declared.status.Status.{Status}
@@ -69,3 +69,15 @@ unchecked (status.RootDenied level) image before now stops sent = absurd stops
 -- a text that was cut, from what was sent before the work
 pub cut_from : (before mid : List ℕ) (text now : List ℕ) → mid ≡ before → IsCut mid text now → IsCut before text now
 cut_from before mid text now sent cut = subst (λ (b : List ℕ). IsCut b text now) sent cut
+
+-- ---- a line put over a disk where nothing is loose
+
+pub put_over : (old mid new : View) (text : List ℕ) (P Q : Image → List ℕ → Type 0) → IsFirm mid → LeavesOnly old mid P → LeavesOnly mid new (IsLeftInPut text mid)
+    → ((x : Image) (f : List ℕ) → P x f → Q x f) → ((f : List ℕ) → IsPart mid.sent text f → Q mid.reads f) → LeavesOnly old new Q
+put_over old mid new text P Q firm before putting same more =
+    joined old mid new Q (IsLeftInPut text mid) (weakened old mid P Q before same) putting
+    (λ x f left. subst (λ (y : Image). Q y f) (sym (firm_image mid firm x mid.sent (left.0, refl))) (more f left.1))
+
+-- nothing becomes loose by a put
+pub still_firm : (mid new : View) → IsFirm mid → new.loose ≡ mid.loose → IsFirm new
+still_firm mid new firm same n = ap (λ (l : ℕ → Bool). l n) same ∙ firm n

@@ -1,0 +1,72 @@
+-- A disk that was opened and upgraded, and its line put.
+use Rattle.std.proofs.Common.{◌≡◌, ◌⊎◌, inl, inr, ℕ, List, ◌++◌, refl, sym, ◌∙◌, ap, subst, ◌≤◌}
+use Rattle.tsd_model.specs.World.{World}
+use Rattle.tsd_model.specs.Records.{upgraded}
+use Rattle.image_device.specs.Image.{zeros}
+use Rattle.image_device.specs.View.{View, IsPart, IsLeftInPut}
+use Rattle.image_device.specs.Runs.{IsFirm, LeavesOnly}
+use Rattle.image_device.proofs.Moments.{joined, weakened}
+use Rattle.image_layout.specs.Image.{Image}
+use Rattle.image_world.specs.Faults.{IsGood}
+use Rattle.image_world.specs.Stands.{Stands, world_of}
+use Rattle.recovery.specs.Opening.{StandAlike}
+use Rattle.tsd_words.specs.declared.status.Status.{Status}
+use Rattle.tsd_words.specs.declared.status.Status.TheVariants as status
+use Rattle.volume_laws.specs.Moments.{LeavesEither, StandsForEither}
+use Rattle.volume_laws.specs.Volume.{world_on}
+use Rattle.command_text.specs.Lines.{upgrade_line}
+use Rattle.image_opening.specs.Opened.{IsJudged, IsUnopened}
+use Rattle.image_commands.specs.Upgrade.{HasUpgraded, IsLeftOfUpgrade, IsUpgradeOf, IsUpgraded}
+use Rattle.image_commands.proofs.Saying.{put_over, still_firm}
+
+-- what an image of the world at the start stands for
+pub alike_of : (image x : Image) → IsGood image → Stands x (world_of image) → StandAlike image x
+alike_of image x good stands w = (
+  (λ s. subst (λ (v : World). Stands x v) (sym s.world) stands),
+  (λ s. record { good = good; world = s.world ∙ sym stands.world }),
+)
+
+-- what a crash leaves of opening and upgrading
+abbrev left_by : View → Image → List ℕ → Type 0
+left_by old x f = (StandAlike old.reads x ⊎ IsUpgradeOf old.reads x) × (f ≡ old.sent)
+
+pub upgrade_moments : (old mid new : View) → IsGood old.reads → world_on mid ≡ world_of old.reads → mid.sent ≡ old.sent
+    → LeavesOnly old mid (λ x f. StandAlike old.reads x × (f ≡ old.sent)) → LeavesEither mid new (upgraded (world_on mid))
+    → LeavesOnly old new (λ x f. (StandAlike old.reads x ⊎ IsUpgradeOf old.reads x) × (f ≡ old.sent))
+upgrade_moments old mid new good done sent opening more =
+    joined old mid new (left_by old) _ (weakened old mid _ (left_by old) opening (λ x f left. (inl left.0, left.1))) more
+    (λ x f left. (
+      elim left.0 [
+        | inl before ↦ inl (alike_of old.reads x good (subst (λ (w : World). Stands x w) done before))
+        | inr after ↦ inr (record { good = good; stands = subst (λ (w : World). Stands x (upgraded w)) done after })
+      ],
+      left.1 ∙ sent,
+    ))
+
+-- the line was put, over a disk that was upgraded
+pub upgraded_still : (image : Image) (mid new : View) → IsUpgraded image mid → new.reads ≡ mid.reads → new.loose ≡ mid.loose → IsUpgraded image new
+upgraded_still image mid new is reads loose = record {
+  firm = still_firm mid new is.firm loose;
+  upgrade = subst (λ (x : Image). IsUpgradeOf image x) (sym reads) is.upgrade;
+  erased = subst (λ (x : Image). (n : ℕ) → 4 ≤ n → n ≤ 116 → x n ≡ zeros) (sym reads) is.erased;
+}
+
+pub line_moments : (old mid new : View) → IsUpgraded old.reads mid → mid.sent ≡ old.sent → LeavesOnly old mid (λ x f. (StandAlike old.reads x ⊎ IsUpgradeOf old.reads x) × (f ≡ old.sent))
+    → LeavesOnly mid new (IsLeftInPut upgrade_line mid) → LeavesOnly old new (IsLeftOfUpgrade old)
+line_moments old mid new is sent before putting =
+    put_over old mid new upgrade_line (left_by old) (IsLeftOfUpgrade old) is.firm before putting
+    (λ x f left. inl left)
+    (λ f part. inr (is.upgrade, subst (λ (b : List ℕ). IsPart b upgrade_line f) sent part))
+
+-- nothing was upgraded
+pub not_upgraded : (why : Status) (old new : View) → IsUnopened why → IsJudged old.reads why → new.sent ≡ old.sent → HasUpgraded why old new
+not_upgraded (status.NotImage reason) old new stops judged sent = (judged, sent)
+not_upgraded status.DeviceFault old new stops judged sent = sent
+not_upgraded status.NoMemory old new stops judged sent = sent
+not_upgraded status.Done old new stops judged sent = absurd stops
+not_upgraded status.Usage old new stops judged sent = absurd stops
+not_upgraded status.SourceFault old new stops judged sent = absurd stops
+not_upgraded status.PutFault old new stops judged sent = absurd stops
+not_upgraded status.TooLong old new stops judged sent = absurd stops
+not_upgraded status.Truncated old new stops judged sent = absurd stops
+not_upgraded (status.RootDenied level) old new stops judged sent = absurd stops
