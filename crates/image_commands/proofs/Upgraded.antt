@@ -1,5 +1,6 @@
 -- A disk that was opened and upgraded, and its line put.
 use Rattle.std.proofs.Common.{◌≡◌, ◌⊎◌, inl, inr, ℕ, List, ◌++◌, refl, sym, ◌∙◌, ap, subst, ◌≤◌}
+use Rattle.std.specs.Prelude.{Result, Ok, Err, OnOk}
 use Rattle.tsd_model.specs.World.{World}
 use Rattle.tsd_model.specs.Records.{upgraded}
 use Rattle.image_device.specs.Image.{zeros}
@@ -13,7 +14,7 @@ use Rattle.recovery.specs.Opening.{StandAlike}
 use Rattle.tsd_words.specs.declared.status.Status.{Status}
 use Rattle.tsd_words.specs.declared.status.Status.TheVariants as status
 use Rattle.volume_laws.specs.Moments.{LeavesEither, StandsForEither}
-use Rattle.volume_laws.specs.Volume.{world_on}
+use Rattle.volume_laws.specs.Volume.{Volume, IsAt, world_on}
 use Rattle.command_text.specs.Lines.{upgrade_line}
 use Rattle.image_opening.specs.Opened.{IsJudged, IsUnopened}
 use Rattle.image_commands.specs.Upgrade.{HasUpgraded, IsLeftOfUpgrade, IsUpgradeOf, IsUpgraded}
@@ -70,3 +71,13 @@ not_upgraded status.PutFault old new stops judged sent = absurd stops
 not_upgraded status.TooLong old new stops judged sent = absurd stops
 not_upgraded status.Truncated old new stops judged sent = absurd stops
 not_upgraded (status.RootDenied level) old new stops judged sent = absurd stops
+
+-- once the volume is upgraded, where it was opened
+pub upgraded_there : {T : Type 0} → (old mid new : View) (v : Volume) (result : Result T Status) → IsGood old.reads → world_on mid ≡ world_of old.reads → OnOk result (IsAt v new)
+    → OnOk result (world_on new ≡ upgraded (world_on mid)) → OnOk result ((n : ℕ) → 4 ≤ n → n ≤ 116 → new.reads n ≡ zeros) → OnOk result (IsUpgraded old.reads new)
+upgraded_there old mid new v (Ok u) good opened at done erased = record {
+  firm = at.firm;
+  upgrade = record { good = good; stands = record { good = at.good; world = sym (done ∙ ap (λ (w : World). upgraded w) opened) } };
+  erased = erased;
+}
+upgraded_there old mid new v (Err why) good opened at done erased = tt

@@ -1,8 +1,12 @@
 //! `upgrade`: an image that keeps digests in place of capabilities.
 
-ghost use Rattle.std.specs.Prelude.{◌≡◌, ◌≢◌, ◌⊎◌, OnOk, IfErr};
+ghost use Rattle.std.specs.Prelude.{◌≡◌, ◌≢◌, ℕ, ◌≤◌, ◌⊎◌, false, OnOk, OnErr, IfErr};
 ghost use Rattle.image_device.specs.Counts.{Rose};
 ghost use Rattle.image_device.specs.Runs.{IsFirm, LeavesOnly};
+ghost use Rattle.image_device.specs.Image.{zeros};
+ghost use Rattle.tsd_model.specs.Records.{upgraded};
+ghost use Rattle.volume_laws.specs.Moments.{LeavesEither};
+ghost use Rattle.volume_laws.specs.Volume.{IsAt, IsReady, world_on};
 ghost use Rattle.volume_laws.specs.Writes.{Works};
 ghost use Rattle.recovery.specs.Opening.{StandAlike};
 ghost use Rattle.image_commands.specs.Sending.{IsEnding};
@@ -14,6 +18,7 @@ use image_device::{Device, Port, put_all};
 use image_opening::open_volume;
 use std::alloc::Global;
 use tsd_words::Status;
+use volume::Volume;
 
 /// Opens an image, keeps only the digest of each capability from then on, erases what the journal held of earlier ones, and puts
 /// one line. An image that keeps digests already is left so.
@@ -53,10 +58,28 @@ fn upgrade<D: Device>(alloc: Global, dev: &mut D) -> Result<(), Status>
     ensures cause { IfErr result (λ why. why ≡ Status.DeviceFault → Rose (D.view dev.old).faults (D.view dev.new).faults) }
 {
     match open_volume(alloc, dev) {
-        Ok(mut volume) => match volume.upgrade(dev) {
-            Ok(()) => Ok(()),
-            Err(_) => Err(Status::DeviceFault),
-        },
+        Ok(mut volume) => upgrade_at(&mut volume, dev),
         Err(why) => Err(why),
+    }
+}
+
+/// Upgrades an open volume.
+fn upgrade_at<D: Device>(volume: &mut Volume, dev: &mut D) -> Result<(), Status>
+    requires ready { IsReady volume.old }
+    requires unspent { volume.old.is_spent ≡ false }
+    requires at { D.told → IsAt volume.old (D.view dev.old) }
+    ensures at { D.told → OnOk result (IsAt volume.new (D.view dev.new)) }
+    ensures done { D.told → OnOk result (world_on (D.view dev.new) ≡ upgraded (world_on (D.view dev.old))) }
+    ensures erased { D.told → OnOk result ((n : ℕ) → 4 ≤ n → n ≤ 116 → (D.view dev.new).reads n ≡ zeros) }
+    ensures failed { IfErr result (λ why. why ≡ Status.DeviceFault) }
+    ensures sent { D.told → (D.view dev.new).sent ≡ (D.view dev.old).sent }
+    ensures any_moment { D.told → LeavesEither (D.view dev.old) (D.view dev.new) (upgraded (world_on (D.view dev.old))) }
+    ensures works { Works (D.view dev.old) (D.view dev.new) }
+    ensures faultless { OnOk result ((D.view dev.new).faults ≡ (D.view dev.old).faults) }
+    ensures cause { OnErr result (Rose (D.view dev.old).faults (D.view dev.new).faults) }
+{
+    match volume.upgrade(dev) {
+        Ok(()) => Ok(()),
+        Err(_) => Err(Status::DeviceFault),
     }
 }
