@@ -1,3 +1,6 @@
 mod Saying
 mod Formatted
 mod Upgraded
+mod Requests
+mod LoadRuns
+mod Loaded

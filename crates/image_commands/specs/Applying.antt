@@ -1,9 +1,12 @@
 -- How far a load has come.
-use Rattle.std.specs.Prelude.{◌≡◌, ℕ, ◌≤◌, List, length, cond}
+use Rattle.std.specs.Prelude.{◌≡◌, ◌≢◌, ℕ, ◌+◌, ◌≤◌, List, length, cond}
 use Rattle.tsd_model.specs.World.{World, free_count}
 use Rattle.tsd_model.specs.Step.{State}
 use Rattle.tsd_model.specs.declared.requests.PlaceKind.{PlaceKind}
+use Rattle.tsd_model.specs.declared.requests.Request.{Request}
 use Rattle.tsd_model.specs.declared.replies.Reply.{Reply}
+use Rattle.tsd_model.specs.declared.replies.Reply.TheVariants as replied
+use Rattle.core_laws.specs.Seen.{IsAnswer}
 use Rattle.image_device.specs.View.{View}
 use Rattle.image_device.specs.Runs.{LeavesOnly}
 use Rattle.image_world.specs.Stands.{Stands, world_of}
@@ -30,6 +33,14 @@ more_refused r = cond (is_refused r) 1 0
 
 abbrev pub more_granted : Reply → ℕ
 more_granted r = cond (is_refused r) 0 1
+
+-- a request is given a reply, not for want of memory, and is counted
+pub record IsNext (kind : PlaceKind) (s : State) (q : Request) (t : State) (granted refused all_granted all_refused : ℕ) : Type 0 where
+  pub reply : Reply
+  pub given : IsAnswer kind s q reply t
+  pub found : reply ≢ replied.NoMemory
+  pub granted_are : all_granted ≡ granted + more_granted reply
+  pub refused_are : all_refused ≡ refused + more_refused reply
 
 -- a crash at any moment leaves the world after some of so many requests over the world at the start, and what was sent stays
 abbrev pub LeavesRun : PlaceKind → List ℕ → ℕ → View → View → Type 0

@@ -7,12 +7,15 @@ ghost use Rattle.image_world.specs.Stands.{world_of};
 ghost use Rattle.tsd_model.specs.Run.{at_rest};
 ghost use Rattle.load_gen.specs.Load.{load_of};
 ghost use Rattle.recovery.specs.Opening.{StandAlike};
+ghost use Rattle.core_laws.specs.Seen.{IsAnswer};
+ghost use Rattle.volume_laws.specs.Moments.{LeavesEither};
 ghost use Rattle.volume_laws.specs.Writes.{Works};
+ghost use Rattle.tsd_core.specs.Applying.{next_world};
 ghost use Rattle.tsd_core.specs.Core.{IsAt, IsReady, state_on, told_world};
 ghost use Rattle.tsd_model.specs.declared.replies.Reply.TheVariants as replied;
 ghost use Rattle.image_commands.specs.Sending.{IsEnding, IsStopped};
 ghost use Rattle.image_commands.specs.Load.{HasLoaded, IsLeftOfLoad, IsLoaded, IsLoadedBy};
-ghost use Rattle.image_commands.specs.Applying.{HasApplied, IsSummary, LeavesRun, more_granted, more_refused};
+ghost use Rattle.image_commands.specs.Applying.{HasApplied, IsNext, IsSummary, LeavesRun, more_granted, more_refused};
 ghost use Rattle.image_opening.specs.Opened.{IsJudged, IsUnopened};
 
 use command_text::{Summary, load_line};
@@ -22,7 +25,7 @@ use load_gen::LoadGen;
 use place_policy::Placement;
 use std::alloc::Global;
 use tsd_core::Core;
-use tsd_model::Reply;
+use tsd_model::{Reply, Request};
 use tsd_words::{Load, Status};
 
 /// How many requests were granted and how many refused.
@@ -180,10 +183,37 @@ fn apply_all<D: Device>(
         refused: 0,
     };
     for _number in 0..load.count {
-        match core.apply(dev, place, &draws.next_request()) {
-            Ok(reply) => tally.count(&reply)?,
-            Err(Failed) => return Err(Status::DeviceFault),
-        }
+        apply_next(core, dev, place, &draws.next_request(), &mut tally)?;
     }
     Ok(tally)
+}
+
+/// Carries out one request and counts it.
+fn apply_next<D: Device>(
+    core: &mut Core,
+    dev: &mut D,
+    place: &Placement,
+    request: &Request,
+    tally: &mut Tally,
+) -> Result<(), Status>
+    requires few { tally.old.granted + tally.old.refused < 2 ^ 31 }
+    requires ready { IsReady core.old }
+    requires at { D.told → IsAt core.old (D.view dev.old) }
+    ensures ready { OnOk result (IsReady core.new) }
+    ensures at { D.told → OnOk result (IsAt core.new (D.view dev.new)) }
+    ensures next { D.told → OnOk result (IsNext place.now.kind (state_on core.old (D.view dev.old).reads) request.now (state_on core.new (D.view dev.new).reads) tally.old.granted tally.old.refused tally.new.granted tally.new.refused) }
+    ensures one { OnOk result (tally.new.granted + tally.new.refused ≡ tally.old.granted + tally.old.refused + 1) }
+    ensures stops { IfErr result IsStopped }
+    ensures starved { D.told → IfErr result (λ why. why ≡ Status.NoMemory → IsAnswer place.now.kind (state_on core.old (D.view dev.old).reads) request.now replied.NoMemory (state_on core.new (D.view dev.new).reads)) }
+    ensures sent { D.told → (D.view dev.new).sent ≡ (D.view dev.old).sent }
+    ensures any_moment { D.told → LeavesEither (D.view dev.old) (D.view dev.new) (next_world place.now.kind (state_on core.old (D.view dev.old).reads) request.now) }
+    ensures works { Works (D.view dev.old) (D.view dev.new) }
+    ensures faultless { OnOk result ((D.view dev.new).faults ≡ (D.view dev.old).faults) }
+    ensures fault { IfErr result (λ why. why ≢ Status.DeviceFault → (D.view dev.new).faults ≡ (D.view dev.old).faults) }
+    ensures cause { IfErr result (λ why. why ≡ Status.DeviceFault → Rose (D.view dev.old).faults (D.view dev.new).faults) }
+{
+    match core.apply(dev, place, request) {
+        Ok(reply) => tally.count(&reply),
+        Err(Failed) => Err(Status::DeviceFault),
+    }
 }
