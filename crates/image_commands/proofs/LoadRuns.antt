@@ -32,7 +32,7 @@ within kind seed count old x f = ((n : ℕ) × (n ≤ count) × Stands x (loaded
 pub run_started : (kind : PlaceKind) (seed : List ℕ) (v : View) → IsSound v → IsFirm v → IsGood v.reads → LeavesRun kind seed 0 v v
 run_started kind seed v sound firm good =
     started v (within kind seed 0 v) sound (λ x f now.
-      ((0, omega arith, subst (λ (y : Image). Stands y (world_of v.reads)) (sym (firm_image v firm x f now)) (record { good = good; world = refl })), now.1))
+    ((0, omega arith, subst (λ (y : Image). Stands y (world_of v.reads)) (sym (firm_image v firm x f now)) (record { good = good; world = refl })), now.1))
 
 pub run_within : (kind : PlaceKind) (seed : List ℕ) (few many : ℕ) (old new : View) → few ≤ many → LeavesRun kind seed few old new → LeavesRun kind seed many old new
 run_within kind seed few many old new le run =
@@ -47,20 +47,20 @@ run_more kind seed n old mid new s q here at asked sent run more =
     let after : next_world kind s q ≡ (loaded kind seed w (n + 1)).world =
     ap (λ (u : State). next_world kind u q) at ∙ ap (λ (p : Request). next_world kind (loaded kind seed w n) p) asked ∙ ap (λ (u : State). u.world) (sym (loaded_more kind seed w n)) in
     joined old mid new (within kind seed (n + 1) old) _ (run_within kind seed n (n + 1) old mid (omega arith) run) more
-      (λ x f left. (
-        elim left.0 [
-          inl was ↦ (n, omega arith, subst (λ (v : World). Stands x v) before was)
+    (λ x f left. (
+      elim left.0 [
+        | inl was ↦ (n, omega arith, subst (λ (v : World). Stands x v) before was)
         | inr now ↦ (n + 1, omega arith, subst (λ (v : World). Stands x v) after now)
-        ],
-        left.1 ∙ sent,
-      ))
+      ],
+      left.1 ∙ sent,
+    ))
 
 -- calls that leave the world
 pub run_kept : (kind : PlaceKind) (seed : List ℕ) (n : ℕ) (old mid new : View) (s : State) → s.world ≡ world_on mid → s ≡ loaded kind seed (world_of old.reads) n → mid.sent ≡ old.sent
     → LeavesRun kind seed n old mid → LeavesWorld mid new → LeavesRun kind seed n old new
 run_kept kind seed n old mid new s here at sent run more =
     joined old mid new (within kind seed n old) _ run more
-      (λ x f left. ((n, omega arith, subst (λ (v : World). Stands x v) (sym here ∙ ap (λ (u : State). u.world) at) left.0), left.1 ∙ sent))
+    (λ x f left. ((n, omega arith, subst (λ (v : World). Stands x v) (sym here ∙ ap (λ (u : State). u.world) at) left.0), left.1 ∙ sent))
 
 -- a request that had no memory is the first one, and leaves the world
 pub run_starved : (kind : PlaceKind) (seed : List ℕ) (n : ℕ) (old mid new : View) (s t : State) (q : Request) → s.world ≡ world_on mid → s ≡ loaded kind seed (world_of old.reads) n
@@ -72,5 +72,5 @@ run_starved kind seed n old mid new s t q here at asked sent run more given =
     let same : next_world kind s q ≡ world_on mid = begin_world kind s q begins ∙ here in
     let kept : LeavesWorld mid new =
     weakened mid new _ (λ x f. Stands x (world_on mid) × (f ≡ mid.sent)) more
-      (λ x f left. (elim left.0 [ inl was ↦ was | inr now ↦ subst (λ (v : World). Stands x v) same now ], left.1)) in
+    (λ x f left. (elim left.0 [ inl was ↦ was | inr now ↦ subst (λ (v : World). Stands x v) same now ], left.1)) in
     subst (λ (k : ℕ). LeavesRun kind seed k old new) first (run_kept kind seed n old mid new s here at sent run kept)

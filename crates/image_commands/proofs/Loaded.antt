@@ -74,20 +74,20 @@ pub load_moments : (kind : PlaceKind) (seed : List ℕ) (count : ℕ) (old mid n
     → LeavesOnly old new (λ x f. (StandAlike old.reads x ⊎ ((n : ℕ) × (n ≤ count) × IsLoadedBy kind seed old.reads n x)) × (f ≡ old.sent))
 load_moments kind seed count old mid new good same sent opening run =
     joined old mid new (left_by kind seed count old) _ (weakened old mid _ (left_by kind seed count old) opening (λ x f left. (inl left.0, left.1))) run
-      (λ x f left. (
-        inr (left.0.0, left.0.1, record { good = good; stands = subst (λ (w : World). Stands x (loaded kind seed w left.0.0).world) same left.0.2 }),
-        left.1 ∙ sent,
-      ))
+    (λ x f left. (
+      inr (left.0.0, left.0.1, record { good = good; stands = subst (λ (w : World). Stands x (loaded kind seed w left.0.0).world) same left.0.2 }),
+      left.1 ∙ sent,
+    ))
 
 -- where no request was carried out
 still_alike : (kind : PlaceKind) (seed : List ℕ) (old mid new : View) → IsGood old.reads → world_of mid.reads ≡ world_of old.reads → mid.sent ≡ old.sent
     → LeavesOnly old mid (λ x f. StandAlike old.reads x × (f ≡ old.sent)) → LeavesRun kind seed 0 mid new → LeavesOnly old new (λ x f. StandAlike old.reads x × (f ≡ old.sent))
 still_alike kind seed old mid new good same sent opening run =
     joined old mid new (λ x f. StandAlike old.reads x × (f ≡ old.sent)) _ opening run
-      (λ x f left.
-        let none : left.0.0 ≡ 0 = omega (arith, left.0.1) in
-        let here : Stands x (world_of mid.reads) = subst (λ (n : ℕ). Stands x (loaded kind seed (world_of mid.reads) n).world) none left.0.2 in
-        (alike_of old.reads x good (subst (λ (w : World). Stands x w) same here), left.1 ∙ sent))
+    (λ x f left.
+    let none : left.0.0 ≡ 0 = omega (arith, left.0.1) in
+    let here : Stands x (world_of mid.reads) = subst (λ (n : ℕ). Stands x (loaded kind seed (world_of mid.reads) n).world) none left.0.2 in
+    (alike_of old.reads x good (subst (λ (w : World). Stands x w) same here), left.1 ∙ sent))
 
 pub starved_alike : {T : Type 0} → (kind : PlaceKind) (seed : List ℕ) (old mid new : View) (result : Result T Status) → IsGood old.reads → world_of mid.reads ≡ world_of old.reads → mid.sent ≡ old.sent
     → (IsFirm old → LeavesOnly old mid (λ x f. StandAlike old.reads x × (f ≡ old.sent))) → IfErr result (λ why. why ≡ status.NoMemory → LeavesRun kind seed 0 mid new)
@@ -153,5 +153,5 @@ pub line_moments : (kind : PlaceKind) (seed : List ℕ) (count : ℕ) (old mid n
     → LeavesOnly mid new (IsLeftInPut (load_line kind seed old.reads count) mid) → LeavesOnly old new (IsLeftOfLoad kind seed count old)
 line_moments kind seed count old mid new is sent before putting =
     put_over old mid new (load_line kind seed old.reads count) (left_by kind seed count old) (IsLeftOfLoad kind seed count old) is.firm before putting
-      (λ x f left. inl left)
-      (λ f part. inr (is.load, subst (λ (b : List ℕ). IsPart b (load_line kind seed old.reads count) f) sent part))
+    (λ x f left. inl left)
+    (λ f part. inr (is.load, subst (λ (b : List ℕ). IsPart b (load_line kind seed old.reads count) f) sent part))

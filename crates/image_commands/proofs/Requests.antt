@@ -171,5 +171,6 @@ applied_more kind seed w n s t q granted refused all_granted all_refused had ask
     turned : (t : Bool) → cond {A = ℕ} t 0 1 ≡ cond {A = ℕ} (not t) 1 0
     turned true = refl
     turned false = refl
+
     granted_of : (r : Reply) → more_granted r ≡ cond {A = ℕ} (not (is_refused r)) 1 0
     granted_of r = turned (is_refused r)

@@ -44,14 +44,14 @@ loop-number-preserved g c =
       applied = λ told.
           let size = (like_at c.args.core.now.volume start (at_volume c.args.core.now start (c.requires.at told))).geometry in
           applied_more kind seed w n (state_on c.loop-number.core mid.reads) (state_on c.apply_next.new.core new.reads) c.next_request.result c.loop-number.tally.granted c.loop-number.tally.refused
-            c.apply_next.new.tally.granted c.apply_next.new.tally.refused (l.applied told) (drawn ∙ ap (λ (s : Geometry). seed_request seed s n) size) (c.in_ok-apply_next.ensures.next told);
+          c.apply_next.new.tally.granted c.apply_next.new.tally.refused (l.applied told) (drawn ∙ ap (λ (s : Geometry). seed_request seed s n) size) (c.in_ok-apply_next.ensures.next told);
       one = c.in_ok-apply_next.ensures.one ∙ ap (λ (k : ℕ). k + 1) l.one;
       draws = c.next_request.ensures.drawn ∙ ap (λ (d : Load). record d { drawn = d.drawn + 1 }) l.draws;
       sent = λ told. c.apply_next.ensures.sent told ∙ l.sent told;
       moments = λ told.
           let size = (like_at c.args.core.now.volume start (at_volume c.args.core.now start (c.requires.at told))).geometry in
           run_more kind seed n start mid new (state_on c.loop-number.core mid.reads) c.next_request.result refl (l.applied told).state (drawn ∙ ap (λ (s : Geometry). seed_request seed s n) size)
-            (l.sent told) (l.moments told) (c.apply_next.ensures.any_moment told);
+          (l.sent told) (l.moments told) (c.apply_next.ensures.any_moment told);
       works = record {
         clock = omega (arith, l.works.clock, c.apply_next.ensures.works.clock);
         faults = omega (arith, l.works.faults, c.apply_next.ensures.works.faults);
@@ -73,8 +73,8 @@ returns-in_err-apply_next-clause-any_moment g c told =
     let drawn : c.next_request.result ≡ seed_request seed (told_world c.args.core.now).geometry n = c.next_request.ensures.request ∙ ap (λ (d : Load). next_of d) l.draws in
     let size = (like_at c.args.core.now.volume start (at_volume c.args.core.now start (c.requires.at told))).geometry in
     run_within kind seed (n + 1) c.args.load.now.count start new (omega (arith, c.loop-number-test.true))
-      (run_more kind seed n start mid new (state_on c.loop-number.core mid.reads) c.next_request.result refl (l.applied told).state (drawn ∙ ap (λ (s : Geometry). seed_request seed s n) size)
-        (l.sent told) (l.moments told) (c.apply_next.ensures.any_moment told))
+    (run_more kind seed n start mid new (state_on c.loop-number.core mid.reads) c.next_request.result refl (l.applied told).state (drawn ∙ ap (λ (s : Geometry). seed_request seed s n) size)
+    (l.sent told) (l.moments told) (c.apply_next.ensures.any_moment told))
 
 pub returns-in_err-apply_next-clause-no_memory : goal.returns-in_err-apply_next-clause-no_memory
 returns-in_err-apply_next-clause-no_memory g c told =
@@ -89,4 +89,4 @@ returns-in_err-apply_next-clause-no_memory g c told =
     let size = (like_at c.args.core.now.volume start (at_volume c.args.core.now start (c.requires.at told))).geometry in
     let is = err_from_is_err_and c.from_residual.result c.from_residual.ensures.1 in
     rw (is.1, is.2) (λ e. run_starved kind seed n start mid new (state_on c.loop-number.core mid.reads) (state_on c.apply_next.new.core new.reads) c.next_request.result refl (l.applied told).state
-      (drawn ∙ ap (λ (s : Geometry). seed_request seed s n) size) (l.sent told) (l.moments told) (c.apply_next.ensures.any_moment told) (c.in_err-apply_next.ensures.starved told e))
+    (drawn ∙ ap (λ (s : Geometry). seed_request seed s n) size) (l.sent told) (l.moments told) (c.apply_next.ensures.any_moment told) (c.in_err-apply_next.ensures.starved told e))
