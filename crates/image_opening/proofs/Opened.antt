@@ -10,7 +10,6 @@ use Rattle.image_world.specs.Stands.{world_of}
 use Rattle.recovery.specs.Opening.{IsOpening}
 use Rattle.recovery.specs.declared.fault.OpenFault.{OpenFault}
 use Rattle.recovery.specs.declared.fault.OpenFault.TheVariants as opening
-use Rattle.tsd_words.specs.declared.status.Status.{Status}
 use Rattle.tsd_words.specs.declared.status.Status.TheVariants as status
 use Rattle.tsd_core.specs.Core.{Core, state_on, told_world}
 use Rattle.image_opening.specs.Opened.{IsJudged, IsUnopened, status_of}

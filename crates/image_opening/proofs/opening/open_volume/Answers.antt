@@ -1,4 +1,4 @@
-use Rattle.std.proofs.Common.{◌≡◌, sym, ◌∙◌, ap, subst}
+use Rattle.std.proofs.Common.{sym, ◌∙◌, ap, subst}
 use Rattle.std.specs.Prelude.{Err}
 use Rattle.recovery.specs.declared.fault.OpenFault.{OpenFault}
 use Rattle.tsd_words.specs.declared.status.Status.{Status}
