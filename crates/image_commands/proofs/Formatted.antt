@@ -1,7 +1,5 @@
 -- A disk that was formatted, and its lines put.
-use Rattle.std.proofs.Common.{◌≡◌, ◌⊎◌, inl, inr, ℕ, List, ◌++◌, refl, sym, ◌∙◌, ap, subst}
-use Rattle.tsd_model.specs.Run.{fresh_world}
-use Rattle.tsd_model.specs.declared.caps.CapPair.{CapPair}
+use Rattle.std.proofs.Common.{◌≡◌, inl, inr, ℕ, List, sym, subst}
 use Rattle.image_device.specs.View.{View, IsPart, IsLeftInPut}
 use Rattle.image_device.specs.Runs.{IsFirm, LeavesOnly}
 use Rattle.image_layout.specs.Image.{Image}

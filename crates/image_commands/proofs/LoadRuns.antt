@@ -1,16 +1,14 @@
 -- What a crash leaves of a load, request by request.
-use Rattle.std.proofs.Common.{◌≡◌, ◌⊎◌, inl, inr, ℕ, ◌+◌, ◌≤◌, ◌<◌, ◌==◌, Bool, true, false, List, ◌++◌, refl, sym, ◌∙◌, ap, subst, arith}
+use Rattle.std.proofs.Common.{◌≡◌, inl, inr, ℕ, ◌+◌, ◌≤◌, true, List, refl, sym, ◌∙◌, ap, subst, arith}
 use Rattle.std.proofs.lemmas.Bool.{eqb-true}
 use Rattle.tsd_model.specs.World.{World}
-use Rattle.tsd_model.specs.Step.{State, step}
+use Rattle.tsd_model.specs.Step.{State}
 use Rattle.tsd_model.specs.Verdict.{is_begin}
-use Rattle.tsd_model.specs.Run.{at_rest}
 use Rattle.tsd_model.specs.declared.requests.PlaceKind.{PlaceKind}
 use Rattle.tsd_model.specs.declared.requests.Request.{Request}
-use Rattle.tsd_model.specs.declared.replies.Reply.{Reply}
 use Rattle.tsd_model.specs.declared.replies.Reply.TheVariants as replied
-use Rattle.image_device.specs.View.{View, IsLeftNow, IsSound}
-use Rattle.image_device.specs.Runs.{IsFirm, LeavesOnly}
+use Rattle.image_device.specs.View.{View, IsSound}
+use Rattle.image_device.specs.Runs.{IsFirm}
 use Rattle.image_device.proofs.Moments.{started, joined, weakened, firm_image}
 use Rattle.image_layout.specs.Image.{Image}
 use Rattle.image_world.specs.Faults.{IsGood}

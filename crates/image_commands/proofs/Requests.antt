@@ -1,5 +1,5 @@
 -- One request more of a load.
-use Rattle.std.proofs.Common.{◌≡◌, ◌≢◌, ◌⊎◌, inl, inr, ℕ, suc, ◌+◌, ◌/◌, ◌%◌, ◌==◌, ◌≤◌, Bool, true, false, not, List, [], ◌∷◌, ◌++◌, map, length, refl, sym, ◌∙◌, ap, subst, arith}
+use Rattle.std.proofs.Common.{◌≡◌, ◌≢◌, ℕ, ◌+◌, ◌/◌, ◌%◌, ◌==◌, Bool, true, false, not, List, [], ◌∷◌, ◌++◌, refl, sym, ◌∙◌, ap, arith}
 use Rattle.std.specs.Prelude.{Option, Some, None, count_by, cond, if◌then◌else◌}
 use Rattle.std.proofs.lemmas.List.Sums.{sum_by_push}
 use Rattle.std.proofs.lemmas.List.FromFn.{map-range_with_len_more}
@@ -19,7 +19,6 @@ use Rattle.tsd_model.specs.declared.replies.Rule.{Rule}
 use Rattle.rand_chacha.specs.ChaCha.{key_of}
 use Rattle.cap_store.specs.Seeds.{seed_pairs}
 use Rattle.load_gen.specs.Requests.{seed_request, request_of_words, request_of_kind, shown_at, stream_word, window, words_place}
-use Rattle.core_laws.specs.Seen.{IsAnswer}
 use Rattle.image_commands.specs.Load.{requests_of, loaded, loaded_replies, is_refused, grants, refusals}
 use Rattle.image_commands.specs.Applying.{HasApplied, IsNext, more_granted, more_refused}
 

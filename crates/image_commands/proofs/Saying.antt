@@ -1,5 +1,5 @@
 -- A line that is put once all work is done.
-use Rattle.std.proofs.Common.{◌≡◌, ◌⊎◌, inl, inr, ℕ, Bool, ◌-◌, List, ◌++◌, length, refl, sym, ◌∙◌, ap, subst}
+use Rattle.std.proofs.Common.{◌≡◌, inl, inr, ℕ, Bool, ◌-◌, List, ◌++◌, length, refl, sym, ◌∙◌, ap, subst}
 use Rattle.tsd_model.specs.World.{World, free_count}
 use Rattle.tsd_model.specs.declared.geometry.Geometry.{Geometry}
 use Rattle.disk_laws.specs.Bytes.{AreLike}

@@ -1,11 +1,11 @@
 -- A disk that was opened and upgraded, and its line put.
-use Rattle.std.proofs.Common.{◌≡◌, ◌⊎◌, inl, inr, ℕ, List, ◌++◌, refl, sym, ◌∙◌, ap, subst, ◌≤◌}
+use Rattle.std.proofs.Common.{◌≡◌, ◌⊎◌, inl, inr, ℕ, List, sym, ◌∙◌, ap, subst, ◌≤◌}
 use Rattle.std.specs.Prelude.{Result, Ok, Err, OnOk}
 use Rattle.tsd_model.specs.World.{World}
 use Rattle.tsd_model.specs.Records.{upgraded}
 use Rattle.image_device.specs.Image.{zeros}
 use Rattle.image_device.specs.View.{View, IsPart, IsLeftInPut}
-use Rattle.image_device.specs.Runs.{IsFirm, LeavesOnly}
+use Rattle.image_device.specs.Runs.{LeavesOnly}
 use Rattle.image_device.proofs.Moments.{joined, weakened}
 use Rattle.image_layout.specs.Image.{Image}
 use Rattle.image_world.specs.Faults.{IsGood}
@@ -13,7 +13,7 @@ use Rattle.image_world.specs.Stands.{Stands, world_of}
 use Rattle.recovery.specs.Opening.{StandAlike}
 use Rattle.tsd_words.specs.declared.status.Status.{Status}
 use Rattle.tsd_words.specs.declared.status.Status.TheVariants as status
-use Rattle.volume_laws.specs.Moments.{LeavesEither, StandsForEither}
+use Rattle.volume_laws.specs.Moments.{LeavesEither}
 use Rattle.volume_laws.specs.Volume.{Volume, IsAt, world_on}
 use Rattle.command_text.specs.Lines.{upgrade_line}
 use Rattle.image_opening.specs.Opened.{IsJudged, IsUnopened}

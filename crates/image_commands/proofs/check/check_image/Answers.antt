@@ -1,12 +1,8 @@
-use Rattle.std.proofs.Common.{◌≡◌, ℕ, List, ◌++◌, sym, ◌∙◌, ap, subst, inl, inr}
-use Rattle.image_device.specs.Counts.{Rose}
+use Rattle.std.proofs.Common.{ℕ, List, ◌++◌, ◌∙◌, ap, subst, inl}
 use Rattle.image_device.specs.View.{IsLeftInPut}
 use Rattle.image_device.specs.Runs.{LeavesOnly}
 use Rattle.image_device.proofs.Moments.{weakened}
-use Rattle.tsd_words.specs.declared.status.Status.{Status}
-use Rattle.tsd_words.specs.declared.status.Status.TheVariants as status
 use Rattle.image_commands.specs.Sending.{IsCut}
-use Rattle.image_commands.specs.Check.{IsFinding}
 use Rattle.image_commands.proofs.Saying.{saying_moments, checked_whole, unchecked, cut_from}
 use Rattle.image_commands.proofs.check.check_image.Goals as goal
 

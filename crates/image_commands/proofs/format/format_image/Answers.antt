@@ -1,4 +1,4 @@
-use Rattle.std.proofs.Common.{◌≡◌, inl, ℕ, List, ◌++◌, sym, ◌∙◌, ap, subst}
+use Rattle.std.proofs.Common.{◌≡◌, inl, ℕ, List, ◌++◌, ◌∙◌, ap, subst}
 use Rattle.tsd_model.specs.Run.{fresh_world}
 use Rattle.tsd_model.specs.declared.caps.CapPair.{CapPair}
 use Rattle.image_device.specs.View.{IsLeftInPut}

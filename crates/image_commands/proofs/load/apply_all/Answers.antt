@@ -1,13 +1,11 @@
-use Rattle.std.proofs.Common.{◌≡◌, ℕ, ◌+◌, refl, sym, ◌∙◌, ap, subst, arith}
+use Rattle.std.proofs.Common.{◌≡◌, ℕ, ◌+◌, refl, ◌∙◌, ap, arith}
 use Rattle.std.proofs.lemmas.Result.{err_from_is_err_and}
 use Rattle.tsd_model.specs.declared.geometry.Geometry.{Geometry}
-use Rattle.tsd_model.specs.declared.requests.Request.{Request}
 use Rattle.image_world.specs.Stands.{world_of}
-use Rattle.load_gen.specs.Load.{Load, load_of, next_of}
+use Rattle.load_gen.specs.Load.{Load, next_of}
 use Rattle.load_gen.specs.Requests.{seed_request}
 use Rattle.tsd_core.proofs.AtLaws.{at_volume, like_at}
 use Rattle.tsd_core.specs.Core.{state_on, told_world}
-use Rattle.image_commands.specs.Applying.{LeavesRun}
 use Rattle.image_commands.proofs.Requests.{applied_more}
 use Rattle.image_commands.proofs.LoadRuns.{run_started, run_more, run_within, run_starved}
 use Rattle.image_commands.proofs.load.apply_all.Goals as goal

@@ -1,4 +1,4 @@
-use Rattle.std.proofs.Common.{◌≡◌, inl, sym, ◌∙◌, ap, subst}
+use Rattle.std.proofs.Common.{◌≡◌, inl, sym, subst}
 use Rattle.std.specs.Prelude.{ℕ, ◌≢◌, IfOk, IfErr}
 use Rattle.tsd_model.specs.World.{World}
 use Rattle.image_device.specs.Counts.{Rose}

@@ -1,4 +1,4 @@
-use Rattle.std.proofs.Common.{◌≡◌, inl, sym, ◌∙◌, ap, subst}
+use Rattle.std.proofs.Common.{inl}
 use Rattle.image_device.proofs.Moments.{weakened}
 use Rattle.image_commands.proofs.Upgraded.{upgrade_moments, upgraded_there}
 use Rattle.image_commands.proofs.upgrade.upgrade.Goals as goal
