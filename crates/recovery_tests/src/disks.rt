@@ -1,7 +1,7 @@
 //! Two disks, and stations whose sectors hold anything.
 
 use image_device::{Device, Failed, MemStation};
-use recovery::format;
+use recovery::{OpenFault, format, open_image};
 use std::alloc::Global;
 use std::test::Fail;
 use tsd_model::{Cap, CapList, CapPair, Geometry};
@@ -72,4 +72,45 @@ pub fn filled<D: Device>(dev: &mut D, number: u32) -> Result<Option<u8>, Failed>
             .all(|byte| *byte == bytes[0])
             .then_some(bytes[0]),
     )
+}
+
+/// A small disk after three blocks were allocated at its primary block, with bytes 0xc1 to 0xc3 in them.
+pub fn allocated(alloc: Global) -> Result<MemStation, Fail> {
+    let mut station = MemStation::new(alloc, Vec::new(alloc));
+    format_small(&mut station)?;
+    station.poke(
+        134,
+        &begins(&[0, 0, 0, 0, 1, 0, 0, 0, 1, 0, 0, 0, 1, 0, 0, 0]),
+    )?;
+    station.poke(135, &begins(&[15]))?;
+    station.poke(136, &slots(&[(1, 1), (1, 2), (1, 3)]))?;
+    station.poke(138, &[0xc1; 512])?;
+    station.poke(139, &[0xc2; 512])?;
+    station.poke(140, &[0xc3; 512])?;
+    Ok(station)
+}
+
+/// A sector of slots that begins with these, each by its two numbers.
+pub fn slots(pairs: &[(u8, u8)]) -> [u8; 512] {
+    let mut sector = [0; 512];
+    for (slot, (source, target)) in pairs.iter().enumerate().take(64) {
+        sector[8 * slot] = *source;
+        sector[8 * slot + 4] = *target;
+    }
+    sector
+}
+
+/// A sector that begins with these bytes, with zeros behind them.
+pub fn begins(bytes: &[u8]) -> [u8; 512] {
+    let mut sector = [0; 512];
+    for (place, byte) in bytes.iter().enumerate().take(512) {
+        sector[place] = *byte;
+    }
+    sector
+}
+
+/// What a volume tells: how many blocks are free, and how many pointers there are.
+pub fn open<D: Device>(alloc: Global, dev: &mut D) -> Result<(u32, u32), OpenFault> {
+    let volume = open_image(alloc, dev)?;
+    Ok((volume.free_count(), volume.pointers()))
 }

@@ -13,4 +13,6 @@ mod disk;
 #[cfg(test)]
 mod reclaim_tests;
 #[cfg(test)]
+mod sweeps;
+#[cfg(test)]
 mod told;

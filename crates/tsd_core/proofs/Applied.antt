@@ -31,9 +31,9 @@ use Rattle.volume_laws.specs.Volume.{IsAt as IsVolumeAt}
 use Rattle.volume_laws.specs.Moments.{LeavesEither, LeavesOwed, owed, made}
 use Rattle.volume_laws.specs.Writes.{due}
 use Rattle.tsd_core.specs.Core.{Core, IsReady, IsAt, told_world, sessions_of, state_on}
-use Rattle.tsd_core.specs.Work.{made_by, made_in, cost_of}
+use Rattle.tsd_core.specs.Work.{made_by, made_in, cost_of, LeavesDebt}
 use Rattle.tsd_core.specs.Carrying.{IsKnown, IsChanged, IsCarriedOut}
-use Rattle.tsd_core.specs.Applying.{IsToldAnswer, refuses, is_refusal, asks_nothing, next_world, LeavesDebt, IsApplied}
+use Rattle.tsd_core.specs.Applying.{IsToldAnswer, told_verdict, is_refusal, asks_nothing, next_world, IsApplied}
 use Rattle.tsd_core.proofs.AtLaws.{at_volume, at_core, like_at}
 use Rattle.tsd_core.proofs.Likes.{like_itself}
 use Rattle.tsd_core.proofs.Operations.{then_ok, if_map, if_kept, and_ok, and_ok3}
@@ -76,8 +76,8 @@ made_like t w (ask.Sweep s shown) like = refl
 made_like t w (ask.List s a shown start) like = refl
 
 -- the verdict by what is seen of the table is that by all of it
-told_verdict : (c : Core) (q : Request) → IsReady c → IsKnown c.volume → IsTable c.grants → refuses c q ≡ verdict (told_world c) c.grants.sessions q
-told_verdict c q ready known table = verdict_over c.grants (told_world c) (told_world c) q (over c (told_world c) ready known table (like_itself (told_world c)))
+verdict_as_told : (c : Core) (q : Request) → IsReady c → IsKnown c.volume → IsTable c.grants → told_verdict c q ≡ verdict (told_world c) c.grants.sessions q
+verdict_as_told c q ready known table = verdict_over c.grants (told_world c) (told_world c) q (over c (told_world c) ready known table (like_itself (told_world c)))
 
 -- what is granted makes what it makes in its world
 made_granted : (c : Core) (q : Request) (w : World) → IsOver c.grants (told_world c) w → ◌≡◌ {A = Option Rule} (verdict (told_world c) c.grants.sessions q) None
@@ -105,7 +105,7 @@ refused_applied told kind q c v r ready known table sound at refusal = record {
   told_given = let here = refused_over kind c.grants (told_world c) (told_world c) q r (over c (told_world c) ready known table (like_itself (told_world c))) refusal in
       record { want = here.want; reply = inl here.reply; world = subst (λ (s : State). AreLike (told_world c) s.world) here.state (like_itself (told_world c)); sessions = ap (λ s. s.sessions) here.state };
   refused = λ e. refl;
-  refusal = subst (λ (x : Option Rule). IfSome x (λ rule. ◌≡◌ {A = Result Reply Failed} (Ok (reply.Refused r)) (Ok (reply.Refused rule)))) (sym (told_verdict c q ready known table ∙ refusal)) refl;
+  refusal = subst (λ (x : Option Rule). IfSome x (λ rule. ◌≡◌ {A = Result Reply Failed} (Ok (reply.Refused r)) (Ok (reply.Refused rule)))) (sym (verdict_as_told c q ready known table ∙ refusal)) refl;
   answered = λ e. refl;
   size = record { geometry = refl; version = refl };
   spent = tt;
@@ -271,7 +271,7 @@ granted_risen told kind q old new v w result ready known table at granted carrie
       given = λ h. and_ok result (λ r kept bytes a done. given_over kind q old new.grants (world_on v) (told_world new) (world_on w) r (here h) granted (like_at new.volume w a) done (kept_in kind old q r new.grants kept) bytes) carried.kept (carried.bytes h) (op.at h) (op.done h);
       told_given = if_kept result (λ r kept like_new. told_answer kind q old new r ready known table granted like_new kept) carried.kept op.like;
       refused = if_map result (λ r kept e. refused_keeps kind q old new r kept stays e) carried.kept;
-      refusal = subst (λ (x : Option Rule). IfSome x (λ rule. result ≡ Ok (reply.Refused rule))) (sym (told_verdict old q ready known table ∙ granted)) tt;
+      refusal = subst (λ (x : Option Rule). IfSome x (λ rule. result ≡ Ok (reply.Refused rule))) (sym (verdict_as_told old q ready known table ∙ granted)) tt;
       answered = answered;
       size = record { geometry = op.size.0; version = op.size.1 };
       spent = op.spent;

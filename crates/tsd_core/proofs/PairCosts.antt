@@ -7,7 +7,7 @@ use Rattle.tsd_model.specs.Pairs.{is_pair, holds}
 use Rattle.tsd_model.specs.World.{World, has_number, free_count}
 use Rattle.tsd_model.specs.Doomed.{doomed, settle}
 use Rattle.tsd_model.specs.Valid.{IsValid}
-use Rattle.tsd_model.specs.Verdict.{verdict}
+use Rattle.tsd_model.specs.Verdict.{is_granted, verdict}
 use Rattle.tsd_model.specs.Step.{State, judged, without_pointer}
 use Rattle.tsd_model.specs.declared.caps.Shown.{Shown}
 use Rattle.tsd_model.specs.declared.replies.Rule.{Rule}
@@ -148,3 +148,7 @@ made_goes kind s n a shown b valid = let q = ask.Delete n a shown b in
       | Some r ↦ λ e. omega (arith, none_gone s.world.pairs)
       | None ↦ λ e. made_is s.world a b valid (held_pair s n a shown b e)
     ] refl
+
+pub made_most : (kind : PlaceKind) (s : State) (q : Request) → IsValid s.world → made_in s q ≤ reclaimed_by kind s q + removed_by kind s q
+made_most kind s (ask.Delete n a shown b) valid = omega (arith, made_goes kind s n a shown b valid)
+made_most kind s q valid = elim (is_granted s.world s.sessions q) as (λ t. cond t (made_by s.world q) 0 ≤ reclaimed_by kind s q + removed_by kind s q) [ true ↦ omega arith | false ↦ omega arith ]

@@ -13,7 +13,6 @@ use Rattle.tsd_model.specs.declared.requests.Request.{Request}
 use Rattle.tsd_model.specs.declared.requests.Request.TheVariants as ask
 use Rattle.image_device.specs.View.{View}
 use Rattle.image_device.specs.Counts.{Rose}
-use Rattle.image_device.specs.Runs.{LeavesOnly}
 use Rattle.image_device.specs.declared.device.Failed.{Failed}
 use Rattle.disk_laws.specs.Bytes.{AreLike}
 use Rattle.disk_laws.specs.Reclaiming.{is_sweep}
@@ -21,7 +20,7 @@ use Rattle.core_laws.specs.Seen.{IsAnswer}
 use Rattle.volume_laws.specs.Moments.{LeavesEither}
 use Rattle.volume_laws.specs.Writes.{due, Works}
 use Rattle.tsd_core.specs.Core.{Core, IsReady, IsAt, told_world, told_state, sessions_of, state_on}
-use Rattle.tsd_core.specs.Work.{debt, made_in, cost_in, write_limit, SameSize}
+use Rattle.tsd_core.specs.Work.{made_in, cost_in, write_limit, LeavesDebt, SameSize}
 
 -- the same reply, or both are the bytes of a block
 abbrev pub IsReplyLike : Reply → Reply → Type 0
@@ -40,9 +39,9 @@ is_refusal (reply.Refused r) = true
 is_refusal reply.NoMemory = true
 is_refusal r = false
 
--- the rule that refuses the request, if one does, as far as memory tells it: that is all of it
-abbrev pub refuses : Core → Request → Option Rule
-refuses c q = verdict (told_world c) (sessions_of c) q
+-- the rule that refuses a request, if one does: memory tells it
+abbrev pub told_verdict : Core → Request → Option Rule
+told_verdict c q = verdict (told_world c) (sessions_of c) q
 
 -- it opens or closes a session, or is answered from memory
 abbrev pub asks_nothing : Request → Bool
@@ -57,10 +56,6 @@ asks_nothing q = false
 abbrev pub next_world : PlaceKind → State → Request → World
 next_world kind s q = (step kind s q).state.world
 
--- a crash at any moment leaves at most what was to be reclaimed before and so much more, and nothing more is sent
-abbrev pub LeavesDebt : View → View → ℕ → Type 0
-LeavesDebt old new more = LeavesOnly old new (λ x f. (debt x ≤ debt old.reads + more) × (f ≡ old.sent))
-
 -- What a request does, between these devices.
 pub record IsApplied (told : Type 0) (kind : PlaceKind) (q : Request) (old new : Core) (v w : View) (result : Result Reply Failed) : Type 0 where
   pub ready : OnOk result (IsReady new)
@@ -69,7 +64,7 @@ pub record IsApplied (told : Type 0) (kind : PlaceKind) (q : Request) (old new :
   pub given : told → IfOk result (λ r. IsAnswer kind (state_on old v.reads) q r (state_on new w.reads))
   pub told_given : IfOk result (λ r. IsToldAnswer kind old q r new)
   pub refused : IfOk result (λ r. is_refusal r ≡ true → new ≡ old)
-  pub refusal : IfSome (refuses old q) (λ rule. result ≡ Ok (reply.Refused rule))
+  pub refusal : IfSome (told_verdict old q) (λ rule. result ≡ Ok (reply.Refused rule))
   pub answered : asks_nothing q ≡ true → IsOk result
   pub size : SameSize old new
   pub spent : OnErr result (new.volume.is_spent ≡ true)

@@ -9,8 +9,8 @@ ghost use Rattle.core_laws.specs.Seen.{IsAnswer};
 ghost use Rattle.volume_laws.specs.Moments.{LeavesEither};
 ghost use Rattle.volume_laws.specs.Writes.{due, Works};
 ghost use Rattle.tsd_core.specs.Core.{IsReady, IsAt, state_on};
-ghost use Rattle.tsd_core.specs.Work.{made_in, cost_in, write_limit, SameSize};
-ghost use Rattle.tsd_core.specs.Applying.{IsToldAnswer, refuses, is_refusal, asks_nothing, next_world, LeavesDebt, IsApplied};
+ghost use Rattle.tsd_core.specs.Work.{made_in, cost_in, write_limit, LeavesDebt, SameSize};
+ghost use Rattle.tsd_core.specs.Applying.{IsToldAnswer, told_verdict, is_refusal, asks_nothing, next_world, IsApplied};
 
 use crate::disk::Core;
 use crate::told::Told;
@@ -39,7 +39,7 @@ impl Core {
         ensures told { IfOk result (λ r. IsToldAnswer place.now.kind self.old request.now r self.new) }
 
         // What a rule refuses is answered so, and what asks nothing of the device is answered, by every device.
-        ensures refusal { IfSome (refuses self.old request.now) (λ rule. result ≡ Ok (reply.Refused rule)) }
+        ensures refusal { IfSome (told_verdict self.old request.now) (λ rule. result ≡ Ok (reply.Refused rule)) }
         ensures answered { asks_nothing request.now ≡ true → IsOk result }
 
         // A refusal changes nothing, and asks nothing of the device.

@@ -49,7 +49,7 @@ fewer f g more (x ∷ xs) =
     at false true h = omega arith
     at false false h = omega arith
 
--- no free block gets lost where some blocks go
+-- a free block stays free where some blocks go
 pub free_restricted : (w : World) (keep : ℕ → Bool) → free_count w ≤ free_count (restricted w keep)
 free_restricted w keep =
     let all : w.blocks ≡ map (contents w) (all_blocks w) = ext_get_or None w.blocks (map (contents w) (all_blocks w)) (sym (length-map-range_with_len (contents w) 0 (length w.blocks)))
@@ -69,12 +69,12 @@ free_left t = let w = world_with t (zeros_of t) in
       | false ↦ free_restricted w (λ b. not (has_number (doomed w) b))
     ]
 
--- ---- nothing is lost
+-- ---- nothing is doomed
 
 pub raw_is_left : (t : Tables) → t.is_sweeping ≡ false → owed t ≡ 0 → blank_of t ≡ world_with t (zeros_of t)
 raw_is_left t still none = blank t still ∙ settle_none (world_with t (zeros_of t)) (laid_out t (zeros_of t)) (same_doomed t (zeros_of t) ∙ (none_owed t).0 none)
 
--- how many blocks became free until nothing was lost
+-- how many blocks became free until nothing was doomed
 pub free_then : (old now : Tables) → now.is_sweeping ≡ false → owed now ≡ 0 → blank_of now ≡ blank_of old → free_count (world_with now (zeros_of now)) ≡ free_count (blank_of old)
 free_then old now still none told = ap (λ (w : World). free_count w) (sym (raw_is_left now still none) ∙ told)
 

@@ -67,7 +67,7 @@ loading_failed h x (table_fault.Image why) formatted closed header failed =
     damaged x why formatted (opened_none x (closed 0 (omega arith))).1 (subst HasHeader (sym (at_home x closed)) here)
     (subst (λ (y : Image). IsTableFault y (header_on y).geometry why) (sym (at_home x closed)) found)
 
--- ---- nothing is known to be lost
+-- ---- nothing is known to be doomed
 pub none_gone : (n b : ℕ) → is_gone (replicate n false) b ≡ false
 none_gone n b = elim (cases_lt b n) [
   | inl less ↦ get_or-replicate n b false false less

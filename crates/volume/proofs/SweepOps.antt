@@ -129,7 +129,7 @@ open_op vol batch sound still none one =
       owes = omega arith;
     }
 
--- nothing is lost where each live block is reached
+-- nothing is doomed where each live block is reached
 pub whole_has_none : (t : Tables) → AreSound t → ((r : World) → HasGraphOf (graph_in t) r → swept r ≡ r) → doomed (graph_in t) ≡ []
 whole_has_none t sound whole = ap (λ (w : World). doomed w) (sym (whole (graph_in t) (graph_itself (graph_in t)))) ∙ swept_has_none (graph_in t) (graph_raw t sound)
 

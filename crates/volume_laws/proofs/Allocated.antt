@@ -1,4 +1,4 @@
--- What memory tells of free blocks, where nothing is lost.
+-- What memory tells of free blocks, where nothing is doomed.
 use Rattle.std.proofs.Common.{◌≡◌, ℕ, suc, ◌+◌, ◌<◌, ◌≤◌, true, false, ◌&&◌, ◌||◌, ◌==◌, nat_lt, inl, inr, Bool, not, List, [], ◌∷◌, length, refl, sym, ◌∙◌, ap, subst, arith}
 use Rattle.std.proofs.Common.{Option, Some, None}
 use Rattle.std.specs.Prelude.{slice_get, is_some, is_none}

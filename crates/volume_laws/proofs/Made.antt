@@ -1,4 +1,4 @@
--- Tables with new blocks, where nothing is lost.
+-- Tables with new blocks, where nothing is doomed.
 use Rattle.std.proofs.Common.{◌≡◌, ℕ, ◌*◌, ◌<◌, ◌≤◌, true, false, inl, inr, List, [], length, replicate, refl, sym, ◌∙◌, ap, subst, arith, Ok}
 use Rattle.tsd_model.specs.declared.geometry.Geometry.{Geometry}
 use Rattle.tsd_model.specs.Geometry.{block_len}
@@ -32,7 +32,7 @@ use Rattle.volume_laws.specs.Growing.{Parts, with_parts, DoFit, HasNoLost, IsGro
 use Rattle.volume_laws.specs.Moments.{owed}
 use Rattle.image_world.specs.Turns.{Turns}
 
--- ---- nothing is lost
+-- ---- nothing is doomed
 pub full_of_settled : (t : Tables) (p : Parts) → with_parts t p ≡ t → DoFit t.geometry p → owed t ≡ 0 → HasNoLost t.geometry p
 full_of_settled t p same fit none = λ b inside live apart.
     let led = none_is_led (graph_in t) (graph_laid_out t).each_block ((none_owed t).0 none) b apart

@@ -244,7 +244,7 @@ added t h old new oc nc l s k a b p q batch sound o is og cg pairs table ng sect
         (subst (λ k. (slots_start k ≤ p.sector) × (p.sector < data_start k)) old_size sector.area)
         (subst (λ k. (counts_start ≤ q.sector) × (q.sector < bitmap_start k)) now_size inside) slot_put count_put
 
--- ---- where nothing is lost
+-- ---- where nothing is doomed
 pub settled_pairs : (t : Tables) → t.is_sweeping ≡ false → owed t ≡ 0 → (blank_of t).pairs ≡ pairs_of t
 unfolding world_with
 settled_pairs t still none =

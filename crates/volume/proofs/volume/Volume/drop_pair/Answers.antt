@@ -73,7 +73,7 @@ patch-count-requires g c =
     let size = ap (λ (k : Counts). k.geometry) c.lower.ensures.lowered ∙ (c.self.invariant.counts ∙ ap (λ (w : Volume). w.tables.geometry) c.self.view_is) in
     subst (λ (k : Geometry). c.args.target < k.blocks) (sym size) (held_within c.args.self.now.tables c.args.source c.args.target (subst (λ (t : Tables). AreSound t) is c.self.invariant.sound) o).2
 
--- what the tables are before what is lost is hidden
+-- what the tables are before what is doomed is hidden
 these_raw : (g : Given.Over) (c : goal.After-self-1 g) → IsDropped c.args.self.now.tables c.args.source c.args.target (tables_in c.self.inside.header c.remove.new.self c.lower.new.self c.self.inside.live c.self.inside.caps c.self.inside.is_sweeping) c.put-2.new.self
 these_raw g c =
     let i = c.self.inside in
