@@ -1,9 +1,10 @@
 -- What a command did, from its start to its end.
-use Rattle.std.specs.Prelude.{◌≡◌, ◌⊎◌, ℕ, ◌^◌, List, Option, Some}
+use Rattle.std.specs.Prelude.{◌≡◌, ◌≢◌, ◌⊎◌, ℕ, ◌^◌, List, Option, Some, None}
 use Rattle.tsd_model.specs.declared.requests.PlaceKind.{PlaceKind}
 use Rattle.tsd_model.specs.declared.requests.Request.{Request}
 use Rattle.image_device.specs.View.{View}
 use Rattle.image_device.specs.Runs.{IsFirm, LeavesOnly}
+use Rattle.image_layout.specs.declared.fault.ImageFault.{ImageFault}
 use Rattle.recovery.specs.Opening.{StandAlike}
 use Rattle.tsd_words.specs.declared.commands.Format.{Format}
 use Rattle.tsd_words.specs.declared.commands.Load.{Load}
@@ -30,31 +31,34 @@ pub record Opened (r : Status) (v : Voice) (p : Spelling Request) (kind : PlaceK
   pub ran : Ran r v p kind (2 ^ 40) came ended untouched tells old new
 
 -- There was no memory for a cutter of frames, and nothing was called.
-pub record IsUncut (r : Status) (untouched same : Type 0) : Type 0 where
+pub record HasNoCutter (r : Status) (untouched same : Type 0) : Type 0 where
   pub memory : r ≡ status.NoMemory
   pub source : untouched
   pub port : same
 
 -- ---- commands that take no input
 
--- An image was judged: what the status says of it, and its line or a front of that was sent. Nothing else is changed by it.
+-- An image was judged: what the status says of it, and its line or a front of that was sent. It stands for the same world, or for
+-- none as before.
 pub record Checked (r : Status) (tells : Type 0) (old new : View) : Type 0 where
   pub ending : IsEnding r
   pub said : tells → HasChecked r old.reads old.sent new.sent
   pub any_moment : tells → IsFirm old → LeavesOnly old new (λ x f. StandAlike old.reads x × IsSaying old.reads old.sent f)
 
--- a disk was made, which takes no memory
+-- a disk was made, which opens no image and takes no memory
 pub record Formatted (words : Format) (r : Status) (tells : Type 0) (old new : View) : Type 0 where
   pub ending : IsEnding r
+  pub image : (why : ImageFault) → r ≢ status.NotImage why
   pub memory : r ≢ status.NoMemory
   pub made : tells → HasFormatted r words old new
   pub any_moment : tells → LeavesOnly old new (IsLeftOfFormat words old)
 
--- an image keeps digests in place of capabilities
+-- An image keeps digests in place of capabilities. Without memory it wasn't upgraded.
 pub record Upgraded (r : Status) (tells : Type 0) (old new : View) : Type 0 where
   pub ending : IsEnding r
   pub upgraded : tells → HasUpgraded r old new
   pub any_moment : tells → IsFirm old → LeavesOnly old new (IsLeftOfUpgrade old)
+  pub no_memory : tells → r ≡ status.NoMemory → IsFirm old → LeavesOnly old new (λ x f. StandAlike old.reads x × (f ≡ old.sent))
 
 -- The requests of a seed were carried out. Without memory none was.
 pub record Loaded (load : Load) (r : Status) (tells : Type 0) (old new : View) : Type 0 where
@@ -69,7 +73,7 @@ abbrev pub Did : Option Command → Status → (List ℕ → Type 0) → Type 0 
 Did (Some (command.Fresh fresh)) r came ended untouched same tells old new = FreshRan r line_voice line_spelling fresh.kind (single_world fresh.geometry fresh.caps) (2 ^ 40) came ended untouched tells old new
 Did (Some (command.Format words)) r came ended untouched same tells old new = untouched × Formatted words r tells old new
 Did (Some (command.Run kind)) r came ended untouched same tells old new = Opened r line_voice line_spelling kind came ended untouched tells old new
-Did (Some (command.Serve kind)) r came ended untouched same tells old new = IsUncut r untouched same ⊎ Opened r frame_voice frame_spelling kind came ended untouched tells old new
+Did (Some (command.Serve kind)) r came ended untouched same tells old new = HasNoCutter r untouched same ⊎ Opened r frame_voice frame_spelling kind came ended untouched tells old new
 Did (Some command.Check) r came ended untouched same tells old new = untouched × Checked r tells old new
 Did (Some (command.Load load)) r came ended untouched same tells old new = untouched × Loaded load r tells old new
 Did (Some command.Upgrade) r came ended untouched same tells old new = untouched × Upgraded r tells old new
