@@ -1,6 +1,6 @@
 //! The loop over a core.
 
-ghost use Rattle.std.specs.Prelude.{◌≡◌, ◌≢◌, ◌≤◌, []};
+ghost use Rattle.std.specs.Prelude.{◌≡◌, ◌≢◌, ◌≤◌, [], true};
 ghost use Rattle.image_device.specs.Counts.{Rose};
 ghost use Rattle.serving.specs.Ran.{Came, IsAtEnd, Ran};
 ghost use Rattle.serving.specs.Voice.{spoken};
@@ -34,6 +34,7 @@ pub fn serve_core<S: Source, P: Port, R: Protocol<Request = Request> + Replies>(
     // Unless the device failed, the core may be used again.
     ensures ready { result ≢ Status.DeviceFault → IsReady core.new }
     ensures at { result ≢ Status.DeviceFault → P.told → IsAt core.new (P.view port.new) }
+    ensures spent { result ≡ Status.DeviceFault → core.new.volume.is_spent ≡ true }
     ensures closed { result ≡ Status.Done → P.told → IsQuiet (P.view port.new).reads }
     // A count of faults rose only where the status is that fault's.
     ensures source_fault { result ≡ Status.SourceFault → Rose (S.faults source.old) (S.faults source.new) }

@@ -92,20 +92,21 @@ module _ {Q : Type 0} (k : Service Q) (counted : IsCounted k) (w : Work Q k.Stat
         ]
       ]
 
-      sent_by : (why : Status) (final : k.States) → (why ≡ status.DeviceFault) ⊎ (why ≡ status.PutFault) → LeftBy why k m q v.sent new.sent → ByStatus why k s v0.sent (qs ++ q ∷ []) final new.sent
+      sent_by : (why : Status) (final : k.States) → (why ≡ status.DeviceFault) ⊎ (why ≡ status.PutFault) → LeftBy why k m q final v.sent new.sent → ByStatus why k s v0.sent (qs ++ q ∷ []) final new.sent
       sent_by why final (inr e) left =
           subst (λ r. ByStatus r k s v0.sent (qs ++ q ∷ []) final new.sent) (sym e)
-          (let l = subst (λ r. LeftBy r k m q v.sent new.sent) e left in
-          (cut_off k counted s v0.sent qs m v.sent new.sent q (served_of k w s owed v0 qs m owed1 v goes) l.0 l.1).0)
+          (let l = subst (λ r. LeftBy r k m q final v.sent new.sent) e left in
+          let c = cut_off k counted s v0.sent qs m v.sent new.sent q (served_of k w s owed v0 qs m owed1 v goes) l.0 l.1 in
+          (c.0, l.2 ∙ sym c.2))
       sent_by why final (inl e) left =
           subst (λ r. ByStatus r k s v0.sent (qs ++ q ∷ []) final new.sent) (sym e)
-          (elim (subst (λ r. LeftBy r k m q v.sent new.sent) e left) [
+          (elim (subst (λ r. LeftBy r k m q final v.sent new.sent) e left) [
             | inl nothing ↦ inl (subst (λ f. IsBroken k s v0.sent (qs ++ q ∷ []) f) (sym nothing) (broken k counted s v0.sent qs (q ∷ []) m v.sent (served_of k w s owed v0 qs m owed1 v goes)).0)
             | inr some ↦ device_stopped final some.0 some.1
           ])
 
       -- the request stopped the run
-      pub ends_stopped : (why : Status) (final : k.States) → (why ≡ status.DeviceFault) ⊎ (why ≡ status.PutFault) → LeftBy why k m q v.sent new.sent → (w.bounded q → new.writes ≤ used owed1 v + w.cost m q) → Ends why k w s final owed v0 new (qs ++ q ∷ [])
+      pub ends_stopped : (why : Status) (final : k.States) → (why ≡ status.DeviceFault) ⊎ (why ≡ status.PutFault) → LeftBy why k m q final v.sent new.sent → (w.bounded q → new.writes ≤ used owed1 v + w.cost m q) → Ends why k w s final owed v0 new (qs ++ q ∷ [])
       ends_stopped why final stops left most = record {
         sent = sent_by why final stops left;
         any_moment = any_next;
@@ -145,7 +146,9 @@ module _ {Q : Type 0} (k : Service Q) (w : Work Q k.States) (s final : k.States)
   by_longer : (why : Status) → (why ≡ status.DeviceFault) ⊎ (why ≡ status.PutFault) → ByStatus why k s v0.sent qs final v.sent → ByStatus why k s v0.sent (qs ++ more) final v.sent
   unfolding cut_off_longer
   by_longer why (inr e) left =
-      subst (λ r. ByStatus r k s v0.sent (qs ++ more) final v.sent) (sym e) (cut_off_longer k s v0.sent qs more v.sent (subst (λ r. ByStatus r k s v0.sent qs final v.sent) e left))
+      subst (λ r. ByStatus r k s v0.sent (qs ++ more) final v.sent) (sym e)
+      (let c = subst (λ r. ByStatus r k s v0.sent qs final v.sent) e left in
+      (cut_off_longer k s v0.sent qs more v.sent c.0, c.1))
   by_longer why (inl e) left =
       subst (λ r. ByStatus r k s v0.sent (qs ++ more) final v.sent) (sym e)
       (elim (subst (λ r. ByStatus r k s v0.sent qs final v.sent) e left) [

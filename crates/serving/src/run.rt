@@ -34,6 +34,7 @@ pub fn serve<S: Source, P: Port, R: Protocol, H: Server<R>>(
     // Unless the device failed, the server may be used again.
     ensures ready { result ≢ Status.DeviceFault → H.is_ready server.new }
     ensures at { result ≢ Status.DeviceFault → P.told → IsAt (H.holds server.new) (P.view port.new) }
+    ensures spent { result ≡ Status.DeviceFault → H.is_spent server.new }
     ensures closed { result ≡ Status.Done → P.told → H.is_closed (P.view port.new).reads }
     // A count of faults rose only where the status is that fault's.
     ensures source_fault { result ≡ Status.SourceFault → Rose (S.faults source.old) (S.faults source.new) }

@@ -24,6 +24,9 @@ pub trait Server<R: Protocol> {
     /// It may be used.
     ghost is_ready: { Self → Type 0 };
 
+    /// It tells that its disk failed.
+    ghost is_spent: { Self → Type 0 };
+
     /// What it holds in memory fits a disk that reads so.
     ghost holds: { Self → Image → Type 0 };
 
@@ -48,8 +51,9 @@ pub trait Server<R: Protocol> {
         // Unless the device failed, it may be used again: also where the answer couldn't be sent whole.
         ensures ready { result ≢ Err Status.DeviceFault → is_ready self.new }
         ensures at { result ≢ Err Status.DeviceFault → P.told → IsAt (holds self.new) (P.view port.new) }
+        ensures spent { result ≡ Err Status.DeviceFault → is_spent self.new }
         ensures answered { P.told → OnOk result ((answer : List ℕ) × service.gives (state self.old (P.view port.old).reads) request.now answer (state self.new (P.view port.new).reads) × ((P.view port.new).sent ≡ (P.view port.old).sent ++ answer)) }
-        ensures left { P.told → IfErr result (λ why. LeftBy why service (state self.old (P.view port.old).reads) request.now (P.view port.old).sent (P.view port.new).sent) }
+        ensures left { P.told → IfErr result (λ why. LeftBy why service (state self.old (P.view port.old).reads) request.now (state self.new (P.view port.new).reads) (P.view port.old).sent (P.view port.new).sent) }
         ensures any_moment { P.told → LeavesOnly (P.view port.old) (P.view port.new) (IsInAnswer service (state self.old (P.view port.old).reads) request.now (P.view port.old).sent) }
         ensures debt { P.told → work.bounded request.now → LeavesOnly (P.view port.old) (P.view port.new) (λ x f. work.debt x ≤ work.debt (P.view port.old).reads + work.made (state self.old (P.view port.old).reads) request.now) }
         // Four are done, or all that is left.
@@ -72,6 +76,7 @@ pub trait Server<R: Protocol> {
         ensures lender { lender self.new ≡ lender self.old }
         ensures ready { OnOk result (is_ready self.new) }
         ensures at { D.told → OnOk result (IsAt (holds self.new) (D.view dev.new)) }
+        ensures spent { OnErr result (is_spent self.new) }
         ensures state { D.told → OnOk result (state self.new (D.view dev.new).reads ≡ state self.old (D.view dev.old).reads) }
         ensures closed { D.told → OnOk result (is_closed (D.view dev.new).reads) }
         ensures sent { D.told → (D.view dev.new).sent ≡ (D.view dev.old).sent }

@@ -29,6 +29,8 @@ impl<'a, H: Handler> Handler for Lent<'a, H> {
 
     ghost is_ready = { λ h. H.is_ready h.handler.now };
 
+    ghost is_spent = { λ h. H.is_spent h.handler.now };
+
     ghost holds = { λ h x. H.holds h.handler.now x };
 
     ghost state = { λ h x. H.state h.handler.now x };

@@ -18,6 +18,8 @@ impl Handler for Steady {
 
     ghost is_ready = { λ h. Unit {0} };
 
+    ghost is_spent = { λ h. Unit {0} };
+
     ghost holds = { λ h x. Unit {0} };
 
     ghost state = { λ h x. tt };
