@@ -50,10 +50,10 @@ sent_here status.Truncated v s before qs kind state now sent = served_here v s b
 sent_here (status.RootDenied level) v s before qs kind state now sent = served_here v s before qs kind state now sent
 
 -- a run in the end of which the placement is any, as one of its own
-pub ran_here : (r : Status) (v : Voice) (p : Spelling Request) (s : Placed) (kind : PlaceKind) (state : State) (limit : ℕ) (came : List ℕ → Type 0) (ended tells : Type 0) (owed : ℕ) (old new : View)
-    → Ran r (spoken disk_rules v) disk_work p s (placed kind state) limit came ended tells owed old new
-    → Ran r (spoken disk_rules v) disk_work p s (placed s.kind state) limit came ended tells owed old new
-ran_here r v p s kind state limit came ended tells owed old new ran = record {
+pub ran_here : (r : Status) (v : Voice) (p : Spelling Request) (s : Placed) (kind : PlaceKind) (state : State) (limit : ℕ) (came : List ℕ → Type 0) (ended tells : Type 0) (due : ℕ) (old new : View)
+    → Ran r (spoken disk_rules v) disk_work p s (placed kind state) limit came ended tells due old new
+    → Ran r (spoken disk_rules v) disk_work p s (placed s.kind state) limit came ended tells due old new
+ran_here r v p s kind state limit came ended tells due old new ran = record {
   bytes = ran.bytes;
   came_in = ran.came_in;
   asked = ran.asked;

@@ -13,7 +13,7 @@ pub fn runs_cost_by_the_pairs_that_they_remove()
 {}
 
 /// However a run without sweeps ended, it wrote at most 460 sectors for each request, and 12 for each pair that the answered ones
-/// and the next one remove, beyond what was written and owed when it began.
+/// and the next one remove, beyond what was written and due when it began.
 pub fn runs_write_by_the_pairs_that_they_remove()
     ensures { RunsWriteByPairs }
 {}

@@ -36,7 +36,7 @@ impl<'a> Handler for CoreServer<'a> {
 
     ghost state = { λ h x. placed_on h.place.now.kind h.core.now x };
 
-    ghost owed = { λ h x. due h.core.now.volume };
+    ghost due = { λ h x. due h.core.now.volume };
 
     ghost is_closed = { IsQuiet };
 

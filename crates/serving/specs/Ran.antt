@@ -42,17 +42,17 @@ ByStatus status.DeviceFault k s before qs final now = IsBroken k s before qs now
 ByStatus r k s before qs final now = Served k s before qs final now
 
 -- How a run over these requests ended: what was sent; what a crash may have left at any moment; how often a write was
--- called, where so many writes were owed before; and how much is left to be done in each of those images.
-pub record Ends {Q : Type 0} (r : Status) (k : Service Q) (w : Work Q k.States) (s final : k.States) (owed : ℕ) (old new : View) (qs : List Q) : Type 0 where
+-- called, where so many writes were due before; and how much is left to be done in each of those images.
+pub record Ends {Q : Type 0} (r : Status) (k : Service Q) (w : Work Q k.States) (s final : k.States) (due : ℕ) (old new : View) (qs : List Q) : Type 0 where
   pub sent : ByStatus r k s old.sent qs final new.sent
   pub any_moment : LeavesOnly old new (IsAcknowledged k s old.sent qs)
-  pub most : IsPaidFor k w s qs (used owed old) new.writes
+  pub most : IsPaidFor k w s qs (used due old) new.writes
   pub debt : All w.bounded qs → LeavesOnly old new (HasDebt k w s old.sent (w.debt old.reads) qs)
 
 -- Bytes that came in, the requests that they hold, and how the run over these ended, where the device tells.
-pub record Ran {Q : Type 0} (r : Status) (k : Service Q) (w : Work Q k.States) (p : Spelling Q) (s final : k.States) (limit : ℕ) (came : List ℕ → Type 0) (ended tells : Type 0) (owed : ℕ) (old new : View) : Type 0 where
+pub record Ran {Q : Type 0} (r : Status) (k : Service Q) (w : Work Q k.States) (p : Spelling Q) (s final : k.States) (limit : ℕ) (came : List ℕ → Type 0) (ended tells : Type 0) (due : ℕ) (old new : View) : Type 0 where
   pub bytes : List ℕ
   pub came_in : came bytes
   pub asked : List Q
   pub these : AskedBy r p limit bytes ended asked
-  pub ends : tells → Ends r k w s final owed old new asked
+  pub ends : tells → Ends r k w s final due old new asked

@@ -24,7 +24,7 @@ impl<R: Protocol<Request = Request> + Replies, H: Handler> Server<R> for H {
 
     ghost state = { H.state };
 
-    ghost owed = { H.owed };
+    ghost due = { H.due };
 
     ghost is_closed = { H.is_closed };
 

@@ -24,7 +24,7 @@ impl Handler for Steady {
 
     ghost state = { λ h x. tt };
 
-    ghost owed = { λ h x. 0 };
+    ghost due = { λ h x. 0 };
 
     ghost is_closed = { λ x. Unit {0} };
 
