@@ -9,7 +9,7 @@ use Rattle.tsd_words.specs.declared.status.Status.TheVariants as status
 use Rattle.serving.specs.Input.{Spelling}
 use Rattle.serving.specs.ModelRules.{Placed}
 use Rattle.serving.specs.Ran.{Ran, ByStatus}
-use Rattle.serving.specs.Runs.{Run, Served}
+use Rattle.serving.specs.Runs.{Run, Served, IsCutOff}
 use Rattle.serving.specs.Voice.{Voice, spoken}
 use Rattle.core_server.specs.Server.{disk_rules, disk_work}
 
@@ -29,6 +29,13 @@ served_here : (v : Voice) (s : Placed) (before : List ℕ) (qs : List Request) (
 served_here v s before qs kind state now served =
     subst (λ (k : PlaceKind). Served (spoken disk_rules v) s before qs (placed k state) now) (kind_stays v s qs served.answers (placed kind state) served.run) served
 
+-- also where an answer was cut off
+cut_here : (v : Voice) (s : Placed) (before : List ℕ) (qs : List Request) (kind : PlaceKind) (state : State) (now : List ℕ) (c : IsCutOff (spoken disk_rules v) s before qs now)
+    → placed kind state ≡ c.next → (d : IsCutOff (spoken disk_rules v) s before qs now) × (placed s.kind state ≡ d.next)
+cut_here v s before qs kind state now c same =
+    let e : kind ≡ s.kind = ap (λ (p : Placed). p.kind) same ∙ c.given.2.2 ∙ kind_stays v s c.answered c.answers c.state c.run in
+    (c, subst (λ (k : PlaceKind). placed k state ≡ c.next) e same)
+
 sent_here : (r : Status) (v : Voice) (s : Placed) (before : List ℕ) (qs : List Request) (kind : PlaceKind) (state : State) (now : List ℕ)
     → ByStatus r (spoken disk_rules v) s before qs (placed kind state) now → ByStatus r (spoken disk_rules v) s before qs (placed s.kind state) now
 sent_here status.Done v s before qs kind state now sent = served_here v s before qs kind state now sent
@@ -36,17 +43,17 @@ sent_here status.Usage v s before qs kind state now sent = served_here v s befor
 sent_here (status.NotImage why) v s before qs kind state now sent = served_here v s before qs kind state now sent
 sent_here status.DeviceFault v s before qs kind state now sent = sent
 sent_here status.SourceFault v s before qs kind state now sent = served_here v s before qs kind state now sent
-sent_here status.PutFault v s before qs kind state now sent = sent
+sent_here status.PutFault v s before qs kind state now sent = cut_here v s before qs kind state now sent.0 sent.1
 sent_here status.TooLong v s before qs kind state now sent = served_here v s before qs kind state now sent
 sent_here status.NoMemory v s before qs kind state now sent = served_here v s before qs kind state now sent
 sent_here status.Truncated v s before qs kind state now sent = served_here v s before qs kind state now sent
 sent_here (status.RootDenied level) v s before qs kind state now sent = served_here v s before qs kind state now sent
 
 -- a run in the end of which the placement is any, as one of its own
-pub ran_here : (r : Status) (v : Voice) (p : Spelling Request) (s : Placed) (kind : PlaceKind) (state : State) (limit : ℕ) (came : List ℕ → Type 0) (ended tells : Type 0) (owed : ℕ) (old new : View)
-    → Ran r (spoken disk_rules v) disk_work p s (placed kind state) limit came ended tells owed old new
-    → Ran r (spoken disk_rules v) disk_work p s (placed s.kind state) limit came ended tells owed old new
-ran_here r v p s kind state limit came ended tells owed old new ran = record {
+pub ran_here : (r : Status) (v : Voice) (p : Spelling Request) (s : Placed) (kind : PlaceKind) (state : State) (limit : ℕ) (came : List ℕ → Type 0) (ended tells : Type 0) (due : ℕ) (old new : View)
+    → Ran r (spoken disk_rules v) disk_work p s (placed kind state) limit came ended tells due old new
+    → Ran r (spoken disk_rules v) disk_work p s (placed s.kind state) limit came ended tells due old new
+ran_here r v p s kind state limit came ended tells due old new ran = record {
   bytes = ran.bytes;
   came_in = ran.came_in;
   asked = ran.asked;

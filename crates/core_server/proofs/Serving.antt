@@ -1,6 +1,6 @@
 -- What the core promises, as a serving loop asks it.
-use Rattle.std.proofs.Common.{◌≡◌, false, refl, inl, inr}
-use Rattle.std.specs.Prelude.{Result, Ok, Err, IfOk}
+use Rattle.std.proofs.Common.{◌≡◌, ◌↔◌, ◌<◌, ℕ, Bool, false, refl, sym, ap, subst, inl, inr}
+use Rattle.std.specs.Prelude.{Result, Ok, Err, IfOk, OnOk, IsTrue}
 use Rattle.tsd_model.specs.ReplyForm.{HasForm}
 use Rattle.tsd_model.specs.Step.{step}
 use Rattle.tsd_model.specs.declared.replies.Reply.{Reply}
@@ -13,12 +13,13 @@ use Rattle.image_layout.specs.Image.{Image}
 use Rattle.image_world.specs.Stands.{world_of}
 use Rattle.image_world.proofs.WorldLaws.{world_valid}
 use Rattle.core_laws.specs.Seen.{IsAnswer}
-use Rattle.volume_laws.specs.Moments.{LeavesEither}
+use Rattle.volume_laws.specs.Moments.{LeavesEither, owed}
 use Rattle.volume_laws.specs.Writes.{Works}
 use Rattle.serving.specs.Handling.{IsBeforeOrAfter}
 use Rattle.serving.specs.Handling.{Works as AreCounted}
 use Rattle.serving.specs.ModelRules.{Placed}
-use Rattle.tsd_core.specs.Core.{Core, Holds, state_on}
+use Rattle.tsd_core.specs.Core.{Core, Holds, IsAt, state_on}
+use Rattle.tsd_core.specs.Work.{debt}
 use Rattle.tsd_core.specs.Applying.{next_world}
 use Rattle.core_server.specs.Server.{disk_rules, placed_on}
 use Rattle.core_server.proofs.StepForm.{step_form}
@@ -46,3 +47,8 @@ before_or_after kind c q v w sound held either =
       ],
       left.1,
     ))
+
+-- what the tables of a core at a device owe is what is left to be done on it
+pub more_left : {E : Type 0} (c : Core) (v : View) (result : Result Bool E) → IfOk result (λ more. IsTrue more ↔ (0 < owed c.volume.tables)) → OnOk result (IsAt c v) → IfOk result (λ more. IsTrue more ↔ (0 < debt v.reads))
+more_left c v (Ok more) is at = subst (λ (n : ℕ). IsTrue more ↔ (0 < n)) (sym (ap owed at.1.tables)) is
+more_left c v (Err e) is at = tt

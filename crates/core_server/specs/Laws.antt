@@ -1,8 +1,8 @@
 -- What runs by the rules of the disk are, and what they cost.
-use Rattle.std.specs.Prelude.{ℕ, ◌+◌, ◌*◌, ◌≤◌, List, length}
+use Rattle.std.specs.Prelude.{ℕ, ◌+◌, ◌*◌, ◌≤◌, List, length, All}
 use Rattle.tsd_model.specs.Valid.{IsValid}
 use Rattle.tsd_model.specs.declared.requests.Request.{Request}
-use Rattle.serving.specs.Costs.{costs}
+use Rattle.serving.specs.Costs.{costs, first_cost, IsPaidFor}
 use Rattle.serving.specs.ModelRules.{Placed, IsModelRun}
 use Rattle.serving.specs.Runs.{Run}
 use Rattle.serving.specs.Voice.{Voice, spoken}
@@ -24,3 +24,14 @@ abbrev pub RunsCostByPairs : Type 0
 RunsCostByPairs =
     (v : Voice) (s : Placed) (qs : List Request) (answers : List (List ℕ)) (t : Placed) (run : Run (spoken disk_rules v) s qs answers t) → IsValid s.state.world
     → costs (spoken disk_rules v) disk_work.cost s qs answers t run ≤ 460 * length qs + 12 * removed_in v s qs answers t run
+
+-- how many pairs the first of these removes, if there is one
+abbrev pub first_removed : Voice → Placed → List Request → ℕ
+first_removed v = first_cost (spoken disk_rules v) (λ s q. removed_by s.kind s.state q)
+
+-- However a run from a valid world ended: where no request is a sweep, it wrote at most 460 sectors for each request, and 12 for each
+-- pair that the answered ones and the next one remove.
+abbrev pub RunsWriteByPairs : Type 0
+RunsWriteByPairs =
+    (v : Voice) (s : Placed) (qs : List Request) (before now : ℕ) (run : IsPaidFor (spoken disk_rules v) disk_work s qs before now) → All disk_work.bounded qs → IsValid s.state.world
+    → now ≤ before + 460 * length qs + 12 * (removed_in v s run.answered run.answers run.state run.run + first_removed v run.state run.rest)

@@ -12,6 +12,9 @@ mod laws;
 mod run;
 mod server;
 
-pub use laws::{runs_are_the_disks, runs_cost_by_the_pairs_that_they_remove};
+pub use laws::{
+    runs_are_the_disks, runs_cost_by_the_pairs_that_they_remove,
+    runs_write_by_the_pairs_that_they_remove,
+};
 pub use run::serve_core;
 pub use server::CoreServer;

@@ -1,6 +1,6 @@
 //! The loop over a core.
 
-ghost use Rattle.std.specs.Prelude.{◌≡◌, ◌≢◌, ◌≤◌, []};
+ghost use Rattle.std.specs.Prelude.{◌≡◌, ◌≢◌, ◌≤◌, [], true};
 ghost use Rattle.image_device.specs.Counts.{Rose};
 ghost use Rattle.serving.specs.Ran.{Came, IsAtEnd, Ran};
 ghost use Rattle.serving.specs.Voice.{spoken};
@@ -31,9 +31,10 @@ pub fn serve_core<S: Source, P: Port, R: Protocol<Request = Request> + Replies>(
     requires ready { IsReady core.old }
     requires at { P.told → IsAt core.old (P.view port.old) }
     ensures ran { Ran result (spoken disk_rules R.voice) disk_work R.spelling (placed_on place.now.kind core.old (P.view port.old).reads) (placed_on place.now.kind core.new (P.view port.new).reads) limit (Came S.told (S.taken source.old) (S.taken source.new) (S.left_bytes source.old) (S.left_bytes source.new)) (IsAtEnd S.told (S.ended source.new) (S.left_bytes source.new)) P.told (due core.old.volume) (P.view port.old) (P.view port.new) }
-    // Unless the device failed, the core may be used again.
+    // Unless the device failed, the core may be used again; else it is spent.
     ensures ready { result ≢ Status.DeviceFault → IsReady core.new }
     ensures at { result ≢ Status.DeviceFault → P.told → IsAt core.new (P.view port.new) }
+    ensures spent { result ≡ Status.DeviceFault → core.new.volume.is_spent ≡ true }
     ensures closed { result ≡ Status.Done → P.told → IsQuiet (P.view port.new).reads }
     // A count of faults rose only where the status is that fault's.
     ensures source_fault { result ≡ Status.SourceFault → Rose (S.faults source.old) (S.faults source.new) }

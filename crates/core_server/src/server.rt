@@ -1,6 +1,6 @@
 //! The core beside its placement.
 
-ghost use Rattle.std.specs.Prelude.{◌≡◌};
+ghost use Rattle.std.specs.Prelude.{◌≡◌, true};
 ghost use Rattle.tsd_core.specs.Core.{IsReady, Holds};
 ghost use Rattle.volume_laws.specs.Quiet.{IsQuiet};
 ghost use Rattle.volume_laws.specs.Writes.{due};
@@ -30,11 +30,13 @@ impl<'a> Handler for CoreServer<'a> {
 
     ghost is_ready = { λ h. IsReady h.core.now };
 
+    ghost is_spent = { λ h. h.core.now.volume.is_spent ≡ true };
+
     ghost holds = { λ h x. Holds h.core.now x };
 
     ghost state = { λ h x. placed_on h.place.now.kind h.core.now x };
 
-    ghost owed = { λ h x. due h.core.now.volume };
+    ghost due = { λ h x. due h.core.now.volume };
 
     ghost is_closed = { IsQuiet };
 

@@ -42,10 +42,10 @@ module _ (k : DiskRules) (v : Voice) (s : k.States) (q : Request) where
       (λ x f left. inr (answering v0.sent f r t (v.text r) [] given (sym (append-nil (v.text r))) (left.1 ∙ sent), inl left.0))
 
   -- a put that failed sent a proper front
-  pub put_failed : (before now : List ℕ) (r : Reply) (t : k.States) → k.gives s q r t → (n : ℕ) → n < length (v.text r) → now ≡ before ++ take n (v.text r) → (a : IsAnswering (spoken k v) s q before now) × (0 < length a.back)
+  pub put_failed : (before now : List ℕ) (r : Reply) (t final : k.States) → k.gives s q r t → final ≡ t → (n : ℕ) → n < length (v.text r) → now ≡ before ++ take n (v.text r) → (a : IsAnswering (spoken k v) s q before now) × (0 < length a.back) × (final ≡ a.next)
   unfolding answering
-  put_failed before now r t given n less sent =
-      (answering before now r t (take n (v.text r)) (drop n (v.text r)) given (sym (take-append-drop n (v.text r))) sent, omega (arith, length-drop n (v.text r), less))
+  put_failed before now r t final given same n less sent =
+      (answering before now r t (take n (v.text r)) (drop n (v.text r)) given (sym (take-append-drop n (v.text r))) sent, omega (arith, length-drop n (v.text r), less), same)
 
   -- the reply was sent whole
   pub all_put : (before now : List ℕ) (r : Reply) (t : k.States) → k.gives s q r t → now ≡ before ++ v.text r → (a : IsAnswering (spoken k v) s q before now) × (a.back ≡ [])

@@ -145,8 +145,8 @@ module _ {Q : Type 0} (p : Spelling Q) where
   found_fault fed ended i bytes qs was none few = (omega (arith, was.long, few), was.these ∙ ap p.requests (all_came fed i bytes qs was none few))
 
   -- more came than is served
-  pub found_long : (fed : List ℕ → Type 0) (ended : Type 0) (i : Intake) (bytes : List ℕ) (qs : List Q) → Reads p fed i bytes qs → i.from ≡ i.to → i.limit < i.taken → AskedBy status.TooLong p i.limit bytes ended qs
-  found_long fed ended i bytes qs was none more = (omega (arith, was.long, more), was.these ∙ ap p.requests (all_read fed i bytes qs was none))
+  pub found_long : (fed : List ℕ → Type 0) (ended : Type 0) (i : Intake) (bytes : List ℕ) (qs : List Q) → Reads p fed i bytes qs → i.from ≡ i.to → i.limit < i.taken → i.taken ≤ i.limit + 512 → AskedBy status.TooLong p i.limit bytes ended qs
+  found_long fed ended i bytes qs was none more few = (omega (arith, was.long, more), omega (arith, was.long, few), was.these ∙ ap p.requests (all_read fed i bytes qs was none))
 
   -- no request, one more
   pub handed_on : (fed : List ℕ → Type 0) (ended : Type 0) (i : Intake) (bytes : List ℕ) (qs : List Q) → i.over ≡ false → Reads p fed i bytes qs → Handed p fed ended i bytes qs

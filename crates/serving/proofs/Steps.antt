@@ -16,23 +16,23 @@ use Rattle.serving.proofs.Runs.{run_next, sent_next, broken, cut_off, served_nex
 use Rattle.serving.proofs.Costs.{front_all, next_all, costs_next, paid_longer}
 use Rattle.serving.proofs.Debts.{debt_next, owing_answer, owing_rest, owing_longer}
 
-module _ {Q : Type 0} (k : Service Q) (w : Work Q k.States) (s : k.States) (owed : ℕ) (v0 : View) where
+module _ {Q : Type 0} (k : Service Q) (w : Work Q k.States) (s : k.States) (due : ℕ) (v0 : View) where
   -- the replies so far
-  pub served_of : (qs : List Q) (m : k.States) (owed1 : ℕ) (v : View) → Goes k w s owed v0 qs m owed1 v → Served k s v0.sent qs m v.sent
-  served_of qs m owed1 v goes = record { answers = goes.answers; run = goes.run; sent = goes.sent }
+  pub served_of : (qs : List Q) (m : k.States) (due1 : ℕ) (v : View) → Goes k w s due v0 qs m due1 v → Served k s v0.sent qs m v.sent
+  served_of qs m due1 v goes = record { answers = goes.answers; run = goes.run; sent = goes.sent }
 
   -- a run that ends as it stands
-  pub ends_now : (r : Status) (qs : List Q) (m : k.States) (owed1 : ℕ) (v : View) → Goes k w s owed v0 qs m owed1 v → ByStatus r k s v0.sent qs m v.sent → Ends r k w s m owed v0 v qs
-  ends_now r qs m owed1 v goes sent = record {
+  pub ends_now : (r : Status) (qs : List Q) (m : k.States) (due1 : ℕ) (v : View) → Goes k w s due v0 qs m due1 v → ByStatus r k s v0.sent qs m v.sent → Ends r k w s m due v0 v qs
+  ends_now r qs m due1 v goes sent = record {
     sent = sent;
     any_moment = goes.any_moment;
     most = record { answered = qs; rest = []; parts = sym (append-nil qs); answers = goes.answers; state = m; run = goes.run; paid = λ all. omega (arith, goes.paid all) };
     debt = goes.debt;
   }
 
-module _ {Q : Type 0} (k : Service Q) (counted : IsCounted k) (w : Work Q k.States) (s : k.States) (owed : ℕ) (v0 : View) where
+module _ {Q : Type 0} (k : Service Q) (counted : IsCounted k) (w : Work Q k.States) (s : k.States) (due : ℕ) (v0 : View) where
   -- before the first request
-  pub goes_first : IsSound v0 → ((n : ℕ) → v0.loose n ≡ false) → k.stands s v0.reads → Goes k w s owed v0 [] s owed v0
+  pub goes_first : IsSound v0 → ((n : ℕ) → v0.loose n ≡ false) → k.stands s v0.reads → Goes k w s due v0 [] s due v0
   goes_first sound firm stands =
       let served : Served k s v0.sent [] s v0.sent = record { answers = []; run = refl; sent = sym (append-nil v0.sent) } in
       record {
@@ -49,14 +49,14 @@ module _ {Q : Type 0} (k : Service Q) (counted : IsCounted k) (w : Work Q k.Stat
             owing_rest k counted w.made s v0.sent (w.debt v0.reads) [] s [] refl v0.sent (sym (append-nil v0.sent)) (w.debt v0.reads) (omega arith) f (w.debt x) left.1 (omega (arith, e)));
       }
 
-  module _ (qs : List Q) (m : k.States) (owed1 : ℕ) (v : View) (goes : Goes k w s owed v0 qs m owed1 v) where
+  module _ (qs : List Q) (m : k.States) (due1 : ℕ) (v : View) (goes : Goes k w s due v0 qs m due1 v) where
     module _ (q : Q) (new : View) (any : LeavesOnly v new (IsInAnswer k m q v.sent)) (debts : w.bounded q → LeavesOnly v new (λ x f. w.debt x ≤ w.debt v.reads + w.made m q)) where
       -- what a crash left while the request was answered
       any_next : LeavesOnly v0 new (IsAcknowledged k s v0.sent (qs ++ q ∷ []))
       any_next =
           joined v0 v new (IsAcknowledged k s v0.sent (qs ++ q ∷ [])) (IsInAnswer k m q v.sent)
           (weakened v0 v (IsAcknowledged k s v0.sent qs) (IsAcknowledged k s v0.sent (qs ++ q ∷ [])) goes.any_moment (longer k s v0.sent qs (q ∷ []))) any
-          (λ x f left. in_answer k counted s v0.sent qs m v.sent f q x (served_of k w s owed v0 qs m owed1 v goes) left)
+          (λ x f left. in_answer k counted s v0.sent qs m v.sent f q x (served_of k w s due v0 qs m due1 v goes) left)
 
       debt_on : All w.bounded (qs ++ q ∷ []) → LeavesOnly v0 new (HasDebt k w s v0.sent (w.debt v0.reads) (qs ++ q ∷ []))
       debt_on all =
@@ -67,9 +67,9 @@ module _ {Q : Type 0} (k : Service Q) (counted : IsCounted k) (w : Work Q k.Stat
           (λ x f left. owing_answer k counted w.made s v0.sent (w.debt v0.reads) qs m goes.answers goes.run v.sent goes.sent (w.debt v.reads) (goes.few (front_all w.bounded qs (q ∷ []) all)) q x f (w.debt x) left.0 left.1)
 
       -- the request was answered
-      pub goes_next : (t : k.States) (owed2 : ℕ) (a : List ℕ) → k.gives m q a t → new.sent ≡ v.sent ++ a → (w.bounded q → w.debt new.reads ≤ w.debt v.reads + w.made m q - 4) → (w.bounded q → used owed2 new ≤ used owed1 v + w.cost m q)
-          → Goes k w s owed v0 (qs ++ q ∷ []) t owed2 new
-      goes_next t owed2 a given sent less paid = record {
+      pub goes_next : (t : k.States) (due2 : ℕ) (a : List ℕ) → k.gives m q a t → new.sent ≡ v.sent ++ a → (w.bounded q → w.debt new.reads ≤ w.debt v.reads + w.made m q - 4) → (w.bounded q → used due2 new ≤ used due1 v + w.cost m q)
+          → Goes k w s due v0 (qs ++ q ∷ []) t due2 new
+      goes_next t due2 a given sent less paid = record {
         answers = goes.answers ++ a ∷ [];
         run = run_next k s m t qs goes.answers q a goes.run given;
         sent = sent_next v0.sent v.sent new.sent goes.answers a goes.sent sent;
@@ -82,30 +82,31 @@ module _ {Q : Type 0} (k : Service Q) (counted : IsCounted k) (w : Work Q k.Stat
       device_stopped : (final : k.States) → (a : IsAnswering k m q v.sent new.sent) → (a.back ≡ []) ⊎ k.in_parts q a.answer → ByStatus status.DeviceFault k s v0.sent (qs ++ q ∷ []) final new.sent
       device_stopped final a how = elim (some_or_none a.back) [
         | inl none ↦
-            let all = served_next k counted s v0.sent qs m a.next v.sent new.sent q a.answer (served_of k w s owed v0 qs m owed1 v goes) a.given (all_sent a.answer v.sent new.sent a.front a.back a.whole a.sent none) in
+            let all = served_next k counted s v0.sent qs m a.next v.sent new.sent q a.answer (served_of k w s due v0 qs m due1 v goes) a.given (all_sent a.answer v.sent new.sent a.front a.back a.whole a.sent none) in
             inl (subst (λ l. IsBroken k s v0.sent l new.sent) (append-nil (qs ++ q ∷ [])) (broken k counted s v0.sent (qs ++ q ∷ []) [] a.next new.sent all).0)
         | inr some ↦ elim how [
           | inl none ↦ absurd (omega (arith, some, ap length none))
           | inr parts ↦
-              let c = cut_off k counted s v0.sent qs m v.sent new.sent q (served_of k w s owed v0 qs m owed1 v goes) a some in
+              let c = cut_off k counted s v0.sent qs m v.sent new.sent q (served_of k w s due v0 qs m due1 v goes) a some in
               inr (c.0, subst (λ r. k.in_parts r c.0.answer) (sym c.3) (subst (λ t. k.in_parts q t) (sym c.4) parts))
         ]
       ]
 
-      sent_by : (why : Status) (final : k.States) → (why ≡ status.DeviceFault) ⊎ (why ≡ status.PutFault) → LeftBy why k m q v.sent new.sent → ByStatus why k s v0.sent (qs ++ q ∷ []) final new.sent
+      sent_by : (why : Status) (final : k.States) → (why ≡ status.DeviceFault) ⊎ (why ≡ status.PutFault) → LeftBy why k m q final v.sent new.sent → ByStatus why k s v0.sent (qs ++ q ∷ []) final new.sent
       sent_by why final (inr e) left =
           subst (λ r. ByStatus r k s v0.sent (qs ++ q ∷ []) final new.sent) (sym e)
-          (let l = subst (λ r. LeftBy r k m q v.sent new.sent) e left in
-          (cut_off k counted s v0.sent qs m v.sent new.sent q (served_of k w s owed v0 qs m owed1 v goes) l.0 l.1).0)
+          (let l = subst (λ r. LeftBy r k m q final v.sent new.sent) e left in
+          let c = cut_off k counted s v0.sent qs m v.sent new.sent q (served_of k w s due v0 qs m due1 v goes) l.0 l.1 in
+          (c.0, l.2 ∙ sym c.2))
       sent_by why final (inl e) left =
           subst (λ r. ByStatus r k s v0.sent (qs ++ q ∷ []) final new.sent) (sym e)
-          (elim (subst (λ r. LeftBy r k m q v.sent new.sent) e left) [
-            | inl nothing ↦ inl (subst (λ f. IsBroken k s v0.sent (qs ++ q ∷ []) f) (sym nothing) (broken k counted s v0.sent qs (q ∷ []) m v.sent (served_of k w s owed v0 qs m owed1 v goes)).0)
+          (elim (subst (λ r. LeftBy r k m q final v.sent new.sent) e left) [
+            | inl nothing ↦ inl (subst (λ f. IsBroken k s v0.sent (qs ++ q ∷ []) f) (sym nothing) (broken k counted s v0.sent qs (q ∷ []) m v.sent (served_of k w s due v0 qs m due1 v goes)).0)
             | inr some ↦ device_stopped final some.0 some.1
           ])
 
       -- the request stopped the run
-      pub ends_stopped : (why : Status) (final : k.States) → (why ≡ status.DeviceFault) ⊎ (why ≡ status.PutFault) → LeftBy why k m q v.sent new.sent → (w.bounded q → new.writes ≤ used owed1 v + w.cost m q) → Ends why k w s final owed v0 new (qs ++ q ∷ [])
+      pub ends_stopped : (why : Status) (final : k.States) → (why ≡ status.DeviceFault) ⊎ (why ≡ status.PutFault) → LeftBy why k m q final v.sent new.sent → (w.bounded q → new.writes ≤ used due1 v + w.cost m q) → Ends why k w s final due v0 new (qs ++ q ∷ [])
       ends_stopped why final stops left most = record {
         sent = sent_by why final stops left;
         any_moment = any_next;
@@ -122,30 +123,32 @@ module _ {Q : Type 0} (k : Service Q) (counted : IsCounted k) (w : Work Q k.Stat
       }
 
     -- all that was left to be done is done, or the device failed in it
-    module _ (new : View) (any : LeavesOnly v new (λ x f. k.stands m x × (f ≡ v.sent))) (debts : LeavesOnly v new (λ x f. (w.debt x ≤ w.debt v.reads) × (f ≡ v.sent))) (sent : new.sent ≡ v.sent) (most : new.writes ≤ used owed1 v) where
-      ends_close : (r : Status) (final : k.States) → ByStatus r k s v0.sent qs final new.sent → Ends r k w s final owed v0 new qs
+    module _ (new : View) (any : LeavesOnly v new (λ x f. k.stands m x × (f ≡ v.sent))) (debts : LeavesOnly v new (λ x f. (w.debt x ≤ w.debt v.reads) × (f ≡ v.sent))) (sent : new.sent ≡ v.sent) (most : new.writes ≤ used due1 v) where
+      ends_close : (r : Status) (final : k.States) → ByStatus r k s v0.sent qs final new.sent → Ends r k w s final due v0 new qs
       ends_close r final by = record {
         sent = by;
         any_moment = joined v0 v new (IsAcknowledged k s v0.sent qs) (λ x f. k.stands m x × (f ≡ v.sent)) goes.any_moment any
-            (λ x f left. subst (λ l. IsAcknowledged k s v0.sent l x f) (append-nil qs) (at_rest k counted s v0.sent qs [] m v.sent f x (served_of k w s owed v0 qs m owed1 v goes) left.0 left.1));
+            (λ x f left. subst (λ l. IsAcknowledged k s v0.sent l x f) (append-nil qs) (at_rest k counted s v0.sent qs [] m v.sent f x (served_of k w s due v0 qs m due1 v goes) left.0 left.1));
         most = record { answered = qs; rest = []; parts = sym (append-nil qs); answers = goes.answers; state = m; run = goes.run; paid = λ all. omega (arith, goes.paid all, most) };
         debt = λ all. joined v0 v new (HasDebt k w s v0.sent (w.debt v0.reads) qs) (λ x f. (w.debt x ≤ w.debt v.reads) × (f ≡ v.sent)) (goes.debt all) debts
             (λ x f left. owing_rest k counted w.made s v0.sent (w.debt v0.reads) qs m goes.answers goes.run v.sent goes.sent (w.debt v.reads) (goes.few all) f (w.debt x) left.1 left.0);
       }
 
-      pub ends_done : (final : k.States) → final ≡ m → Ends status.Done k w s final owed v0 new qs
+      pub ends_done : (final : k.States) → final ≡ m → Ends status.Done k w s final due v0 new qs
       ends_done final same = ends_close status.Done final (record { answers = goes.answers; run = subst (λ u. Run k s qs goes.answers u) (sym same) goes.run; sent = sent ∙ goes.sent })
 
-      pub ends_close_fault : (final : k.States) → Ends status.DeviceFault k w s final owed v0 new qs
+      pub ends_close_fault : (final : k.States) → Ends status.DeviceFault k w s final due v0 new qs
       ends_close_fault final = ends_close status.DeviceFault final
-          (inl (subst (λ f. IsBroken k s v0.sent qs f) (sym sent) (subst (λ l. IsBroken k s v0.sent l v.sent) (append-nil qs) (broken k counted s v0.sent qs [] m v.sent (served_of k w s owed v0 qs m owed1 v goes)).0)))
+          (inl (subst (λ f. IsBroken k s v0.sent qs f) (sym sent) (subst (λ l. IsBroken k s v0.sent l v.sent) (append-nil qs) (broken k counted s v0.sent qs [] m v.sent (served_of k w s due v0 qs m due1 v goes)).0)))
 
 -- more requests behind
-module _ {Q : Type 0} (k : Service Q) (w : Work Q k.States) (s final : k.States) (owed : ℕ) (v0 v : View) (qs more : List Q) where
+module _ {Q : Type 0} (k : Service Q) (w : Work Q k.States) (s final : k.States) (due : ℕ) (v0 v : View) (qs more : List Q) where
   by_longer : (why : Status) → (why ≡ status.DeviceFault) ⊎ (why ≡ status.PutFault) → ByStatus why k s v0.sent qs final v.sent → ByStatus why k s v0.sent (qs ++ more) final v.sent
   unfolding cut_off_longer
   by_longer why (inr e) left =
-      subst (λ r. ByStatus r k s v0.sent (qs ++ more) final v.sent) (sym e) (cut_off_longer k s v0.sent qs more v.sent (subst (λ r. ByStatus r k s v0.sent qs final v.sent) e left))
+      subst (λ r. ByStatus r k s v0.sent (qs ++ more) final v.sent) (sym e)
+      (let c = subst (λ r. ByStatus r k s v0.sent qs final v.sent) e left in
+      (cut_off_longer k s v0.sent qs more v.sent c.0, c.1))
   by_longer why (inl e) left =
       subst (λ r. ByStatus r k s v0.sent (qs ++ more) final v.sent) (sym e)
       (elim (subst (λ r. ByStatus r k s v0.sent qs final v.sent) e left) [
@@ -153,16 +156,16 @@ module _ {Q : Type 0} (k : Service Q) (w : Work Q k.States) (s final : k.States)
         | inr c ↦ inr (cut_off_longer k s v0.sent qs more v.sent c.0, c.1)
       ])
 
-  pub ends_longer : (why : Status) → (why ≡ status.DeviceFault) ⊎ (why ≡ status.PutFault) → Ends why k w s final owed v0 v qs → Ends why k w s final owed v0 v (qs ++ more)
+  pub ends_longer : (why : Status) → (why ≡ status.DeviceFault) ⊎ (why ≡ status.PutFault) → Ends why k w s final due v0 v qs → Ends why k w s final due v0 v (qs ++ more)
   ends_longer why stops ends = record {
     sent = by_longer why stops ends.sent;
     any_moment = weakened v0 v (IsAcknowledged k s v0.sent qs) (IsAcknowledged k s v0.sent (qs ++ more)) ends.any_moment (longer k s v0.sent qs more);
-    most = paid_longer k w s (used owed v0) qs more v.writes ends.most;
+    most = paid_longer k w s (used due v0) qs more v.writes ends.most;
     debt = λ all. weakened v0 v (HasDebt k w s v0.sent (w.debt v0.reads) qs) (HasDebt k w s v0.sent (w.debt v0.reads) (qs ++ more)) (ends.debt (front_all w.bounded qs more all))
         (λ x f left. owing_longer k w.made s v0.sent (w.debt v0.reads) qs more (w.debt x) f left);
   }
 
 -- a run as a whole
-pub ran_of : {Q : Type 0} (r : Status) (k : Service Q) (w : Work Q k.States) (p : Spelling Q) (s final : k.States) (limit counted : ℕ) (came : List ℕ → Type 0) (ended tells : Type 0) (owed : ℕ) (v0 v : View) (bytes : List ℕ) (qs : List Q)
-    → counted ≡ limit → came bytes → AskedBy r p counted bytes ended qs → (tells → Ends r k w s final owed v0 v qs) → Ran r k w p s final limit came ended tells owed v0 v
-ran_of r k w p s final limit counted came ended tells owed v0 v bytes qs same c asked ends = record { bytes = bytes; came_in = c; asked = qs; these = subst (λ n. AskedBy r p n bytes ended qs) same asked; ends = ends }
+pub ran_of : {Q : Type 0} (r : Status) (k : Service Q) (w : Work Q k.States) (p : Spelling Q) (s final : k.States) (limit counted : ℕ) (came : List ℕ → Type 0) (ended tells : Type 0) (due : ℕ) (v0 v : View) (bytes : List ℕ) (qs : List Q)
+    → counted ≡ limit → came bytes → AskedBy r p counted bytes ended qs → (tells → Ends r k w s final due v0 v qs) → Ran r k w p s final limit came ended tells due v0 v
+ran_of r k w p s final limit counted came ended tells due v0 v bytes qs same c asked ends = record { bytes = bytes; came_in = c; asked = qs; these = subst (λ n. AskedBy r p n bytes ended qs) same asked; ends = ends }

@@ -20,12 +20,12 @@ use Rattle.serving.specs.Work.{Work, used}
 
 -- These requests were answered, and the answers sent. At each moment since the start an image was left as the bytes sent
 -- then say. Where the work of each is bounded, writes and what is left to be done are within what these requests make.
-pub record Goes {Q : Type 0} (k : Service Q) (w : Work Q k.States) (s : k.States) (owed : ℕ) (old : View) (qs : List Q) (now : k.States) (owed_now : ℕ) (new : View) : Type 0 where
+pub record Goes {Q : Type 0} (k : Service Q) (w : Work Q k.States) (s : k.States) (due : ℕ) (old : View) (qs : List Q) (now : k.States) (owed_now : ℕ) (new : View) : Type 0 where
   pub answers : List (List ℕ)
   pub run : Run k s qs answers now
   pub sent : new.sent ≡ old.sent ++ texts answers
   pub any_moment : LeavesOnly old new (IsAcknowledged k s old.sent qs)
-  pub paid : All w.bounded qs → used owed_now new ≤ used owed old + costs k w.cost s qs answers now run
+  pub paid : All w.bounded qs → used owed_now new ≤ used due old + costs k w.cost s qs answers now run
   pub few : All w.bounded qs → w.debt new.reads ≤ (debt_after k w.made s qs answers now run (debt_of (w.debt old.reads))).left
   pub debt : All w.bounded qs → LeavesOnly old new (HasDebt k w s old.sent (w.debt old.reads) qs)
 

@@ -1,5 +1,5 @@
 -- What one run took and sent.
-use Rattle.std.specs.Prelude.{◌≡◌, ◌≢◌, ℕ, ◌<◌, ◌≤◌, ◌⊎◌, List, [], ◌++◌, length, take, All}
+use Rattle.std.specs.Prelude.{◌≡◌, ◌≢◌, ℕ, ◌+◌, ◌<◌, ◌≤◌, ◌⊎◌, List, [], ◌++◌, length, take, All}
 use Rattle.image_device.specs.View.{View}
 use Rattle.image_device.specs.Runs.{LeavesOnly}
 use Rattle.tsd_words.specs.declared.status.Status.{Status}
@@ -22,35 +22,37 @@ pub record IsAtEnd (tells ended : Type 0) (left : List ℕ) : Type 0 where
   pub found : ended
   pub nothing : tells → left ≡ []
 
--- Which requests a run that ended so was asked, by the bytes x that came in. At most `limit` bytes are served. What the
--- end of the input makes whole counts only where the input has come to its end.
+-- Which requests a run that ended so was asked, by the bytes x that came in. At most `limit` bytes are served; after a
+-- take that goes past them no more is taken, and a take gives at most 512. What the end of the input makes whole counts only
+-- where the input has come to its end.
 abbrev pub AskedBy : {Q : Type 0} → Status → Spelling Q → ℕ → List ℕ → Type 0 → List Q → Type 0
 AskedBy status.Done p limit x ended qs = (length x ≤ limit) × ended × (p.ending x ≢ CutOff) × (qs ≡ all_requests p x)
 AskedBy status.Truncated p limit x ended qs = (length x ≤ limit) × ended × (p.ending x ≡ CutOff) × (qs ≡ all_requests p x)
 AskedBy status.SourceFault p limit x ended qs = (length x ≤ limit) × (qs ≡ p.requests x)
-AskedBy status.TooLong p limit x ended qs = (limit < length x) × (qs ≡ p.requests (take limit x))
+AskedBy status.TooLong p limit x ended qs = (limit < length x) × (length x ≤ limit + 512) × (qs ≡ p.requests (take limit x))
 AskedBy status.DeviceFault p limit x ended qs = (qs ≡ p.requests (take limit x)) ⊎ ((length x ≤ limit) × ended × (qs ≡ all_requests p x))
 AskedBy status.PutFault p limit x ended qs = (qs ≡ p.requests (take limit x)) ⊎ ((length x ≤ limit) × ended × (qs ≡ all_requests p x))
 AskedBy r p limit x ended qs = ⊥
 
--- What was sent by the time that a run ended so, of the answers to these requests. `final` is the state then.
+-- What was sent by the time that a run ended so, of the answers to these requests. `final` is the state then: after a put
+-- that failed, the one behind the request whose answer was cut off.
 abbrev pub ByStatus : {Q : Type 0} → Status → (k : Service Q) → k.States → List ℕ → List Q → k.States → List ℕ → Type 0
-ByStatus status.PutFault k s before qs final now = IsCutOff k s before qs now
+ByStatus status.PutFault k s before qs final now = (c : IsCutOff k s before qs now) × (final ≡ c.next)
 ByStatus status.DeviceFault k s before qs final now = IsBroken k s before qs now ⊎ ((c : IsCutOff k s before qs now) × k.in_parts c.request c.answer)
 ByStatus r k s before qs final now = Served k s before qs final now
 
 -- How a run over these requests ended: what was sent; what a crash may have left at any moment; how often a write was
--- called, where so many writes were owed before; and how much is left to be done in each of those images.
-pub record Ends {Q : Type 0} (r : Status) (k : Service Q) (w : Work Q k.States) (s final : k.States) (owed : ℕ) (old new : View) (qs : List Q) : Type 0 where
+-- called, where so many writes were due before; and how much is left to be done in each of those images.
+pub record Ends {Q : Type 0} (r : Status) (k : Service Q) (w : Work Q k.States) (s final : k.States) (due : ℕ) (old new : View) (qs : List Q) : Type 0 where
   pub sent : ByStatus r k s old.sent qs final new.sent
   pub any_moment : LeavesOnly old new (IsAcknowledged k s old.sent qs)
-  pub most : IsPaidFor k w s qs (used owed old) new.writes
+  pub most : IsPaidFor k w s qs (used due old) new.writes
   pub debt : All w.bounded qs → LeavesOnly old new (HasDebt k w s old.sent (w.debt old.reads) qs)
 
 -- Bytes that came in, the requests that they hold, and how the run over these ended, where the device tells.
-pub record Ran {Q : Type 0} (r : Status) (k : Service Q) (w : Work Q k.States) (p : Spelling Q) (s final : k.States) (limit : ℕ) (came : List ℕ → Type 0) (ended tells : Type 0) (owed : ℕ) (old new : View) : Type 0 where
+pub record Ran {Q : Type 0} (r : Status) (k : Service Q) (w : Work Q k.States) (p : Spelling Q) (s final : k.States) (limit : ℕ) (came : List ℕ → Type 0) (ended tells : Type 0) (due : ℕ) (old new : View) : Type 0 where
   pub bytes : List ℕ
   pub came_in : came bytes
   pub asked : List Q
   pub these : AskedBy r p limit bytes ended asked
-  pub ends : tells → Ends r k w s final owed old new asked
+  pub ends : tells → Ends r k w s final due old new asked

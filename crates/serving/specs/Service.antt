@@ -42,9 +42,9 @@ IsInAnswer k s q before x f =
     (k.stands s x × (f ≡ before))
     ⊎ ((a : IsAnswering k s q before f) × (k.stands a.next x ⊎ (k.stands s x × (0 < length a.back))))
 
--- What of its answer was sent where a request stopped so. Where a put failed, a proper front of it; where the device failed,
--- nothing or all of it, or also a front where it is sent in parts.
-abbrev pub LeftBy : {Q : Type 0} → Status → (k : Service Q) → k.States → Q → List ℕ → List ℕ → Type 0
-LeftBy status.PutFault k s q before now = (a : IsAnswering k s q before now) × (0 < length a.back)
-LeftBy status.DeviceFault k s q before now = (now ≡ before) ⊎ ((a : IsAnswering k s q before now) × ((a.back ≡ []) ⊎ k.in_parts q a.answer))
-LeftBy r k s q before now = ⊥
+-- What of its answer was sent where a request stopped so. Where a put failed, a proper front of it, and the state is the one
+-- that it leads to; where the device failed, nothing or all of it, or also a front where it is sent in parts.
+abbrev pub LeftBy : {Q : Type 0} → Status → (k : Service Q) → k.States → Q → k.States → List ℕ → List ℕ → Type 0
+LeftBy status.PutFault k s q final before now = (a : IsAnswering k s q before now) × (0 < length a.back) × (final ≡ a.next)
+LeftBy status.DeviceFault k s q final before now = (now ≡ before) ⊎ ((a : IsAnswering k s q before now) × ((a.back ≡ []) ⊎ k.in_parts q a.answer))
+LeftBy r k s q final before now = ⊥

@@ -14,6 +14,6 @@ pub record Work (Q States : Type 0) : Type 1 where
   -- how much is left to be done in an image
   pub debt : Image → ℕ
 
--- the writes so far, and those that are still owed
+-- the writes so far, and those that are still due
 abbrev pub used : ℕ → View → ℕ
-used owed v = v.writes + owed
+used due v = v.writes + due

@@ -18,11 +18,13 @@ impl<R: Protocol<Request = Request> + Replies, H: Handler> Server<R> for H {
 
     ghost is_ready = { H.is_ready };
 
+    ghost is_spent = { H.is_spent };
+
     ghost holds = { H.holds };
 
     ghost state = { H.state };
 
-    ghost owed = { H.owed };
+    ghost due = { H.due };
 
     ghost is_closed = { H.is_closed };
 

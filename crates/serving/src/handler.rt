@@ -1,6 +1,6 @@
 //! What carries out requests.
 
-ghost use Rattle.std.specs.Prelude.{◌≡◌, ◌≤◌, ◌+◌, ◌-◌, ℕ, OnOk, OnErr, IfOk};
+ghost use Rattle.std.specs.Prelude.{◌≡◌, ◌↔◌, ◌<◌, ◌≤◌, ◌+◌, ◌-◌, ℕ, OnOk, OnErr, IfOk, IsTrue};
 ghost use Rattle.image_device.specs.Counts.{Rose};
 ghost use Rattle.image_device.specs.Image.{Image};
 ghost use Rattle.image_device.specs.Runs.{LeavesOnly};
@@ -24,14 +24,17 @@ pub trait Handler {
     /// It may be used.
     ghost is_ready: { Self → Type 0 };
 
+    /// It is spent: a call on its disk failed.
+    ghost is_spent: { Self → Type 0 };
+
     /// What it holds in memory fits a disk that reads so.
     ghost holds: { Self → Image → Type 0 };
 
     /// The state, where the disk reads so.
     ghost state: { Self → Image → rules.States };
 
-    /// How many writes are still owed, where the disk reads so.
-    ghost owed: { Self → Image → ℕ };
+    /// How many writes are still due, where the disk reads so.
+    ghost due: { Self → Image → ℕ };
 
     /// Nothing is left to be done on a disk that reads so.
     ghost is_closed: { Image → Type 0 };
@@ -40,59 +43,63 @@ pub trait Handler {
     ghost lender: { Self → ℕ };
 
     /// Carries out a request. A crash at any moment leaves the state before or the one after. `Failed` comes only where
-    /// `faults` rose; else they are as they were.
+    /// `faults` rose, and it is spent then; else they are as they were.
     fn apply<D: Device>(&mut self, dev: &mut D, request: &Request) -> Result<Reply, Failed>
         requires ready { is_ready self.old }
         requires at { D.told → IsAt (holds self.old) (D.view dev.old) }
         ensures lender { lender self.new ≡ lender self.old }
         ensures ready { OnOk result (is_ready self.new) }
         ensures at { D.told → OnOk result (IsAt (holds self.new) (D.view dev.new)) }
+        ensures spent { OnErr result (is_spent self.new) }
         ensures form { IfOk result HasForm }
         ensures given { D.told → IfOk result (λ r. rules.gives (state self.old (D.view dev.old).reads) request.now r (state self.new (D.view dev.new).reads)) }
         ensures sent { D.told → (D.view dev.new).sent ≡ (D.view dev.old).sent }
         ensures any_moment { D.told → LeavesOnly (D.view dev.old) (D.view dev.new) (λ x f. IsBeforeOrAfter rules (state self.old (D.view dev.old).reads) request.now x × (f ≡ (D.view dev.old).sent)) }
         ensures debt { D.told → work.bounded request.now → LeavesOnly (D.view dev.old) (D.view dev.new) (λ x f. (work.debt x ≤ work.debt (D.view dev.old).reads + work.made (state self.old (D.view dev.old).reads) request.now) × (f ≡ (D.view dev.old).sent)) }
-        ensures paid { D.told → work.bounded request.now → OnOk result (used (owed self.new (D.view dev.new).reads) (D.view dev.new) ≤ used (owed self.old (D.view dev.old).reads) (D.view dev.old) + work.cost (state self.old (D.view dev.old).reads) request.now) }
-        ensures most { D.told → work.bounded request.now → (D.view dev.new).writes ≤ used (owed self.old (D.view dev.old).reads) (D.view dev.old) + work.cost (state self.old (D.view dev.old).reads) request.now }
+        ensures paid { D.told → work.bounded request.now → OnOk result (used (due self.new (D.view dev.new).reads) (D.view dev.new) ≤ used (due self.old (D.view dev.old).reads) (D.view dev.old) + work.cost (state self.old (D.view dev.old).reads) request.now) }
+        ensures most { D.told → work.bounded request.now → (D.view dev.new).writes ≤ used (due self.old (D.view dev.old).reads) (D.view dev.old) + work.cost (state self.old (D.view dev.old).reads) request.now }
         ensures works { Works (D.view dev.old) (D.view dev.new) }
         ensures faultless { OnOk result ((D.view dev.new).faults ≡ (D.view dev.old).faults) }
         ensures cause { OnErr result (Rose (D.view dev.old).faults (D.view dev.new).faults) };
 
-    /// Does some of what is left to be done; true where more is. The state stays. `Failed` comes only where `faults` rose;
-    /// else they are as they were.
+    /// Does some of what is left to be done; true where more is left, where the disk tells. The state stays. `Failed` comes
+    /// only where `faults` rose, and it is spent then; else they are as they were.
     fn settle_some<D: Device>(&mut self, dev: &mut D) -> Result<bool, Failed>
         requires ready { is_ready self.old }
         requires at { D.told → IsAt (holds self.old) (D.view dev.old) }
         ensures lender { lender self.new ≡ lender self.old }
         ensures ready { OnOk result (is_ready self.new) }
         ensures at { D.told → OnOk result (IsAt (holds self.new) (D.view dev.new)) }
+        ensures spent { OnErr result (is_spent self.new) }
         ensures state { D.told → OnOk result (state self.new (D.view dev.new).reads ≡ state self.old (D.view dev.old).reads) }
         ensures sent { D.told → (D.view dev.new).sent ≡ (D.view dev.old).sent }
         ensures any_moment { D.told → LeavesOnly (D.view dev.old) (D.view dev.new) (λ x f. rules.stands (state self.old (D.view dev.old).reads) x × (f ≡ (D.view dev.old).sent)) }
         ensures debt { D.told → LeavesOnly (D.view dev.old) (D.view dev.new) (λ x f. (work.debt x ≤ work.debt (D.view dev.old).reads) × (f ≡ (D.view dev.old).sent)) }
+        ensures more { D.told → IfOk result (λ more. IsTrue more ↔ (0 < work.debt (D.view dev.new).reads)) }
         // It does four, or all that is left.
         ensures less { D.told → OnOk result (work.debt (D.view dev.new).reads ≤ work.debt (D.view dev.old).reads - 4) }
-        ensures paid { D.told → OnOk result (used (owed self.new (D.view dev.new).reads) (D.view dev.new) ≤ used (owed self.old (D.view dev.old).reads) (D.view dev.old)) }
-        ensures most { D.told → (D.view dev.new).writes ≤ used (owed self.old (D.view dev.old).reads) (D.view dev.old) }
+        ensures paid { D.told → OnOk result (used (due self.new (D.view dev.new).reads) (D.view dev.new) ≤ used (due self.old (D.view dev.old).reads) (D.view dev.old)) }
+        ensures most { D.told → (D.view dev.new).writes ≤ used (due self.old (D.view dev.old).reads) (D.view dev.old) }
         ensures works { Works (D.view dev.old) (D.view dev.new) }
         ensures faultless { OnOk result ((D.view dev.new).faults ≡ (D.view dev.old).faults) }
         ensures cause { OnErr result (Rose (D.view dev.old).faults (D.view dev.new).faults) };
 
-    /// Does all that is left to be done. The state stays. `Failed` comes only where `faults` rose; else they are as they
-    /// were.
+    /// Does all that is left to be done. The state stays. `Failed` comes only where `faults` rose, and it is spent
+    /// then; else they are as they were.
     fn close<D: Device>(&mut self, dev: &mut D) -> Result<(), Failed>
         requires ready { is_ready self.old }
         requires at { D.told → IsAt (holds self.old) (D.view dev.old) }
         ensures lender { lender self.new ≡ lender self.old }
         ensures ready { OnOk result (is_ready self.new) }
         ensures at { D.told → OnOk result (IsAt (holds self.new) (D.view dev.new)) }
+        ensures spent { OnErr result (is_spent self.new) }
         ensures state { D.told → OnOk result (state self.new (D.view dev.new).reads ≡ state self.old (D.view dev.old).reads) }
         ensures closed { D.told → OnOk result (is_closed (D.view dev.new).reads) }
         ensures sent { D.told → (D.view dev.new).sent ≡ (D.view dev.old).sent }
         ensures any_moment { D.told → LeavesOnly (D.view dev.old) (D.view dev.new) (λ x f. rules.stands (state self.old (D.view dev.old).reads) x × (f ≡ (D.view dev.old).sent)) }
         ensures debt { D.told → LeavesOnly (D.view dev.old) (D.view dev.new) (λ x f. (work.debt x ≤ work.debt (D.view dev.old).reads) × (f ≡ (D.view dev.old).sent)) }
-        ensures paid { D.told → OnOk result (used (owed self.new (D.view dev.new).reads) (D.view dev.new) ≤ used (owed self.old (D.view dev.old).reads) (D.view dev.old)) }
-        ensures most { D.told → (D.view dev.new).writes ≤ used (owed self.old (D.view dev.old).reads) (D.view dev.old) }
+        ensures paid { D.told → OnOk result (used (due self.new (D.view dev.new).reads) (D.view dev.new) ≤ used (due self.old (D.view dev.old).reads) (D.view dev.old)) }
+        ensures most { D.told → (D.view dev.new).writes ≤ used (due self.old (D.view dev.old).reads) (D.view dev.old) }
         ensures works { Works (D.view dev.old) (D.view dev.new) }
         ensures faultless { OnOk result ((D.view dev.new).faults ≡ (D.view dev.old).faults) }
         ensures cause { OnErr result (Rose (D.view dev.old).faults (D.view dev.new).faults) };

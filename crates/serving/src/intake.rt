@@ -27,8 +27,7 @@ pub enum Next<Q> {
     TooLong,
 }
 
-/// Takes an input piece by piece, and hands out its requests one by one. It takes more only where what it holds has no
-/// whole request.
+/// Takes an input piece by piece, and hands out its requests one by one.
 #[derive(Drop)]
 pub struct Intake {
     /// The last bytes that were taken.

@@ -14,7 +14,7 @@
 //! (`specs/Costs.antt`); and how much was left to be done in each image that a crash may have left (`specs/Debts.antt`).
 //! A count of faults rose only where the status is that fault's.
 //!
-//! No call takes memory. That the answers come in time is shown by the code and no clause; that none is late is: where a
+//! The loop takes no memory; what carries out the requests may. That the answers come in time is shown by the code and no clause; that none is late is: where a
 //! take fails, every whole request before is answered.
 #![tactic(auto)]
 

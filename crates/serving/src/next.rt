@@ -29,7 +29,7 @@ impl Intake {
         }
     }
 
-    /// What comes next. A request is handed out before more bytes are taken.
+    /// What comes next. That a request is handed out before more bytes are taken is shown by the code, and no clause says it.
     pub fn next<S: Source, R: Protocol>(
         &mut self,
         protocol: &mut R,

@@ -29,15 +29,17 @@ impl<'a, H: Handler> Handler for Lent<'a, H> {
 
     ghost is_ready = { λ h. H.is_ready h.handler.now };
 
+    ghost is_spent = { λ h. H.is_spent h.handler.now };
+
     ghost holds = { λ h x. H.holds h.handler.now x };
 
     ghost state = { λ h x. H.state h.handler.now x };
 
-    ghost owed = { λ h x. H.owed h.handler.now x };
+    ghost due = { λ h x. H.due h.handler.now x };
 
     ghost is_closed = { H.is_closed };
 
-    ghost lender = { H.lender };
+    ghost lender = { λ h. h.handler.ghost_name };
 
     ghost stands_now = { λ h x e. H.stands_now h.handler.now x e };
 
@@ -69,8 +71,9 @@ pub fn serve_lent_lines<S: Source, P: Port, H: Handler>(
     requires fresh { WasFed [] cutter.old }
     requires ready { H.is_ready handler.old }
     requires at { P.told → IsAt (H.holds handler.old) (P.view port.old) }
-    ensures ran { (final : H.rules.States) × Ran result (spoken H.rules line_voice) H.work line_spelling (H.state handler.old (P.view port.old).reads) final limit (Came S.told (S.taken source.old) (S.taken source.new) (S.left_bytes source.old) (S.left_bytes source.new)) (IsAtEnd S.told (S.ended source.new) (S.left_bytes source.new)) P.told (H.owed handler.old (P.view port.old).reads) (P.view port.old) (P.view port.new)
+    ensures ran { (final : H.rules.States) × Ran result (spoken H.rules line_voice) H.work line_spelling (H.state handler.old (P.view port.old).reads) final limit (Came S.told (S.taken source.old) (S.taken source.new) (S.left_bytes source.old) (S.left_bytes source.new)) (IsAtEnd S.told (S.ended source.new) (S.left_bytes source.new)) P.told (H.due handler.old (P.view port.old).reads) (P.view port.old) (P.view port.new)
         × (result ≡ Status.Done → P.told → IsFirm (P.view port.new) × H.rules.stands final (P.view port.new).reads × H.is_closed (P.view port.new).reads) }
+    ensures spent { result ≡ Status.DeviceFault → H.is_spent handler.new }
     ensures put_fault { result ≡ Status.PutFault → Rose (P.view port.old).put_faults (P.view port.new).put_faults }
 {
     let mut lent = Lent { handler, number };

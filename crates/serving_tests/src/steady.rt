@@ -18,11 +18,13 @@ impl Handler for Steady {
 
     ghost is_ready = { λ h. Unit {0} };
 
+    ghost is_spent = { λ h. Unit {0} };
+
     ghost holds = { λ h x. Unit {0} };
 
     ghost state = { λ h x. tt };
 
-    ghost owed = { λ h x. 0 };
+    ghost due = { λ h x. 0 };
 
     ghost is_closed = { λ x. Unit {0} };
 

@@ -1,6 +1,6 @@
 //! The two loops, over a disk that is open.
 
-ghost use Rattle.std.specs.Prelude.{◌≡◌, ◌≢◌, ◌≤◌, []};
+ghost use Rattle.std.specs.Prelude.{◌≡◌, ◌≢◌, ◌≤◌, [], true};
 ghost use Rattle.image_device.specs.Counts.{Rose};
 ghost use Rattle.core_server.specs.Server.{disk_rules, disk_work, placed_on};
 ghost use Rattle.request_frames.specs.Cutting.{WasFed as WasFedFrames};
@@ -42,9 +42,10 @@ pub fn serve_lines<S: Source, P: Port>(
     // What came in and what was sent, by status; and where the device tells, what a crash at any moment may have left, how
     // many writes there were, and how much was left to be done.
     ensures ran { Ran result (spoken disk_rules line_voice) disk_work line_spelling (placed_on place.now.kind core.old (P.view port.old).reads) (placed_on place.now.kind core.new (P.view port.new).reads) limit (Came S.told (S.taken source.old) (S.taken source.new) (S.left_bytes source.old) (S.left_bytes source.new)) (IsAtEnd S.told (S.ended source.new) (S.left_bytes source.new)) P.told (due core.old.volume) (P.view port.old) (P.view port.new) }
-    // Unless the device failed, the core may be used again.
+    // Unless the device failed, the core may be used again; else it is spent.
     ensures ready { result ≢ Status.DeviceFault → IsReady core.new }
     ensures at { result ≢ Status.DeviceFault → P.told → IsAt core.new (P.view port.new) }
+    ensures spent { result ≡ Status.DeviceFault → core.new.volume.is_spent ≡ true }
     ensures closed { result ≡ Status.Done → P.told → IsQuiet (P.view port.new).reads }
     // A count of faults rose only where the status is that fault's.
     ensures source_fault { result ≡ Status.SourceFault → Rose (S.faults source.old) (S.faults source.new) }
@@ -74,6 +75,7 @@ pub fn serve_frames<S: Source, P: Port>(
     ensures ran { Ran result (spoken disk_rules frame_voice) disk_work frame_spelling (placed_on place.now.kind core.old (P.view port.old).reads) (placed_on place.now.kind core.new (P.view port.new).reads) limit (Came S.told (S.taken source.old) (S.taken source.new) (S.left_bytes source.old) (S.left_bytes source.new)) (IsAtEnd S.told (S.ended source.new) (S.left_bytes source.new)) P.told (due core.old.volume) (P.view port.old) (P.view port.new) }
     ensures ready { result ≢ Status.DeviceFault → IsReady core.new }
     ensures at { result ≢ Status.DeviceFault → P.told → IsAt core.new (P.view port.new) }
+    ensures spent { result ≡ Status.DeviceFault → core.new.volume.is_spent ≡ true }
     ensures closed { result ≡ Status.Done → P.told → IsQuiet (P.view port.new).reads }
     ensures source_fault { result ≡ Status.SourceFault → Rose (S.faults source.old) (S.faults source.new) }
     ensures device_fault { result ≡ Status.DeviceFault → Rose (P.view port.old).faults (P.view port.new).faults }

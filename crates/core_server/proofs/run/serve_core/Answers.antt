@@ -1,4 +1,4 @@
-use Rattle.std.proofs.Common.{sym, subst}
+use Rattle.std.proofs.Common.{◌≡◌, true, sym, subst}
 use Rattle.serving.specs.Ran.{Came, IsAtEnd, Ran}
 use Rattle.serving.specs.Voice.{spoken}
 use Rattle.tsd_core.specs.Core.{Core, IsAt, IsReady, state_on}
@@ -23,6 +23,9 @@ returns-clause-ran g c =
 
 pub returns-clause-ready : goal.returns-clause-ready
 returns-clause-ready g c other = subst (λ (d : Core). IsReady d) (sym (c.core-1.given.1 (sym c.serve.ensures.lender))) (c.serve.ensures.ready other)
+
+pub returns-clause-spent : goal.returns-clause-spent
+returns-clause-spent g c failed = subst (λ (d : Core). d.volume.is_spent ≡ true) (sym (c.core-1.given.1 (sym c.serve.ensures.lender))) (c.serve.ensures.spent failed)
 
 pub returns-clause-at : goal.returns-clause-at
 returns-clause-at g c other told = subst (λ (d : Core). IsAt d (g.P.Device.view c.serve.new.port)) (sym (c.core-1.given.1 (sym c.serve.ensures.lender))) (c.serve.ensures.at other told)

@@ -20,7 +20,7 @@ invariant-loop-request g l =
       goes : (bytes : List ℕ) × (qs : List g.row.R-Request.Denot)
           × Came g.S.Source.told (g.S.Source.taken before) (g.S.Source.taken l.source) (g.S.Source.left_bytes before) (g.S.Source.left_bytes l.source) bytes
           × Handed g.R.Protocol.spelling (λ x. g.R.Protocol.was_fed x l.protocol) (IsAtEnd g.S.Source.told (g.S.Source.ended l.source) (g.S.Source.left_bytes l.source)) l.intake bytes qs
-          × (g.P.Device.told → Goes g.H.Server.service g.H.Server.work (g.H.Server.state l.initial.server start.reads) (g.H.Server.owed l.initial.server start.reads) start qs (g.H.Server.state l.server (view l.port).reads) (g.H.Server.owed l.server (view l.port).reads) (view l.port));
+          × (g.P.Device.told → Goes g.H.Server.service g.H.Server.work (g.H.Server.state l.initial.server start.reads) (g.H.Server.due l.initial.server start.reads) start qs (g.H.Server.state l.server (view l.port).reads) (g.H.Server.due l.server (view l.port).reads) (view l.port));
     }
 
 abbrev pub decreases-loop-request : goal.decreases-loop-request

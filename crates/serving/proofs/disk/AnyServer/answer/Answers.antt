@@ -10,7 +10,7 @@ returns-in-Err-clause-any_moment g c told = any_applied g.H.Handler.rules g.R.Re
 pub returns-then-is_err-clause-left : goal.returns-then-is_err-clause-left
 returns-then-is_err-clause-left g c told =
     let part = where_err c.put_reply.result c.is_err.result c.if-is_err.true c.is_err.ensures.value (c.put_reply.ensures.part told) in
-    put_failed g.H.Handler.rules g.R.Replies.voice _ c.args.request.now _ _ c.in-Ok.reply _ (c.in-Ok.ensures.given told) part.0 part.1 (part.2 ∙ ap (λ l. l ++ take part.0 (g.R.Replies.voice.text c.in-Ok.reply)) (c.apply.ensures.sent told))
+    put_failed g.H.Handler.rules g.R.Replies.voice _ c.args.request.now _ _ c.in-Ok.reply _ _ (c.in-Ok.ensures.given told) (ap (λ x. g.H.Handler.state c.apply.new.self x) (c.put_reply.ensures.reads told)) part.0 part.1 (part.2 ∙ ap (λ l. l ++ take part.0 (g.R.Replies.voice.text c.in-Ok.reply)) (c.apply.ensures.sent told))
 
 pub returns-then-is_err-clause-any_moment : goal.returns-then-is_err-clause-any_moment
 returns-then-is_err-clause-any_moment g c told =

@@ -23,7 +23,7 @@ returns-in-Some-clause-found g c bytes qs was =
 pub returns-then-self-2-clause-found : goal.returns-then-self-2-clause-found
 returns-then-self-2-clause-found g c bytes qs was =
     let r = c.loop-request.invariant.reads bytes qs was in
-    (r.0, r.1, found_long g.R.Protocol.spelling _ (Unit {0}) c.read_held.new.self (bytes ++ r.0) qs (none_read g.R.Protocol.spelling _ _ _ qs (c.in-None.ensures.handed (bytes ++ r.0) qs r.2)) (c.in-None.ensures.all refl) c.if-self-2.true)
+    (r.0, r.1, found_long g.R.Protocol.spelling _ (Unit {0}) c.read_held.new.self (bytes ++ r.0) qs (none_read g.R.Protocol.spelling _ _ _ qs (c.in-None.ensures.handed (bytes ++ r.0) qs r.2)) (c.in-None.ensures.all refl) c.if-self-2.true c.read_held.new.self.few)
 
 pub returns-in-Err-clause-found : goal.returns-in-Err-clause-found
 returns-in-Err-clause-found g c bytes qs was =
