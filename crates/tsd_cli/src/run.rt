@@ -19,6 +19,7 @@ const MEMORY: &str = "-";
 
 /// The commands that make an image where there was none.
 const FRESH: &str = "fresh";
+
 const FORMAT: &str = "format";
 
 /// Does what the words say, and ends with a status. A status that isn't Done is told in a line of errors. Where a call on
