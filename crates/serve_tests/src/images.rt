@@ -50,10 +50,10 @@ pub fn refused(rt: &impl Abort, alloc: Global, book: &PlaceBook) -> Result<(), F
 }
 
 /// Frames: session 1 is opened, and the free blocks are asked for; and then a byte of a frame that doesn't come.
-const FRAMES: [u8; 11] = *b"\x05\0\x01\x01\0\0\0\x01\0\x07\x05";
+pub const FRAMES: [u8; 11] = *b"\x05\0\x01\x01\0\0\0\x01\0\x07\x05";
 
 /// The frames of the replies: done, and 7 are free.
-const ANSWERS: [u8; 10] = *b"\x01\0\x01\x05\0\x04\x07\0\0\0";
+pub const ANSWERS: [u8; 10] = *b"\x01\0\x01\x05\0\x04\x07\0\0\0";
 
 /// Requests in frames, whole, and with one that is cut off.
 pub fn framed(rt: &impl Abort, alloc: Global, book: &PlaceBook) -> Result<(), Fail> {
@@ -138,5 +138,34 @@ pub fn stops(rt: &impl Abort, alloc: Global, book: &PlaceBook) -> Result<(), Fai
         }
     }
     assert!(rt; false, "it is never done");
+    Ok(())
+}
+
+/// The commands that take no input, and what each sends: the capabilities are the first words of the seed's stream, and the one
+/// request of the load opens a session.
+const COMMANDS: [(&str, &str); 5] = [
+    (
+        "format 64 1 256 2 0000000000000000000000000000000000000000000000000000000000000000",
+        "cap 0 76b8e0ada0f13d90405d6ae55386bd28 bdd219b8a08ded1aa836efcc8b770dc7/cap 1 da41597c5157488d7724e03fb8d84a37 6a43b8f41518a11cc387b669b2ee6586/",
+    ),
+    ("check", "clean 2 62 0/"),
+    (
+        "load 0000000000000000000000000000000000000000000000000000000000000000 1 zone",
+        "load 1 granted 1 refused 0 free 62 pointers 0/",
+    ),
+    ("upgrade", "version 2/"),
+    ("check", "clean 2 62 0/"),
+];
+
+/// The commands one after another, over one image.
+pub fn commands(rt: &impl Abort, alloc: Global, book: &PlaceBook) -> Result<(), Fail> {
+    let mut port = MemStation::new(alloc, Vec::new(alloc));
+    let mut wanted = Vec::new(alloc);
+    for (words, lines) in COMMANDS {
+        wanted.extend_from_slice(spelled(alloc, lines)?.as_slice())?;
+        let status = run_over(alloc, book, (words, ""), &mut port)?;
+        assert_eq!(rt; status, Status::Done);
+        assert_eq!(rt; port.sent(), wanted.as_slice());
+    }
     Ok(())
 }

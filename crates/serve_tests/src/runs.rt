@@ -105,8 +105,8 @@ const RUNS: [(&str, &str, &str); 20] = [
     ),
 ];
 
-/// Words that are no command, or none that is built.
-const FAULTY: [&str; 18] = [
+/// Words that are no command. A seed has 64 digits.
+const FAULTY: [&str; 22] = [
     "",
     "fresh",
     "fresh 7 1 R W near",
@@ -123,8 +123,12 @@ const FAULTY: [&str; 18] = [
     "fresh 8 1 R W near near",
     "fresher 8 1 R W near",
     "run nearer",
-    "check",
-    "upgrade",
+    "check now",
+    "upgrades",
+    "format 64 1 256 2 RR0",
+    "format 64 1 256 17 RR",
+    "load RR 0 zone",
+    "load RR 200001 zone",
 ];
 
 /// One run, its input cut into pieces of this size.
