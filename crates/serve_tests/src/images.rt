@@ -50,10 +50,10 @@ pub fn refused(rt: &impl Abort, alloc: Global, book: &PlaceBook) -> Result<(), F
 }
 
 /// Frames: session 1 is opened, and the free blocks are asked for; and then a byte of a frame that doesn't come.
-pub const FRAMES: [u8; 11] = *b"\x05\0\x01\x01\0\0\0\x01\0\x07\x05";
+const FRAMES: [u8; 11] = *b"\x05\0\x01\x01\0\0\0\x01\0\x07\x05";
 
 /// The frames of the replies: done, and 7 are free.
-pub const ANSWERS: [u8; 10] = *b"\x01\0\x01\x05\0\x04\x07\0\0\0";
+const ANSWERS: [u8; 10] = *b"\x01\0\x01\x05\0\x04\x07\0\0\0";
 
 /// Requests in frames, whole, and with one that is cut off.
 pub fn framed(rt: &impl Abort, alloc: Global, book: &PlaceBook) -> Result<(), Fail> {
