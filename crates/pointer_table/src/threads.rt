@@ -26,8 +26,8 @@ pub(crate) struct Threads {
     /// For each slot that holds a pair the slot of the next pair of its group.
     pub next: Vec<u32>,
 
-    /// For each group the slot that was last added at its end, where that is kept. A wrong one costs time alone.
-    ends: Vec<u32>,
+    /// For each group a slot where a walk may begin, where that is kept: that of the last change. A wrong one costs time alone.
+    recent: Vec<u32>,
 }
 
 /// Whether the pair of a slot is below a rank.
@@ -144,28 +144,28 @@ impl Threads {
 }
 
 impl Threads {
-    /// Threads of no slot, with room for so many groups and slots. The ends of the groups are kept where that is wanted.
+    /// Threads of no slot, with room for so many groups and slots. Slots where walks may begin are kept where that is wanted.
     pub(crate) fn none(
         alloc: Global,
         way: Way,
         groups: usize,
         slots: usize,
-        with_ends: bool,
+        with_recent: bool,
     ) -> Result<Threads, TableFault>
         ensures way { IfOk result (λ t. t.way ≡ way) }
         ensures heads { IfOk result (λ t. t.heads.items ≡ replicate groups no_link) }
         ensures next { IfOk result (λ t. length t.next.items ≡ slots) }
         ensures err { IfErr result (λ e. e ≡ TableFault.NoMemory) }
     {
-        let ends = if with_ends { groups } else { 0 };
+        let recent = if with_recent { groups } else { 0 };
         let heads = links(alloc, groups)?;
         let next = links(alloc, slots)?;
-        let ends = links(alloc, ends)?;
+        let recent = links(alloc, recent)?;
         Ok(Threads {
             way,
             heads,
             next,
-            ends,
+            recent,
         })
     }
 
@@ -201,9 +201,9 @@ impl Threads {
         ensures slots { length self.new.next.items ≡ length self.old.next.items }
     {
         let of = self.group(source, target);
-        let before = self.before(slots, of, rank(source, target), self.end(of));
-        let link = self.put(of, before, place);
-        self.keep_end(of, link, place);
+        let before = self.before(slots, of, rank(source, target), self.recent(of));
+        self.put(of, before, place);
+        self.remember(of, Some(place));
     }
 
     /// Takes a pair out of the threads, while its slot still holds it.
@@ -218,10 +218,10 @@ impl Threads {
         ensures slots { length self.new.next.items ≡ length self.old.next.items }
     {
         let of = self.group(source, target);
-        let before = self.before(slots, of, rank(source, target), NO_LINK);
+        let before = self.before(slots, of, rank(source, target), self.recent(of));
         let link = self.after(of, Some(place));
         self.set_after(of, before, link);
-        self.keep_end(of, link, before.unwrap_or(NO_LINK));
+        self.remember(of, before);
     }
 
     /// Threads the pair of a slot, which is below all pairs of its group that are threaded.
@@ -240,28 +240,39 @@ impl Threads {
     {
         let of = self.group(source, target);
         let link = self.put(of, None, place);
-        self.keep_end(of, link, place);
+        self.remember_end(of, link, place);
     }
 
-    /// The end of a group, where that is kept.
-    fn end(&self, of: usize) -> u32 {
-        match self.ends.get(of) {
+    /// A slot where a walk through a group may begin, where one is kept.
+    fn recent(&self, of: usize) -> u32 {
+        match self.recent.get(of) {
             Some(place) => *place,
             None => NO_LINK,
         }
     }
 
-    /// Keeps a slot as the end of a group, where ends are kept and no link leads on from it.
-    fn keep_end(&mut self, of: usize, link: u32, place: u32)
+    /// Keeps a slot for the next walk through a group, where such slots are kept.
+    fn remember(&mut self, of: usize, place: Option<u32>)
         ensures way { self.new.way ≡ self.old.way }
         ensures heads { self.new.heads.items ≡ self.old.heads.items }
         ensures next { self.new.next.items ≡ self.old.next.items }
     {
-        if link != NO_LINK {
+        let Some(place) = place else {
             return;
+        };
+        if let Some(recent) = self.recent.get_mut(of) {
+            *recent = place;
         }
-        if let Some(end) = self.ends.get_mut(of) {
-            *end = place;
+    }
+
+    /// Keeps a slot for the next walk through a group, where no link leads on from it.
+    fn remember_end(&mut self, of: usize, link: u32, place: u32)
+        ensures way { self.new.way ≡ self.old.way }
+        ensures heads { self.new.heads.items ≡ self.old.heads.items }
+        ensures next { self.new.next.items ≡ self.old.next.items }
+    {
+        if link == NO_LINK {
+            self.remember(of, Some(place));
         }
     }
 }

@@ -6,7 +6,7 @@ use Rattle.pointer_table.proofs.threads.Threads.add_first.Goals as goal
 pub returns : goal.returns
 returns c =
     let t = c.args.self.now in
-    let u = c.keep_end.new.self in
+    let u = c.remember_end.new.self in
     let of = c.group-of.result in
     record {
       threads = λ held now more least threads.
@@ -14,10 +14,10 @@ returns c =
           c.args.place of (rank (c.args.source, c.args.target)) (c.args.source, c.args.target) None
           threads more (λ k same. let low = least k (c.args.source, c.args.target) same in omega arith) c.ranges.target.fits c.requires.place c.requires.link c.requires.group
           c.group-of.ensures refl (λ j f m. let low = least j f m.here in omega arith)
-          (c.keep_end.ensures.heads ∙ c.put-link.ensures.heads) (c.keep_end.ensures.next ∙ c.put-link.ensures.next)
-          (c.keep_end.ensures.way ∙ c.put-link.ensures.way);
-      way = c.keep_end.ensures.way ∙ c.put-link.ensures.way;
-      groups = heads_as_many t.heads.items u.heads.items of None c.args.place (c.keep_end.ensures.heads ∙ c.put-link.ensures.heads);
+          (c.remember_end.ensures.heads ∙ c.put-link.ensures.heads) (c.remember_end.ensures.next ∙ c.put-link.ensures.next)
+          (c.remember_end.ensures.way ∙ c.put-link.ensures.way);
+      way = c.remember_end.ensures.way ∙ c.put-link.ensures.way;
+      groups = heads_as_many t.heads.items u.heads.items of None c.args.place (c.remember_end.ensures.heads ∙ c.put-link.ensures.heads);
       slots = next_as_many_put t.next.items u.next.items c.args.place (after t.heads.items t.next.items of None) None c.args.place
-          (c.keep_end.ensures.next ∙ c.put-link.ensures.next);
+          (c.remember_end.ensures.next ∙ c.put-link.ensures.next);
     }
