@@ -6,6 +6,7 @@ ghost use Rattle.tsd_model.specs.declared.requests.PlaceKind.TheVariants.{Low, N
 
 use crate::asking::expect;
 use crate::disks::{formatted, opened, sized, upgrade};
+use image_device::MemStation;
 use place_policy::{Placement, ZONE_TURNS, low_rank, near_rank, spread_rank, zone_rank};
 use std::alloc::Global;
 use std::process::Abort;
@@ -205,6 +206,23 @@ const WAYS: [Way; 4] = [
     },
 ];
 
+/// Opens the disk and asks, in one way.
+fn check_once(
+    rt: &impl Abort,
+    alloc: Global,
+    place: &Placement,
+    station: &mut MemStation,
+    texts: (&str, &str),
+    way: &Way,
+) -> Result<(), Fail> {
+    let mut core = opened(alloc, station)?;
+    expect(rt, alloc, &mut core, station, place, texts, way.settles)?;
+    if way.closes {
+        core.close(station)?;
+    }
+    Ok(())
+}
+
 /// Asks what a row says in one way, opens the disk again, and asks again.
 fn check(
     rt: &impl Abort,
@@ -214,35 +232,12 @@ fn check(
     row: &Row,
     way: &Way,
 ) -> Result<(), Fail> {
-    let first = (row.asked, row.told);
-    let second = (row.again, row.told_again);
     let mut station = formatted(alloc, size)?;
     if way.upgrades {
         upgrade(alloc, &mut station)?;
     }
-    let mut core = opened(alloc, &mut station)?;
-    expect(
-        rt,
-        alloc,
-        &mut core,
-        &mut station,
-        place,
-        first,
-        way.settles,
-    )?;
-    if way.closes {
-        core.close(&mut station)?;
-    }
-    let mut core = opened(alloc, &mut station)?;
-    expect(
-        rt,
-        alloc,
-        &mut core,
-        &mut station,
-        place,
-        second,
-        way.settles,
-    )
+    check_once(rt, alloc, place, &mut station, (row.asked, row.told), way)?;
+    check_once(rt, alloc, place, &mut station, (row.again, row.told_again), way)
 }
 
 /// A row in each way.
