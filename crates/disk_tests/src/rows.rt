@@ -237,7 +237,14 @@ fn check(
         upgrade(alloc, &mut station)?;
     }
     check_once(rt, alloc, place, &mut station, (row.asked, row.told), way)?;
-    check_once(rt, alloc, place, &mut station, (row.again, row.told_again), way)
+    check_once(
+        rt,
+        alloc,
+        place,
+        &mut station,
+        (row.again, row.told_again),
+        way,
+    )
 }
 
 /// A row in each way.
