@@ -10,7 +10,3 @@ mod asking;
 mod disks;
 #[cfg(test)]
 mod rows;
-#[cfg(test)]
-mod stops;
-#[cfg(test)]
-mod writes;
