@@ -1,7 +1,6 @@
 //! The two loops over a disk that is open, one after the other.
 
-use crate::images::{ANSWERS, FRAMES};
-use crate::spelled::{run_over, spelled};
+use crate::spelled::{NEVER, WHOLE, packed, run_over, spelled};
 use image_device::{MemSource, MemStation};
 use image_opening::open_core;
 use place_policy::PlaceBook;
@@ -13,10 +12,23 @@ use std::test::Fail;
 use tsd_model::PlaceKind;
 use tsd_serve::{INPUT_MAX, Status, serve_frames, serve_lines};
 
+/// Frames: session 1 is opened, and the free blocks are asked for.
+const FRAMES: &str = "0500 01 01000000 0100 07";
+
+/// The frames of the replies: done, and 7 are free.
+const ANSWERS: &str = "0100 01 0500 04 07000000";
+
 /// Lines, and then frames, over one core.
 pub fn loops(rt: &impl Abort, alloc: Global, book: &PlaceBook) -> Result<(), Fail> {
     let mut port = MemStation::new(alloc, Vec::new(alloc));
-    let status = run_over(alloc, book, ("fresh 8 1 R W near", ""), &mut port)?;
+    let status = run_over(
+        alloc,
+        book,
+        ("fresh 8 1 R W near", ""),
+        WHOLE,
+        NEVER,
+        &mut port,
+    )?;
     assert_eq!(rt; status, Status::Done);
     match open_core(alloc, &mut port) {
         Ok(mut core) => {
@@ -34,7 +46,7 @@ pub fn loops(rt: &impl Abort, alloc: Global, book: &PlaceBook) -> Result<(), Fai
             assert_eq!(rt; status, Status::Done);
             let mut wanted = spelled(alloc, "ok/free 7/")?;
             assert_eq!(rt; port.sent(), wanted.as_slice());
-            let mut source = MemSource::new(FRAMES[..10].to_vec(alloc)?, 3, Vec::new(alloc));
+            let mut source = MemSource::new(packed(alloc, FRAMES)?, 3, Vec::new(alloc));
             let mut frames = FrameCutter::new(alloc)?;
             let status = serve_frames(
                 &mut core,
@@ -45,7 +57,7 @@ pub fn loops(rt: &impl Abort, alloc: Global, book: &PlaceBook) -> Result<(), Fai
                 INPUT_MAX,
             );
             assert_eq!(rt; status, Status::Done);
-            wanted.extend_from_slice(ANSWERS.as_slice())?;
+            wanted.extend_from_slice(packed(alloc, ANSWERS)?.as_slice())?;
             assert_eq!(rt; port.sent(), wanted.as_slice());
         }
         Err(_) => assert!(rt; false, "it isn't opened"),
