@@ -55,18 +55,6 @@ const STOPS: [Stop; 7] = [
         early: "free 30/|free 63/",
         late: "free 63/",
     },
-    // A block is written.
-    Stop {
-        before: ("fresh 8 1 R W near", ""),
-        run: (
-            "run near",
-            "open 1/write 1 0 R 6869/read 1 0 R/write 1 0 W 686900/read 1 0 R/",
-        ),
-        sent: "ok/no denied read write/data -/ok/",
-        look: "open 1/read 1 0 R/",
-        early: "ok/data -/|ok/data 6869/",
-        late: "ok/data 6869/",
-    },
     // Two blocks that point to each other are swept.
     Stop {
         before: (
@@ -78,6 +66,18 @@ const STOPS: [Stop; 7] = [
         look: "free/",
         early: "free 5/|free 7/",
         late: "free 7/",
+    },
+    // A block is written.
+    Stop {
+        before: ("fresh 8 1 R W near", ""),
+        run: (
+            "run near",
+            "open 1/write 1 0 R 6869/read 1 0 R/write 1 0 W 686900/read 1 0 R/",
+        ),
+        sent: "ok/no denied read write/data -/ok/",
+        look: "open 1/read 1 0 R/",
+        early: "ok/data -/|ok/data 6869/",
+        late: "ok/data 6869/",
     },
     // A block is written, reclaimed and taken again: then it is zero.
     Stop {
@@ -91,6 +91,15 @@ const STOPS: [Stop; 7] = [
         early: "ok/data -/no free-block/|ok/data -/data -/|ok/data -/data 6869/",
         late: "ok/data -/data -/",
     },
+    // An upgrade: each version answers alike.
+    Stop {
+        before: ("fresh 8 1 R W near", ""),
+        run: ("upgrade", ""),
+        sent: "version 2/",
+        look: "open 1/write 1 0 R 6869/write 1 0 W 6869/setcap 1 0 W C D/read 1 0 R/read 1 0 C/",
+        early: "ok/no denied read write/ok/ok/no denied none read/data 6869/",
+        late: "ok/no denied read write/ok/ok/no denied none read/data 6869/",
+    },
     // A chain of 40 blocks is reclaimed in the background, and two blocks are taken.
     Stop {
         before: (
@@ -103,19 +112,7 @@ const STOPS: [Stop; 7] = [
         early: "free 23/|free 63/",
         late: "free 63/|free 61/",
     },
-    // An upgrade: each version answers alike.
-    Stop {
-        before: ("fresh 8 1 R W near", ""),
-        run: ("upgrade", ""),
-        sent: "version 2/",
-        look: "open 1/write 1 0 R 6869/write 1 0 W 6869/setcap 1 0 W C D/read 1 0 R/read 1 0 C/",
-        early: "ok/no denied read write/ok/ok/no denied none read/data 6869/",
-        late: "ok/no denied read write/ok/ok/no denied none read/data 6869/",
-    },
 ];
-
-/// What a stop leaves in the sectors that are loose.
-const PICKS: [Pick; 3] = [Pick::Old, Pick::New, Pick::Torn(1)];
 
 /// More calls than a run makes.
 const CALLS_MAX: u64 = 10_000;
@@ -123,30 +120,29 @@ const CALLS_MAX: u64 = 10_000;
 /// More sectors than a disk has.
 const SECTORS_MAX: u32 = 210;
 
-/// Each run, stopped at each of its calls.
-pub fn stops(rt: &impl Abort, alloc: Global, book: &PlaceBook) -> Result<(), Fail> {
-    for stop in STOPS {
-        let mut disk = MemStation::new(alloc, Vec::new(alloc));
-        let made = run_over(alloc, book, stop.before, WHOLE, NEVER, &mut disk)?;
-        assert_eq!(rt; made, Status::Done);
-        for pick in PICKS {
-            at_each_call(rt, alloc, book, &mut disk, &stop, pick)?;
-        }
+/// How many runs a test stops.
+const SHARE: usize = 3;
+
+/// A share of the runs, each stopped at each of its calls.
+pub fn stops(rt: &impl Abort, alloc: Global, book: &PlaceBook, first: usize) -> Result<(), Fail> {
+    for stop in STOPS.iter().skip(first).take(SHARE) {
+        at_each_call(rt, alloc, book, stop)?;
     }
     Ok(())
 }
 
-/// A run over copies of a disk, stopped at each call from the first one until it is done.
-fn at_each_call(
-    rt: &impl Abort,
-    alloc: Global,
-    book: &PlaceBook,
-    disk: &mut MemStation,
-    stop: &Stop,
-    pick: Pick,
-) -> Result<(), Fail> {
+/// A run over copies of a disk, stopped at each call from the first one until it is done, with one pick after the other.
+fn at_each_call(rt: &impl Abort, alloc: Global, book: &PlaceBook, stop: &Stop) -> Result<(), Fail> {
+    let mut disk = MemStation::new(alloc, Vec::new(alloc));
+    let made = run_over(alloc, book, stop.before, WHOLE, NEVER, &mut disk)?;
+    assert_eq!(rt; made, Status::Done);
     for passes in 0..CALLS_MAX {
-        let mut fuse = FuseStation::new(copy_of(alloc, disk)?, passes, pick);
+        let pick = match passes % 3 {
+            0 => Pick::Old,
+            1 => Pick::New,
+            _ => Pick::Torn(1),
+        };
+        let mut fuse = FuseStation::new(copy_of(alloc, &mut disk)?, passes, pick);
         let status = run_over(alloc, book, stop.run, WHOLE, NEVER, &mut fuse)?;
         let answered = fuse
             .sent()
@@ -178,7 +174,9 @@ fn copy_of(alloc: Global, disk: &mut MemStation) -> Result<MemStation, Fail> {
     for sector in 0..SECTORS_MAX {
         let mut bytes = [0; 512];
         disk.read(sector, &mut bytes)?;
-        copy.poke(sector, &bytes)?;
+        if bytes != [0; 512] {
+            copy.poke(sector, &bytes)?;
+        }
     }
     Ok(copy)
 }

@@ -22,7 +22,7 @@ enum Part {
     Runs,
     Faults,
     Stories,
-    Stops,
+    Stops(usize),
 }
 
 #[test]
@@ -41,8 +41,18 @@ fn runs_over_one_disk(rt: HostRuntime) -> Result<(), Fail> {
 }
 
 #[test]
-fn runs_that_are_stopped(rt: HostRuntime) -> Result<(), Fail> {
-    over_places(&rt, rt.alloc(), Part::Stops)
+fn reclamation_that_is_stopped(rt: HostRuntime) -> Result<(), Fail> {
+    over_places(&rt, rt.alloc(), Part::Stops(0))
+}
+
+#[test]
+fn writes_that_are_stopped(rt: HostRuntime) -> Result<(), Fail> {
+    over_places(&rt, rt.alloc(), Part::Stops(3))
+}
+
+#[test]
+fn reclamation_in_the_background_that_is_stopped(rt: HostRuntime) -> Result<(), Fail> {
+    over_places(&rt, rt.alloc(), Part::Stops(6))
 }
 
 /// One part, over the four placements.
@@ -94,6 +104,6 @@ fn over_places(rt: &impl Abort, alloc: Global, part: Part) -> Result<(), Fail> {
             stories(rt, alloc, &book, WHOLE)?;
             loops(rt, alloc, &book)
         }
-        Part::Stops => stops(rt, alloc, &book),
+        Part::Stops(first) => stops(rt, alloc, &book, first),
     }
 }
