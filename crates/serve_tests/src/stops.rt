@@ -142,30 +142,48 @@ fn at_each_call(rt: &impl Abort, alloc: Global, book: &PlaceBook, stop: &Stop) -
             1 => Pick::New,
             _ => Pick::Torn(1),
         };
-        let mut fuse = FuseStation::new(copy_of(alloc, &mut disk)?, passes, pick);
-        let status = run_over(alloc, book, stop.run, WHOLE, NEVER, &mut fuse)?;
-        let answered = fuse
-            .sent()
-            .starts_with(spelled(alloc, stop.sent)?.as_slice());
-        let allowed = if answered { stop.late } else { stop.early };
-        let mut left = fuse.into_image();
-        let looked = run_over(
-            alloc,
-            book,
-            ("run near", stop.look),
-            WHOLE,
-            NEVER,
-            &mut left,
-        )?;
-        assert_eq!(rt; looked, Status::Done, "{allowed} {passes}");
-        let allows = is_one_of(left.sent(), spelled(alloc, allowed)?.as_slice());
-        assert!(rt; allows, "{allowed} {passes}");
-        if status == Status::Done {
+        let fuse = FuseStation::new(copy_of(alloc, &mut disk)?, passes, pick);
+        if stopped(rt, alloc, book, stop, fuse)? == Status::Done {
             return Ok(());
         }
     }
     assert!(rt; false, "it is never done");
     Ok(())
+}
+
+/// The status of a run that is stopped. The disk that is left is asked.
+fn stopped(
+    rt: &impl Abort,
+    alloc: Global,
+    book: &PlaceBook,
+    stop: &Stop,
+    mut fuse: FuseStation,
+) -> Result<Status, Fail> {
+    let status = run_over(alloc, book, stop.run, WHOLE, NEVER, &mut fuse)?;
+    let answered = fuse
+        .sent()
+        .starts_with(spelled(alloc, stop.sent)?.as_slice());
+    let allowed = if answered { stop.late } else { stop.early };
+    let mut left = fuse.into_image();
+    let looked = run_over(
+        alloc,
+        book,
+        ("run near", stop.look),
+        WHOLE,
+        NEVER,
+        &mut left,
+    )?;
+    assert_eq!(rt; looked, Status::Done, "{allowed}");
+    let allows = is_one_of(left.sent(), spelled(alloc, allowed)?.as_slice());
+    assert!(rt; allows, "{allowed}");
+    assert!(rt;
+        matches!(
+            status,
+            Status::Done | Status::DeviceFault | Status::PutFault
+        ),
+        "{allowed}"
+    );
+    Ok(status)
 }
 
 /// A disk with the same sectors, which has sent nothing.
