@@ -28,7 +28,12 @@ fn eight(rt: &HostRuntime) -> PlainBlocks {
     assert!(*rt; lawful(&geometry));
     assert_eq!(*rt; caps.len(), geometry.primaries as usize);
     let world = World::fresh(rt.alloc(), &geometry, &caps).expect(rt, "ample memory");
-    PlainBlocks::new(rt.alloc(), PlaceKind::Near, world, Sessions::none(rt.alloc()))
+    PlainBlocks::new(
+        rt.alloc(),
+        PlaceKind::Near,
+        world,
+        Sessions::none(rt.alloc()),
+    )
 }
 
 /// Asserts that the disk answers so.

@@ -37,14 +37,27 @@ fn reads(rt: &impl Abort, line: &str, names: &[&str]) {
 
 /// Asserts that the line asks nothing.
 fn is_bad(rt: &impl Abort, kind: ShellKind, line: &str) {
-    assert!(rt; matches!(parse_shell(kind, line.as_bytes()), ShellAsk::Bad), "{line}");
+    assert!(rt;
+        matches!(parse_shell(kind, line.as_bytes()), ShellAsk::Bad),
+        "{line}"
+    );
 }
 
 /// Each command.
 #[test]
 fn commands(rt: HostRuntime) {
-    assert!(rt; matches!(parse_shell(ShellKind::Inode, b"mkfs".as_slice()), ShellAsk::Make));
-    assert!(rt; matches!(parse_shell(ShellKind::Chain, b"df".as_slice()), ShellAsk::Df));
+    assert!(rt;
+        matches!(
+            parse_shell(ShellKind::Inode, b"mkfs".as_slice()),
+            ShellAsk::Make
+        )
+    );
+    assert!(rt;
+        matches!(
+            parse_shell(ShellKind::Chain, b"df".as_slice()),
+            ShellAsk::Df
+        )
+    );
     puts(&rt, "put /a -", &["a"], &[]);
     puts(&rt, "put /a/b 00Ff", &["a", "b"], &[0, 255]);
     reads(&rt, "cat /a", &["a"]);
@@ -83,7 +96,10 @@ fn names_and_paths(rt: HostRuntime) {
     reads(&rt, "cat /--", &["--"]);
     reads(&rt, "cat /.a/_", &[".a", "_"]);
     reads(&rt, "cat /Az09", &["Az09"]);
-    match parse_shell(ShellKind::Inode, b"ls /abcdefghijklmnopqrstuvwxyz-_".as_slice()) {
+    match parse_shell(
+        ShellKind::Inode,
+        b"ls /abcdefghijklmnopqrstuvwxyz-_".as_slice(),
+    ) {
         ShellAsk::Ls { path } => has_names(&rt, &path, &["abcdefghijklmnopqrstuvwxyz-_"]),
         _ => panic!(rt; "28 bytes"),
     }
@@ -92,19 +108,65 @@ fn names_and_paths(rt: HostRuntime) {
         "1", "2", "3", "4", "5", "6", "7", "8", "9", "10", "11", "12", "13", "14", "15", "16",
     ];
     reads(&rt, "cat /1/2/3/4/5/6/7/8/9/10/11/12/13/14/15/16", &names);
-    is_bad(&rt, ShellKind::Inode, "cat /1/2/3/4/5/6/7/8/9/10/11/12/13/14/15/16/17");
+    is_bad(
+        &rt,
+        ShellKind::Inode,
+        "cat /1/2/3/4/5/6/7/8/9/10/11/12/13/14/15/16/17",
+    );
 }
 
 /// What is no line.
 #[test]
 fn malformed_lines(rt: HostRuntime) {
     let table = [
-        "", " ", "mkfs ", " mkfs", "MKFS", "mkfs /", "df /", "df 1", "ls", "ls ", "cat", "rm",
-        "put", "put /a", "put /a ", "put /a  -", "put /a - ", "put /a - -", "put /a 0",
-        "put /a 0g", "put /a 012", "put a -", "put - /a", "append /a", "append /a --", "cat //",
-        "cat /a/", "cat //a", "cat /a//b", "cat a", "cat /.", "cat /..", "cat /-", "cat /a/..",
-        "cat /./a", "cat /a b", "cat /a /b", "cat /a*", "cat /a\n", "cat /\u{e4}", "mkdir",
-        "mkdir /a /b", "cp /a", "cp /a /b /c", "cp /a b", "rm /a ", "stat /a", "catt /a",
+        "",
+        " ",
+        "mkfs ",
+        " mkfs",
+        "MKFS",
+        "mkfs /",
+        "df /",
+        "df 1",
+        "ls",
+        "ls ",
+        "cat",
+        "rm",
+        "put",
+        "put /a",
+        "put /a ",
+        "put /a  -",
+        "put /a - ",
+        "put /a - -",
+        "put /a 0",
+        "put /a 0g",
+        "put /a 012",
+        "put a -",
+        "put - /a",
+        "append /a",
+        "append /a --",
+        "cat //",
+        "cat /a/",
+        "cat //a",
+        "cat /a//b",
+        "cat a",
+        "cat /.",
+        "cat /..",
+        "cat /-",
+        "cat /a/..",
+        "cat /./a",
+        "cat /a b",
+        "cat /a /b",
+        "cat /a*",
+        "cat /a\n",
+        "cat /\u{e4}",
+        "mkdir",
+        "mkdir /a /b",
+        "cp /a",
+        "cp /a /b /c",
+        "cp /a b",
+        "rm /a ",
+        "stat /a",
+        "catt /a",
     ];
     for line in table {
         is_bad(&rt, ShellKind::Inode, line);
