@@ -1,5 +1,10 @@
 //! The requests of a file system.
 
+ghost use Rattle.std.specs.Prelude.{◌≡◌, ◌≤◌, false, length, IfOk};
+ghost use Rattle.tsd_model.specs.declared.replies.Reply.TheVariants as reply;
+ghost use Rattle.fs_port.specs.Calls.{IsCarriedOut};
+ghost use Rattle.fs_asks.specs.Asks.{refusal_of, refusal_in, AsksOnce};
+
 use fs_port::Blocks;
 use fs_trees::FsRefusal;
 use tsd_model::{BlockList, Cap, Data, Hint, Reply, Request, Rule, Shown};
@@ -18,7 +23,9 @@ pub struct Client {
 }
 
 /// What a refusal of the disk is here. No other is given to a request that is granted.
-fn refusal_of(rule: Rule) -> FsRefusal {
+fn refusal_of(rule: Rule) -> FsRefusal
+    ensures { result ≡ refusal_of rule }
+{
     match rule {
         Rule::Full { free, wanted } => FsRefusal::Full { free, wanted },
         Rule::PointersFull { held, max } => FsRefusal::PointersFull { held, max },
@@ -27,7 +34,9 @@ fn refusal_of(rule: Rule) -> FsRefusal {
 }
 
 /// What a reply is where another was wanted.
-fn other(reply: Reply) -> FsRefusal {
+fn other(reply: Reply) -> FsRefusal
+    ensures { result ≡ refusal_in reply }
+{
     match reply {
         Reply::Refused(rule) => refusal_of(rule),
         _ => FsRefusal::NotThisFs,
@@ -35,8 +44,12 @@ fn other(reply: Reply) -> FsRefusal {
 }
 
 impl Client {
+    ghost use Rattle.fs_asks.specs.Client.{shown_at, read_by, write_by, link_by, unlink_by, alloc_by, list_by};
+
     /// What is shown at a block.
-    fn shown(&self, block: u32) -> Shown {
+    fn shown(&self, block: u32) -> Shown
+        ensures { result ≡ shown_at self.now block }
+    {
         if block == self.root {
             Shown::Key(self.cap)
         } else {
@@ -45,7 +58,11 @@ impl Client {
     }
 
     /// The bytes of a block.
-    pub fn read<K: Blocks>(&self, disk: &mut K, block: u32) -> Result<Data, FsRefusal> {
+    pub fn read<K: Blocks>(&self, disk: &mut K, block: u32) -> Result<Data, FsRefusal>
+        requires unspent { (K.view disk.old).spent ≡ false }
+        ensures step { K.told → IfOk result (λ bytes. IsCarriedOut (K.view disk.old) (K.view disk.new) (read_by self.now block) (reply.Bytes bytes)) }
+        ensures once { AsksOnce K.told (K.view disk.old) (K.view disk.new) (read_by self.now block) result }
+    {
         let request = Request::Read {
             session: self.session,
             block,
@@ -58,29 +75,28 @@ impl Client {
         }
     }
 
-    /// Asks what is done or refused.
-    fn carry_out<K: Blocks>(&self, disk: &mut K, request: &Request) -> Result<(), FsRefusal> {
-        match disk.ask(request) {
-            Ok(Reply::Done | Reply::Gone(_)) => Ok(()),
-            Ok(reply) => Err(other(reply)),
-            Err(_) => Err(FsRefusal::Device),
-        }
-    }
-
     /// Sets a block's bytes; zeros follow them to the block's end.
     pub fn write<K: Blocks>(
         &self,
         disk: &mut K,
         block: u32,
         bytes: Data,
-    ) -> Result<(), FsRefusal> {
+    ) -> Result<(), FsRefusal>
+        requires unspent { (K.view disk.old).spent ≡ false }
+        ensures step { K.told → IfOk result (λ _. IsCarriedOut (K.view disk.old) (K.view disk.new) (write_by self.now block bytes) (reply.Done)) }
+        ensures once { AsksOnce K.told (K.view disk.old) (K.view disk.new) (write_by self.now block bytes) result }
+    {
         let request = Request::Write {
             session: self.session,
             block,
             shown: self.shown(block),
             bytes,
         };
-        self.carry_out(disk, &request)
+        match disk.ask(&request) {
+            Ok(Reply::Done) => Ok(()),
+            Ok(reply) => Err(other(reply)),
+            Err(_) => Err(FsRefusal::Device),
+        }
     }
 
     /// Adds a pointer.
@@ -89,14 +105,22 @@ impl Client {
         disk: &mut K,
         source: u32,
         target: u32,
-    ) -> Result<(), FsRefusal> {
+    ) -> Result<(), FsRefusal>
+        requires unspent { (K.view disk.old).spent ≡ false }
+        ensures step { K.told → IfOk result (λ _. IsCarriedOut (K.view disk.old) (K.view disk.new) (link_by self.now source target) (reply.Done)) }
+        ensures once { AsksOnce K.told (K.view disk.old) (K.view disk.new) (link_by self.now source target) result }
+    {
         let request = Request::Create {
             session: self.session,
             source,
             shown: self.shown(source),
             target,
         };
-        self.carry_out(disk, &request)
+        match disk.ask(&request) {
+            Ok(Reply::Done) => Ok(()),
+            Ok(reply) => Err(other(reply)),
+            Err(_) => Err(FsRefusal::Device),
+        }
     }
 
     /// Deletes a pointer, and with it the blocks that nothing leads to any more.
@@ -105,14 +129,22 @@ impl Client {
         disk: &mut K,
         source: u32,
         target: u32,
-    ) -> Result<(), FsRefusal> {
+    ) -> Result<u32, FsRefusal>
+        requires unspent { (K.view disk.old).spent ≡ false }
+        ensures step { K.told → IfOk result (λ gone. IsCarriedOut (K.view disk.old) (K.view disk.new) (unlink_by self.now source target) (reply.Gone gone)) }
+        ensures once { AsksOnce K.told (K.view disk.old) (K.view disk.new) (unlink_by self.now source target) result }
+    {
         let request = Request::Delete {
             session: self.session,
             source,
             shown: self.shown(source),
             target,
         };
-        self.carry_out(disk, &request)
+        match disk.ask(&request) {
+            Ok(Reply::Gone(gone)) => Ok(gone),
+            Ok(reply) => Err(other(reply)),
+            Err(_) => Err(FsRefusal::Device),
+        }
     }
 
     /// Takes free blocks near the source, and points to them from there.
@@ -121,7 +153,12 @@ impl Client {
         disk: &mut K,
         source: u32,
         count: u32,
-    ) -> Result<BlockList, FsRefusal> {
+    ) -> Result<BlockList, FsRefusal>
+        requires unspent { (K.view disk.old).spent ≡ false }
+        ensures step { K.told → IfOk result (λ blocks. IsCarriedOut (K.view disk.old) (K.view disk.new) (alloc_by self.now source count) (reply.Blocks blocks)) }
+        ensures few { IfOk result (λ blocks. length blocks ≤ 64) }
+        ensures once { AsksOnce K.told (K.view disk.old) (K.view disk.new) (alloc_by self.now source count) result }
+    {
         let request = Request::Alloc {
             session: self.session,
             source,
@@ -130,7 +167,7 @@ impl Client {
             count,
         };
         match disk.ask(&request) {
-            Ok(Reply::Blocks(blocks)) if blocks.len() == count as usize => Ok(blocks),
+            Ok(Reply::Blocks(blocks)) => Ok(blocks),
             Ok(reply) => Err(other(reply)),
             Err(_) => Err(FsRefusal::Device),
         }
@@ -142,7 +179,12 @@ impl Client {
         disk: &mut K,
         source: u32,
         start: u32,
-    ) -> Result<BlockList, FsRefusal> {
+    ) -> Result<BlockList, FsRefusal>
+        requires unspent { (K.view disk.old).spent ≡ false }
+        ensures step { K.told → IfOk result (λ targets. IsCarriedOut (K.view disk.old) (K.view disk.new) (list_by self.now source start) (reply.Targets targets)) }
+        ensures few { IfOk result (λ targets. length targets ≤ 64) }
+        ensures once { AsksOnce K.told (K.view disk.old) (K.view disk.new) (list_by self.now source start) result }
+    {
         let request = Request::List {
             session: self.session,
             source,

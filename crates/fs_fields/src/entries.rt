@@ -1,9 +1,10 @@
 //! Entries of directories.
 
-ghost use Rattle.std.specs.Prelude.{◌≡◌, ◌≤◌, ◌*◌, ◌++◌, ◌&&◌, length, find, OnOk};
+ghost use Rattle.std.specs.Prelude.{◌≡◌, ◌≤◌, ◌*◌, ◌++◌, ◌&&◌, length, find, flat_map, OnOk};
 ghost use Rattle.fs_trees.specs.Names.{name_lt, are_ascending};
 ghost use Rattle.fs_trees.specs.Fields.{entries, entry_names, all_named, entry_bytes};
 ghost use Rattle.fs_trees.specs.Inode.{block_named};
+ghost use Rattle.fs_fields.specs.Around.{place_in, behind_in, listed_before, listed_behind};
 
 use crate::names::{is_below, is_name, trimmed};
 use crate::numbers::{NUMBER_BYTES, number_at};
@@ -35,9 +36,10 @@ pub fn block_of(list: &[u8], amount: usize, name: &[u8]) -> Option<u32>
 }
 
 /// How many entries stand before a name.
-pub fn place_of(list: &[u8], amount: usize, name: &[u8]) -> usize
+fn place_of(list: &[u8], amount: usize, name: &[u8]) -> usize
     requires { 32 * amount ≤ length list.now }
-    ensures { result ≤ amount }
+    ensures value { result ≡ place_in name.now (entries amount list.now) }
+    ensures fits { result ≤ amount }
 {
     for i in 0..amount {
         let entry = &list[32 * i..32 * i + 32];
@@ -46,6 +48,37 @@ pub fn place_of(list: &[u8], amount: usize, name: &[u8]) -> usize
         }
     }
     amount
+}
+
+/// Where the entries behind a name begin, of which so many stand before it: behind that of the name itself, if it is there.
+fn behind(list: &[u8], amount: usize, place: usize, name: &[u8]) -> usize
+    requires fits { 32 * amount ≤ length list.now }
+    requires within { place ≤ amount }
+    ensures least { place ≤ result }
+    ensures most { result ≤ amount }
+    ensures value { result ≡ behind_in name.now place (entries amount list.now) }
+{
+    if place < amount {
+        let entry = &list[32 * place..32 * place + 32];
+        if !is_below(name, trimmed(&entry[4..])) {
+            return place + 1;
+        }
+    }
+    place
+}
+
+/// The bytes of the entries before a name, and those of the entries behind it.
+pub fn around<'a>(list: &'a [u8], amount: usize, name: &[u8]) -> (&'a [u8], &'a [u8])
+    requires { 32 * amount ≤ length list.now }
+    ensures before { result.0.now ≡ flat_map entry_bytes (listed_before name.now (entries amount list.now)) }
+    ensures behind { result.1.now ≡ flat_map entry_bytes (listed_behind name.now (entries amount list.now)) }
+{
+    let place = place_of(list, amount, name);
+    let next = behind(list, amount, place, name);
+    (
+        &list[..ENTRY_BYTES * place],
+        &list[ENTRY_BYTES * next..ENTRY_BYTES * amount],
+    )
 }
 
 /// A name of these bytes.

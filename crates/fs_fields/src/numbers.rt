@@ -1,7 +1,10 @@
 //! Numbers in bytes.
 
-ghost use Rattle.std.specs.Prelude.{◌≡◌, ◌≤◌, ◌<◌, ◌+◌, ◌++◌, length, drop, OnOk, OnErr};
+ghost use Rattle.std.specs.Prelude.{◌≡◌, ◌≤◌, ◌<◌, ◌+◌, ◌*◌, ◌-◌, ◌++◌, length, drop, OnOk, OnErr};
 ghost use Rattle.byteorder.specs.Endian.{little_number, little_bytes};
+ghost use Rattle.tsd_model.specs.World.{has_number};
+ghost use Rattle.fs_trees.specs.Fields.{numbers};
+ghost use Rattle.fs_trees.specs.Inode.{are_apart};
 
 use byteorder::{ByteOrder, LittleEndian};
 use tsd_model::{Data, ListFull};
@@ -17,6 +20,33 @@ pub fn number_at(block: &[u8], place: usize) -> u32
     ensures { result ≡ little_number 4 (drop place block.now) }
 {
     LittleEndian::read_u32(&block[place..])
+}
+
+/// Whether a number is among so many in a row.
+pub fn is_among(list: &[u8], count: usize, number: u32) -> bool
+    requires { 4 * count ≤ length list.now }
+    ensures { result ≡ has_number (numbers count list.now) number }
+{
+    for i in 0..count {
+        if number_at(list, 4 * i) == number {
+            return true;
+        }
+    }
+    false
+}
+
+/// Whether none of so many numbers in a row stands twice.
+pub fn are_apart(list: &[u8], count: usize) -> bool
+    requires { 4 * count ≤ length list.now }
+    ensures { result ≡ are_apart (numbers count list.now) }
+{
+    for i in 0..count {
+        let number = number_at(list, 4 * i);
+        if is_among(&list[4 * i + 4..], count - i - 1, number) {
+            return false;
+        }
+    }
+    true
 }
 
 /// Adds a number's bytes at the end. A list without room for them stays as it is.

@@ -37,7 +37,7 @@ pub fn enter<K: Blocks>(
     let bytes = directory_with(&directory.inode, place.name, inode);
     client.write(disk, directory.block, bytes)?;
     match place.old {
-        Some(old) => client.unlink(disk, directory.block, old),
+        Some(old) => client.unlink(disk, directory.block, old).map(|_gone| ()),
         None => Ok(()),
     }
 }
@@ -126,7 +126,7 @@ fn grow<K: Blocks>(
     let full = inode.amount() as usize / block_len;
     let content = Content {
         size: size as u32,
-        shared: &inode.list()[..NUMBER_BYTES * full],
+        shared: &inode.body()[..NUMBER_BYTES * full],
         front: front.as_slice(),
         bytes: bytes.as_slice(),
         block_len,
@@ -171,7 +171,7 @@ pub fn copy<K: Blocks>(
     check_entry(&place)?;
     let content = Content {
         size: file.inode.amount(),
-        shared: &file.inode.list()[..NUMBER_BYTES * file.inode.count()],
+        shared: &file.inode.body()[..NUMBER_BYTES * file.inode.count()],
         front: &[],
         bytes: &[],
         block_len: file.inode.block_len(),

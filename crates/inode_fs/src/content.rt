@@ -1,10 +1,10 @@
 //! What a new file is made of.
 
 use fs_asks::{Client, held_before};
-use fs_fields::{NUMBER_BYTES, number_at, write_number};
+use fs_fields::{NUMBER_BYTES, number_at};
 use fs_port::{Blocks, free_blocks};
 use fs_trees::FsRefusal;
-use inode_layout::write_file_head;
+use inode_layout::file_inode;
 use tsd_model::{BlockList, Data};
 
 /// A new file: blocks that it shares with an old one, and the bytes behind them.
@@ -51,12 +51,8 @@ impl<'a> Content<'a> {
 
     /// The inode's bytes, where the new blocks are these.
     fn inode_bytes(&self, blocks: &BlockList) -> Data {
-        let mut data = write_file_head(self.size);
-        let _ = data.extend_from_slice(self.shared);
-        for block in blocks.as_slice() {
-            let _ = write_number(&mut data, *block);
-        }
-        data
+        let count = self.shared_count() as usize;
+        file_inode(self.size, self.shared, count, blocks.as_slice())
     }
 }
 
@@ -109,7 +105,8 @@ fn take<K: Blocks>(
         return Ok(BlockList::new());
     }
     match client.alloc(disk, inode, content.new_count()) {
-        Ok(blocks) => Ok(blocks),
+        Ok(blocks) if blocks.len() == content.new_count() as usize => Ok(blocks),
+        Ok(_) => Err(FsRefusal::NotThisFs),
         Err(refusal) => Err(held_before(refusal, content.shared_count())),
     }
 }
@@ -152,7 +149,7 @@ fn withdraw<K: Blocks>(
     match refusal {
         FsRefusal::Device => refusal,
         _ => match client.unlink(disk, directory, inode) {
-            Ok(()) => held_before(refusal, 1),
+            Ok(_) => held_before(refusal, 1),
             Err(fault) => fault,
         },
     }

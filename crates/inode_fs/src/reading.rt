@@ -2,7 +2,6 @@
 
 use crate::finding::{Found, find_directory, find_file};
 use fs_asks::Client;
-use fs_fields::next_name;
 use fs_port::Blocks;
 use fs_trees::{FsRefusal, Name, Path};
 use tsd_model::Data;
@@ -59,6 +58,5 @@ pub fn name_after<K: Blocks>(
     after: &Name,
 ) -> Result<Option<Name>, FsRefusal> {
     let found = find_directory(client, disk, path.as_slice())?;
-    let inode = &found.inode;
-    Ok(next_name(inode.list(), inode.count(), after.as_slice()))
+    Ok(found.inode.name_after(after.as_slice()))
 }

@@ -20,7 +20,8 @@ pub fn remove<K: Blocks>(client: &Client, disk: &mut K, path: &Path) -> Result<(
     let directory = &place.directory;
     let bytes = directory_without(&directory.inode, place.name);
     client.write(disk, directory.block, bytes)?;
-    client.unlink(disk, directory.block, old.block)
+    client.unlink(disk, directory.block, old.block)?;
+    Ok(())
 }
 
 /// Makes an empty tree in place of what is there: the root is written first, which decides, and then lets go of all.

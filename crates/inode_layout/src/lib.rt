@@ -12,7 +12,11 @@
 #![tactic(auto)]
 
 mod inode;
+mod kind;
+mod room;
 mod writing;
 
-pub use inode::{Inode, InodeKind, blocks_for, data_room, entries_room};
-pub use writing::{directory_with, directory_without, empty_directory, write_file_head};
+pub use inode::Inode;
+pub use kind::InodeKind;
+pub use room::{blocks_for, data_room, entries_room};
+pub use writing::{directory_with, directory_without, empty_directory, file_head};

@@ -1,6 +1,6 @@
 //! Asks in short, each given to the file system and to the plain tree.
 
-use crate::tree::{Room, Tree};
+use crate::tree::{Item, Room, Tree};
 use fs_port::{Blocks, Files, PlainBlocks, free_blocks};
 use fs_trees::{FsRefusal, Name, Path};
 use inode_fs::InodeFs;
@@ -103,29 +103,40 @@ pub fn ls<K: Blocks>(
     Ok(all)
 }
 
-/// Compares a tree as it is read by the file system with the plain one.
-pub fn compare<K: Blocks>(
+/// Whether a file or directory is as the plain tree has it.
+fn is_item_same<K: Blocks>(
     rt: &impl Abort,
-    alloc: Global,
     files: &mut InodeFs,
     disk: &mut K,
     tree: &Tree,
-) {
-    let root = ls(rt, alloc, files, disk, &Path::new()).expect(rt, "the root is there");
-    assert_eq!(rt; root.len(), tree.count(&[]));
-    for item in tree.items.as_slice() {
-        let path = path_of(rt, item.path.as_slice());
-        match &item.bytes {
-            Some(bytes) => {
-                let read = cat(rt, alloc, files, disk, &path).expect(rt, "the file is there");
-                assert!(rt; read.as_slice() == bytes.as_slice());
-            }
-            None => {
-                let read = ls(rt, alloc, files, disk, &path).expect(rt, "the directory is there");
-                assert_eq!(rt; read.len(), tree.count(item.path.as_slice()));
-            }
-        }
+    item: &Item,
+) -> bool {
+    let path = path_of(rt, item.path.as_slice());
+    match &item.bytes {
+        Some(bytes) => match cat(rt, tree.alloc, files, disk, &path) {
+            Ok(read) => read.as_slice() == bytes.as_slice(),
+            Err(_) => false,
+        },
+        None => match ls(rt, tree.alloc, files, disk, &path) {
+            Ok(read) => read.len() == tree.count(item.path.as_slice()),
+            Err(_) => false,
+        },
     }
+}
+
+/// Whether the tree as it is read by the file system is the plain one.
+pub fn is_same<K: Blocks>(
+    rt: &impl Abort,
+    files: &mut InodeFs,
+    disk: &mut K,
+    tree: &Tree,
+) -> bool {
+    let root = ls(rt, tree.alloc, files, disk, &Path::new()).expect(rt, "the root is there");
+    let mut is_same = root.len() == tree.count(&[]);
+    for item in tree.items.as_slice() {
+        is_same = is_same && is_item_same(rt, files, disk, tree, item);
+    }
+    is_same
 }
 
 /// What is asked: the kind of the ask, its paths and its bytes.

@@ -8,4 +8,10 @@ mod asks;
 #[cfg(test)]
 mod random;
 #[cfg(test)]
+mod stopping;
+#[cfg(test)]
+mod stops;
+#[cfg(test)]
 mod tree;
+#[cfg(test)]
+mod worked;

@@ -1,6 +1,6 @@
 //! Random asks on small disks.
 
-use crate::asks::{Ask, compare, disk, file_system, step};
+use crate::asks::{Ask, disk, file_system, is_same, step};
 use crate::tree::Tree;
 use fs_port::{Files, free_blocks};
 use std::alloc::{AllocError, Global};
@@ -20,7 +20,7 @@ fn draw_path(alloc: Global, seed: &mut u32, letters: u32) -> Result<Vec<u8>, All
     requires { 0 < letters }
 {
     let mut path = Vec::new(alloc);
-    let len = draw(seed, 8).div_ceil(2).min(3);
+    let len = (draw(seed, 10) + 3).div_ceil(4).min(3);
     for _ in 0..len {
         path.push(b'a' + draw(seed, letters.min(26)) as u8)?;
     }
@@ -43,7 +43,7 @@ fn draw_bytes(alloc: Global, seed: &mut u32) -> Result<Vec<u8>, AllocError> {
     Ok(bytes)
 }
 
-fn draw_ask(alloc: Global, seed: &mut u32, letters: u32) -> Result<Ask, AllocError>
+pub fn draw_ask(alloc: Global, seed: &mut u32, letters: u32) -> Result<Ask, AllocError>
     requires { 0 < letters }
 {
     Ok(Ask {
@@ -79,16 +79,16 @@ fn run(
     let mut files = file_system(rt, alloc, blocks);
     assert!(rt; files.make(&mut disk).is_ok());
     let mut done = 0;
-    for round in 0..40 {
+    for round in 0..100 {
         let ask = draw_ask(alloc, &mut seed, letters)?;
         if step(rt, alloc, &mut files, &mut disk, &mut tree, &ask)? {
             done += 1;
         }
-        if round % 20 == 19 {
+        if round % 50 == 49 {
             let free = free_blocks(&mut disk).expect(rt, "no fault");
             let mut again = file_system(rt, alloc, blocks / 2);
             assert!(rt; again.mount(&mut disk).is_ok());
-            compare(rt, alloc, &mut again, &mut disk, &tree);
+            assert!(rt; is_same(rt, &mut again, &mut disk, &tree));
             assert_eq!(rt; free_blocks(&mut disk), Ok(free));
         }
     }
@@ -99,7 +99,7 @@ fn run(
 fn asks_on_a_roomy_disk(rt: HostRuntime) -> Result<(), Fail> {
     let mut done = 0;
     for seed in 0..2 {
-        done += run(&rt, rt.alloc(), seed, 80, 200, 3)?;
+        done += run(&rt, rt.alloc(), seed, 80, 200, 2)?;
     }
     assert!(rt; done > 20, "{done}");
     Ok(())
@@ -109,7 +109,7 @@ fn asks_on_a_roomy_disk(rt: HostRuntime) -> Result<(), Fail> {
 fn asks_on_a_disk_that_gets_full(rt: HostRuntime) -> Result<(), Fail> {
     let mut done = 0;
     for seed in 100..102 {
-        done += run(&rt, rt.alloc(), seed, 24, 100, 4)?;
+        done += run(&rt, rt.alloc(), seed, 24, 100, 3)?;
     }
     assert!(rt; done > 20, "{done}");
     Ok(())
@@ -119,7 +119,7 @@ fn asks_on_a_disk_that_gets_full(rt: HostRuntime) -> Result<(), Fail> {
 fn asks_on_a_disk_with_few_pointers(rt: HostRuntime) -> Result<(), Fail> {
     let mut done = 0;
     for seed in 200..202 {
-        done += run(&rt, rt.alloc(), seed, 60, 12, 4)?;
+        done += run(&rt, rt.alloc(), seed, 60, 12, 3)?;
     }
     assert!(rt; done > 20, "{done}");
     Ok(())

@@ -1,8 +1,8 @@
 use Rattle.std.proofs.Common.{sym, ◌∙◌, arith}
 use Rattle.std.proofs.lemmas.Bool.{ne_eqb}
 use Rattle.fs_fields.proofs.PadLaws.{cut_zero, cut_other, cut_all}
-use Rattle.fs_fields.proofs.trimmed.Goals as goal
-use Rattle.fs_fields.proofs.trimmed.Goals.{then-loop-len-test+else-field-len-eq0, else-loop-len-test}
+use Rattle.fs_fields.proofs.names.trimmed.Goals as goal
+use Rattle.fs_fields.proofs.names.trimmed.Goals.{then-loop-len-test+else-field-len-eq0, else-loop-len-test}
 
 pub loop-len-preserved : goal.loop-len-preserved
 loop-len-preserved c = record {
