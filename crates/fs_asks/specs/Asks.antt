@@ -1,8 +1,9 @@
 -- What one request of a file system does.
-use Rattle.std.specs.Prelude.{◌≡◌, ◌≢◌, false, Option, Some, Result, IfErr}
+use Rattle.std.specs.Prelude.{◌≡◌, ◌≢◌, Bool, true, false, Option, Some, Result, IfErr}
 use Rattle.image_device.specs.Counts.{Rose}
 use Rattle.tsd_model.specs.Verdict.{verdict}
 use Rattle.tsd_model.specs.declared.requests.Request.{Request}
+use Rattle.tsd_model.specs.declared.requests.Request.TheVariants as ask
 use Rattle.tsd_model.specs.declared.replies.Reply.{Reply}
 use Rattle.tsd_model.specs.declared.replies.Reply.TheVariants as reply
 use Rattle.tsd_model.specs.declared.replies.Rule.{Rule}
@@ -23,6 +24,16 @@ refusal_of r = no.NotThisFs
 abbrev pub refusal_in : Reply → FsRefusal
 refusal_in (reply.Refused r) = refusal_of r
 refusal_in r = no.NotThisFs
+
+-- the reply has the form that a request of a file system wants
+abbrev pub has_wanted_form : Request → Reply → Bool
+has_wanted_form (ask.Read s b shown) (reply.Bytes bytes) = true
+has_wanted_form (ask.Write s b shown bytes) reply.Done = true
+has_wanted_form (ask.Create s a shown b) reply.Done = true
+has_wanted_form (ask.Delete s a shown b) (reply.Gone gone) = true
+has_wanted_form (ask.Alloc s a shown h count) (reply.Blocks blocks) = true
+has_wanted_form (ask.List s a shown start) (reply.Targets blocks) = true
+has_wanted_form q r = false
 
 -- a rule of the disk refuses the request, and so the file system
 abbrev pub IsRefused : View → Request → FsRefusal → Type 0

@@ -43,6 +43,7 @@ fn other(reply: Reply) -> FsRefusal
     }
 }
 
+#[tactic(auto, using(crate::proofs::RefusedLaws::other_form))]
 impl Client {
     ghost use Rattle.fs_asks.specs.Client.{shown_at, read_by, write_by, link_by, unlink_by, alloc_by, list_by};
 

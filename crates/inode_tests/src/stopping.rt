@@ -16,13 +16,13 @@ pub struct Stopping {
 }
 
 impl Blocks for Stopping {
-    ghost use Rattle.inode_tests.specs.Stopping.{stopping_view, Never};
+    ghost use Rattle.inode_tests.specs.Stopping.{stopping_view, stopping_sound, Never};
 
     ghost told = { Never };
 
     ghost view = { stopping_view };
 
-    ghost sound = { λ d never unspent. absurd never };
+    ghost sound = { stopping_sound };
 
     fn geometry(&self) -> Geometry {
         self.inner.geometry()

@@ -79,6 +79,6 @@ fn each_ask_is_whole_or_not_at_all(rt: HostRuntime) -> Result<(), Fail> {
             stopped += 1;
         }
     }
-    assert!(rt; stopped > 30, "{stopped}");
+    assert!(rt; stopped > 20, "{stopped}");
     Ok(())
 }

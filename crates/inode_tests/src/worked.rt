@@ -89,7 +89,7 @@ fn a_directory_has_room_for_fifteen(rt: HostRuntime) -> Result<(), Fail> {
     assert_eq!(rt; files.put(&mut disk, &more, &bytes), Err(FsRefusal::DirFull));
     assert_eq!(rt; files.make_dir(&mut disk, &more), Err(FsRefusal::DirFull));
     let names = ls(&rt, rt.alloc(), &mut files, &mut disk, &Path::new());
-    assert!(rt; names.is_ok_and(|names| names.as_slice() == b"abcdefghijklmno"));
+    assert!(rt; names.is_ok_and(|names| names.as_slice() == b"abcdefghijklmno".as_slice()));
     assert!(rt; files.remove(&mut disk, &path_of(&rt, b"h")).is_ok());
     assert!(rt; files.put(&mut disk, &more, &bytes).is_ok());
     Ok(())
@@ -97,8 +97,8 @@ fn a_directory_has_room_for_fifteen(rt: HostRuntime) -> Result<(), Fail> {
 
 #[test]
 fn a_file_has_room_for_124_blocks(rt: HostRuntime) -> Result<(), Fail> {
-    let mut disk = disk(&rt, rt.alloc(), 160, 300);
-    let mut files = file_system(&rt, rt.alloc(), 160);
+    let mut disk = disk(&rt, rt.alloc(), 140, 300);
+    let mut files = file_system(&rt, rt.alloc(), 140);
     let path = path_of(&rt, b"f");
     let bytes = data_of(&rt, &[7; 4096]);
     assert!(rt; files.make(&mut disk).is_ok());
@@ -111,8 +111,8 @@ fn a_file_has_room_for_124_blocks(rt: HostRuntime) -> Result<(), Fail> {
     assert_eq!(rt; files.append(&mut disk, &path, &data_of(&rt, &[1])), Err(FsRefusal::TooBig));
     assert_eq!(rt; files.append(&mut disk, &path, &Data::new()), Ok(()));
     assert_eq!(rt; files.size(&mut disk, &path), Ok(124 * 512));
-    assert_eq!(rt; free_blocks(&mut disk), Ok(160 - 126));
-    let mut again = file_system(&rt, rt.alloc(), 160);
+    assert_eq!(rt; free_blocks(&mut disk), Ok(140 - 126));
+    let mut again = file_system(&rt, rt.alloc(), 140);
     assert!(rt; again.mount(&mut disk).is_ok());
     let read = cat(&rt, rt.alloc(), &mut again, &mut disk, &path).expect(&rt, "it is there");
     assert_eq!(rt; read.len(), 124 * 512);
