@@ -32,7 +32,13 @@ judged_form kind s (ask.Create n a shown b) h = refl
 judged_form kind s (ask.Delete n a shown b) h = refl
 judged_form kind s (ask.Alloc n a shown hint count) h = refl
 judged_form kind s (ask.List n a shown start) h = refl
-judged_form kind s q h = absurd (cc)
+judged_form kind s ask.Bad h = absurd (cc)
+judged_form kind s (ask.Begin n) h = absurd (cc)
+judged_form kind s (ask.End n) h = absurd (cc)
+judged_form kind s (ask.Contig n a shown hint count) h = absurd (cc)
+judged_form kind s ask.GetFree h = absurd (cc)
+judged_form kind s (ask.SetCap n b shown caps) h = absurd (cc)
+judged_form kind s (ask.Sweep n shown) h = absurd (cc)
 
 -- want of memory is nothing to it
 same_answer : (kind : PlaceKind) (s : State) (q : Request) (want : Bool) → is_of_files q ≡ true → answer kind s q want ≡ judged kind s q (verdict s.world s.sessions q)
@@ -43,7 +49,13 @@ same_answer kind s (ask.Create n a shown b) true h = refl
 same_answer kind s (ask.Delete n a shown b) true h = refl
 same_answer kind s (ask.Alloc n a shown hint count) true h = refl
 same_answer kind s (ask.List n a shown start) true h = refl
-same_answer kind s q true h = absurd (cc)
+same_answer kind s ask.Bad true h = absurd (cc)
+same_answer kind s (ask.Begin n) true h = absurd (cc)
+same_answer kind s (ask.End n) true h = absurd (cc)
+same_answer kind s (ask.Contig n a shown hint count) true h = absurd (cc)
+same_answer kind s ask.GetFree true h = absurd (cc)
+same_answer kind s (ask.SetCap n b shown caps) true h = absurd (cc)
+same_answer kind s (ask.Sweep n shown) true h = absurd (cc)
 
 granted_form : (kind : PlaceKind) (s : State) (q : Request) (want : Bool) → is_of_files q ≡ true → verdict s.world s.sessions q ≡ None → has_wanted_form q (answer kind s q want).reply ≡ true
 granted_form kind s q want h e =
