@@ -19,4 +19,4 @@ mod writing;
 pub use inode::Inode;
 pub use kind::InodeKind;
 pub use room::{blocks_for, data_room, entries_room};
-pub use writing::{directory_with, directory_without, empty_directory, file_head};
+pub use writing::{directory_with, directory_without, empty_directory, file_inode};
