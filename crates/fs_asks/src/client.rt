@@ -77,12 +77,7 @@ impl Client {
     }
 
     /// Sets a block's bytes; zeros follow them to the block's end.
-    pub fn write<K: Blocks>(
-        &self,
-        disk: &mut K,
-        block: u32,
-        bytes: Data,
-    ) -> Result<(), FsRefusal>
+    pub fn write<K: Blocks>(&self, disk: &mut K, block: u32, bytes: Data) -> Result<(), FsRefusal>
         requires unspent { (K.view disk.old).spent ≡ false }
         ensures step { K.told → IfOk result (λ _. IsCarriedOut (K.view disk.old) (K.view disk.new) (write_by self.now block bytes) (reply.Done)) }
         ensures once { AsksOnce K.told (K.view disk.old) (K.view disk.new) (write_by self.now block bytes) result }
@@ -101,12 +96,7 @@ impl Client {
     }
 
     /// Adds a pointer.
-    pub fn link<K: Blocks>(
-        &self,
-        disk: &mut K,
-        source: u32,
-        target: u32,
-    ) -> Result<(), FsRefusal>
+    pub fn link<K: Blocks>(&self, disk: &mut K, source: u32, target: u32) -> Result<(), FsRefusal>
         requires unspent { (K.view disk.old).spent ≡ false }
         ensures step { K.told → IfOk result (λ _. IsCarriedOut (K.view disk.old) (K.view disk.new) (link_by self.now source target) (reply.Done)) }
         ensures once { AsksOnce K.told (K.view disk.old) (K.view disk.new) (link_by self.now source target) result }

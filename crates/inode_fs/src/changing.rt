@@ -43,11 +43,7 @@ pub fn enter<K: Blocks>(
 }
 
 /// Refuses a directory that stands where a file is to be put.
-fn check_old<K: Blocks>(
-    client: &Client,
-    disk: &mut K,
-    place: &Place<'_>,
-) -> Result<(), FsRefusal> {
+fn check_old<K: Blocks>(client: &Client, disk: &mut K, place: &Place<'_>) -> Result<(), FsRefusal> {
     match place.old {
         Some(old) if read_inode(client, disk, old)?.inode.is_directory() => Err(FsRefusal::IsDir),
         _ => Ok(()),
@@ -78,11 +74,7 @@ pub fn put<K: Blocks>(
 }
 
 /// Makes a directory without entries at a path.
-pub fn make_dir<K: Blocks>(
-    client: &Client,
-    disk: &mut K,
-    path: &Path,
-) -> Result<(), FsRefusal> {
+pub fn make_dir<K: Blocks>(client: &Client, disk: &mut K, path: &Path) -> Result<(), FsRefusal> {
     let place = find_place(client, disk, path, FsRefusal::Exists)?;
     if place.old.is_some() {
         return Err(FsRefusal::Exists);

@@ -66,11 +66,7 @@ pub fn check_free<K: Blocks>(disk: &mut K, wanted: u32) -> Result<(), FsRefusal>
 }
 
 /// A new block under another.
-pub fn new_block<K: Blocks>(
-    client: &Client,
-    disk: &mut K,
-    source: u32,
-) -> Result<u32, FsRefusal> {
+pub fn new_block<K: Blocks>(client: &Client, disk: &mut K, source: u32) -> Result<u32, FsRefusal> {
     let blocks = client.alloc(disk, source, 1)?;
     match blocks.as_slice() {
         [block] => Ok(*block),

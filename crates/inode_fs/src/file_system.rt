@@ -9,11 +9,8 @@ ghost use Rattle.fs_trees.specs.declared.refusal.FsRefusal.TheVariants as no;
 ghost use Rattle.fs_port.specs.Calls.{Counts, IsValidNow, LeavesOnly, Stays};
 ghost use Rattle.fs_port.specs.Files.{Answers, HasTree, IsEitherTree, IsReady, LeavesWorld, OnAnswer};
 
-use crate::changing;
 use crate::marks::Marks;
-use crate::mounting;
-use crate::reading;
-use crate::removing;
+use crate::{changing, mounting, reading, removing};
 use fs_asks::Client;
 use fs_port::{Blocks, Files};
 use fs_trees::{FsRefusal, Name, Path};

@@ -64,11 +64,7 @@ fn child<K: Blocks>(
 }
 
 /// The inode at the end of a way from the root, each block on it read once.
-pub fn walk<K: Blocks>(
-    client: &Client,
-    disk: &mut K,
-    names: &[Name],
-) -> Result<Found, FsRefusal> {
+pub fn walk<K: Blocks>(client: &Client, disk: &mut K, names: &[Name]) -> Result<Found, FsRefusal> {
     let mut found = read_inode(client, disk, client.root)?;
     for name in names {
         found = child(client, disk, &found, name)?;

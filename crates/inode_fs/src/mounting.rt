@@ -115,8 +115,10 @@ fn is_row_right<K: Blocks>(
     let is_new = marks.mark_inode(client.root);
     match right_inode(client, disk, client.root)? {
         Some(found) if is_new && found.inode.is_directory() => {
-            Ok(are_held(client, marks, disk, &found)?
-                && are_entries_right(client, marks, disk, &found, PATH_MAX)?)
+            Ok(
+                are_held(client, marks, disk, &found)?
+                    && are_entries_right(client, marks, disk, &found, PATH_MAX)?,
+            )
         }
         _ => Ok(false),
     }
@@ -173,11 +175,7 @@ fn tidy_row<K: Blocks>(
 }
 
 /// Deletes the pairs that the tree under the root doesn't name. The marks are those of its last row.
-pub fn tidy<K: Blocks>(
-    client: &Client,
-    marks: &mut Marks,
-    disk: &mut K,
-) -> Result<(), FsRefusal> {
+pub fn tidy<K: Blocks>(client: &Client, marks: &mut Marks, disk: &mut K) -> Result<(), FsRefusal> {
     let end = disk.geometry().blocks;
     let mut first = 0;
     while first < end {

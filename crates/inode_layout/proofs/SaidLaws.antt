@@ -23,9 +23,9 @@ not_two k h = grind (arith, nat_tests)
 files : (len k a : ℕ) (body : List ℕ) → as_regular len k a body ≡ option_and_then in_order (file_said len k a body)
 files len k a body = elim (k == 2 && nat_le (div_ceil a len) (data_room len)) as
     (λ t. only_if t (λ _. in_order (regular a (numbers (div_ceil a len) body))) ≡ option_and_then in_order (only_if t (λ _. Some (regular a (numbers (div_ceil a len) body))))) [
-  | true ↦ refl
-  | false ↦ refl
-]
+      | true ↦ refl
+      | false ↦ refl
+    ]
 
 kinds : (len k a : ℕ) (body : List ℕ) → of_kind len k a body ≡ option_and_then in_order (of_kind_said len k a body)
 kinds len k a body =

@@ -8,9 +8,7 @@ use plain_disk::{Sessions, World};
 use std::alloc::{AllocError, Global};
 use std::process::Abort;
 use std::test::Fail;
-use tsd_model::{
-    Cap, CapList, CapPair, Data, Geometry, PlaceKind, Reply, Request, lawful,
-};
+use tsd_model::{Cap, CapList, CapPair, Data, Geometry, PlaceKind, Reply, Request, lawful};
 
 pub const WRITE: Cap = Cap { bytes: [0xbb; 16] };
 
@@ -94,7 +92,11 @@ pub fn ls<K: Blocks>(
             None => return Ok(all),
             Some(name) => {
                 assert_eq!(rt; name.len(), 1);
-                assert!(rt; all.as_slice().last().is_none_or(|letter| *letter < name.as_slice()[0]));
+                assert!(rt;
+                    all.as_slice()
+                        .last()
+                        .is_none_or(|letter| *letter < name.as_slice()[0])
+                );
                 assert!(rt; all.push(name.as_slice()[0]).is_ok());
                 last = name;
             }
@@ -125,12 +127,7 @@ fn is_item_same<K: Blocks>(
 }
 
 /// Whether the tree as it is read by the file system is the plain one.
-pub fn is_same<K: Blocks>(
-    rt: &impl Abort,
-    files: &mut InodeFs,
-    disk: &mut K,
-    tree: &Tree,
-) -> bool {
+pub fn is_same<K: Blocks>(rt: &impl Abort, files: &mut InodeFs, disk: &mut K, tree: &Tree) -> bool {
     let root = ls(rt, tree.alloc, files, disk, &Path::new()).expect(rt, "the root is there");
     let mut is_same = root.len() == tree.count(&[]);
     for item in tree.items.as_slice() {

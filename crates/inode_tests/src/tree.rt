@@ -89,7 +89,8 @@ impl Tree {
         self.items
             .as_slice()
             .iter()
-            .filter(|item| item.path.len() == path.len() + 1 && item.path.as_slice().starts_with(path))
+            .filter(|item| item.path.len() == path.len() + 1
+                && item.path.as_slice().starts_with(path))
             .count()
     }
 

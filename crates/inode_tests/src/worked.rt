@@ -86,7 +86,10 @@ fn a_directory_has_room_for_fifteen(rt: HostRuntime) -> Result<(), Fail> {
     }
     let more = path_of(&rt, b"z");
     let bytes = data_of(&rt, b"hi");
-    assert_eq!(rt; files.put(&mut disk, &more, &bytes), Err(FsRefusal::DirFull));
+    assert_eq!(rt;
+        files.put(&mut disk, &more, &bytes),
+        Err(FsRefusal::DirFull)
+    );
     assert_eq!(rt; files.make_dir(&mut disk, &more), Err(FsRefusal::DirFull));
     let names = ls(&rt, rt.alloc(), &mut files, &mut disk, &Path::new());
     assert!(rt; names.is_ok_and(|names| names.as_slice() == b"abcdefghijklmno".as_slice()));
@@ -106,9 +109,19 @@ fn a_file_has_room_for_124_blocks(rt: HostRuntime) -> Result<(), Fail> {
     for _ in 1..15 {
         assert!(rt; files.append(&mut disk, &path, &bytes).is_ok());
     }
-    assert_eq!(rt; files.append(&mut disk, &path, &bytes), Err(FsRefusal::TooBig));
-    assert!(rt; files.append(&mut disk, &path, &data_of(&rt, &[9; 2048])).is_ok());
-    assert_eq!(rt; files.append(&mut disk, &path, &data_of(&rt, &[1])), Err(FsRefusal::TooBig));
+    assert_eq!(rt;
+        files.append(&mut disk, &path, &bytes),
+        Err(FsRefusal::TooBig)
+    );
+    assert!(rt;
+        files
+            .append(&mut disk, &path, &data_of(&rt, &[9; 2048]))
+            .is_ok()
+    );
+    assert_eq!(rt;
+        files.append(&mut disk, &path, &data_of(&rt, &[1])),
+        Err(FsRefusal::TooBig)
+    );
     assert_eq!(rt; files.append(&mut disk, &path, &Data::new()), Ok(()));
     assert_eq!(rt; files.size(&mut disk, &path), Ok(124 * 512));
     assert_eq!(rt; free_blocks(&mut disk), Ok(140 - 126));
@@ -116,7 +129,13 @@ fn a_file_has_room_for_124_blocks(rt: HostRuntime) -> Result<(), Fail> {
     assert!(rt; again.mount(&mut disk).is_ok());
     let read = cat(&rt, rt.alloc(), &mut again, &mut disk, &path).expect(&rt, "it is there");
     assert_eq!(rt; read.len(), 124 * 512);
-    assert!(rt; read.as_slice().iter().rev().take(2048).all(|byte| *byte == 9));
+    assert!(rt;
+        read.as_slice()
+            .iter()
+            .rev()
+            .take(2048)
+            .all(|byte| *byte == 9)
+    );
     Ok(())
 }
 
@@ -127,10 +146,18 @@ fn paths_have_sixteen_names(rt: HostRuntime) -> Result<(), Fail> {
     assert!(rt; files.make(&mut disk).is_ok());
     let letters = b"abcdefghijklmnop";
     for len in 1..16 {
-        assert!(rt; files.make_dir(&mut disk, &path_of(&rt, &letters[..len])).is_ok());
+        assert!(rt;
+            files
+                .make_dir(&mut disk, &path_of(&rt, &letters[..len]))
+                .is_ok()
+        );
     }
     let deepest = path_of(&rt, letters);
-    assert!(rt; files.put(&mut disk, &deepest, &data_of(&rt, b"deep")).is_ok());
+    assert!(rt;
+        files
+            .put(&mut disk, &deepest, &data_of(&rt, b"deep"))
+            .is_ok()
+    );
     let mut again = file_system(&rt, rt.alloc(), 40);
     assert!(rt; again.mount(&mut disk).is_ok());
     assert_eq!(rt; again.size(&mut disk, &deepest), Ok(4));
@@ -147,12 +174,19 @@ fn copies_change_apart(rt: HostRuntime) -> Result<(), Fail> {
     let free = free_blocks(&mut disk).expect(&rt, "no fault");
     assert!(rt; files.copy(&mut disk, &old, &new).is_ok());
     assert_eq!(rt; free_blocks(&mut disk), Ok(free - 1));
-    assert!(rt; files.append(&mut disk, &new, &data_of(&rt, &[6; 3])).is_ok());
+    assert!(rt;
+        files
+            .append(&mut disk, &new, &data_of(&rt, &[6; 3]))
+            .is_ok()
+    );
     assert_eq!(rt; files.size(&mut disk, &old), Ok(700));
     assert_eq!(rt; files.size(&mut disk, &new), Ok(703));
     assert!(rt; files.remove(&mut disk, &old).is_ok());
     let read = cat(&rt, rt.alloc(), &mut files, &mut disk, &new).expect(&rt, "it is there");
-    assert_eq!(rt; read.as_slice().iter().filter(|byte| **byte == 5).count(), 700);
+    assert_eq!(rt;
+        read.as_slice().iter().filter(|byte| **byte == 5).count(),
+        700
+    );
     Ok(())
 }
 
@@ -161,7 +195,11 @@ fn mount_deletes_leftovers(rt: HostRuntime) -> Result<(), Fail> {
     let mut disk = disk(&rt, rt.alloc(), 20, 40);
     let mut files = file_system(&rt, rt.alloc(), 20);
     assert!(rt; files.make(&mut disk).is_ok());
-    assert!(rt; files.put(&mut disk, &path_of(&rt, b"f"), &data_of(&rt, b"hello")).is_ok());
+    assert!(rt;
+        files
+            .put(&mut disk, &path_of(&rt, b"f"), &data_of(&rt, b"hello"))
+            .is_ok()
+    );
     let left = take(&rt, &mut disk, 0);
     let under = take(&rt, &mut disk, left);
     let inode = targets(&rt, &mut disk, 0).as_slice()[0];
@@ -174,7 +212,10 @@ fn mount_deletes_leftovers(rt: HostRuntime) -> Result<(), Fail> {
     let mut again = file_system(&rt, rt.alloc(), 20);
     assert!(rt; again.mount(&mut disk).is_ok());
     assert_eq!(rt; targets(&rt, &mut disk, 0).len(), 1);
-    assert_eq!(rt; targets(&rt, &mut disk, inode).as_slice(), [bytes].as_slice());
+    assert_eq!(rt;
+        targets(&rt, &mut disk, inode).as_slice(),
+        [bytes].as_slice()
+    );
     assert!(rt; targets(&rt, &mut disk, bytes).is_empty());
     assert_eq!(rt; free_blocks(&mut disk), Ok(20 - 4));
     Ok(())
@@ -185,13 +226,22 @@ fn worlds_that_are_no_tree(rt: HostRuntime) -> Result<(), Fail> {
     let mut disk = disk(&rt, rt.alloc(), 20, 40);
     let mut files = file_system(&rt, rt.alloc(), 20);
     assert_eq!(rt; files.mount(&mut disk), Err(FsRefusal::NotThisFs));
-    assert_eq!(rt; files.size(&mut disk, &path_of(&rt, b"f")), Err(FsRefusal::NotThisFs));
+    assert_eq!(rt;
+        files.size(&mut disk, &path_of(&rt, b"f")),
+        Err(FsRefusal::NotThisFs)
+    );
     let inode = take(&rt, &mut disk, 0);
-    let one = b"TSDINOD1\x01\0\0\0\x01\0\0\0\x01\0\0\0a\0\0\0\0\0\0\0\0\0\0\0\0\0\0\0\0\0\0\0\0\0\0\0\0\0\0\0";
+    let one =
+        b"TSDINOD1\x01\0\0\0\x01\0\0\0\x01\0\0\0a\0\0\0\0\0\0\0\0\0\0\0\0\0\0\0\0\0\0\0\0\0\0\0\0\0\0\0";
     write(&rt, &mut disk, 0, one);
     assert_eq!(rt; inode, 1);
     assert_eq!(rt; files.mount(&mut disk), Err(FsRefusal::NotThisFs));
-    write(&rt, &mut disk, inode, b"TSDINOD1\x02\0\0\0\x01\0\0\0\x02\0\0\0");
+    write(
+        &rt,
+        &mut disk,
+        inode,
+        b"TSDINOD1\x02\0\0\0\x01\0\0\0\x02\0\0\0",
+    );
     assert_eq!(rt; files.mount(&mut disk), Err(FsRefusal::NotThisFs));
     let bytes = take(&rt, &mut disk, inode);
     assert_eq!(rt; bytes, 2);
