@@ -66,11 +66,11 @@ pub other_form : (old new : View) (q : Request) (r : Reply) → is_of_files q �
 other_form old new q r h done other = elim (verdict old.world old.sessions q) as (λ x. verdict old.world old.sessions q ≡ x → IsRefused old q (refusal_in r) × (new.world ≡ old.world)) [
   | None ↦ λ e.
       let formed = granted_form old.kind (state_of old) q done.0 h e in
-      let form : has_wanted_form q r ≡ true = ap (has_wanted_form q) (sym done.1.1) ∙ formed in
+      let form : has_wanted_form q r ≡ true = ap (has_wanted_form q) (sym done.2) ∙ formed in
       absurd (cc)
   | Some rule ↦ λ e.
       let whole = refused_answer old.kind (state_of old) q done.0 rule e in
-      let told : r ≡ reply.Refused rule = sym done.1.1 ∙ ap (λ o. o.reply) whole in
-      let stays : new.world ≡ old.world = ap (λ st. st.world) (sym done.1.0) ∙ ap (λ o. o.state.world) whole in
-      ((rule, (e, ap refusal_in (sym told))), stays)
+      let told : r ≡ reply.Refused rule = sym done.2 ∙ ap (λ o. o.reply) whole in
+      let stays : new.world ≡ old.world = ap (λ st. st.world) (sym done.1) ∙ ap (λ o. o.state.world) whole in
+      ((rule, e, ap refusal_in (sym told)), stays)
 ] refl

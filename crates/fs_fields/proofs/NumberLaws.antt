@@ -23,21 +23,21 @@ module _ (xs : List ℕ) (count i : ℕ) (h : i < count) where
   first = little_number 4 (drop (4 * i) xs)
 
   split : numbers (count - i) (drop (4 * i) xs) ≡ first ∷ rest
-  unfolding first, rest
+  unfolding first rest
   split = numbers_from xs count i h
 
   pub among_stops : (n : ℕ) → (little_number 4 (drop (4 * i) xs) == n) ≡ true → has_number (numbers (count - i) (drop (4 * i) xs)) n ≡ true
-  unfolding first, rest
+  unfolding first rest
   among_stops n p = ap (λ ys. has_number ys n) split ∙ ap (λ t. t || has_number rest n) p
 
   pub among_goes_on : (n : ℕ) → (little_number 4 (drop (4 * i) xs) == n) ≡ false → has_number (numbers (count - i) (drop (4 * i) xs)) n ≡ has_number (numbers (count - (i + 1)) (drop (4 * (i + 1)) xs)) n
-  unfolding first, rest
+  unfolding first rest
   among_goes_on n p = ap (λ ys. has_number ys n) split ∙ ap (λ t. t || has_number rest n) p
 
   pub apart_stops : has_number (numbers (count - (i + 1)) (drop (4 * (i + 1)) xs)) (little_number 4 (drop (4 * i) xs)) ≡ true → are_apart (numbers (count - i) (drop (4 * i) xs)) ≡ false
-  unfolding first, rest
+  unfolding first rest
   apart_stops p = ap are_apart split ∙ ap (λ t. not t && are_apart rest) p
 
   pub apart_goes_on : has_number (numbers (count - (i + 1)) (drop (4 * (i + 1)) xs)) (little_number 4 (drop (4 * i) xs)) ≡ false → are_apart (numbers (count - i) (drop (4 * i) xs)) ≡ are_apart (numbers (count - (i + 1)) (drop (4 * (i + 1)) xs))
-  unfolding first, rest
+  unfolding first rest
   apart_goes_on p = ap are_apart split ∙ ap (λ t. not t && are_apart rest) p
