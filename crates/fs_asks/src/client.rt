@@ -34,10 +34,10 @@ fn refusal_of(rule: Rule) -> FsRefusal
 }
 
 /// What a reply is where another was wanted.
-fn other(reply: Reply) -> FsRefusal
-    ensures { result ≡ refusal_in reply }
+fn other(given: Reply) -> FsRefusal
+    ensures { result ≡ refusal_in given }
 {
-    match reply {
+    match given {
         Reply::Refused(rule) => refusal_of(rule),
         _ => FsRefusal::NotThisFs,
     }
