@@ -3,7 +3,7 @@
 ghost use Rattle.std.specs.Prelude.{◌≡◌, ◌≢◌, false, None, Some, IsTrue, IfOk, IfErr, OnOk};
 ghost use Rattle.fs_trees.specs.declared.refusal.FsRefusal.TheVariants as no;
 ghost use Rattle.inode_layout.specs.Block.{inode_of};
-ghost use Rattle.inode_layout.specs.Said.{is_directory};
+ghost use Rattle.inode_layout.specs.Said.{blocks_said, is_directory};
 ghost use Rattle.inode_fs.specs.Asking.{MayAsk, Looks, tree_of};
 ghost use Rattle.inode_fs.specs.Finding.{IsAt, IsPlace, not_found, no_file_found, no_directory_found, no_place_found};
 
@@ -23,6 +23,8 @@ pub struct Found {
 }
 
 impl Names for Found {
+    ghost blocks = { λ found. blocks_said (inode_of found.inode) };
+
     fn names(&self, block: u32) -> bool {
         self.inode.names(block)
     }
