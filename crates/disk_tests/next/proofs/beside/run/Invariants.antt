@@ -1,0 +1,14 @@
+use Rattle.tsd_core.specs.Core.{IsReady, IsAt}
+use Rattle.disk_tests.proofs.beside.run.Given as goal
+
+abbrev pub invariant-loop-session : goal.invariant-loop-session
+invariant-loop-session g l = record {
+  ready : IsReady l.core;
+  at : g.D.Device.told → IsAt l.core (g.D.Device.view l.dev);
+}
+
+abbrev pub invariant-loop-turn : goal.invariant-loop-turn
+invariant-loop-turn g l = record {
+  ready : IsReady l.core;
+  at : g.D.Device.told → IsAt l.core (g.D.Device.view l.dev);
+}
