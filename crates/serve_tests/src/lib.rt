@@ -9,6 +9,8 @@ mod faults;
 #[cfg(test)]
 mod images;
 #[cfg(test)]
+mod loops;
+#[cfg(test)]
 mod outside;
 #[cfg(test)]
 mod runs;

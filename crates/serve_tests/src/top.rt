@@ -6,6 +6,7 @@ ghost use Rattle.tsd_model.specs.declared.requests.PlaceKind.TheVariants.{Low, N
 
 use crate::faults::{faults, one_byte_puts, replies_before_takes};
 use crate::images::{commands, framed, kept, refused, stops};
+use crate::loops::loops;
 use crate::runs::{all_runs, faulty_words};
 use place_policy::{PlaceBook, Placement, ZONE_TURNS, low_rank, near_rank, spread_rank, zone_rank};
 use std::test::Fail;
@@ -53,6 +54,7 @@ fn runs(rt: HostRuntime) -> Result<(), Fail> {
     kept(&rt, alloc, &book)?;
     refused(&rt, alloc, &book)?;
     framed(&rt, alloc, &book)?;
+    loops(&rt, alloc, &book)?;
     commands(&rt, alloc, &book)?;
     stops(&rt, alloc, &book)
 }
