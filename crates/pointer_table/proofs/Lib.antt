@@ -2,8 +2,12 @@ pub mod SlotLaws
 pub mod RawLaws
 pub mod NextLaws
 pub mod SectorLaws
-pub mod RepeatLaws
 pub mod LoadLaws
 pub mod TableLaws
 pub mod LoadingLaws
 pub mod FreshLaws
+pub mod ThreadLaws
+pub mod IndexLaws
+pub mod OrderLaws
+pub mod ThreadingLaws
+pub mod ChangeLaws

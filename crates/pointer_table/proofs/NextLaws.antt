@@ -1,4 +1,4 @@
--- The next number that has something, with one slot more, and the targets of a block one after another.
+-- The targets of a block one after another.
 use Rattle.std.proofs.Common.{◌≡◌, ℕ, ◌+◌, ◌<◌, ◌≤◌, Bool, true, false, cond, nat_lt, nat_le, ◌&&◌, ◌||◌, ◌==◌, ◌⊎◌, inl, inr, List, [], ◌∷◌, ◌++◌, length, take, get_or, refl, sym, ◌∙◌, ap, arith}
 use Rattle.std.proofs.Common.{Option, Some, None}
 use Rattle.std.specs.Prelude.{filter, map}
@@ -11,99 +11,7 @@ use Rattle.pointer_table.specs.declared.raw.RawSlot.{RawSlot}
 use Rattle.tsd_model.specs.Next.{IsNext, IsNextSource, IsNextTarget}
 use Rattle.pointer_table.specs.Raw.{slot_in, slots_in}
 use Rattle.pointer_table.specs.Slots.{pairs_in}
-use Rattle.pointer_table.specs.Scanning.{is_at, lesser_from, source_to, target_from}
 use Rattle.tsd_model.proofs.PairLaws.{above_first}
-use Rattle.pointer_table.proofs.RawLaws.{holds_more}
-
--- ---- one slot more
-
--- a number more that has it
-with_number : (had has : ℕ → Bool) (start n : ℕ) (best : Option ℕ) → ((a : ℕ) → has a ≡ true → (had a ≡ true) ⊎ (a ≡ n)) → ((a : ℕ) → had a ≡ true → has a ≡ true) → has n ≡ true
-    → IsNext had start best → IsNext has start (lesser_from start best (Some n))
-with_number had has start n None only still new none =
-    elim (nat_lt n start) as (λ t. nat_lt n start ≡ t → IsNext has start (cond t None (Some n))) [
-      | true ↦ λ low a h. elim (only a h) [ inl old ↦ none a old | inr same ↦ (let below = ltb-true n start low in omega arith) ]
-      | false ↦ λ high. record {
-        there = new;
-        from = ltb-false n start high;
-        least = λ c h from. elim (only c h) [ inl old ↦ (let below = none c old in absurd (omega arith)) | inr same ↦ omega arith ];
-      }
-    ] refl
-with_number had has start n (Some b) only still new least =
-    elim (nat_lt n start || nat_le b n) as (λ t. (nat_lt n start || nat_le b n) ≡ t → IsNext has start (cond t (Some b) (Some n))) [
-      | true ↦ λ above. record {
-        there = still b least.there;
-        from = least.from;
-        least = λ c h from. elim (only c h) [
-          | inl old ↦ least.least c old from
-          | inr same ↦ elim (or_cases (nat_lt n start) (nat_le b n) above) [
-            | inl low ↦ (let below = ltb-true n start low in absurd (omega arith))
-            | inr far ↦ (let more = leb-true b n far in omega arith)
-          ]
-        ];
-      }
-      | false ↦ λ below. let parts = or_parts (nat_lt n start) (nat_le b n) below in
-          let high = ltb-false n start parts.0 in
-          let lower = leb-false b n parts.1 in
-          record {
-            there = new;
-            from = high;
-            least = λ c h from. elim (only c h) [ inl old ↦ (let more = least.least c old from in omega arith) | inr same ↦ omega arith ];
-          }
-    ] refl
-
--- nothing more
-with_none : (had has : ℕ → Bool) (start : ℕ) (best : Option ℕ) → ((a : ℕ) → has a ≡ had a) → IsNext had start best → IsNext has start (lesser_from start best None)
-with_none had has start None same none = λ a h. none a (sym (same a) ∙ h)
-with_none had has start (Some b) same least = record {
-  there = same b ∙ least.there;
-  from = least.from;
-  least = λ c h from. least.least c (sym (same c) ∙ h) from;
-}
-
-or_nothing : (t : Bool) → (t || false) ≡ t
-or_nothing true = refl
-or_nothing false = refl
-
-source_step : (had has : ℕ → Bool) (start b : ℕ) (best : Option ℕ) (slot : Option (ℕ × ℕ)) → ((a : ℕ) → has a ≡ (had a || is_at a b slot)) → IsNext had start best
-    → IsNext has start (lesser_from start best (source_to b slot))
-source_step had has start b best None more next = with_none had has start best (λ a. more a ∙ or_nothing (had a)) next
-source_step had has start b best (Some e) more next =
-    elim (e.1 == b) as (λ t. (e.1 == b) ≡ t → IsNext has start (lesser_from start best (cond t (Some e.0) None))) [
-      | true ↦ λ here. with_number had has start e.0 best
-          (λ a h. elim (or_cases (had a) (is_pair a b e) (sym (more a) ∙ h)) [ inl old ↦ inl old | inr new ↦ inr (sym (eqb-true e.0 a ((and_parts (e.0 == a) (e.1 == b) new).0))) ])
-          (λ a h. more a ∙ or_left (had a) (is_pair a b e) h)
-          (more e.0 ∙ or_right (had e.0) (is_pair e.0 b e) (and_from (e.0 == e.0) (e.1 == b) (eq-eqb e.0 e.0 refl) here))
-          next
-      | false ↦ λ off. with_none had has start best (λ a. more a ∙ ap (λ t. had a || t) (and_right (e.0 == a) (e.1 == b) off) ∙ or_nothing (had a)) next
-    ] refl
-
-target_step : (had has : ℕ → Bool) (start a : ℕ) (best : Option ℕ) (slot : Option (ℕ × ℕ)) → ((b : ℕ) → has b ≡ (had b || is_at a b slot)) → IsNext had start best
-    → IsNext has start (lesser_from start best (target_from a slot))
-target_step had has start a best None more next = with_none had has start best (λ b. more b ∙ or_nothing (had b)) next
-target_step had has start a best (Some e) more next =
-    elim (e.0 == a) as (λ t. (e.0 == a) ≡ t → IsNext has start (lesser_from start best (cond t (Some e.1) None))) [
-      | true ↦ λ here. with_number had has start e.1 best
-          (λ b h. elim (or_cases (had b) (is_pair a b e) (sym (more b) ∙ h)) [ inl old ↦ inl old | inr new ↦ inr (sym (eqb-true e.1 b ((and_parts (e.0 == a) (e.1 == b) new).1))) ])
-          (λ b h. more b ∙ or_left (had b) (is_pair a b e) h)
-          (more e.1 ∙ or_right (had e.1) (is_pair a e.1 e) (and_from (e.0 == a) (e.1 == e.1) here (eq-eqb e.1 e.1 refl)))
-          next
-      | false ↦ λ off. with_none had has start best (λ b. more b ∙ ap (λ t. had b || t) (and_left (e.0 == a) (e.1 == b) off) ∙ or_nothing (had b)) next
-    ] refl
-
-pub source_more : (raws : List RawSlot) (i b start : ℕ) (d : RawSlot) (best : Option ℕ) → i < length raws
-    → IsNextSource (pairs_in (slots_in (take i raws))) b start best
-    → IsNextSource (pairs_in (slots_in (take (i + 1) raws))) b start (lesser_from start best (source_to b (slot_in (get_or raws i d))))
-source_more raws i b start d best h next =
-    source_step (λ a. holds (pairs_in (slots_in (take i raws))) a b) (λ a. holds (pairs_in (slots_in (take (i + 1) raws))) a b) start b best
-    (slot_in (get_or raws i d)) (λ a. holds_more raws i d a b h) next
-
-pub target_more : (raws : List RawSlot) (i a start : ℕ) (d : RawSlot) (best : Option ℕ) → i < length raws
-    → IsNextTarget (pairs_in (slots_in (take i raws))) a start best
-    → IsNextTarget (pairs_in (slots_in (take (i + 1) raws))) a start (lesser_from start best (target_from a (slot_in (get_or raws i d))))
-target_more raws i a start d best h next =
-    target_step (λ b. holds (pairs_in (slots_in (take i raws))) a b) (λ b. holds (pairs_in (slots_in (take (i + 1) raws))) a b) start a best
-    (slot_in (get_or raws i d)) (λ b. holds_more raws i d a b h) next
 
 -- ---- the targets of a block that are not below a number, ascending
 

@@ -1,7 +1,6 @@
 -- Tables: made, changed, and compared with an image.
 use Rattle.std.proofs.Common.{◌≡◌, ℕ, ◌+◌, ◌*◌, ◌/◌, ◌%◌, ◌<◌, ◌==◌, false, inl, inr, ◌⊎◌, List, length, set, sym, ◌∙◌, ap, subst, arith}
 use Rattle.std.proofs.Common.{Option, Some, None}
-use Rattle.std.specs.Prelude.{◌≢◌}
 use Rattle.std.proofs.lemmas.Bool.{cases_eq, cases_order, both_ways, false_from_ne_true}
 use Rattle.std.proofs.lemmas.List.{length-set, set-set, set-get_or}
 use Rattle.tsd_model.specs.declared.geometry.Geometry.{Geometry}
@@ -22,10 +21,8 @@ use Rattle.pointer_table.specs.Slots.{slot_at, pairs_in}
 use Rattle.pointer_table.specs.Table.{Table, pairs, IsWithin, IsTable, ArePairs}
 use Rattle.tsd_model.proofs.PairLaws.{length-with_new_pair}
 use Rattle.image_layout.specs.declared.place.Patch.{Patch}
-use Rattle.std.specs.List.{position}
 use Rattle.pointer_table.specs.Changes.{IsChange}
-use Rattle.pointer_table.specs.Scanning.{is_at}
-use Rattle.pointer_table.proofs.RawLaws.{slots_in-set, length-slots_in, empty_some, empty_none, place_some, place_none}
+use Rattle.pointer_table.proofs.RawLaws.{slots_in-set}
 use Rattle.image_layout.specs.Areas.{slots_start}
 use Rattle.image_layout.specs.Places.{slot_place}
 use Rattle.pointer_table.specs.Sectors.{IsStored, slot_sector_bytes}
@@ -207,35 +204,6 @@ pub set_in : (t : Table) (g : Geometry) (raws : List RawSlot) (place : ℕ) (raw
     → with_slot t place (slot_in raw) ≡ record { geometry = g; slots = slots_in (set raws place raw) }
 set_in t g raws place raw is =
     sym (ap (λ (u : Table). with_slot u place (slot_in raw)) is) ∙ ap (λ slots. record { geometry = g; slots = slots }) (sym (slots_in-set raws place raw))
-
-slots_are : (t : Table) (g : Geometry) (items raws : List RawSlot) → ◌≡◌ {A = Table} (record { geometry = g; slots = slots_in items }) t → raws ≡ items → slots_in raws ≡ t.slots
-slots_are t g items raws is same = ap slots_in same ∙ ap (λ (u : Table). u.slots) is
-
--- an empty slot was found, or none
-pub empty_found : (t : Table) (g : Geometry) (items raws : List RawSlot) (place : ℕ) → ◌≡◌ {A = Table} (record { geometry = g; slots = slots_in items }) t → raws ≡ items
-    → Some place ≡ position (λ raw. raw.source == 0) raws → (place < length t.slots) × (slot_at t.slots place ≡ None)
-empty_found t g items raws place is same found =
-    let at = empty_some raws place (sym found) in
-    let slots = slots_are t g items raws is same in
-    ((let inside = at.0 in let all = length-slots_in raws in let l = ap length slots in omega arith), ap (λ ss. slot_at ss place) (sym slots) ∙ at.1)
-
-pub empty_missing : (t : Table) (g : Geometry) (items raws : List RawSlot) → ◌≡◌ {A = Table} (record { geometry = g; slots = slots_in items }) t → raws ≡ items
-    → ◌≡◌ {A = Option ℕ} None (position (λ raw. raw.source == 0) raws) → (k : ℕ) → k < length t.slots → slot_at t.slots k ≢ None
-empty_missing t g items raws is same found k inside empty =
-    let slots = slots_are t g items raws is same in
-    empty_none raws (sym found) k (let l = ap length slots in omega arith) (ap (λ ss. slot_at ss k) slots ∙ empty)
-
--- a pair's slot was found, or none
-pub pair_found : (t : Table) (g : Geometry) (items raws : List RawSlot) (a b place : ℕ) → ◌≡◌ {A = Table} (record { geometry = g; slots = slots_in items }) t → raws ≡ items
-    → Some place ≡ position (λ raw. is_at a b (slot_in raw)) raws → slot_at t.slots place ≡ Some (a, b)
-pair_found t g items raws a b place is same found =
-    let at = place_some raws a b place (sym found) in
-    ap (λ ss. slot_at ss place) (sym (slots_are t g items raws is same)) ∙ at.1
-
-pub pair_missing : (t : Table) (g : Geometry) (items raws : List RawSlot) (a b : ℕ) → ◌≡◌ {A = Table} (record { geometry = g; slots = slots_in items }) t → raws ≡ items
-    → ◌≡◌ {A = Option ℕ} None (position (λ raw. is_at a b (slot_in raw)) raws) → holds (pairs t) a b ≡ false
-pair_missing t g items raws a b is same found =
-    ap (λ ss. holds (pairs_in ss) a b) (sym (slots_are t g items raws is same)) ∙ place_none raws a b (sym found)
 
 -- ---- the pairs after a change
 

@@ -9,3 +9,6 @@ pub mod Loading
 pub mod Reading
 pub mod Changes
 pub mod Fresh
+pub mod Threads
+pub mod Indexed
+pub mod Order

@@ -7,19 +7,25 @@
 //! `add` and `remove` change one slot and give the patch of its sector: where an image had the slots of the table, it
 //! has them again with the patch. Each question is answered by the pairs that the slots hold, ascending. An image whose
 //! sectors are those of `fresh_sector` has a table that holds no pair. A load that answers Ok leaves the device's count
-//! of faults as it was. Only `load` takes memory: eight bytes a slot.
+//! of faults as it was. Only `load` takes memory: 26 bytes a slot and 16 a block.
+//!
+//! How it stays fast: the slots that hold pairs are threaded by source, by target and by bucket (`specs/Threads.antt`), so
+//! no question looks at all of them.
 #![tactic(auto)]
 
 mod fault;
 mod fresh;
+mod index;
 pub mod laws;
 mod load;
 mod next;
+mod order;
 mod out_step;
 mod raw;
-mod repeats;
 mod sector;
 mod table;
+mod threads;
+mod way;
 
 pub use fault::{NoPointer, TableFault, TableFull};
 pub use fresh::{fresh_sector, written_sectors_have_the_slots};

@@ -1,7 +1,7 @@
 //! A slot as its eight bytes have it.
 
 ghost use Rattle.std.specs.Prelude.{◌≡◌, ◌+◌, ◌^◌, ◌<◌, Some};
-ghost use Rattle.pointer_table.specs.Scanning.{is_at, source_to, target_from};
+ghost use Rattle.pointer_table.specs.Scanning.{is_at};
 ghost use Rattle.pointer_table.specs.Raw.{slot_in};
 
 /// A slot: a pair, or none where the source's number is 0.
@@ -50,26 +50,6 @@ impl RawSlot {
         match self.pair() {
             Some((from, to)) => from == source && to == target,
             None => false,
-        }
-    }
-
-    /// The source of its pair where that leads to a block.
-    pub(crate) fn source_to(&self, target: u32) -> Option<u32>
-        ensures { result ≡ source_to target (slot_in self.now) }
-    {
-        match self.pair() {
-            Some((from, to)) if to == target => Some(from),
-            _ => None,
-        }
-    }
-
-    /// The target of its pair where that comes from a block.
-    pub(crate) fn target_from(&self, source: u32) -> Option<u32>
-        ensures { result ≡ target_from source (slot_in self.now) }
-    {
-        match self.pair() {
-            Some((from, to)) if from == source => Some(to),
-            _ => None,
         }
     }
 }

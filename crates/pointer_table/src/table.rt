@@ -1,6 +1,6 @@
 //! The table.
 
-ghost use Rattle.std.specs.Prelude.{◌≡◌, ◌↔◌, ◌<◌, ◌/◌, false, None, Some, length, slice_set, IsErr, IfOk, OnOk, OnErr, IsErrOf};
+ghost use Rattle.std.specs.Prelude.{◌≡◌, ◌↔◌, ◌<◌, ◌/◌, false, None, Some, length, IsErr, IfOk, OnOk, OnErr, IsErrOf};
 ghost use Rattle.image_device.specs.Calls.{Rests, Uses};
 ghost use Rattle.image_device.specs.Counts.{Rose};
 ghost use Rattle.tsd_model.specs.Geometry.{IsLawful};
@@ -9,7 +9,9 @@ ghost use Rattle.tsd_model.specs.Step.{targets_from};
 ghost use Rattle.pointer_table.specs.Changes.{IsChange, IsSlotSector, KeepsStored};
 ghost use Rattle.pointer_table.specs.Loading.{IsLoading};
 ghost use Rattle.tsd_model.specs.Next.{IsNextSource, IsNextTarget};
-ghost use Rattle.pointer_table.specs.Raw.{slot_in, slots_in};
+ghost use Rattle.pointer_table.specs.Indexed.{IsIndex, HasRoom};
+ghost use Rattle.pointer_table.specs.Order.{AreNumbers};
+ghost use Rattle.pointer_table.specs.Raw.{slots_in};
 ghost use Rattle.pointer_table.specs.Reading.{AreWithinTo};
 ghost use Rattle.pointer_table.specs.Repeating.{IsRepeating};
 ghost use Rattle.pointer_table.specs.Sectors.{sector_of, slot_sector_bytes};
@@ -17,12 +19,11 @@ ghost use Rattle.pointer_table.specs.Slots.{slot_at};
 ghost use Rattle.pointer_table.specs.Table.{pairs, IsWithin, IsTable, ArePairs};
 
 use crate::fault::{NoPointer, TableFault, TableFull};
+use crate::index::Index;
 use crate::load::{empty_slots, read_slots};
-use crate::next::{
-    count_held, empty_place, holds, next_source, next_target, place_of, targets_from,
-};
+use crate::next::{count_held, targets_from, thread};
+use crate::order::{least_repeated, numbers, sort_by_pair};
 use crate::raw::RawSlot;
-use crate::repeats::least_repeated;
 use crate::sector::{PER_SECTOR, sector_bytes};
 use image_device::Device;
 use image_layout::{Layout, Patch};
@@ -38,11 +39,18 @@ pub struct PointerTable {
     slots: Vec<RawSlot>,
     /// How many slots hold a pair.
     held: u32,
+    /// From as many on as slots hold a pair, the empty slots.
+    empties: Vec<u32>,
+    /// The slots that hold pairs, by source, by target and by pair.
+    index: Index,
 }
 
 impl Model for PointerTable {
     ghost use Rattle.std.specs.Prelude.{◌≡◌, length};
+    ghost use Rattle.pointer_table.specs.Indexed.{IsIndex, HasRoom};
+    ghost use Rattle.pointer_table.specs.Order.{AreEmpties};
     ghost use Rattle.pointer_table.specs.Raw.{slots_in};
+    ghost use Rattle.pointer_table.specs.Slots.{slot_at};
     ghost use Rattle.pointer_table.specs.Table.{Table, pairs, IsTable};
 
     ghost Value = { Table };
@@ -51,7 +59,10 @@ impl Model for PointerTable {
 
     ghost invariant = { λ t.
         IsTable (record { geometry = t.geometry; slots = slots_in t.slots.items })
-        × (t.held ≡ length (pairs (record { geometry = t.geometry; slots = slots_in t.slots.items }))) };
+        × (t.held ≡ length (pairs (record { geometry = t.geometry; slots = slots_in t.slots.items })))
+        × AreEmpties (slots_in t.slots.items) t.held t.empties.items
+        × IsIndex (slot_at (slots_in t.slots.items)) t.index
+        × HasRoom t.geometry.blocks t.geometry.slots t.index };
 }
 
 impl PointerTable {
@@ -73,8 +84,10 @@ impl PointerTable {
         ensures cause { IsErrOf result TableFault.Device → Rose (D.view dev.old).faults (D.view dev.new).faults }
     {
         let mut slots = empty_slots(alloc, geometry)?;
+        let order = numbers(alloc, geometry.slots)?;
+        let index = Index::none(alloc, geometry)?;
         read_slots(dev, geometry, &mut slots)?;
-        PointerTable::of_slots(geometry, slots)
+        PointerTable::of_slots(geometry, slots, order, index)
     }
 
     /// The size of the disk.
@@ -106,14 +119,14 @@ impl PointerTable {
     pub fn has(&self, source: u32, target: u32) -> bool
         ensures { result ≡ holds (pairs self.now) source target }
     {
-        holds(&self.slots, source, target)
+        self.index.place_of(&self.slots, source, target).is_some()
     }
 
     /// The least 64 targets of the pairs from a block that are not below `start`, ascending.
     pub fn targets_from(&self, source: u32, start: u32) -> BlockList
         ensures { result ≡ targets_from (pairs self.now) source start }
     {
-        targets_from(&self.slots, source, start)
+        targets_from(&self.slots, &self.index, source, start)
     }
 
     /// The least target of the pairs from a block.
@@ -127,14 +140,14 @@ impl PointerTable {
     pub fn next_target(&self, source: u32, start: u32) -> Option<u32>
         ensures { IsNextTarget (pairs self.now) source start result }
     {
-        next_target(&self.slots, source, start)
+        self.index.next_target(&self.slots, source, start)
     }
 
     /// The least source of the pairs to a block that is not below `start`.
     pub fn next_source(&self, target: u32, start: u32) -> Option<u32>
         ensures { IsNextSource (pairs self.now) target start result }
     {
-        next_source(&self.slots, target, start)
+        self.index.next_source(&self.slots, target, start)
     }
 }
 
@@ -151,12 +164,10 @@ impl PointerTable {
         ensures stored { IfOk result (KeepsStored self.old self.new) }
         ensures table { IsTable self.new }
     {
-        match empty_place(&self.slots) {
-            Some(place) => {
-                let held = self.held + 1;
-                Ok(self.set(place, RawSlot::of(source, target), held))
-            }
-            None => Err(TableFull),
+        if self.held < self.geometry.slots {
+            Ok(self.put(source, target))
+        } else {
+            Err(TableFull)
         }
     }
 
@@ -170,49 +181,73 @@ impl PointerTable {
         ensures stored { IfOk result (KeepsStored self.old self.new) }
         ensures table { IsTable self.new }
     {
-        match place_of(&self.slots, source, target) {
-            Some(place) => {
-                let held = self.held - 1;
-                Ok(self.set(place, RawSlot::EMPTY, held))
-            }
+        match self.index.place_of(&self.slots, source, target) {
+            Some(place) => Ok(self.clear(place, source, target)),
             None => Err(NoPointer),
         }
     }
 
     /// The table of slots that were read, of which none is bad.
-    fn of_slots(geometry: &Geometry, slots: Vec<RawSlot>) -> Result<PointerTable, TableFault>
+    fn of_slots(
+        geometry: &Geometry,
+        slots: Vec<RawSlot>,
+        mut order: Vec<u32>,
+        mut index: Index,
+    ) -> Result<PointerTable, TableFault>
         requires lawful { IsLawful geometry.now }
         requires count { length slots.items ≡ geometry.now.slots }
         requires within { AreWithinTo geometry.now geometry.now.slots (slots_in slots.items) }
+        requires numbers { AreNumbers geometry.now.slots order.items }
+        requires index { IsIndex (λ k. None) index }
+        requires room { HasRoom geometry.now.blocks geometry.now.slots index }
         ensures table { IfOk result (λ t. (t.geometry ≡ geometry.now) × (t.slots ≡ slots_in slots.items)) }
         ensures repeated { IsRepeating (slots_in slots.items) result }
     {
-        match least_repeated(&slots) {
-            Some((source, target)) => Err(TableFault::Repeated { source, target }),
-            None => {
-                let held = count_held(&slots);
-                Ok(PointerTable {
-                    geometry: *geometry,
-                    slots,
-                    held,
-                })
-            }
+        sort_by_pair(&slots, &mut order);
+        if let Some((source, target)) = least_repeated(&slots, &order) {
+            return Err(TableFault::Repeated { source, target });
         }
+        let held = count_held(&slots);
+        thread(geometry, &slots, &order, &mut index);
+        Ok(PointerTable {
+            geometry: *geometry,
+            slots,
+            held,
+            empties: order,
+            index,
+        })
     }
 
-    /// Sets a slot, with the number of pairs that are held then, and gives its sector.
-    fn set(&mut self, place: usize, slot: RawSlot, held: u32) -> Patch
-        requires inside { place < self.old.geometry.slots }
-        requires table { IsTable (record self.old { slots = slice_set self.old.slots place (slot_in slot) }) }
-        requires held { held ≡ length (pairs (record self.old { slots = slice_set self.old.slots place (slot_in slot) })) }
-        ensures change { IsChange self.old self.new (slot_at self.old.slots place) (slot_in slot) result }
+    /// Holds a pair that isn't held, in an empty slot, and gives the sector of that slot.
+    fn put(&mut self, source: u32, target: u32) -> Patch
+        requires room { length (pairs self.old) < self.old.geometry.slots }
+        requires absent { holds (pairs self.old) source target ≡ false }
+        requires within { IsWithin self.old.geometry (source, target) }
+        ensures change { IsChange self.old self.new None (Some (source, target)) result }
         ensures sector { IsSlotSector self.old result }
         ensures stored { KeepsStored self.old self.new result }
         ensures table { IsTable self.new }
     {
-        self.slots[place] = slot;
-        self.held = held;
-        self.patch(place)
+        let place = self.empties[self.held as usize];
+        self.index.add(&self.slots, place, source, target);
+        self.slots[place as usize] = RawSlot::of(source, target);
+        self.held += 1;
+        self.patch(place as usize)
+    }
+
+    /// Takes a pair out of its slot, and gives the sector of that slot.
+    fn clear(&mut self, place: u32, source: u32, target: u32) -> Patch
+        requires { slot_at self.old.slots place ≡ Some (source, target) }
+        ensures change { IsChange self.old self.new (Some (source, target)) None result }
+        ensures sector { IsSlotSector self.old result }
+        ensures stored { KeepsStored self.old self.new result }
+        ensures table { IsTable self.new }
+    {
+        self.index.remove(&self.slots, place, source, target);
+        self.slots[place as usize] = RawSlot::EMPTY;
+        self.held -= 1;
+        self.empties[self.held as usize] = place;
+        self.patch(place as usize)
     }
 
     /// The sector of a slot.

@@ -3,13 +3,13 @@ use Rattle.tsd_model.specs.Pairs.{holds}
 use Rattle.pointer_table.specs.Raw.{slots_in}
 use Rattle.pointer_table.specs.Slots.{pairs_in}
 use Rattle.pointer_table.specs.Table.{pairs}
-use Rattle.pointer_table.proofs.RawLaws.{holds-slots_in}
+use Rattle.pointer_table.proofs.ChangeLaws.{has_is}
 use Rattle.pointer_table.proofs.table.PointerTable.has.Goals as goal
 
 pub returns : goal.returns
 returns c =
     let a = c.args.source in
     let b = c.args.target in
-    c.holds.ensures
-    ∙ (sym (holds-slots_in c.deref.result.now a b)
+    c.is_some.ensures
+    ∙ (has_is (slots_in c.deref.result.now) a b c.place_of.result c.place_of.ensures
     ∙ (ap (λ raws. holds (pairs_in (slots_in raws)) a b) c.deref.ensures.value ∙ ap (λ t. holds (pairs t) a b) c.self.view_is))

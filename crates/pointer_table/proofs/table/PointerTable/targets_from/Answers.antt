@@ -6,8 +6,8 @@ use Rattle.pointer_table.specs.Table.{Table}
 use Rattle.pointer_table.proofs.TableLaws.{are_pairs}
 use Rattle.pointer_table.proofs.table.PointerTable.targets_from.Goals as goal
 
-pub targets_from-requires : goal.targets_from-requires
-targets_from-requires c b held =
+pub targets_from-requires-clause-small : goal.targets_from-requires-clause-small
+targets_from-requires-clause-small c b held =
     let t : Table = record { geometry = c.self.inside.geometry; slots = slots_in c.self.inside.slots.items } in
     let table = c.self.invariant.0 in
     let ends = (are_pairs t table).ends c.args.source b (ap (λ raws. holds (pairs_in (slots_in raws)) c.args.source b) (sym c.deref.ensures.value) ∙ held) in

@@ -1,0 +1,261 @@
+-- A slot that is filled or emptied: what is still known of the slots, the array of empty ones and the index.
+use Rattle.std.proofs.Common.{◌≡◌, ℕ, ◌+◌, ◌-◌, ◌*◌, ◌/◌, ◌<◌, ◌≤◌, Bool, true, false, List, length, get_or, set, refl, sym, ◌∙◌, ap, subst, arith, inl, inr}
+use Rattle.std.proofs.Common.{Option, Some, None}
+use Rattle.std.specs.Prelude.{is_some}
+use Rattle.std.proofs.lemmas.Bool.{cases_eq, both_ways}
+use Rattle.std.proofs.lemmas.List.{length-set, get_or-set_same, get_or-set_other, get_or_default}
+use Rattle.tsd_model.specs.declared.geometry.Geometry.{Geometry}
+use Rattle.image_device.specs.Image.{Image, put_at}
+use Rattle.image_layout.specs.declared.place.Patch.{Patch}
+use Rattle.pointer_table.specs.Changes.{IsChange}
+use Rattle.pointer_table.specs.Sectors.{sector_of, slot_sector_bytes, IsStored}
+use Rattle.pointer_table.proofs.SectorLaws.{stored_kept}
+use Rattle.tsd_model.specs.Geometry.{IsLawful}
+use Rattle.tsd_model.specs.Pairs.{holds}
+use Rattle.pointer_table.specs.Indexed.{IsIndex, HasRoom, IsPlaceOf}
+use Rattle.pointer_table.specs.Order.{AreEmpties, AreSmall}
+use Rattle.pointer_table.specs.Raw.{slot_in, slots_in}
+use Rattle.pointer_table.specs.Reading.{AreWithinTo}
+use Rattle.pointer_table.specs.Slots.{slot_at, pairs_in}
+use Rattle.pointer_table.specs.Table.{Table, pairs, IsWithin, IsTable}
+use Rattle.pointer_table.specs.Threads.{no_link, IsWith}
+use Rattle.pointer_table.specs.declared.index.Index.{Index}
+use Rattle.pointer_table.specs.declared.raw.RawSlot.{RawSlot}
+use Rattle.pointer_table.proofs.IndexLaws.{room_here}
+use Rattle.pointer_table.proofs.RawLaws.{length-slots_in, slots_in-set}
+use Rattle.pointer_table.proofs.SlotLaws.{some_inside, holds_from_slot, set_same, set_other, length-pairs_in_le}
+use Rattle.pointer_table.proofs.TableLaws.{with_slot, set_in, fits, added, removed, held_added, held_removed}
+
+-- ---- one slot
+
+pub slot_filled : (slots : List (Option (ℕ × ℕ))) (place : ℕ) (e : ℕ × ℕ) → place < length slots → slot_at slots place ≡ None → IsWith (slot_at slots) place e (slot_at (set slots place (Some e)))
+slot_filled slots place e inside empty = record {
+  empty = empty;
+  filled = set_same slots place (Some e) inside;
+  others = λ k off. set_other slots place k (Some e) off;
+}
+
+pub slot_emptied : (slots : List (Option (ℕ × ℕ))) (place : ℕ) (e : ℕ × ℕ) → slot_at slots place ≡ Some e → IsWith (slot_at (set slots place None)) place e (slot_at slots)
+slot_emptied slots place e held = record {
+  empty = set_same slots place None (some_inside slots place e held);
+  filled = held;
+  others = λ k off. sym (set_other slots place k None off);
+}
+
+not_some : (slot : Option (ℕ × ℕ)) (e : ℕ × ℕ) → slot ≡ None → slot ≡ Some e → ⊥
+not_some slot e none some = cc
+
+-- ---- the array of empty slots
+
+pub empties_filled : (slots : List (Option (ℕ × ℕ))) (held : ℕ) (places : List ℕ) (e : ℕ × ℕ) → AreEmpties slots held places → held < length places
+    → AreEmpties (set slots (get_or places held 0) (Some e)) (held + 1) places
+empties_filled slots held places e empties room = record {
+  count = empties.count ∙ sym (length-set slots (get_or places held 0) (Some e));
+  inside = λ i low within. let old = empties.inside i (omega arith) within in let all = length-set slots (get_or places held 0) (Some e) in omega arith;
+  empty = λ i low within. set_other slots (get_or places held 0) (get_or places i 0) (Some e)
+      (λ same. let one = empties.apart i held (omega arith) within (omega arith) room same in omega arith) ∙ empties.empty i (omega arith) within;
+  apart = λ i j low u high v same. empties.apart i j (omega arith) u (omega arith) v same;
+}
+
+pub empties_emptied : (slots : List (Option (ℕ × ℕ))) (held left : ℕ) (places : List ℕ) (place : ℕ) (e : ℕ × ℕ) → AreEmpties slots held places → held ≡ left + 1 → held ≤ length places
+    → slot_at slots place ≡ Some e → AreEmpties (set slots place None) left (set places left place)
+empties_emptied slots held left places place e empties one_more room here = record {
+  count = length-set places left place ∙ (empties.count ∙ sym (length-set slots place None));
+  inside = λ i low within. let all = length-set slots place None in let long = length-set places left place in elim (cases_eq i left) [
+    | inl same ↦ (let at = at_left i same in let inside = some_inside slots place e here in omega arith)
+    | inr off ↦ (let at = past i off in let old = empties.inside i (omega arith) (omega arith) in omega arith)
+  ];
+  empty = λ i low within. let long = length-set places left place in elim (cases_eq i left) [
+    | inl same ↦ ap (slot_at (set slots place None)) (at_left i same) ∙ set_same slots place None (some_inside slots place e here)
+    | inr off ↦
+        (let old = empties.empty i (omega arith) (omega arith) in
+        ap (slot_at (set slots place None)) (past i off) ∙ (set_other slots place (get_or places i 0) None
+        (λ same. not_some (slot_at slots place) e (ap (slot_at slots) (sym same) ∙ old) here) ∙ old))
+  ];
+  apart = λ i j low u high v same. let long = length-set places left place in elim (cases_eq i left) [
+    | inl i_same ↦ elim (cases_eq j left) [
+      | inl j_same ↦ i_same ∙ sym j_same
+      | inr j_off ↦ absurd (not_some (slot_at slots place) e
+          (ap (slot_at slots) (sym (at_left i i_same) ∙ (same ∙ past j j_off)) ∙ empties.empty j (omega arith) (omega arith)) here)
+    ]
+    | inr i_off ↦ elim (cases_eq j left) [
+      | inl j_same ↦ absurd (not_some (slot_at slots place) e
+          (ap (slot_at slots) (sym (at_left j j_same) ∙ (sym same ∙ past i i_off)) ∙ empties.empty i (omega arith) (omega arith)) here)
+      | inr j_off ↦ empties.apart i j (omega arith) (omega arith) (omega arith) (omega arith) (sym (past i i_off) ∙ (same ∙ past j j_off))
+    ]
+  ];
+}
+  where
+    at_left : (i : ℕ) → i ≡ left → get_or (set places left place) i 0 ≡ place
+    at_left i same = ap (λ k. get_or (set places left place) k 0) same ∙ get_or-set_same places left place 0 (omega arith)
+
+    past : (i : ℕ) → (i ≡ left → ⊥) → get_or (set places left place) i 0 ≡ get_or places i 0
+    past i off = get_or-set_other places left i place 0 off
+
+-- ---- what a table in memory keeps
+
+abbrev pub Kept : Geometry → List RawSlot → ℕ → List ℕ → Index → Type 0
+Kept g items held empties x =
+    IsTable (record { geometry = g; slots = slots_in items })
+    × (held ≡ length (pairs (record { geometry = g; slots = slots_in items })))
+    × AreEmpties (slots_in items) held empties
+    × IsIndex (slot_at (slots_in items)) x
+    × HasRoom g.blocks g.slots x
+
+pub held_within : (g : Geometry) (items : List RawSlot) (held : ℕ) (empties : List ℕ) (x : Index) → Kept g items held empties x → (held ≤ length empties) × (length empties ≡ g.slots)
+held_within g items held empties x kept =
+    let most = length-pairs_in_le (slots_in items) in
+    let is = kept.1 in
+    let all = kept.2.count in
+    let count = kept.0.count in
+    (omega arith, omega arith)
+
+-- an empty slot is filled
+pub filled : (t : Table) (g : Geometry) (items : List RawSlot) (held : ℕ) (empties : List ℕ) (x now : Index) (place a b : ℕ) (raw : RawSlot) → ◌≡◌ {A = Table} (record { geometry = g; slots = slots_in items }) t
+    → Kept g items held empties x → length (pairs t) < t.geometry.slots → holds (pairs t) a b ≡ false → IsWithin t.geometry (a, b) → place ≡ get_or empties held place → slot_in raw ≡ Some (a, b)
+    → ((next : ℕ → Option (ℕ × ℕ)) → IsWith (slot_at (slots_in items)) place (a, b) next → IsIndex next now)
+    → ((blocks places : ℕ) → HasRoom blocks places x → HasRoom blocks places now)
+    → Kept g (set items place raw) (held + 1) empties now
+filled t g items held empties x now place a b raw is kept room absent within place_read raw_is index rooms = (table, many, empties_now, index_now, rooms g.blocks g.slots kept.4)
+  where
+    u : Table
+    u = record { geometry = g; slots = slots_in items }
+
+    few : held < length empties
+    few = let same : length (pairs u) ≡ length (pairs t) = ap (λ (v : Table). length (pairs v)) is in let sizes : g.slots ≡ t.geometry.slots = ap (λ (v : Table). v.geometry.slots) is in
+        let here = held_within g items held empties x kept in let all = here.1 in let held_is = kept.1 in omega arith
+
+    place_is : place ≡ get_or empties held 0
+    place_is = place_read ∙ get_or_default empties held place 0 few
+
+    empty : slot_at (slots_in items) place ≡ None
+    empty = ap (slot_at (slots_in items)) place_is ∙ kept.2.empty held (omega arith) few
+
+    inside : place < length (slots_in items)
+    inside = let at : get_or empties held 0 < length (slots_in items) = kept.2.inside held (omega arith) few in let same = place_is in omega arith
+
+    not_held : holds (pairs u) a b ≡ false
+    not_held = ap (λ (v : Table). holds (pairs v) a b) is ∙ absent
+
+    slots_are : set (slots_in items) place (Some (a, b)) ≡ slots_in (set items place raw)
+    slots_are = ap (set (slots_in items) place) (sym raw_is) ∙ sym (slots_in-set items place raw)
+
+    table : IsTable (record { geometry = g; slots = slots_in (set items place raw) })
+    table = subst (λ (slots : List (Option (ℕ × ℕ))). IsTable (record { geometry = g; slots = slots })) slots_are
+        (added u place a b kept.0 (let here = inside in let all = kept.0.count in omega arith) not_held (subst (λ (v : Table). IsWithin v.geometry (a, b)) (sym is) within))
+
+    many : held + 1 ≡ length (pairs (record { geometry = g; slots = slots_in (set items place raw) }))
+    many = ap (λ (n : ℕ). n + 1) kept.1 ∙ (sym (held_added u place a b kept.0 (let here = inside in let all = kept.0.count in omega arith) empty not_held)
+        ∙ ap (λ (slots : List (Option (ℕ × ℕ))). length (pairs_in slots)) slots_are)
+
+    empties_now : AreEmpties (slots_in (set items place raw)) (held + 1) empties
+    empties_now = subst (λ (slots : List (Option (ℕ × ℕ))). AreEmpties slots (held + 1) empties) (ap (λ (p : ℕ). set (slots_in items) p (Some (a, b))) (sym place_is) ∙ slots_are)
+        (empties_filled (slots_in items) held empties (a, b) kept.2 few)
+
+    index_now : IsIndex (slot_at (slots_in (set items place raw))) now
+    index_now = subst (λ (slots : List (Option (ℕ × ℕ))). IsIndex (slot_at slots) now) slots_are
+        (index (slot_at (set (slots_in items) place (Some (a, b)))) (slot_filled (slots_in items) place (a, b) inside empty))
+
+-- the slot that is filled next
+pub next_empty : (t : Table) (g : Geometry) (items : List RawSlot) (held : ℕ) (empties : List ℕ) (x : Index) (place : ℕ) → ◌≡◌ {A = Table} (record { geometry = g; slots = slots_in items }) t
+    → Kept g items held empties x → length (pairs t) < t.geometry.slots → place ≡ get_or empties held place → (place < t.geometry.slots) × (slot_at t.slots place ≡ None)
+next_empty t g items held empties x place is kept room place_read = (inside, ap (λ (v : Table). slot_at v.slots place) (sym is) ∙ (ap (slot_at (slots_in items)) place_is ∙ kept.2.empty held (omega arith) few))
+  where
+    few : held < length empties
+    few = let same : length (pairs (record { geometry = g; slots = slots_in items })) ≡ length (pairs t) = ap (λ (v : Table). length (pairs v)) is in
+        let sizes : g.slots ≡ t.geometry.slots = ap (λ (v : Table). v.geometry.slots) is in
+        let here = held_within g items held empties x kept in let all = here.1 in let held_is = kept.1 in omega arith
+
+    place_is : place ≡ get_or empties held 0
+    place_is = place_read ∙ get_or_default empties held place 0 few
+
+    inside : place < t.geometry.slots
+    inside = let at : get_or empties held 0 < length (slots_in items) = kept.2.inside held (omega arith) few in
+        let all : length (slots_in items) ≡ g.slots = kept.0.count in
+        let sizes : g.slots ≡ t.geometry.slots = ap (λ (v : Table). v.geometry.slots) is in let same = place_is in omega arith
+
+-- where a slot holds a pair, one is held
+pub some_held : (t : Table) (g : Geometry) (items : List RawSlot) (held : ℕ) (empties : List ℕ) (x : Index) (place a b : ℕ) → ◌≡◌ {A = Table} (record { geometry = g; slots = slots_in items }) t
+    → Kept g items held empties x → slot_at t.slots place ≡ Some (a, b) → 1 ≤ held
+some_held t g items held empties x place a b is kept here =
+    let u : Table = record { geometry = g; slots = slots_in items } in
+    let fewer = held_removed u place a b kept.0 (ap (λ (v : Table). slot_at v.slots place) is ∙ here) in
+    let held_is = kept.1 in
+    omega arith
+
+-- a slot is emptied
+pub emptied : (t : Table) (g : Geometry) (items : List RawSlot) (held left : ℕ) (empties : List ℕ) (x now : Index) (place a b : ℕ) (raw : RawSlot) → ◌≡◌ {A = Table} (record { geometry = g; slots = slots_in items }) t
+    → Kept g items held empties x → slot_at t.slots place ≡ Some (a, b) → held ≡ left + 1 → slot_in raw ≡ None
+    → ((next : ℕ → Option (ℕ × ℕ)) → IsWith next place (a, b) (slot_at (slots_in items)) → IsIndex next now)
+    → ((blocks places : ℕ) → HasRoom blocks places x → HasRoom blocks places now)
+    → Kept g (set items place raw) left (set empties left place) now
+emptied t g items held left empties x now place a b raw is kept here one_more raw_is index rooms = (table, many, empties_now, index_now, rooms g.blocks g.slots kept.4)
+  where
+    u : Table
+    u = record { geometry = g; slots = slots_in items }
+
+    there : slot_at (slots_in items) place ≡ Some (a, b)
+    there = ap (λ (v : Table). slot_at v.slots place) is ∙ here
+
+    slots_are : set (slots_in items) place None ≡ slots_in (set items place raw)
+    slots_are = ap (set (slots_in items) place) (sym raw_is) ∙ sym (slots_in-set items place raw)
+
+    table : IsTable (record { geometry = g; slots = slots_in (set items place raw) })
+    table = subst (λ (slots : List (Option (ℕ × ℕ))). IsTable (record { geometry = g; slots = slots })) slots_are (removed u place a b kept.0 there)
+
+    many : left ≡ length (pairs (record { geometry = g; slots = slots_in (set items place raw) }))
+    many =
+        let fewer = held_removed u place a b kept.0 there in
+        let held_is = kept.1 in
+        let less : left ≡ length (pairs_in (set (slots_in items) place None)) = omega arith in
+        less ∙ ap (λ (slots : List (Option (ℕ × ℕ))). length (pairs_in slots)) slots_are
+
+    empties_now : AreEmpties (slots_in (set items place raw)) left (set empties left place)
+    empties_now = subst (λ (slots : List (Option (ℕ × ℕ))). AreEmpties slots left (set empties left place)) slots_are
+        (empties_emptied (slots_in items) held left empties place (a, b) kept.2 one_more (held_within g items held empties x kept).0 there)
+
+    index_now : IsIndex (slot_at (slots_in (set items place raw))) now
+    index_now = subst (λ (slots : List (Option (ℕ × ℕ))). IsIndex (slot_at slots) now) slots_are
+        (index (slot_at (set (slots_in items) place None)) (slot_emptied (slots_in items) place (a, b) there))
+
+-- ---- what is asked of a change of the index
+
+pub absent_slots : (slots : List (Option (ℕ × ℕ))) (a b : ℕ) → holds (pairs_in slots) a b ≡ false → (k : ℕ) → slot_at slots k ≡ Some (a, b) → ⊥
+absent_slots slots a b absent k here = both_ways (holds (pairs_in slots) a b) absent (holds_from_slot slots k a b here)
+
+-- whether a pair has a slot
+pub has_is : (slots : List (Option (ℕ × ℕ))) (a b : ℕ) (place : Option ℕ) → IsPlaceOf slots a b place → is_some place ≡ holds (pairs_in slots) a b
+has_is slots a b None absent = sym absent
+has_is slots a b (Some k) here = sym (holds_from_slot slots k a b here)
+
+-- the pairs of a table's slots are small
+pub small : (g : Geometry) (slots : List (Option (ℕ × ℕ))) → IsLawful g → length slots ≡ g.slots → AreWithinTo g g.slots slots → AreSmall slots
+small g slots lawful count within k e here =
+    let few = lawful.blocks in
+    let ends = within.each k e (let inside = some_inside slots k e here in omega arith) here in
+    (omega arith, omega arith)
+
+-- ---- the patch of a changed slot
+
+pub change_after : (t : Table) (g : Geometry) (items : List RawSlot) (place : ℕ) (raw : RawSlot) (patch : Patch) (before after : Option (ℕ × ℕ)) → ◌≡◌ {A = Table} (record { geometry = g; slots = slots_in items }) t
+    → place < t.geometry.slots → slot_at t.slots place ≡ before → slot_in raw ≡ after → patch.sector ≡ sector_of g place
+    → patch.bytes ≡ slot_sector_bytes (slots_in (set items place raw)) (place / 64) → IsChange t (record { geometry = g; slots = slots_in (set items place raw) }) before after patch
+change_after t g items place raw patch before after is inside was now sector bytes = record {
+  place = place;
+  inside = inside;
+  was = was;
+  now = sym (set_in t g items place raw is) ∙ ap (with_slot t place) now;
+  sector = sector ∙ ap (λ (u : Table). sector_of u.geometry place) is;
+  bytes = bytes;
+}
+
+pub stored_after : (t : Table) (g : Geometry) (items : List RawSlot) (place : ℕ) (raw : RawSlot) (patch : Patch) → ◌≡◌ {A = Table} (record { geometry = g; slots = slots_in items }) t
+    → IsTable (record { geometry = g; slots = slots_in (set items place raw) }) → patch.sector ≡ sector_of g place
+    → patch.bytes ≡ slot_sector_bytes (slots_in (set items place raw)) (place / 64) → (x : Image) → IsStored t.slots t.geometry x
+    → IsStored (slots_in (set items place raw)) g (put_at patch.sector patch.bytes x)
+stored_after t g items place raw patch is table sector bytes x old =
+    let same = set_in t g items place raw is in
+    subst (λ (u : Table). IsStored u.slots u.geometry (put_at patch.sector patch.bytes x)) same
+    (stored_kept t.slots t.geometry place (slot_in raw) patch.sector patch.bytes (fits (with_slot t place (slot_in raw)) (subst IsTable (sym same) table))
+    (sector ∙ ap (λ (u : Table). sector_of u.geometry place) is)
+    (bytes ∙ ap (λ (u : Table). slot_sector_bytes u.slots (place / 64)) (sym same)) x old)

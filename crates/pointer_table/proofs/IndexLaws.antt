@@ -1,0 +1,164 @@
+-- What a look-up by the index answers.
+use Rattle.std.proofs.Common.{◌≡◌, ℕ, ◌+◌, ◌*◌, ◌<◌, ◌≤◌, ◌%◌, Bool, true, false, List, length, get_or, replicate, refl, sym, ◌∙◌, ap, subst, arith, inl, inr}
+use Rattle.std.proofs.Common.{Option, Some, None}
+use Rattle.std.proofs.lemmas.Bool.{false_from_ne_true, both_ways}
+use Rattle.std.proofs.lemmas.List.{get_or-replicate, length-replicate}
+use Rattle.tsd_model.specs.Pairs.{holds}
+use Rattle.tsd_model.specs.Next.{IsNext, IsNextSource, IsNextTarget}
+use Rattle.pointer_table.specs.Indexed.{IsThreadedBy, IsIndex, HasWays, HasRoom, IsPlaceOf, source_of, target_of}
+use Rattle.pointer_table.specs.Scanning.{is_at}
+use Rattle.pointer_table.specs.Slots.{slot_at, pairs_in}
+use Rattle.pointer_table.specs.Threads.{rank, mixed, group, linked, no_link, IsMember, IsFirst, LeadsTo, AreThreads, IsWith}
+use Rattle.pointer_table.specs.declared.index.Index.{Index}
+use Rattle.pointer_table.specs.declared.threads.Threads.{Threads}
+use Rattle.pointer_table.specs.declared.way.Way.{Way}
+use Rattle.pointer_table.specs.declared.way.Way.TheVariants as way
+use Rattle.pointer_table.proofs.SlotLaws.{holds_from_slot, slot_from_holds, is_at_same, is_at_some}
+use Rattle.pointer_table.proofs.ThreadLaws.{same_rank, some_same}
+
+-- ---- groups
+
+pub source_group : (w : Way) (n : ℕ) (e : ℕ × ℕ) → w ≡ way.Source → group w n e ≡ e.0
+source_group w n e is = ap (λ v. group v n e) is
+
+pub target_group : (w : Way) (n : ℕ) (e : ℕ × ℕ) → w ≡ way.Target → group w n e ≡ e.1
+target_group w n e is = ap (λ v. group v n e) is
+
+pub bucket_group : (w : Way) (n : ℕ) (e : ℕ × ℕ) → w ≡ way.Bucket → 0 < n → group w n e < n
+bucket_group w n e is some = let same : group w n e ≡ mixed (rank e) % n = ap (λ v. group v n e) is in omega arith
+
+pub ways_of : (held : ℕ → Option (ℕ × ℕ)) (x : Index) → IsIndex held x → HasWays x
+ways_of held x index = record { sources = index.sources.way_is; targets = index.targets.way_is; buckets = index.buckets.way_is; some = index.buckets.some }
+
+pub room_here : (blocks places : ℕ) (x : Index) → HasRoom blocks places x → HasRoom (length x.by_source.heads.items) places x
+room_here blocks places x room = record {
+  sources = refl;
+  targets = room.targets ∙ sym room.sources;
+  by_source = room.by_source;
+  by_target = room.by_target;
+  by_bucket = room.by_bucket;
+}
+
+-- ---- a pair's slot
+
+pub no_place : (slots : List (Option (ℕ × ℕ))) (by : (ℕ × ℕ) → ℕ) (of r a b : ℕ) → of ≡ by (a, b) → r ≡ rank (a, b) → LeadsTo (slot_at slots) by of r None
+    → holds (pairs_in slots) a b ≡ false
+no_place slots by of r a b groups ranks none = false_from_ne_true (holds (pairs_in slots) a b) (λ held.
+    let k = slot_from_holds slots a b held in
+    let low = none k.0 (a, b) (record { here = k.2; belongs = sym groups }) in
+    omega arith)
+
+pub another_place : (slots : List (Option (ℕ × ℕ))) (by : (ℕ × ℕ) → ℕ) (heads next : List ℕ) (of r a b place : ℕ) → AreThreads (slot_at slots) by heads next → of ≡ by (a, b) → r ≡ rank (a, b) → b < 4294967296
+    → LeadsTo (slot_at slots) by of r (Some place) → is_at a b (slot_at slots place) ≡ false → holds (pairs_in slots) a b ≡ false
+another_place slots by heads next of r a b place threads groups ranks fits there off = false_from_ne_true (holds (pairs_in slots) a b) (λ held.
+    let k = slot_from_holds slots a b held in
+    let least = there.least k.0 (a, b) (record { here = k.2; belongs = sym groups }) (omega arith) in
+    let above = there.above in
+    let pair : there.pair ≡ (a, b) = same_rank there.pair (a, b) (threads.fits place there.pair there.member.here) fits (omega arith) in
+    both_ways (is_at a b (slot_at slots place)) off (is_at_same a b (slot_at slots place) (there.member.here ∙ ap Some pair)))
+
+pub that_place : (slots : List (Option (ℕ × ℕ))) (a b place : ℕ) → is_at a b (slot_at slots place) ≡ true → slot_at slots place ≡ Some (a, b)
+that_place slots a b place on = is_at_some a b (slot_at slots place) on
+
+-- ---- the next target and the next source
+
+no_target : (slots : List (Option (ℕ × ℕ))) (by : (ℕ × ℕ) → ℕ) (a start : ℕ) → ((e : ℕ × ℕ) → by e ≡ e.0) → LeadsTo (slot_at slots) by a (rank (a, start)) None
+    → IsNextTarget (pairs_in slots) a start None
+no_target slots by a start groups none b held =
+    let k = slot_from_holds slots a b held in
+    let low = none k.0 (a, b) (record { here = k.2; belongs = groups (a, b) }) in
+    omega arith
+
+that_target : (slots : List (Option (ℕ × ℕ))) (by : (ℕ × ℕ) → ℕ) (a start place : ℕ) → ((e : ℕ × ℕ) → by e ≡ e.0) → (there : LeadsTo (slot_at slots) by a (rank (a, start)) (Some place))
+    → IsNextTarget (pairs_in slots) a start (Some there.pair.1)
+that_target slots by a start place groups there =
+    let source : there.pair.0 ≡ a = sym (groups there.pair) ∙ there.member.belongs in
+    let above = there.above in
+    record {
+      there = holds_from_slot slots place a there.pair.1 (there.member.here ∙ ap (λ x. Some (x, there.pair.1)) source);
+      from = omega arith;
+      least = λ b held from.
+          let k = slot_from_holds slots a b held in
+          let least = there.least k.0 (a, b) (record { here = k.2; belongs = groups (a, b) }) (omega arith) in
+          omega arith;
+    }
+
+pub target_none : (slots : List (Option (ℕ × ℕ))) (w : Way) (n a start r : ℕ) → w ≡ way.Source → r ≡ rank (a, start) → LeadsTo (slot_at slots) (group w n) a r None → IsNextTarget (pairs_in slots) a start None
+target_none slots w n a start r ways ranks leads =
+    no_target slots (group w n) a start (λ e. source_group w n e ways) (subst (λ (m : ℕ). LeadsTo (slot_at slots) (group w n) a m None) ranks leads)
+
+pub target_some : (slots : List (Option (ℕ × ℕ))) (w : Way) (n a start r k : ℕ) (result : Option ℕ) → w ≡ way.Source → r ≡ rank (a, start) → LeadsTo (slot_at slots) (group w n) a r (Some k)
+    → result ≡ target_of (slot_at slots k) → IsNextTarget (pairs_in slots) a start result
+target_some slots w n a start r k result ways ranks leads found =
+    let there : IsFirst (slot_at slots) (group w n) a (rank (a, start)) k = subst (λ (m : ℕ). LeadsTo (slot_at slots) (group w n) a m (Some k)) ranks leads in
+    subst (IsNextTarget (pairs_in slots) a start) (sym (found ∙ ap target_of there.member.here))
+    (that_target slots (group w n) a start k (λ e. source_group w n e ways) there)
+
+no_source : (slots : List (Option (ℕ × ℕ))) (by : (ℕ × ℕ) → ℕ) (b start : ℕ) → ((e : ℕ × ℕ) → by e ≡ e.1) → LeadsTo (slot_at slots) by b (rank (start, b)) None
+    → IsNextSource (pairs_in slots) b start None
+no_source slots by b start groups none a held =
+    let k = slot_from_holds slots a b held in
+    let low = none k.0 (a, b) (record { here = k.2; belongs = groups (a, b) }) in
+    omega arith
+
+that_source : (slots : List (Option (ℕ × ℕ))) (by : (ℕ × ℕ) → ℕ) (b start place : ℕ) → ((e : ℕ × ℕ) → by e ≡ e.1) → (there : LeadsTo (slot_at slots) by b (rank (start, b)) (Some place))
+    → IsNextSource (pairs_in slots) b start (Some there.pair.0)
+that_source slots by b start place groups there =
+    let target : there.pair.1 ≡ b = sym (groups there.pair) ∙ there.member.belongs in
+    let above = there.above in
+    record {
+      there = holds_from_slot slots place there.pair.0 b (there.member.here ∙ ap (λ x. Some (there.pair.0, x)) target);
+      from = omega arith;
+      least = λ a held from.
+          let k = slot_from_holds slots a b held in
+          let least = there.least k.0 (a, b) (record { here = k.2; belongs = groups (a, b) }) (omega arith) in
+          omega arith;
+    }
+
+pub source_none : (slots : List (Option (ℕ × ℕ))) (w : Way) (n b start r : ℕ) → w ≡ way.Target → r ≡ rank (start, b) → LeadsTo (slot_at slots) (group w n) b r None → IsNextSource (pairs_in slots) b start None
+source_none slots w n b start r ways ranks leads =
+    no_source slots (group w n) b start (λ e. target_group w n e ways) (subst (λ (m : ℕ). LeadsTo (slot_at slots) (group w n) b m None) ranks leads)
+
+pub source_some : (slots : List (Option (ℕ × ℕ))) (w : Way) (n b start r k : ℕ) (result : Option ℕ) → w ≡ way.Target → r ≡ rank (start, b) → LeadsTo (slot_at slots) (group w n) b r (Some k)
+    → result ≡ source_of (slot_at slots k) → IsNextSource (pairs_in slots) b start result
+source_some slots w n b start r k result ways ranks leads found =
+    let there : IsFirst (slot_at slots) (group w n) b (rank (start, b)) k = subst (λ (m : ℕ). LeadsTo (slot_at slots) (group w n) b m (Some k)) ranks leads in
+    subst (IsNextSource (pairs_in slots) b start) (sym (found ∙ ap source_of there.member.here))
+    (that_source slots (group w n) b start k (λ e. target_group w n e ways) there)
+
+-- a block past the last head has no pairs
+pub target_past : (slots : List (Option (ℕ × ℕ))) (x : Index) (a start : ℕ) → IsIndex (slot_at slots) x → length x.by_source.heads.items ≤ a → IsNextTarget (pairs_in slots) a start None
+target_past slots x a start index past b held =
+    let k = slot_from_holds slots a b held in
+    let inside = index.sources.threads.groups k.0 (a, b) k.2 in
+    let same = source_group x.by_source.way (length x.by_source.heads.items) (a, b) index.sources.way_is in
+    absurd (omega arith)
+
+pub source_past : (slots : List (Option (ℕ × ℕ))) (x : Index) (b start : ℕ) → IsIndex (slot_at slots) x → length x.by_target.heads.items ≤ b → IsNextSource (pairs_in slots) b start None
+source_past slots x b start index past a held =
+    let k = slot_from_holds slots a b held in
+    let inside = index.targets.threads.groups k.0 (a, b) k.2 in
+    let same = target_group x.by_target.way (length x.by_target.heads.items) (a, b) index.targets.way_is in
+    absurd (omega arith)
+
+-- ---- no slot threaded
+
+pub none_threaded : (way : Way) (groups : ℕ) (t : Threads) → 0 < groups → t.way ≡ way → t.heads.items ≡ replicate groups no_link → IsThreadedBy way (λ k. None) t
+none_threaded way groups t some ways heads = record {
+  way_is = ways;
+  some = (let many = ap length heads in let all : length (replicate groups no_link) ≡ groups = length-replicate groups no_link in omega arith);
+  threads = record {
+    first = λ of inside. subst (λ (link : ℕ). LeadsTo (λ k. None) (group t.way (length t.heads.items)) of 0 (linked link)) (sym (all of inside)) (λ j f m. absurd (never f m.here));
+    follow = λ k e here. absurd (never e here);
+    groups = λ k e here. absurd (never e here);
+    inside = λ k e here. absurd (never e here);
+    fits = λ k e here. absurd (never e here);
+    apart = λ i j e p q. absurd (never e p);
+  };
+}
+  where
+    never : (e : ℕ × ℕ) → ◌≡◌ {A = Option (ℕ × ℕ)} None (Some e) → ⊥
+    never e h = cc
+
+    all : (of : ℕ) → of < length t.heads.items → get_or t.heads.items of 0 ≡ no_link
+    all of inside = ap (λ xs. get_or xs of 0) heads ∙ get_or-replicate groups of no_link 0 (let many = ap length heads in let every : length (replicate groups no_link) ≡ groups = length-replicate groups no_link in omega arith)

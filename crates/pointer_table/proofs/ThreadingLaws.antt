@@ -1,0 +1,156 @@
+-- Slots threaded one after another, from the last pair of their order to the first.
+use Rattle.std.proofs.Common.{◌≡◌, ◌⊎◌, ℕ, zero, suc, ◌+◌, ◌-◌, ◌<◌, ◌≤◌, ◌==◌, ◌||◌, Bool, true, false, cond, List, [], ◌∷◌, length, get_or, drop, refl, sym, ◌∙◌, ap, subst, arith, inl, inr, add-one, length-drop, drop-cons}
+use Rattle.std.proofs.Common.{Option, Some, None}
+use Rattle.std.specs.List.{list_any}
+use Rattle.std.proofs.lemmas.Bool.{cases_eq, cases_lt, or_cases, or_left, or_right, eqb-true, eq-eqb, ne_eqb, false_from_ne_true}
+use Rattle.std.proofs.lemmas.List.{get_or-drop, drop_all, get_or_past}
+use Rattle.std.proofs.lemmas.List.Folds.{list_any_at}
+use Rattle.tsd_model.specs.declared.geometry.Geometry.{Geometry}
+use Rattle.pointer_table.specs.Indexed.{IsIndex}
+use Rattle.pointer_table.specs.Order.{sort_key, IsOrder}
+use Rattle.pointer_table.specs.Slots.{slot_at}
+use Rattle.pointer_table.specs.Table.{Table, IsTable}
+use Rattle.pointer_table.specs.Threads.{rank, IsWith}
+use Rattle.pointer_table.specs.declared.index.Index.{Index}
+use Rattle.pointer_table.proofs.ThreadLaws.{same_rank}
+
+-- the slots that stand in the order from a place on
+abbrev pub is_threaded : List ℕ → ℕ → ℕ → Bool
+is_threaded order left k = list_any (λ p. p == k) (drop left order)
+
+abbrev pub threaded : List (Option (ℕ × ℕ)) → List ℕ → ℕ → ℕ → Option (ℕ × ℕ)
+threaded slots order left k = cond (is_threaded order left k) (slot_at slots k) None
+
+-- the same slots, given another way
+pub index_same : (held now : ℕ → Option (ℕ × ℕ)) (x : Index) → ((k : ℕ) → held k ≡ now k) → IsIndex held x → IsIndex now x
+index_same held now x same index = subst (λ (h : ℕ → Option (ℕ × ℕ)). IsIndex h x) (λ i k. same k i) index
+
+any_place : (p : ℕ → Bool) (xs : List ℕ) → list_any p xs ≡ true → (i : ℕ) × ((i < length xs) × (p (get_or xs i 0) ≡ true))
+any_place p [] h = absurd (cc)
+any_place p (x ∷ xs) h = elim (or_cases (p x) (list_any p xs) h) [
+  | inl here ↦ (0, (omega arith, here))
+  | inr later ↦ let k = any_place p xs later in (suc k.0, ((let short = k.1.0 in omega arith), k.1.1))
+]
+
+threaded_place : (order : List ℕ) (left k : ℕ) → is_threaded order left k ≡ true → (i : ℕ) × ((left ≤ i) × ((i < length order) × (get_or order i 0 ≡ k)))
+threaded_place order left k h =
+    let at = any_place (λ p. p == k) (drop left order) h in
+    let len = length-drop left order in
+    let inside = at.1.0 in
+    (left + at.0, (omega arith, (omega arith, sym (get_or-drop left order at.0 0) ∙ eqb-true (get_or (drop left order) at.0 0) k at.1.1)))
+
+threaded_from : (order : List ℕ) (left i k : ℕ) → left ≤ i → i < length order → get_or order i 0 ≡ k → is_threaded order left k ≡ true
+threaded_from order left i k low inside is =
+    let len = length-drop left order in
+    let at : left + (i - left) ≡ i = omega arith in
+    list_any_at (λ p. p == k) (drop left order) (i - left) 0 (omega arith)
+    (eq-eqb (get_or (drop left order) (i - left) 0) k (get_or-drop left order (i - left) 0 ∙ (ap (λ n. get_or order n 0) at ∙ is)))
+
+pub none_threaded : (slots : List (Option (ℕ × ℕ))) (order : List ℕ) (left : ℕ) → length order ≤ left → (k : ℕ) → ◌≡◌ {A = Option (ℕ × ℕ)} None (threaded slots order left k)
+none_threaded slots order left past k = sym (ap (λ xs. cond (list_any (λ p. p == k) xs) (slot_at slots k) None) (drop_all left order past))
+
+pub all_threaded : (slots : List (Option (ℕ × ℕ))) (order : List ℕ) → IsOrder slots order → (k : ℕ) → threaded slots order 0 k ≡ slot_at slots k
+all_threaded slots order sorted k = elim (cases_lt k (length slots)) [
+  | inl inside ↦ (let at = sorted.every k inside in ap (λ t. cond t (slot_at slots k) None) (threaded_from order 0 at.0 k (omega arith) at.1.0 at.1.1))
+  | inr past ↦
+      (let none : slot_at slots k ≡ None = get_or_past slots k None past in
+      ap (λ s. cond (is_threaded order 0 k) s None) none ∙ (either (is_threaded order 0 k) ∙ sym none))
+]
+  where
+    either : (t : Bool) → ◌≡◌ {A = Option (ℕ × ℕ)} (cond t None None) None
+    either true = refl
+    either false = refl
+
+-- what is threaded stands in the order behind
+held_behind : (slots : List (Option (ℕ × ℕ))) (order : List ℕ) (left k : ℕ) (f : ℕ × ℕ) → threaded slots order left k ≡ Some f → (is_threaded order left k ≡ true) × (slot_at slots k ≡ Some f)
+held_behind slots order left k f h = go (is_threaded order left k) refl h
+  where
+    go : (t : Bool) → is_threaded order left k ≡ t → cond t (slot_at slots k) None ≡ Some f → (is_threaded order left k ≡ true) × (slot_at slots k ≡ Some f)
+    go true is here = (is, here)
+    go false is here = absurd (cc)
+
+not_behind : (slots : List (Option (ℕ × ℕ))) (order : List ℕ) (left : ℕ) → IsOrder slots order → left < length order → is_threaded order (left + 1) (get_or order left 0) ≡ false
+not_behind slots order left sorted inside = false_from_ne_true (is_threaded order (left + 1) (get_or order left 0)) (λ h.
+    let at = threaded_place order (left + 1) (get_or order left 0) h in
+    let low = at.1.0 in
+    let same = sorted.apart at.0 left at.1.1.0 inside at.1.1.1 in
+    omega arith)
+
+others_behind : (order : List ℕ) (left k : ℕ) → left < length order → (k ≡ get_or order left 0 → ⊥) → is_threaded order left k ≡ is_threaded order (left + 1) k
+others_behind order left k inside off =
+    ap (list_any (λ p. p == k)) (drop-cons order left 0 inside)
+    ∙ (ap (λ t. t || list_any (λ p. p == k) (drop (suc left) order)) (ne_eqb (get_or order left 0) k (λ same. off (sym same)))
+    ∙ ap (λ n. list_any (λ p. p == k) (drop n order)) (let more : suc left ≡ left + 1 = omega arith in more))
+
+-- one slot more
+pub thread_more : (slots : List (Option (ℕ × ℕ))) (order : List ℕ) (left : ℕ) (e : ℕ × ℕ) → IsOrder slots order → left < length order → slot_at slots (get_or order left 0) ≡ Some e
+    → IsWith (threaded slots order (left + 1)) (get_or order left 0) e (threaded slots order left)
+thread_more slots order left e sorted inside here = record {
+  empty = ap (λ t. cond t (slot_at slots (get_or order left 0)) None) (not_behind slots order left sorted inside);
+  filled = ap (λ t. cond t (slot_at slots (get_or order left 0)) None) (threaded_from order left left (get_or order left 0) (omega arith) inside refl) ∙ here;
+  others = λ k off. ap (λ t. cond t (slot_at slots k) None) (others_behind order left k inside off);
+}
+
+-- an empty slot more
+pub thread_none : (slots : List (Option (ℕ × ℕ))) (order : List ℕ) (left : ℕ) → left < length order → slot_at slots (get_or order left 0) ≡ None
+    → (k : ℕ) → threaded slots order (left + 1) k ≡ threaded slots order left k
+thread_none slots order left inside none k = elim (cases_eq k (get_or order left 0)) [
+  | inl same ↦
+      (let empty : slot_at slots k ≡ None = ap (slot_at slots) same ∙ none in
+      ap (λ s. cond (is_threaded order (left + 1) k) s None) empty ∙ (either (is_threaded order (left + 1) k) (is_threaded order left k)
+      ∙ sym (ap (λ s. cond (is_threaded order left k) s None) empty)))
+  | inr off ↦ sym (ap (λ t. cond t (slot_at slots k) None) (others_behind order left k inside off))
+]
+  where
+    either : (s t : Bool) → ◌≡◌ {A = Option (ℕ × ℕ)} (cond s None None) (cond t None None)
+    either true true = refl
+    either true false = refl
+    either false true = refl
+    either false false = refl
+
+-- the pair is below all that are threaded
+pub thread_least : (g : Geometry) (slots : List (Option (ℕ × ℕ))) (order : List ℕ) (left : ℕ) (e : ℕ × ℕ) → IsTable (record { geometry = g; slots = slots }) → IsOrder slots order → left < length order
+    → slot_at slots (get_or order left 0) ≡ Some e → (k : ℕ) (f : ℕ × ℕ) → threaded slots order (left + 1) k ≡ Some f → rank e < rank f
+thread_least g slots order left e table sorted inside here k f held =
+    let behind = held_behind slots order (left + 1) k f held in
+    let at = threaded_place order (left + 1) k behind.0 in
+    let low = at.1.0 in
+    let there : slot_at slots (get_or order at.0 0) ≡ Some f = ap (slot_at slots) at.1.1.1 ∙ behind.1 in
+    let keys = sorted.rising left at.0 (omega arith) at.1.1.0 in
+    let one : sort_key (slot_at slots (get_or order left 0)) ≡ rank e = ap sort_key here in
+    let other : sort_key (slot_at slots (get_or order at.0 0)) ≡ rank f = ap sort_key there in
+    let most = table.lawful.blocks in
+    let e_ends = table.ends (get_or order left 0) e here in
+    let f_ends = table.ends k f behind.1 in
+    elim (cases_eq (rank e) (rank f)) [
+      | inl same ↦
+          (let pair : e ≡ f = same_rank e f (omega arith) (omega arith) same in
+          let slot = table.apart (get_or order left 0) (get_or order at.0 0) e here (there ∙ ap Some (sym pair)) in
+          let place = sorted.apart left at.0 inside at.1.1.0 slot in
+          absurd (omega arith))
+      | inr off ↦ omega arith
+    ]
+
+-- ---- the same at a place that is counted down to
+
+one_less : (l : ℕ) → 0 < l → (l - 1) + 1 ≡ l
+one_less l some = omega arith
+
+-- the slot in front of the place, with its pair
+pub index_more : (g : Geometry) (slots : List (Option (ℕ × ℕ))) (order : List ℕ) (l : ℕ) (e : ℕ × ℕ) (x now : Index) → IsTable (record { geometry = g; slots = slots }) → IsOrder slots order
+    → 0 < l → l ≤ length order → slot_at slots (get_or order (l - 1) 0) ≡ Some e → IsIndex (threaded slots order l) x
+    → ((held next : ℕ → Option (ℕ × ℕ)) → IsWith held (get_or order (l - 1) 0) e next → ((k : ℕ) (f : ℕ × ℕ) → held k ≡ Some f → rank e < rank f) → IsIndex held x → IsIndex next now)
+    → IsIndex (threaded slots order (l - 1)) now
+index_more g slots order l e x now table sorted some inside here index more =
+    let below : l - 1 < length order = omega arith in
+    let back = one_less l some in
+    more (threaded slots order ((l - 1) + 1)) (threaded slots order (l - 1)) (thread_more slots order (l - 1) e sorted below here)
+    (thread_least g slots order (l - 1) e table sorted below here) (subst (λ (n : ℕ). IsIndex (threaded slots order n) x) (sym back) index)
+
+-- an empty slot in front of the place
+pub index_skips : (slots : List (Option (ℕ × ℕ))) (order : List ℕ) (l : ℕ) (x : Index) → 0 < l → l ≤ length order → slot_at slots (get_or order (l - 1) 0) ≡ None
+    → IsIndex (threaded slots order l) x → IsIndex (threaded slots order (l - 1)) x
+index_skips slots order l x some inside none index =
+    let below : l - 1 < length order = omega arith in
+    index_same (threaded slots order ((l - 1) + 1)) (threaded slots order (l - 1)) x (thread_none slots order (l - 1) below none)
+    (subst (λ (n : ℕ). IsIndex (threaded slots order n) x) (sym (one_less l some)) index)

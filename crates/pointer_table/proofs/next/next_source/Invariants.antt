@@ -1,8 +1,0 @@
-use Rattle.std.proofs.Common.{take}
-use Rattle.tsd_model.specs.Next.{IsNextSource}
-use Rattle.pointer_table.specs.Raw.{slots_in}
-use Rattle.pointer_table.specs.Slots.{pairs_in}
-use Rattle.pointer_table.proofs.next.next_source.Given as goal
-
-abbrev pub invariant-loop-slot : goal.invariant-loop-slot
-invariant-loop-slot l = IsNextSource (pairs_in (slots_in (take l.slot-index l.slots))) l.target l.start l.best

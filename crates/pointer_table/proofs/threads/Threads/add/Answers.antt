@@ -1,0 +1,26 @@
+use Rattle.std.proofs.Common.{◌∙◌, arith}
+use Rattle.pointer_table.specs.Raw.{slots_in}
+use Rattle.pointer_table.specs.Slots.{slot_at}
+use Rattle.pointer_table.specs.Threads.{after}
+use Rattle.pointer_table.proofs.ThreadLaws.{put_fields, heads_as_many, next_as_many_put}
+use Rattle.pointer_table.proofs.threads.Threads.add.Goals as goal
+
+pub returns : goal.returns
+returns c =
+    let t = c.args.self.now in
+    let u = c.keep_end.new.self in
+    let of = c.group-of.result in
+    let before = c.before-before.result in
+    record {
+      threads = λ now more.
+          put_fields (slot_at (slots_in c.args.slots.now)) now t.way u.way t.heads.items t.next.items u.heads.items u.next.items
+          c.args.place of c.rank.result (c.args.source, c.args.target) before
+          c.requires.threads more c.requires.absent c.ranges.target.fits c.requires.place c.requires.link c.requires.group
+          c.group-of.ensures c.rank.ensures c.before-before.ensures
+          (c.keep_end.ensures.heads ∙ c.put-link.ensures.heads) (c.keep_end.ensures.next ∙ c.put-link.ensures.next)
+          (c.keep_end.ensures.way ∙ c.put-link.ensures.way);
+      way = c.keep_end.ensures.way ∙ c.put-link.ensures.way;
+      groups = heads_as_many t.heads.items u.heads.items of before c.args.place (c.keep_end.ensures.heads ∙ c.put-link.ensures.heads);
+      slots = next_as_many_put t.next.items u.next.items c.args.place (after t.heads.items t.next.items of before) before c.args.place
+          (c.keep_end.ensures.next ∙ c.put-link.ensures.next);
+    }

@@ -1,0 +1,14 @@
+use Rattle.std.proofs.Common.{length, subst, ap, sym, ◌∙◌}
+use Rattle.pointer_table.specs.Raw.{slots_in}
+use Rattle.pointer_table.specs.Slots.{slot_at}
+use Rattle.pointer_table.specs.Threads.{group, linked, LeadsTo}
+use Rattle.pointer_table.proofs.ThreadLaws.{leads_there}
+use Rattle.pointer_table.proofs.threads.Threads.first.Goals as goal
+
+pub returns : goal.returns
+returns c =
+    let t = c.args.self.now in
+    let held = slot_at (slots_in c.args.slots.now) in
+    let by = group t.way (length t.heads.items) in
+    subst (LeadsTo held by c.args.of c.args.from) (sym (c.linked.ensures ∙ ap linked c.after.ensures))
+    (leads_there held by t.heads.items t.next.items c.args.of c.args.from c.before-before.result c.requires.threads c.requires.group c.before-before.ensures)

@@ -1,0 +1,22 @@
+use Rattle.std.proofs.Common.{◌∙◌}
+use Rattle.pointer_table.specs.Raw.{slots_in}
+use Rattle.pointer_table.specs.Slots.{slot_at}
+use Rattle.pointer_table.proofs.ThreadLaws.{cut_fields, heads_as_many, next_as_many}
+use Rattle.pointer_table.proofs.threads.Threads.remove.Goals as goal
+
+pub returns : goal.returns
+returns c =
+    let t = c.args.self.now in
+    let u = c.keep_end.new.self in
+    let before = c.before-before.result in
+    record {
+      threads = λ left less.
+          cut_fields left (slot_at (slots_in c.args.slots.now)) t.way u.way t.heads.items t.next.items u.heads.items u.next.items
+          c.args.place c.group-of.result c.rank.result c.after-link.result (c.args.source, c.args.target) before
+          c.requires.threads less c.group-of.ensures c.rank.ensures c.before-before.ensures c.after-link.ensures
+          (c.keep_end.ensures.heads ∙ c.set_after.ensures.heads) (c.keep_end.ensures.next ∙ c.set_after.ensures.next)
+          (c.keep_end.ensures.way ∙ c.set_after.ensures.way);
+      way = c.keep_end.ensures.way ∙ c.set_after.ensures.way;
+      groups = heads_as_many t.heads.items u.heads.items c.group-of.result before c.after-link.result (c.keep_end.ensures.heads ∙ c.set_after.ensures.heads);
+      slots = next_as_many t.next.items u.next.items before c.after-link.result (c.keep_end.ensures.next ∙ c.set_after.ensures.next);
+    }

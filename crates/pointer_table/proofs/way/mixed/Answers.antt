@@ -1,0 +1,6 @@
+use Rattle.pointer_table.specs.Threads.{folded, mixed}
+use Rattle.pointer_table.proofs.way.mixed.Goals as goal
+
+pub returns : goal.returns
+unfolding mixed
+returns c = cc

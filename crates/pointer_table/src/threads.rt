@@ -1,0 +1,267 @@
+//! Threads through the slots: of each group of pairs an ascending list, by heads and links.
+
+ghost use Rattle.std.specs.Prelude.{◌≡◌, ℕ, ◌+◌, ◌<◌, ◌≤◌, List, length, slice_set, replicate, Option, Some, None, IfSome, IfOk, IfErr};
+ghost use Rattle.pointer_table.specs.Raw.{slot_in, slots_in};
+ghost use Rattle.pointer_table.specs.Slots.{slot_at};
+ghost use Rattle.pointer_table.specs.Threads.{rank, is_below, group, linked, no_link, after, heads_with, next_with};
+ghost use Rattle.pointer_table.specs.Threads.{IsMember, LeadsTo, IsBefore, IsNear, AreThreads, IsWith};
+
+use crate::fault::TableFault;
+use crate::raw::RawSlot;
+use crate::way::{Way, group, rank};
+use std::alloc::Global;
+
+/// The link that leads nowhere.
+pub(crate) const NO_LINK: u32 = 4_294_967_295;
+
+/// The threads of one way to group pairs.
+#[derive(Drop)]
+pub(crate) struct Threads {
+    /// What the pairs of a group have in common.
+    pub way: Way,
+
+    /// For each group the slot of its first pair.
+    pub heads: Vec<u32>,
+
+    /// For each slot that holds a pair the slot of the next pair of its group.
+    pub next: Vec<u32>,
+
+    /// For each group the slot that was last added at its end, where that is kept. A wrong one costs time alone.
+    ends: Vec<u32>,
+}
+
+/// Whether the pair of a slot is below a rank.
+fn is_below(slots: &[RawSlot], place: u32, limit: u64) -> bool
+    ensures { result ≡ is_below limit (slot_at (slots_in slots.now) place) }
+{
+    match slots.get(place as usize) {
+        Some(slot) => match slot.pair() {
+            Some((source, target)) => rank(source, target) < limit,
+            None => false,
+        },
+        None => false,
+    }
+}
+
+/// The slot that a link leads to.
+fn linked(link: u32) -> Option<u32>
+    ensures { result ≡ linked link }
+{
+    if link == NO_LINK { None } else { Some(link) }
+}
+
+/// So many links that lead nowhere.
+fn links(alloc: Global, count: usize) -> Result<Vec<u32>, TableFault>
+    ensures items { IfOk result (λ v. v.items ≡ replicate count no_link) }
+    ensures err { IfErr result (λ e. e ≡ TableFault.NoMemory) }
+{
+    match vec![in alloc; NO_LINK; count] {
+        Ok(links) => Ok(links),
+        Err(_) => Err(TableFault::NoMemory),
+    }
+}
+
+impl Threads {
+    /// How many groups there are.
+    pub(crate) fn groups(&self) -> usize
+        ensures { result ≡ length self.now.heads.items }
+    {
+        self.heads.len()
+    }
+
+    /// The group of a pair.
+    pub(crate) fn group(&self, source: u32, target: u32) -> usize
+        requires { 0 < length self.now.heads.items }
+        ensures { result ≡ group self.now.way (length self.now.heads.items) (source, target) }
+    {
+        group(self.way, self.heads.len(), source, target)
+    }
+
+    /// The link behind a slot, or the head of a group.
+    fn after(&self, of: usize, before: Option<u32>) -> u32
+        requires group { of < length self.now.heads.items }
+        requires slot { IfSome before (λ k. k < length self.now.next.items) }
+        ensures { result ≡ after self.now.heads.items self.now.next.items of before }
+    {
+        match before {
+            Some(place) => self.next[place as usize],
+            None => self.heads[of],
+        }
+    }
+
+    /// Sets the link behind a slot, or the head of a group.
+    fn set_after(&mut self, of: usize, before: Option<u32>, link: u32)
+        requires group { of < length self.old.heads.items }
+        requires slot { IfSome before (λ k. k < length self.old.next.items) }
+        ensures heads { self.new.heads.items ≡ heads_with self.old.heads.items of before link }
+        ensures next { self.new.next.items ≡ next_with self.old.next.items before link }
+        ensures way { self.new.way ≡ self.old.way }
+    {
+        match before {
+            Some(place) => self.next[place as usize] = link,
+            None => self.heads[of] = link,
+        }
+    }
+
+    /// A slot of a group whose pair is below a rank: this one, if it is.
+    fn near(&self, slots: &[RawSlot], of: usize, limit: u64, place: u32) -> Option<u32>
+        requires { of < length self.now.heads.items }
+        ensures { IsNear (slot_at (slots_in slots.now)) (group self.now.way (length self.now.heads.items)) of limit result }
+    {
+        let (source, target) = slots.get(place as usize)?.pair()?;
+        if self.group(source, target) == of && rank(source, target) < limit {
+            Some(place)
+        } else {
+            None
+        }
+    }
+
+    /// The slot of the last pair of a group below a rank. The walk begins at `near`, where that is a slot of the group below
+    /// the rank, and at the head otherwise.
+    fn before(&self, slots: &[RawSlot], of: usize, limit: u64, near: u32) -> Option<u32>
+        requires group { of < length self.now.heads.items }
+        requires threads { AreThreads (slot_at (slots_in slots.now)) (group self.now.way (length self.now.heads.items)) self.now.heads.items self.now.next.items }
+        ensures { IsBefore (slot_at (slots_in slots.now)) (group self.now.way (length self.now.heads.items)) of limit result }
+    {
+        let mut before = self.near(slots, of, limit, near);
+        let mut link = self.after(of, before);
+        while link != NO_LINK && is_below(slots, link, limit) {
+            before = Some(link);
+            link = self.next[link as usize];
+        }
+        before
+    }
+
+    /// The slot of the first pair of a group that isn't below a rank. The walk begins as that of `before`.
+    pub(crate) fn first(&self, slots: &[RawSlot], of: usize, from: u64, near: u32) -> Option<u32>
+        requires group { of < length self.now.heads.items }
+        requires threads { AreThreads (slot_at (slots_in slots.now)) (group self.now.way (length self.now.heads.items)) self.now.heads.items self.now.next.items }
+        ensures { LeadsTo (slot_at (slots_in slots.now)) (group self.now.way (length self.now.heads.items)) of from result }
+    {
+        let before = self.before(slots, of, from, near);
+        linked(self.after(of, before))
+    }
+}
+
+impl Threads {
+    /// Threads of no slot, with room for so many groups and slots. The ends of the groups are kept where that is wanted.
+    pub(crate) fn none(
+        alloc: Global,
+        way: Way,
+        groups: usize,
+        slots: usize,
+        with_ends: bool,
+    ) -> Result<Threads, TableFault>
+        ensures way { IfOk result (λ t. t.way ≡ way) }
+        ensures heads { IfOk result (λ t. t.heads.items ≡ replicate groups no_link) }
+        ensures next { IfOk result (λ t. length t.next.items ≡ slots) }
+        ensures err { IfErr result (λ e. e ≡ TableFault.NoMemory) }
+    {
+        let ends = if with_ends { groups } else { 0 };
+        let heads = links(alloc, groups)?;
+        let next = links(alloc, slots)?;
+        let ends = links(alloc, ends)?;
+        Ok(Threads {
+            way,
+            heads,
+            next,
+            ends,
+        })
+    }
+
+    /// Puts a slot behind another of its group, or first, and gives the link that is behind it now.
+    fn put(&mut self, of: usize, before: Option<u32>, place: u32) -> u32
+        requires group { of < length self.old.heads.items }
+        requires slot { IfSome before (λ k. k < length self.old.next.items) }
+        requires place { place < length self.old.next.items }
+        ensures heads { self.new.heads.items ≡ heads_with self.old.heads.items of before place }
+        ensures next { let link = after self.old.heads.items self.old.next.items of before in
+            self.new.next.items ≡ next_with (slice_set self.old.next.items place link) before place }
+        ensures way { self.new.way ≡ self.old.way }
+    {
+        let link = self.after(of, before);
+        self.next[place as usize] = link;
+        self.set_after(of, before, place);
+        link
+    }
+
+    /// Threads the pair of a slot that was empty.
+    pub(crate) fn add(&mut self, slots: &[RawSlot], place: u32, source: u32, target: u32)
+        requires some { 0 < length self.old.heads.items }
+        requires threads { AreThreads (slot_at (slots_in slots.now)) (group self.old.way (length self.old.heads.items)) self.old.heads.items self.old.next.items }
+        requires group { group self.old.way (length self.old.heads.items) (source, target) < length self.old.heads.items }
+        requires empty { slot_at (slots_in slots.now) place ≡ None }
+        requires place { place < length self.old.next.items }
+        requires link { place < no_link }
+        requires absent { (k : ℕ) → slot_at (slots_in slots.now) k ≡ Some (source, target) → ⊥ }
+        ensures threads { (now : ℕ → Option (ℕ × ℕ)) → IsWith (slot_at (slots_in slots.now)) place (source, target) now
+            → AreThreads now (group self.new.way (length self.new.heads.items)) self.new.heads.items self.new.next.items }
+        ensures way { self.new.way ≡ self.old.way }
+        ensures groups { length self.new.heads.items ≡ length self.old.heads.items }
+        ensures slots { length self.new.next.items ≡ length self.old.next.items }
+    {
+        let of = self.group(source, target);
+        let before = self.before(slots, of, rank(source, target), self.end(of));
+        let link = self.put(of, before, place);
+        self.keep_end(of, link, place);
+    }
+
+    /// Takes a pair out of the threads, while its slot still holds it.
+    pub(crate) fn remove(&mut self, slots: &[RawSlot], place: u32, source: u32, target: u32)
+        requires some { 0 < length self.old.heads.items }
+        requires threads { AreThreads (slot_at (slots_in slots.now)) (group self.old.way (length self.old.heads.items)) self.old.heads.items self.old.next.items }
+        requires held { slot_at (slots_in slots.now) place ≡ Some (source, target) }
+        ensures threads { (left : ℕ → Option (ℕ × ℕ)) → IsWith left place (source, target) (slot_at (slots_in slots.now))
+            → AreThreads left (group self.new.way (length self.new.heads.items)) self.new.heads.items self.new.next.items }
+        ensures way { self.new.way ≡ self.old.way }
+        ensures groups { length self.new.heads.items ≡ length self.old.heads.items }
+        ensures slots { length self.new.next.items ≡ length self.old.next.items }
+    {
+        let of = self.group(source, target);
+        let before = self.before(slots, of, rank(source, target), NO_LINK);
+        let link = self.after(of, Some(place));
+        self.set_after(of, before, link);
+        self.keep_end(of, link, before.unwrap_or(NO_LINK));
+    }
+
+    /// Threads the pair of a slot, which is below all pairs of its group that are threaded.
+    pub(crate) fn add_first(&mut self, place: u32, source: u32, target: u32)
+        requires some { 0 < length self.old.heads.items }
+        requires group { group self.old.way (length self.old.heads.items) (source, target) < length self.old.heads.items }
+        requires place { place < length self.old.next.items }
+        requires link { place < no_link }
+        ensures threads { (held now : ℕ → Option (ℕ × ℕ)) → IsWith held place (source, target) now
+            → ((k : ℕ) (f : ℕ × ℕ) → held k ≡ Some f → rank (source, target) < rank f)
+            → AreThreads held (group self.old.way (length self.old.heads.items)) self.old.heads.items self.old.next.items
+            → AreThreads now (group self.new.way (length self.new.heads.items)) self.new.heads.items self.new.next.items }
+        ensures way { self.new.way ≡ self.old.way }
+        ensures groups { length self.new.heads.items ≡ length self.old.heads.items }
+        ensures slots { length self.new.next.items ≡ length self.old.next.items }
+    {
+        let of = self.group(source, target);
+        let link = self.put(of, None, place);
+        self.keep_end(of, link, place);
+    }
+
+    /// The end of a group, where that is kept.
+    fn end(&self, of: usize) -> u32 {
+        match self.ends.get(of) {
+            Some(place) => *place,
+            None => NO_LINK,
+        }
+    }
+
+    /// Keeps a slot as the end of a group, where ends are kept and no link leads on from it.
+    fn keep_end(&mut self, of: usize, link: u32, place: u32)
+        ensures way { self.new.way ≡ self.old.way }
+        ensures heads { self.new.heads.items ≡ self.old.heads.items }
+        ensures next { self.new.next.items ≡ self.old.next.items }
+    {
+        if link != NO_LINK {
+            return;
+        }
+        if let Some(end) = self.ends.get_mut(of) {
+            *end = place;
+        }
+    }
+}
