@@ -26,15 +26,15 @@ fn short_answers(rt: HostRuntime) {
     is_text(&rt, &line, "free 4294967295\n");
 }
 
-/// Each refusal.
+/// Each refusal, in the order in which they are tried.
 #[test]
 fn refusals(rt: HostRuntime) {
     let table = [
         (FsRefusal::NotThisFs, "no not-this-fs\n"),
-        (FsRefusal::NoEntry, "no no-entry\n"),
-        (FsRefusal::Exists, "no exists\n"),
         (FsRefusal::NotDir, "no not-dir\n"),
+        (FsRefusal::NoEntry, "no no-entry\n"),
         (FsRefusal::IsDir, "no is-dir\n"),
+        (FsRefusal::Exists, "no exists\n"),
         (FsRefusal::NotEmpty, "no not-empty\n"),
         (FsRefusal::DirFull, "no dir-full\n"),
         (FsRefusal::TooBig, "no too-big\n"),
