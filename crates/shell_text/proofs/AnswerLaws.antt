@@ -1,9 +1,8 @@
 -- The parts of an answer, one after the other, are its text.
-use Rattle.std.proofs.Common.{◌≡◌, ℕ, ◌/◌, ◌%◌, true, false, List, [], ◌∷◌, ◌++◌, flat_map, refl, sym, ◌∙◌, ap}
+use Rattle.std.proofs.Common.{◌≡◌, ℕ, ◌/◌, ◌%◌, List, [], ◌∷◌, ◌++◌, flat_map, refl, sym, ◌∙◌, ap}
 use Rattle.std.specs.Prelude.{codes, slice_index}
 use Rattle.std.specs.List.{join_with_byte}
 use Rattle.hex.specs.Hex.{encode_with, encode_lower, lower_digits}
-use Rattle.script_text.specs.Texts.{data_text}
 use Rattle.fs_trees.specs.Names.{Name}
 use Rattle.fs_trees.specs.Answer.{bytes, listed}
 use Rattle.shell_text.specs.Texts.{answer_text, data_head, names_head, is_none}

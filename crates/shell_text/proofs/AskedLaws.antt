@@ -5,10 +5,9 @@ use Rattle.std.proofs.lemmas.Slice.Eq.{bytes_eq-Decides}
 use Rattle.script_text.specs.Reading.{data_of, reads, ends, Words, ◌>>=◌}
 use Rattle.script_text.proofs.WordLaws.{data_is}
 use Rattle.fs_trees.specs.declared.ask.ShellAsk.{ShellAsk}
-use Rattle.fs_trees.specs.declared.ask.ShellAsk.TheVariants as ask
 use Rattle.fs_trees.specs.declared.ask.ShellKind.{ShellKind}
 use Rattle.fs_trees.specs.declared.ask.ShellKind.TheVariants.{Inode, Chain}
-use Rattle.shell_text.specs.Grammar.{Field, Command, Place, Bytes, fields, IsField, AreFields}
+use Rattle.shell_text.specs.Grammar.{Field, Place, Bytes, fields, IsField, AreFields}
 use Rattle.shell_text.specs.Reading.{path_of, make_of, put_of, append_of, cat_of, ls_of, rm_of, make_dir_of, copy_of, df_of, of_inodes, chosen, forms, named, asked}
 use Rattle.shell_text.proofs.PathLaws.{path_is}
 

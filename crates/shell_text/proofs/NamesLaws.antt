@@ -1,5 +1,5 @@
 -- Reading the names of a path one after another: what was read, p, and what is left, ps, are all pieces.
-use Rattle.std.proofs.Common.{◌≡◌, ℕ, ◌≤◌, true, false, cond, List, [], ◌∷◌, ◌++◌, length, refl, sym, ◌∙◌, ap, subst, Option, Some, None, append_assoc, append-nil}
+use Rattle.std.proofs.Common.{◌≡◌, ◌≤◌, true, false, cond, [], ◌∷◌, ◌++◌, length, refl, sym, ◌∙◌, ap, subst, Some, None, append_assoc, append-nil}
 use Rattle.std.specs.List.{list_all}
 use Rattle.fs_trees.specs.Names.{Name, Path, is_name}
 use Rattle.shell_text.specs.Reading.{name_of, path_if}

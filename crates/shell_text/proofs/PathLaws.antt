@@ -1,5 +1,5 @@
 -- What a word is read as a path it spells, and the other way.
-use Rattle.std.proofs.Common.{◌≡◌, ℕ, suc, ◌+◌, ◌≤◌, Bool, true, false, not, cond, ◌&&◌, ◌==◌, nat_le, List, [], ◌∷◌, ◌++◌, length, refl, sym, ◌∙◌, ap, subst, arith, Option, Some, None, length-append}
+use Rattle.std.proofs.Common.{◌≡◌, ℕ, suc, ◌≤◌, Bool, true, false, not, cond, ◌&&◌, ◌==◌, nat_le, List, [], ◌∷◌, ◌++◌, length, refl, sym, ◌∙◌, ap, subst, arith, Option, Some, None, length-append}
 use Rattle.std.specs.List.{list_all, join_with_byte}
 use Rattle.std.proofs.lemmas.List.Folds.{list_all-append}
 use Rattle.std.proofs.lemmas.Bool.{and_parts, and_from, eqb-true, leb-true}
@@ -7,7 +7,7 @@ use Rattle.std.proofs.lemmas.Bool.Decides.{nat_tests}
 use Rattle.script_text.specs.Pieces.{pieces}
 use Rattle.script_text.proofs.PiecesLaws.{lacks, join-pieces, pieces-join}
 use Rattle.fs_trees.specs.Names.{Name, Path, is_name, is_name_byte, is_path, name_max, path_max, is_reserved}
-use Rattle.shell_text.specs.Grammar.{path_text, IsPathWord}
+use Rattle.shell_text.specs.Grammar.{IsPathWord}
 use Rattle.shell_text.specs.Reading.{names_of, path_if, path_of}
 
 pub cond_some : {A : Type 0} (t : Bool) (o : Option A) (x : A) → cond t o None ≡ Some x → (t ≡ true) × (o ≡ Some x)
