@@ -1,5 +1,5 @@
 -- What a word is read as a path it spells, and the other way.
-use Rattle.std.proofs.Common.{◌≡◌, ℕ, suc, ◌≤◌, Bool, true, false, not, cond, ◌&&◌, ◌==◌, nat_le, List, [], ◌∷◌, ◌++◌, length, refl, sym, ◌∙◌, ap, subst, arith, Option, Some, None, length-append}
+use Rattle.std.proofs.Common.{◌≡◌, ℕ, ◌≤◌, Bool, true, false, not, cond, ◌&&◌, ◌==◌, nat_le, List, [], ◌∷◌, ◌++◌, length, refl, sym, ◌∙◌, ap, subst, arith, Option, Some, None}
 use Rattle.std.specs.List.{list_all, join_with_byte}
 use Rattle.std.proofs.lemmas.List.Folds.{list_all-append}
 use Rattle.std.proofs.lemmas.Bool.{and_parts, and_from, eqb-true, leb-true}
@@ -39,7 +39,8 @@ byte_no_slash x h = grind (arith, nat_tests)
 byte_no_space : (x : ℕ) → is_name_byte x ≡ true → not (x == 32) ≡ true
 byte_no_space x h = grind (arith, nat_tests)
 
-weaker : {A : Type 0} (p q : A → Bool) → ((x : A) → p x ≡ true → q x ≡ true) → (xs : List A) → list_all p xs ≡ true → list_all q xs ≡ true
+-- what each passes, each passes that asks less
+pub weaker : {A : Type 0} (p q : A → Bool) → ((x : A) → p x ≡ true → q x ≡ true) → (xs : List A) → list_all p xs ≡ true → list_all q xs ≡ true
 weaker p q h [] a = refl
 weaker p q h (x ∷ xs) a = let parts = and_parts (p x) (list_all p xs) a in and_from (q x) (list_all q xs) (h x parts.0) (weaker p q h xs parts.1)
 
@@ -94,36 +95,6 @@ path_lacks w p h =
     subst (λ v. lacks 32 v ≡ true) (sym h.1) (join_lacks p (weaker is_name (lacks 32) no_space p all))
 
 -- ---- reading names one after another
-
--- a word that is no name, after others
-stops : (p more : Path) (n : Name) → is_name n ≡ false → list_all is_name (p ++ n ∷ more) ≡ false
-stops p more n h = list_all-append is_name p (n ∷ more) ∙ ap (λ t. list_all is_name p && (t && list_all is_name more)) h ∙ never (list_all is_name p)
-  where
-    never : (t : Bool) → (t && false) ≡ false
-    never true = refl
-    never false = refl
-
-no_path : (t : Bool) (p : Path) → list_all is_name p ≡ false → (t && list_all is_name p) ≡ false
-no_path true p h = h
-no_path false p h = refl
-
-pub stops_at : (p more : Path) (n : Name) → is_name n ≡ false → path_if (p ++ n ∷ more) ≡ None
-stops_at p more n h = ap (λ t. cond t (Some (p ++ n ∷ more)) None) (no_path (nat_le (length (p ++ n ∷ more)) path_max) (p ++ n ∷ more) (stops p more n h))
-
--- a seventeenth name
-pub too_many : (p more : Path) (n : Name) → 16 ≤ length p → path_if (p ++ n ∷ more) ≡ None
-too_many p more n h =
-    let long : suc path_max ≤ length (p ++ n ∷ more) = omega (arith, h, length-append p (n ∷ more)) in
-    ap (λ t. cond (t && list_all is_name (p ++ n ∷ more)) (Some (p ++ n ∷ more)) None) (over (length (p ++ n ∷ more)) long)
-  where
-    over : (k : ℕ) → 17 ≤ k → nat_le k 16 ≡ false
-    over k le = grind (arith, nat_tests)
-
-pub all_read : (p : Path) → length p ≤ 16 → list_all is_name p ≡ true → path_if p ≡ Some p
-all_read p few all = ap (λ t. cond t (Some p) None) (and_from (nat_le (length p) path_max) (list_all is_name p) (within (length p) few) all)
-  where
-    within : (k : ℕ) → k ≤ 16 → nat_le k 16 ≡ true
-    within k le = grind (arith, nat_tests)
 
 -- one more name
 pub one_more : (p : Path) (n : Name) → list_all is_name p ≡ true → is_name n ≡ true → list_all is_name (p ++ n ∷ []) ≡ true

@@ -20,7 +20,7 @@ use Rattle.fs_trees.specs.declared.ask.ShellKind.{ShellKind}
 use Rattle.fs_trees.specs.declared.ask.ShellKind.TheVariants.{Inode, Chain}
 use Rattle.shell_text.specs.Grammar.{Field, Command, Place, Bytes, fields, IsField, AreFields, IsShellLine}
 use Rattle.shell_text.specs.Reading.{path_of, put_of, append_of, cat_of, ls_of, rm_of, make_dir_of, copy_of, chosen, forms, named, asked, ask_of}
-use Rattle.shell_text.proofs.PathLaws.{path_back, path_lacks}
+use Rattle.shell_text.proofs.PathLaws.{path_back, path_lacks, weaker}
 use Rattle.shell_text.proofs.AskedLaws.{asked_is}
 
 bind_some : {A B : Type 0} (o : Option A) (k : A → Option B) (x : A) (y : Option B) → o ≡ Some x → k x ≡ y → (o >>= k) ≡ y
@@ -101,10 +101,6 @@ asked_back Chain (ask.Copy p q) (v ∷ ws) some h = absurd h
 asked_back kind ask.Df (v ∷ ws) some g = under_name kind (codes "df") v ws ask.Df g.0 (ends_back ws _ g.1)
 
 -- ---- no word has a space in it
-
-weaker : (p q : ℕ → Bool) → ((x : ℕ) → p x ≡ true → q x ≡ true) → (xs : List ℕ) → list_all p xs ≡ true → list_all q xs ≡ true
-weaker p q h [] a = refl
-weaker p q h (x ∷ xs) a = let parts = and_parts (p x) (list_all p xs) a in and_from (q x) (list_all q xs) (h x parts.0) (weaker p q h xs parts.1)
 
 hex_no_space : (x : ℕ) → is_hex_digit x ≡ true → not (x == 32) ≡ true
 hex_no_space x h = grind (arith, nat_tests)

@@ -51,6 +51,6 @@ names_head true = codes "names -"
 names_head false = codes "names"
 
 -- there is nothing to send
-abbrev pub is_none : {A : Type 0} → List A → Bool
-is_none [] = true
-is_none (x ∷ xs) = false
+abbrev pub is_empty : {A : Type 0} → List A → Bool
+is_empty [] = true
+is_empty (x ∷ xs) = false

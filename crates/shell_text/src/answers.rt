@@ -6,7 +6,7 @@ ghost use Rattle.hex.specs.Hex.{encode_lower};
 ghost use Rattle.fs_trees.specs.Names.{Name};
 ghost use Rattle.fs_trees.specs.Answer.{bad, bytes, done, free_blocks, listed, refused};
 ghost use Rattle.fs_trees.specs.declared.refusal.FsRefusal.{FsRefusal};
-ghost use Rattle.shell_text.specs.Texts.{answer_text, data_head, names_head, refusal_words, is_none};
+ghost use Rattle.shell_text.specs.Texts.{answer_text, data_head, names_head, refusal_words, is_empty};
 
 use fs_trees::{FsRefusal, Name};
 use script_text::OutBuf;
@@ -147,7 +147,7 @@ pub fn print_end(into: &mut OutBuf)
 /// An answer that is sent in parts is the answer: the head, the parts in their order, and the end of the line.
 pub fn long_answers_in_parts()
     // A file's bytes, in whatever parts.
-    ensures data { (parts : List (List ℕ)) → let x = flat_map (λ part. part) parts in data_head (is_none x) ++ flat_map encode_lower parts ≡ answer_text (bytes x) }
+    ensures data { (parts : List (List ℕ)) → let x = flat_map (λ part. part) parts in data_head (is_empty x) ++ flat_map encode_lower parts ≡ answer_text (bytes x) }
     // The names in a directory, one a part.
-    ensures names { (ns : List Name) → names_head (is_none ns) ++ flat_map (λ n. 32 ∷ n) ns ≡ answer_text (listed ns) }
+    ensures names { (ns : List Name) → names_head (is_empty ns) ++ flat_map (λ n. 32 ∷ n) ns ≡ answer_text (listed ns) }
 {}

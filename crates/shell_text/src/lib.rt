@@ -17,7 +17,7 @@
 #![tactic(auto)]
 
 mod answers;
-pub mod names;
+mod names;
 mod parse;
 mod words;
 
