@@ -5,7 +5,7 @@ use Rattle.std.proofs.lemmas.Bool.{false_from_ne_true, both_ways}
 use Rattle.std.proofs.lemmas.List.{get_or-replicate, length-replicate}
 use Rattle.tsd_model.specs.Pairs.{holds}
 use Rattle.tsd_model.specs.Next.{IsNext, IsNextSource, IsNextTarget}
-use Rattle.pointer_table.specs.Indexed.{IsThreadedBy, IsIndex, HasWays, HasRoom, IsPlaceOf, source_of, target_of}
+use Rattle.pointer_table.specs.Indexed.{IsThreadedBy, IsIndex, HasRoom, IsPlaceOf, source_of, target_of}
 use Rattle.pointer_table.specs.Scanning.{is_at}
 use Rattle.pointer_table.specs.Slots.{slot_at, pairs_in}
 use Rattle.pointer_table.specs.Threads.{rank, mixed, group, linked, no_link, IsMember, IsFirst, LeadsTo, AreThreads, IsWith}
@@ -26,9 +26,6 @@ target_group w n e is = ap (λ v. group v n e) is
 
 pub bucket_group : (w : Way) (n : ℕ) (e : ℕ × ℕ) → w ≡ way.Bucket → 0 < n → group w n e < n
 bucket_group w n e is some = let same : group w n e ≡ mixed (rank e) % n = ap (λ v. group v n e) is in omega arith
-
-pub ways_of : (held : ℕ → Option (ℕ × ℕ)) (x : Index) → IsIndex held x → HasWays x
-ways_of held x index = record { sources = index.sources.way_is; targets = index.targets.way_is; buckets = index.buckets.way_is; some = index.buckets.some }
 
 pub room_here : (blocks places : ℕ) (x : Index) → HasRoom blocks places x → HasRoom (length x.by_source.heads.items) places x
 room_here blocks places x room = record {

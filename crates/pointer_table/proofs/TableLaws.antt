@@ -174,7 +174,7 @@ load_answers image g slots (Ok t) count read is found = record {
   none_repeated = λ e r. found.1 e (repeated_in image g slots e count read r);
   stored = record { count = ap length is.1 ∙ count; each = λ k inside. read.each k inside ∙ ap (λ ss. slot_at ss k) (sym is.1) };
 }
-load_answers image g slots (Err fault.NoMemory) count read is found = absurd found
+load_answers image g slots (Err fault.NoMemory) count read is found = tt
 load_answers image g slots (Err fault.Device) count read is found = absurd found
 load_answers image g slots (Err (fault.Slot k source target)) count read is found = absurd found
 load_answers image g slots (Err (fault.Repeated a b)) count read is found = (read.no_bad, least_on image g slots (a, b) count read found)

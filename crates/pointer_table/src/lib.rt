@@ -13,6 +13,7 @@
 //! no question looks at all of them.
 #![tactic(auto)]
 
+mod empties;
 mod fault;
 mod fresh;
 mod index;
@@ -24,6 +25,7 @@ mod out_step;
 mod raw;
 mod sector;
 mod table;
+mod threading;
 mod threads;
 mod way;
 
