@@ -113,6 +113,30 @@ filled t g items held x now place a b raw is kept room absent within place_is ra
     index_now = subst (λ (slots : List (Option (ℕ × ℕ))). IsIndex (slot_at slots) now) slots_are
         (index (slot_at (set (slots_in items) place (Some (a, b)))) (slot_filled (slots_in items) place (a, b) inside empty))
 
+-- the same in the steps of the code: the slot is taken off the list, and then the pair is threaded
+pub put_kept : (t : Table) (g : Geometry) (items : List RawSlot) (held : ℕ) (x taken now : Index) (place a b : ℕ) (raw : RawSlot) → ◌≡◌ {A = Table} (record { geometry = g; slots = slots_in items }) t
+    → Kept g items held x → length (pairs t) < t.geometry.slots → holds (pairs t) a b ≡ false → IsWithin t.geometry (a, b) → place ≡ x.empty
+    → taken ≡ record x { empty = get_or x.by_bucket.next.items x.empty 0 } → slot_in raw ≡ Some (a, b)
+    → ((next : ℕ → Option (ℕ × ℕ)) → IsWith (slot_at (slots_in items)) place (a, b) next → IsIndex next now)
+    → ((blocks places : ℕ) → HasRoom blocks places taken → HasRoom blocks places now)
+    → now.empty ≡ taken.empty
+    → ((k : ℕ) → slot_at (slots_in items) k ≡ None → (k ≡ place → ⊥) → get_or now.by_bucket.next.items k 0 ≡ get_or taken.by_bucket.next.items k 0)
+    → Kept g (set items place raw) (held + 1) now
+put_kept t g items held x taken now place a b raw is kept room absent within place_is taken_is raw_is index rooms first stays =
+    filled t g items held x now place a b raw is kept room absent within place_is raw_is index
+    (λ blocks places old. rooms blocks places (subst (HasRoom blocks places) (sym taken_is) (same_room blocks places old)))
+    (first ∙ ap (λ (y : Index). y.empty) taken_is)
+    (λ k none off. stays k none off ∙ ap (λ (y : Index). get_or y.by_bucket.next.items k 0) taken_is)
+  where
+    same_room : (blocks places : ℕ) → HasRoom blocks places x → HasRoom blocks places (record x { empty = get_or x.by_bucket.next.items x.empty 0 })
+    same_room blocks places old = record {
+      sources = old.sources;
+      targets = old.targets;
+      by_source = old.by_source;
+      by_target = old.by_target;
+      by_bucket = old.by_bucket;
+    }
+
 -- where a slot holds a pair, one is held
 pub some_held : (t : Table) (g : Geometry) (items : List RawSlot) (held : ℕ) (x : Index) (place a b : ℕ) → ◌≡◌ {A = Table} (record { geometry = g; slots = slots_in items }) t
     → Kept g items held x → slot_at t.slots place ≡ Some (a, b) → 1 ≤ held

@@ -116,7 +116,7 @@ pub record AreEmptiesFrom (slots : List (Option (ℕ × ℕ))) (left first : ℕ
 
 pub count_drop : (slots : List (Option (ℕ × ℕ))) (l : ℕ) → l < length slots → count_by is_some (drop l slots) ≡ cond (is_some (slot_at slots l)) 1 0 + count_by is_some (drop (suc l) slots)
 count_drop slots l inside =
-    ap (count_by is_some) (drop-cons l slots None inside)
+    ap (count_by is_some) (drop-cons slots l None inside)
     ∙ sum_by-cons (λ (s : Option (ℕ × ℕ)). cond (is_some s) 1 0) (slot_at slots l) (drop (suc l) slots)
 
 pub count_drop_some : (slots : List (Option (ℕ × ℕ))) (l : ℕ) (e : ℕ × ℕ) → l < length slots → slot_at slots l ≡ Some e → count_by is_some (drop l slots) ≡ 1 + count_by is_some (drop (suc l) slots)

@@ -1,5 +1,5 @@
 -- What a look-up by the index answers.
-use Rattle.std.proofs.Common.{◌≡◌, ℕ, ◌+◌, ◌*◌, ◌<◌, ◌≤◌, ◌%◌, Bool, true, false, List, length, get_or, replicate, refl, sym, ◌∙◌, ap, subst, arith, inl, inr}
+use Rattle.std.proofs.Common.{◌≡◌, ℕ, ◌+◌, ◌*◌, ◌<◌, ◌≤◌, ◌%◌, Bool, true, false, List, length, get_or, set, replicate, refl, sym, ◌∙◌, ap, subst, arith, inl, inr}
 use Rattle.std.proofs.Common.{Option, Some, None}
 use Rattle.std.proofs.lemmas.Bool.{false_from_ne_true, both_ways}
 use Rattle.std.proofs.lemmas.List.{get_or-replicate, length-replicate}
@@ -14,7 +14,7 @@ use Rattle.pointer_table.specs.declared.threads.Threads.{Threads}
 use Rattle.pointer_table.specs.declared.way.Way.{Way}
 use Rattle.pointer_table.specs.declared.way.Way.TheVariants as way
 use Rattle.pointer_table.proofs.SlotLaws.{holds_from_slot, slot_from_holds, is_at_same, is_at_some}
-use Rattle.pointer_table.proofs.ThreadLaws.{same_rank, some_same}
+use Rattle.pointer_table.proofs.ThreadLaws.{same_rank, some_same, link_aside}
 
 -- ---- groups
 
@@ -159,3 +159,17 @@ none_threaded way groups t some ways heads = record {
 
     all : (of : ℕ) → of < length t.heads.items → get_or t.heads.items of 0 ≡ no_link
     all of inside = ap (λ xs. get_or xs of 0) heads ∙ get_or-replicate groups of no_link 0 (let many = ap length heads in let every : length (replicate groups no_link) ≡ groups = length-replicate groups no_link in omega arith)
+
+-- ---- the link of an empty slot
+
+pub linked_aside : (way : Way) (held : ℕ → Option (ℕ × ℕ)) (t now : Threads) (place link : ℕ) → held place ≡ None → now.way ≡ t.way → now.heads.items ≡ t.heads.items → now.next.items ≡ set t.next.items place link
+    → IsThreadedBy way held t → IsThreadedBy way held now
+linked_aside way held t now place link none ways heads next threads = record {
+  way_is = ways ∙ threads.way_is;
+  some = (let many = ap length heads in let some = threads.some in omega arith);
+  threads =
+      subst (λ (w : Way). AreThreads held (group w (length now.heads.items)) now.heads.items now.next.items) (sym ways)
+      (subst (λ (xs : List ℕ). AreThreads held (group t.way (length xs)) xs now.next.items) (sym heads)
+      (subst (AreThreads held (group t.way (length t.heads.items)) t.heads.items) (sym next)
+      (link_aside held (group t.way (length t.heads.items)) t.heads.items t.next.items place link threads.threads none)));
+}

@@ -3,14 +3,16 @@ use Rattle.std.proofs.Common.{◌≡◌, ◌⊎◌, ℕ, zero, suc, ◌+◌, ◌
 use Rattle.std.proofs.Common.{Option, Some, None}
 use Rattle.std.specs.List.{list_any}
 use Rattle.std.proofs.lemmas.Bool.{cases_eq, cases_lt, or_cases, or_left, or_right, eqb-true, eq-eqb, ne_eqb, false_from_ne_true}
-use Rattle.std.proofs.lemmas.List.{get_or-drop, drop_all, get_or-take, get_or_past, length-take}
+use Rattle.std.proofs.lemmas.List.{get_or-drop, drop_all, get_or-take, get_or_past, length-take, take-map}
 use Rattle.std.proofs.lemmas.List.Folds.{list_any_at}
 use Rattle.tsd_model.specs.declared.geometry.Geometry.{Geometry}
 use Rattle.pointer_table.specs.Indexed.{IsThreadedBy}
 use Rattle.pointer_table.specs.Order.{sort_key, IsOrder}
+use Rattle.pointer_table.specs.Raw.{slot_in, slots_in}
 use Rattle.pointer_table.specs.Slots.{slot_at}
 use Rattle.pointer_table.specs.Table.{Table, IsTable}
 use Rattle.pointer_table.specs.Threads.{rank, IsWith}
+use Rattle.pointer_table.specs.declared.raw.RawSlot.{RawSlot}
 use Rattle.pointer_table.specs.declared.threads.Threads.{Threads}
 use Rattle.pointer_table.specs.declared.way.Way.{Way}
 use Rattle.pointer_table.proofs.ThreadLaws.{same_rank}
@@ -158,6 +160,22 @@ front_same slots place none k = elim (cases_lt k place) [
     | inr off ↦ behind_place slots (place + 1) k (omega arith)
   ])
 ]
+
+-- the same of slots as the memory holds them
+slots_front : (raws : List RawSlot) (n : ℕ) → take n (slots_in raws) ≡ slots_in (take n raws)
+slots_front raws n = take-map slot_in n raws
+
+pub raws_held : (raws : List RawSlot) (place k : ℕ) (e : ℕ × ℕ) → slot_at (slots_in (take place raws)) k ≡ Some e → (k < place) × (slot_at (slots_in raws) k ≡ Some e)
+raws_held raws place k e here = front_held (slots_in raws) place k e (ap (λ slots. slot_at slots k) (slots_front raws place) ∙ here)
+
+pub raws_more : (raws : List RawSlot) (place : ℕ) (e : ℕ × ℕ) → slot_at (slots_in raws) place ≡ Some e → IsWith (slot_at (slots_in (take place raws))) place e (slot_at (slots_in (take (place + 1) raws)))
+raws_more raws place e here =
+    subst (λ (slots : List (Option (ℕ × ℕ))). IsWith (slot_at slots) place e (slot_at (slots_in (take (place + 1) raws)))) (slots_front raws place)
+    (subst (λ (slots : List (Option (ℕ × ℕ))). IsWith (slot_at (take place (slots_in raws))) place e (slot_at slots)) (slots_front raws (place + 1)) (front_more (slots_in raws) place e here))
+
+pub raws_same : (raws : List RawSlot) (place : ℕ) → slot_at (slots_in raws) place ≡ None → (k : ℕ) → slot_at (slots_in (take place raws)) k ≡ slot_at (slots_in (take (place + 1) raws)) k
+raws_same raws place none k =
+    sym (ap (λ slots. slot_at slots k) (slots_front raws place)) ∙ (front_same (slots_in raws) place none k ∙ ap (λ slots. slot_at slots k) (slots_front raws (place + 1)))
 
 -- slots given another way
 pub threaded_same : (way : Way) (held now : ℕ → Option (ℕ × ℕ)) (t : Threads) → ((k : ℕ) → held k ≡ now k) → IsThreadedBy way held t → IsThreadedBy way now t
