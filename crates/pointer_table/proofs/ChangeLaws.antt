@@ -1,9 +1,8 @@
 -- A slot that is filled or emptied: what is still known of the slots, the list of empty ones and the index.
-use Rattle.std.proofs.Common.{◌≡◌, ℕ, ◌+◌, ◌-◌, ◌*◌, ◌/◌, ◌<◌, ◌≤◌, Bool, true, false, List, length, get_or, set, refl, sym, ◌∙◌, ap, subst, arith, inl, inr}
+use Rattle.std.proofs.Common.{◌≡◌, ℕ, ◌+◌, ◌/◌, ◌<◌, ◌≤◌, false, List, length, get_or, set, sym, ◌∙◌, ap, subst, arith}
 use Rattle.std.proofs.Common.{Option, Some, None}
 use Rattle.std.specs.Prelude.{is_some}
-use Rattle.std.proofs.lemmas.Bool.{cases_eq, both_ways}
-use Rattle.std.proofs.lemmas.List.{length-set, get_or-set_same, get_or-set_other, get_or_default}
+use Rattle.std.proofs.lemmas.Bool.{both_ways}
 use Rattle.tsd_model.specs.declared.geometry.Geometry.{Geometry}
 use Rattle.image_device.specs.Image.{Image, put_at}
 use Rattle.image_layout.specs.declared.place.Patch.{Patch}
@@ -19,12 +18,12 @@ use Rattle.pointer_table.specs.Raw.{slot_in, slots_in}
 use Rattle.pointer_table.specs.Reading.{AreWithinTo}
 use Rattle.pointer_table.specs.Slots.{slot_at, pairs_in}
 use Rattle.pointer_table.specs.Table.{Table, pairs, IsWithin, IsTable}
-use Rattle.pointer_table.specs.Threads.{no_link, IsWith}
+use Rattle.pointer_table.specs.Threads.{IsWith}
 use Rattle.pointer_table.specs.declared.index.Index.{Index}
 use Rattle.pointer_table.specs.declared.raw.RawSlot.{RawSlot}
 use Rattle.pointer_table.proofs.EmptyLaws.{first_empty, empties_taken, empties_given}
-use Rattle.pointer_table.proofs.RawLaws.{length-slots_in, slots_in-set}
-use Rattle.pointer_table.proofs.SlotLaws.{some_inside, holds_from_slot, set_same, set_other, length-pairs_in_le}
+use Rattle.pointer_table.proofs.RawLaws.{slots_in-set}
+use Rattle.pointer_table.proofs.SlotLaws.{some_inside, holds_from_slot, set_same, set_other}
 use Rattle.pointer_table.proofs.TableLaws.{with_slot, set_in, fits, added, removed, held_added, held_removed}
 
 -- ---- one slot

@@ -1,5 +1,5 @@
 -- Tables: made, changed, and compared with an image.
-use Rattle.std.proofs.Common.{◌≡◌, ℕ, ◌+◌, ◌*◌, ◌/◌, ◌%◌, ◌<◌, ◌==◌, false, inl, inr, ◌⊎◌, List, length, set, sym, ◌∙◌, ap, subst, arith}
+use Rattle.std.proofs.Common.{◌≡◌, ℕ, ◌+◌, ◌*◌, ◌/◌, ◌%◌, ◌<◌, false, inl, inr, ◌⊎◌, List, length, set, sym, ◌∙◌, ap, subst, arith}
 use Rattle.std.proofs.Common.{Option, Some, None}
 use Rattle.std.proofs.lemmas.Bool.{cases_eq, cases_order, both_ways, false_from_ne_true}
 use Rattle.std.proofs.lemmas.List.{length-set, set-set, set-get_or}
@@ -17,7 +17,7 @@ use Rattle.pointer_table.specs.Repeating.{IsRepeating}
 use Rattle.pointer_table.specs.Loading.{IsRepeatedOn, IsLeastRepeated, IsLoading}
 use Rattle.pointer_table.specs.Reading.{IsReadTo, AreWithinTo}
 use Rattle.pointer_table.specs.Repeats.{IsRepeatedIn, IsLeastOfAll}
-use Rattle.pointer_table.specs.Slots.{slot_at, pairs_in}
+use Rattle.pointer_table.specs.Slots.{slot_at}
 use Rattle.pointer_table.specs.Table.{Table, pairs, IsWithin, IsTable, ArePairs}
 use Rattle.tsd_model.proofs.PairLaws.{length-with_new_pair}
 use Rattle.image_layout.specs.declared.place.Patch.{Patch}

@@ -1,8 +1,8 @@
 -- Slots threaded one after another: from the last pair of their order to the first, and in their own order.
-use Rattle.std.proofs.Common.{◌≡◌, ◌⊎◌, ℕ, zero, suc, ◌+◌, ◌-◌, ◌<◌, ◌≤◌, ◌==◌, ◌||◌, Bool, true, false, cond, List, [], ◌∷◌, length, get_or, take, drop, refl, sym, ◌∙◌, ap, subst, arith, inl, inr, add-one, length-drop, drop-cons}
+use Rattle.std.proofs.Common.{◌≡◌, ℕ, suc, ◌+◌, ◌-◌, ◌<◌, ◌≤◌, ◌==◌, ◌||◌, Bool, true, false, cond, List, [], ◌∷◌, length, get_or, take, drop, refl, sym, ◌∙◌, ap, subst, arith, inl, inr, length-drop, drop-cons}
 use Rattle.std.proofs.Common.{Option, Some, None}
 use Rattle.std.specs.List.{list_any}
-use Rattle.std.proofs.lemmas.Bool.{cases_eq, cases_lt, or_cases, or_left, or_right, eqb-true, eq-eqb, ne_eqb, false_from_ne_true}
+use Rattle.std.proofs.lemmas.Bool.{cases_eq, cases_lt, or_cases, eqb-true, eq-eqb, ne_eqb, false_from_ne_true}
 use Rattle.std.proofs.lemmas.List.{get_or-drop, drop_all, get_or-take, get_or_past, length-take, take-map}
 use Rattle.std.proofs.lemmas.List.Folds.{list_any_at}
 use Rattle.tsd_model.specs.declared.geometry.Geometry.{Geometry}
@@ -10,7 +10,7 @@ use Rattle.pointer_table.specs.Indexed.{IsThreadedBy}
 use Rattle.pointer_table.specs.Order.{sort_key, IsOrder}
 use Rattle.pointer_table.specs.Raw.{slot_in, slots_in}
 use Rattle.pointer_table.specs.Slots.{slot_at}
-use Rattle.pointer_table.specs.Table.{Table, IsTable}
+use Rattle.pointer_table.specs.Table.{IsTable}
 use Rattle.pointer_table.specs.Threads.{rank, IsWith}
 use Rattle.pointer_table.specs.declared.raw.RawSlot.{RawSlot}
 use Rattle.pointer_table.specs.declared.threads.Threads.{Threads}

@@ -51,7 +51,7 @@ fn by_order(
     Ok(threads)
 }
 
-/// The slots threaded by source and by target, where no pair stands in two. Their order is given back with the return.
+/// The slots threaded by source and by target, where no pair stands in two. The memory of their order is given back at the end.
 pub(crate) fn by_ends(
     alloc: Global,
     geometry: &Geometry,

@@ -23,7 +23,7 @@ pub(crate) struct Threads {
     /// For each group the slot of its first pair.
     pub heads: Vec<u32>,
 
-    /// For each slot that holds a pair the slot of the next pair of its group. Of what an empty slot has no thread knows.
+    /// For each slot that holds a pair the slot of the next pair of its group. What stands at an empty slot no thread asks.
     pub next: Vec<u32>,
 
     /// For each group the slot that was last added at its end, where that is kept. A wrong one costs time alone.
@@ -248,13 +248,13 @@ impl Threads {
     }
 
     /// Sets the link of an empty slot, which is in no thread.
-    pub(crate) fn link_empty(&mut self, place: u32, link: u32)
+    pub(crate) fn link_empty(&mut self, place: u32, behind: u32)
         requires { place < length self.old.next.items }
         ensures way { self.new.way ≡ self.old.way }
         ensures heads { self.new.heads.items ≡ self.old.heads.items }
-        ensures next { self.new.next.items ≡ slice_set self.old.next.items place link }
+        ensures next { self.new.next.items ≡ slice_set self.old.next.items place behind }
     {
-        self.next[place as usize] = link;
+        self.next[place as usize] = behind;
     }
 
     /// The end of a group, where that is kept.

@@ -1,5 +1,5 @@
-use Rattle.std.proofs.Common.{◌≡◌, ℕ, ◌-◌, not, List, length, set, sym, subst, ap, ◌∙◌, arith}
-use Rattle.std.proofs.Common.{Option, Some, None}
+use Rattle.std.proofs.Common.{◌≡◌, ◌-◌, not, length, sym, subst, ap, ◌∙◌, arith}
+use Rattle.std.proofs.Common.{None}
 use Rattle.std.proofs.lemmas.List.{length-set}
 use Rattle.pointer_table.specs.Raw.{slots_in}
 use Rattle.pointer_table.specs.Slots.{slot_at}

@@ -1,4 +1,4 @@
-use Rattle.std.proofs.Common.{◌≡◌, ◌≤◌, length, take}
+use Rattle.std.proofs.Common.{◌≡◌, length, take}
 use Rattle.pointer_table.specs.Indexed.{IsThreadedBy}
 use Rattle.pointer_table.specs.Raw.{slots_in}
 use Rattle.pointer_table.specs.Slots.{slot_at}

@@ -1,4 +1,4 @@
-use Rattle.std.proofs.Common.{◌≡◌, ℕ, List, None, length, sym, subst, ap, ◌∙◌}
+use Rattle.std.proofs.Common.{◌≡◌, ℕ, List, None, sym, subst, ap, ◌∙◌}
 use Rattle.std.specs.Prelude.{count_by, is_some}
 use Rattle.pointer_table.specs.Empties.{AreEmpties}
 use Rattle.pointer_table.specs.Indexed.{IsIndex}

@@ -1,4 +1,4 @@
-use Rattle.std.proofs.Common.{◌≡◌, ℕ, ◌+◌, ◌<◌, ◌≤◌, List, Option, Some, None, set, length, get_or, refl, sym, subst, ap, ◌∙◌, arith}
+use Rattle.std.proofs.Common.{◌≡◌, ◌+◌, List, Some, None, set, length, sym, subst, ap, ◌∙◌, arith}
 use Rattle.tsd_model.specs.Pairs.{holds}
 use Rattle.pointer_table.specs.Raw.{slots_in}
 use Rattle.pointer_table.specs.Slots.{slot_at, pairs_in}

@@ -1,4 +1,4 @@
-use Rattle.std.proofs.Common.{length, ◌∙◌, arith}
+use Rattle.std.proofs.Common.{length, ◌∙◌}
 use Rattle.pointer_table.specs.Raw.{slots_in}
 use Rattle.pointer_table.specs.Slots.{slot_at}
 use Rattle.pointer_table.specs.Threads.{group, after}
