@@ -9,8 +9,8 @@ ghost use Rattle.pointer_table.specs.Slots.{slot_at, pairs_in};
 
 use crate::index::Index;
 use crate::raw::RawSlot;
-use tsd_model::lists::BLOCKS_MAX;
 use tsd_model::BlockList;
+use tsd_model::lists::BLOCKS_MAX;
 
 /// How many slots hold a pair.
 pub(crate) fn count_held(slots: &[RawSlot]) -> u32

@@ -88,13 +88,7 @@ pub(crate) fn by_bucket(
     ensures slots { IfOk result (λ t. length t.next.items ≡ geometry.now.slots) }
     ensures err { IfErr result (λ e. e ≡ TableFault.NoMemory) }
 {
-    let mut threads = Threads::none(
-        alloc,
-        Way::Bucket,
-        slots.len() / 2 + 1,
-        slots.len(),
-        false,
-    )?;
+    let mut threads = Threads::none(alloc, Way::Bucket, slots.len() / 2 + 1, slots.len(), false)?;
     for place in 0..slots.len() {
         if let Some((source, target)) = pair_at(slots, place as u32) {
             threads.add(&slots[..place], place as u32, source, target);
