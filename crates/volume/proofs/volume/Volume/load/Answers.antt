@@ -72,3 +72,9 @@ returns-clause-at g c told =
 
 pub returns-in_err-ahead-clause-read : goal.returns-in_err-ahead-clause-read
 returns-in_err-ahead-clause-read g c told = let is = err_from_is_err_and c.from_residual-in_err-ahead.result c.from_residual-in_err-ahead.ensures.1 in rw (is.1, is.2) tt
+
+pub returns-in_err-guesses-clause-read : goal.returns-in_err-guesses-clause-read
+returns-in_err-guesses-clause-read g c told = let is = err_from_is_err_and c.from_residual-in_err-guesses.result c.from_residual-in_err-guesses.ensures.1 in rw (is.1, is.2) tt
+
+pub returns-in_err-marks-clause-read : goal.returns-in_err-marks-clause-read
+returns-in_err-marks-clause-read g c told = let is = err_from_is_err_and c.from_residual-in_err-marks.result c.from_residual-in_err-marks.ensures.1 in rw (is.1, is.2) tt
