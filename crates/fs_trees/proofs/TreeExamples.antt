@@ -1,12 +1,12 @@
 -- Worked worlds with pointers too many, files in several blocks, a directory in two clusters, and paths of sixteen names.
-use Rattle.std.specs.Prelude.{◌≡◌, ℕ, zero, suc, ◌+◌, List, [], ◌∷◌, ◌++◌, length, refl, replicate, map, codes, Some, None, ⊤}
+use Rattle.std.specs.Prelude.{◌≡◌, ℕ, zero, suc, List, [], ◌∷◌, ◌++◌, length, refl, replicate, map, codes, Some, None, ⊤}
 use Rattle.std.proofs.Common.{sym}
 use Rattle.std.proofs.lemmas.Bool.{false≢true}
 use Rattle.tsd_model.specs.World.{World}
 use Rattle.tsd_model.specs.Step.{filled}
 use Rattle.tsd_model.specs.Run.{fresh_world}
 use Rattle.fs_trees.specs.Names.{Name}
-use Rattle.fs_trees.specs.Tree.{Entries, none, file, dir, nothing, a_dir, Tree}
+use Rattle.fs_trees.specs.Tree.{Entries, none, file, dir, nothing, a_dir}
 use Rattle.fs_trees.specs.Fields.{Entry}
 use Rattle.fs_trees.specs.Inode.{directory, regular, inode_bytes}
 use Rattle.fs_trees.specs.Cluster.{directory_bytes, part_bytes}
