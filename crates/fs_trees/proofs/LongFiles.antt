@@ -36,13 +36,13 @@ world blocks slots xs es =
 abbrev inodes_1_world : World
 inodes_1_world =
     world 8 32
-        ((0, hex (codes "545344494e4f443101000000010000000100000061"))
-        ∷ (1, hex (codes "545344494e4f443102000000f6050000020000000300000004"))
-        ∷ (2, replicate 512 0x30)
-        ∷ (3, replicate 512 0x30)
-        ∷ (4, hex (codes "303030303030") ++ (replicate 495 0xa4 ++ hex (codes "26")))
-        ∷ [])
-        ((0, 1) ∷ (1, 2) ∷ (1, 3) ∷ (1, 4) ∷ [])
+    ((0, hex (codes "545344494e4f443101000000010000000100000061"))
+    ∷ (1, hex (codes "545344494e4f443102000000f6050000020000000300000004"))
+    ∷ (2, replicate 512 0x30)
+    ∷ (3, replicate 512 0x30)
+    ∷ (4, hex (codes "303030303030") ++ (replicate 495 0xa4 ++ hex (codes "26")))
+    ∷ [])
+    ((0, 1) ∷ (1, 2) ∷ (1, 3) ∷ (1, 4) ∷ [])
 
 pub inodes_1 :
     (tree_at Inode inodes_1_world 0 ≡ a_dir tt (file (codes "a") (replicate 1030 0x30 ++ (replicate 495 0xa4 ++ hex (codes "26"))) none))
@@ -52,13 +52,13 @@ inodes_1 = (refl, refl)
 abbrev inodes_2_world : World
 inodes_2_world =
     world 8 32
-        ((0, hex (codes "545344494e4f443101000000010000000100000061"))
-        ∷ (1, hex (codes "545344494e4f443102000000f6050000020000000300000004"))
-        ∷ (2, replicate 512 0x30)
-        ∷ (3, hex (codes "62") ++ replicate 511 0x30)
-        ∷ (4, hex (codes "303030303030") ++ (replicate 495 0xa4 ++ hex (codes "26")))
-        ∷ [])
-        ((0, 1) ∷ (1, 2) ∷ (1, 3) ∷ (1, 4) ∷ [])
+    ((0, hex (codes "545344494e4f443101000000010000000100000061"))
+    ∷ (1, hex (codes "545344494e4f443102000000f6050000020000000300000004"))
+    ∷ (2, replicate 512 0x30)
+    ∷ (3, hex (codes "62") ++ replicate 511 0x30)
+    ∷ (4, hex (codes "303030303030") ++ (replicate 495 0xa4 ++ hex (codes "26")))
+    ∷ [])
+    ((0, 1) ∷ (1, 2) ∷ (1, 3) ∷ (1, 4) ∷ [])
 
 pub inodes_2 : tree_at Inode inodes_2_world 0 ≡ a_dir tt (file (codes "a") (replicate 512 0x30 ++ (hex (codes "62") ++ (replicate 517 0x30 ++ (replicate 495 0xa4 ++ hex (codes "26"))))) none)
 inodes_2 = refl
@@ -66,14 +66,14 @@ inodes_2 = refl
 abbrev inodes_3_world : World
 inodes_3_world =
     world 8 7
-        ((0, hex (codes "545344494e4f443101000000020000000300000042") ++ (replicate 27 0x00 ++ hex (codes "0400000063")))
-        ∷ (2, replicate 512 0xc7)
-        ∷ (3, hex (codes "545344494e4f443102000000030200000200000006"))
-        ∷ (4, hex (codes "545344494e4f4431020000000100000005"))
-        ∷ (5, hex (codes "81"))
-        ∷ (6, hex (codes "959595"))
-        ∷ [])
-        ((0, 3) ∷ (0, 4) ∷ (3, 2) ∷ (3, 6) ∷ (4, 5) ∷ [])
+    ((0, hex (codes "545344494e4f443101000000020000000300000042") ++ (replicate 27 0x00 ++ hex (codes "0400000063")))
+    ∷ (2, replicate 512 0xc7)
+    ∷ (3, hex (codes "545344494e4f443102000000030200000200000006"))
+    ∷ (4, hex (codes "545344494e4f4431020000000100000005"))
+    ∷ (5, hex (codes "81"))
+    ∷ (6, hex (codes "959595"))
+    ∷ [])
+    ((0, 3) ∷ (0, 4) ∷ (3, 2) ∷ (3, 6) ∷ (4, 5) ∷ [])
 
 pub inodes_3 :
     (tree_at Inode inodes_3_world 0 ≡ a_dir tt (file (codes "B") (replicate 512 0xc7 ++ hex (codes "959595")) (file (codes "c") (hex (codes "81")) none)))
@@ -83,12 +83,12 @@ inodes_3 = (refl, refl)
 abbrev inodes_4_world : World
 inodes_4_world =
     world 8 12
-        ((0, hex (codes "545344494e4f443101000000010000000300000063"))
-        ∷ (3, hex (codes "545344494e4f443102000000010200000400000005"))
-        ∷ (4, replicate 512 0x14)
-        ∷ (5, hex (codes "14"))
-        ∷ [])
-        ((0, 3) ∷ (3, 4) ∷ (3, 5) ∷ [])
+    ((0, hex (codes "545344494e4f443101000000010000000300000063"))
+    ∷ (3, hex (codes "545344494e4f443102000000010200000400000005"))
+    ∷ (4, replicate 512 0x14)
+    ∷ (5, hex (codes "14"))
+    ∷ [])
+    ((0, 3) ∷ (3, 4) ∷ (3, 5) ∷ [])
 
 pub inodes_4 :
     (tree_at Inode inodes_4_world 0 ≡ a_dir tt (file (codes "c") (replicate 513 0x14) none))
@@ -98,12 +98,12 @@ inodes_4 = (refl, refl)
 abbrev inodes_5_world : World
 inodes_5_world =
     world 8 12
-        ((0, hex (codes "545344494e4f443101000000010000000300000063"))
-        ∷ (3, hex (codes "545344494e4f443102000000010200000400000005"))
-        ∷ (4, replicate 512 0x14)
-        ∷ (5, hex (codes "14"))
-        ∷ [])
-        ((0, 3) ∷ (3, 4) ∷ (3, 5) ∷ [])
+    ((0, hex (codes "545344494e4f443101000000010000000300000063"))
+    ∷ (3, hex (codes "545344494e4f443102000000010200000400000005"))
+    ∷ (4, replicate 512 0x14)
+    ∷ (5, hex (codes "14"))
+    ∷ [])
+    ((0, 3) ∷ (3, 4) ∷ (3, 5) ∷ [])
 
 pub inodes_5 : tree_at Inode inodes_5_world 0 ≡ a_dir tt (file (codes "c") (replicate 513 0x14) none)
 inodes_5 = refl
@@ -111,14 +111,14 @@ inodes_5 = refl
 abbrev inodes_6_world : World
 inodes_6_world =
     world 8 32
-        ((0, hex (codes "545344494e4f443101000000020000000300000042") ++ (replicate 27 0x00 ++ hex (codes "0100000061")))
-        ∷ (1, hex (codes "545344494e4f4431020000000002000002"))
-        ∷ (2, replicate 512 0xe1)
-        ∷ (3, hex (codes "545344494e4f443102000000010200000400000005"))
-        ∷ (4, replicate 512 0x21)
-        ∷ (5, hex (codes "21"))
-        ∷ [])
-        ((0, 1) ∷ (0, 3) ∷ (1, 2) ∷ (3, 4) ∷ (3, 5) ∷ [])
+    ((0, hex (codes "545344494e4f443101000000020000000300000042") ++ (replicate 27 0x00 ++ hex (codes "0100000061")))
+    ∷ (1, hex (codes "545344494e4f4431020000000002000002"))
+    ∷ (2, replicate 512 0xe1)
+    ∷ (3, hex (codes "545344494e4f443102000000010200000400000005"))
+    ∷ (4, replicate 512 0x21)
+    ∷ (5, hex (codes "21"))
+    ∷ [])
+    ((0, 1) ∷ (0, 3) ∷ (1, 2) ∷ (3, 4) ∷ (3, 5) ∷ [])
 
 pub inodes_6 :
     (tree_at Inode inodes_6_world 0 ≡ a_dir tt (file (codes "B") (replicate 513 0x21) (file (codes "a") (replicate 512 0xe1) none)))
@@ -128,12 +128,12 @@ inodes_6 = (refl, refl)
 abbrev inodes_7_world : World
 inodes_7_world =
     world 8 12
-        ((0, hex (codes "545344494e4f443101000000010000000300000042"))
-        ∷ (3, hex (codes "545344494e4f443102000000020200000400000005"))
-        ∷ (4, hex (codes "63") ++ replicate 511 0x4b)
-        ∷ (5, hex (codes "4b4b"))
-        ∷ [])
-        ((0, 3) ∷ (3, 4) ∷ (3, 5) ∷ [])
+    ((0, hex (codes "545344494e4f443101000000010000000300000042"))
+    ∷ (3, hex (codes "545344494e4f443102000000020200000400000005"))
+    ∷ (4, hex (codes "63") ++ replicate 511 0x4b)
+    ∷ (5, hex (codes "4b4b"))
+    ∷ [])
+    ((0, 3) ∷ (3, 4) ∷ (3, 5) ∷ [])
 
 pub inodes_7 :
     (tree_at Inode inodes_7_world 0 ≡ a_dir tt (file (codes "B") (hex (codes "63") ++ replicate 513 0x4b) none))
@@ -143,12 +143,12 @@ inodes_7 = (refl, refl)
 abbrev inodes_8_world : World
 inodes_8_world =
     world 8 12
-        ((0, hex (codes "545344494e4f443101000000010000000300000042"))
-        ∷ (3, hex (codes "545344494e4f443102000000020200000400000005"))
-        ∷ (4, hex (codes "634b4b4b4b4b4b4b00") ++ replicate 503 0x4b)
-        ∷ (5, hex (codes "4b4b"))
-        ∷ [])
-        ((0, 3) ∷ (3, 4) ∷ (3, 5) ∷ [])
+    ((0, hex (codes "545344494e4f443101000000010000000300000042"))
+    ∷ (3, hex (codes "545344494e4f443102000000020200000400000005"))
+    ∷ (4, hex (codes "634b4b4b4b4b4b4b00") ++ replicate 503 0x4b)
+    ∷ (5, hex (codes "4b4b"))
+    ∷ [])
+    ((0, 3) ∷ (3, 4) ∷ (3, 5) ∷ [])
 
 pub inodes_8 : tree_at Inode inodes_8_world 0 ≡ a_dir tt (file (codes "B") (hex (codes "634b4b4b4b4b4b4b00") ++ replicate 505 0x4b) none)
 inodes_8 = refl
@@ -156,13 +156,13 @@ inodes_8 = refl
 abbrev inodes_9_world : World
 inodes_9_world =
     world 8 32
-        ((0, hex (codes "545344494e4f443101000000010000000100000063"))
-        ∷ (1, hex (codes "545344494e4f44310200000006040000020000000300000004"))
-        ∷ (2, replicate 512 0x68)
-        ∷ (3, replicate 512 0x68)
-        ∷ (4, hex (codes "686868686868"))
-        ∷ [])
-        ((0, 1) ∷ (1, 2) ∷ (1, 3) ∷ (1, 4) ∷ [])
+    ((0, hex (codes "545344494e4f443101000000010000000100000063"))
+    ∷ (1, hex (codes "545344494e4f44310200000006040000020000000300000004"))
+    ∷ (2, replicate 512 0x68)
+    ∷ (3, replicate 512 0x68)
+    ∷ (4, hex (codes "686868686868"))
+    ∷ [])
+    ((0, 1) ∷ (1, 2) ∷ (1, 3) ∷ (1, 4) ∷ [])
 
 pub inodes_9 :
     (tree_at Inode inodes_9_world 0 ≡ a_dir tt (file (codes "c") (replicate 1030 0x68) none))
@@ -172,13 +172,13 @@ inodes_9 = (refl, refl)
 abbrev inodes_10_world : World
 inodes_10_world =
     world 8 12
-        ((0, hex (codes "545344494e4f443101000000010000000100000061"))
-        ∷ (1, hex (codes "545344494e4f44310200000006040000020000000300000004"))
-        ∷ (2, replicate 512 0xf7)
-        ∷ (3, replicate 512 0xf7)
-        ∷ (4, hex (codes "f7f7f7f7f7f7"))
-        ∷ [])
-        ((0, 1) ∷ (1, 2) ∷ (1, 3) ∷ (1, 4) ∷ [])
+    ((0, hex (codes "545344494e4f443101000000010000000100000061"))
+    ∷ (1, hex (codes "545344494e4f44310200000006040000020000000300000004"))
+    ∷ (2, replicate 512 0xf7)
+    ∷ (3, replicate 512 0xf7)
+    ∷ (4, hex (codes "f7f7f7f7f7f7"))
+    ∷ [])
+    ((0, 1) ∷ (1, 2) ∷ (1, 3) ∷ (1, 4) ∷ [])
 
 pub inodes_10 :
     (tree_at Inode inodes_10_world 0 ≡ a_dir tt (file (codes "a") (replicate 1030 0xf7) none))
@@ -190,13 +190,13 @@ inodes_10 = (refl, refl)
 abbrev chains_1_world : World
 chains_1_world =
     world 8 12
-        ((0, hex (codes "5453444348414e3100000000010000000200000063"))
-        ∷ (1, hex (codes "5453444348414e3104000000f0010000") ++ (replicate 495 0x88 ++ hex (codes "42")))
-        ∷ (2, hex (codes "5453444348414e3102000000f0010000") ++ (replicate 495 0x24 ++ hex (codes "88")))
-        ∷ (3, hex (codes "5453444348414e3105000000f0010000") ++ replicate 496 0x42)
-        ∷ (4, hex (codes "5453444348414e31000000000f000000") ++ replicate 15 0x42)
-        ∷ [])
-        ((0, 2) ∷ (1, 3) ∷ (2, 1) ∷ (3, 4) ∷ [])
+    ((0, hex (codes "5453444348414e3100000000010000000200000063"))
+    ∷ (1, hex (codes "5453444348414e3104000000f0010000") ++ (replicate 495 0x88 ++ hex (codes "42")))
+    ∷ (2, hex (codes "5453444348414e3102000000f0010000") ++ (replicate 495 0x24 ++ hex (codes "88")))
+    ∷ (3, hex (codes "5453444348414e3105000000f0010000") ++ replicate 496 0x42)
+    ∷ (4, hex (codes "5453444348414e31000000000f000000") ++ replicate 15 0x42)
+    ∷ [])
+    ((0, 2) ∷ (1, 3) ∷ (2, 1) ∷ (3, 4) ∷ [])
 
 pub chains_1 :
     (tree_at Chain chains_1_world 0 ≡ a_dir tt (file (codes "c") (replicate 495 0x24 ++ (replicate 496 0x88 ++ replicate 512 0x42)) none))
@@ -206,13 +206,13 @@ chains_1 = (refl, refl)
 abbrev chains_2_world : World
 chains_2_world =
     world 8 12
-        ((0, hex (codes "5453444348414e3100000000010000000200000063") ++ (replicate 27 0x00 ++ hex (codes "03")))
-        ∷ (1, hex (codes "5453444348414e3104000000f0010000") ++ (replicate 495 0x88 ++ hex (codes "42")))
-        ∷ (2, hex (codes "5453444348414e3102000000f0010000") ++ (replicate 495 0x24 ++ hex (codes "88")))
-        ∷ (3, hex (codes "5453444348414e3105000000f0010000") ++ replicate 496 0x42)
-        ∷ (4, hex (codes "5453444348414e31000000000f000000") ++ replicate 15 0x42)
-        ∷ [])
-        ((0, 2) ∷ (1, 3) ∷ (2, 1) ∷ (3, 4) ∷ [])
+    ((0, hex (codes "5453444348414e3100000000010000000200000063") ++ (replicate 27 0x00 ++ hex (codes "03")))
+    ∷ (1, hex (codes "5453444348414e3104000000f0010000") ++ (replicate 495 0x88 ++ hex (codes "42")))
+    ∷ (2, hex (codes "5453444348414e3102000000f0010000") ++ (replicate 495 0x24 ++ hex (codes "88")))
+    ∷ (3, hex (codes "5453444348414e3105000000f0010000") ++ replicate 496 0x42)
+    ∷ (4, hex (codes "5453444348414e31000000000f000000") ++ replicate 15 0x42)
+    ∷ [])
+    ((0, 2) ∷ (1, 3) ∷ (2, 1) ∷ (3, 4) ∷ [])
 
 pub chains_2 : tree_at Chain chains_2_world 0 ≡ a_dir tt (file (codes "c") (replicate 495 0x24 ++ (replicate 496 0x88 ++ replicate 512 0x42)) none)
 chains_2 = refl
@@ -220,11 +220,11 @@ chains_2 = refl
 abbrev chains_3_world : World
 chains_3_world =
     world 8 32
-        ((0, hex (codes "5453444348414e3100000000010000000100000042"))
-        ∷ (1, hex (codes "5453444348414e3103000000f0010000") ++ replicate 496 0x73)
-        ∷ (2, hex (codes "5453444348414e310000000011000000") ++ replicate 17 0x73)
-        ∷ [])
-        ((0, 1) ∷ (1, 2) ∷ [])
+    ((0, hex (codes "5453444348414e3100000000010000000100000042"))
+    ∷ (1, hex (codes "5453444348414e3103000000f0010000") ++ replicate 496 0x73)
+    ∷ (2, hex (codes "5453444348414e310000000011000000") ++ replicate 17 0x73)
+    ∷ [])
+    ((0, 1) ∷ (1, 2) ∷ [])
 
 pub chains_3 :
     (tree_at Chain chains_3_world 0 ≡ a_dir tt (file (codes "B") (replicate 513 0x73) none))
@@ -234,11 +234,11 @@ chains_3 = (refl, refl)
 abbrev chains_4_world : World
 chains_4_world =
     world 8 12
-        ((0, hex (codes "5453444348414e3100000000010000000100000061"))
-        ∷ (1, hex (codes "5453444348414e3103000000f0010000cccccc") ++ replicate 493 0x2c)
-        ∷ (2, hex (codes "5453444348414e3100000000020000002c2c"))
-        ∷ [])
-        ((0, 1) ∷ (1, 2) ∷ [])
+    ((0, hex (codes "5453444348414e3100000000010000000100000061"))
+    ∷ (1, hex (codes "5453444348414e3103000000f0010000cccccc") ++ replicate 493 0x2c)
+    ∷ (2, hex (codes "5453444348414e3100000000020000002c2c"))
+    ∷ [])
+    ((0, 1) ∷ (1, 2) ∷ [])
 
 pub chains_4 :
     (tree_at Chain chains_4_world 0 ≡ a_dir tt (file (codes "a") (hex (codes "cccccc") ++ replicate 495 0x2c) none))
@@ -248,12 +248,12 @@ chains_4 = (refl, refl)
 abbrev chains_5_world : World
 chains_5_world =
     world 8 7
-        ((0, hex (codes "5453444348414e3100000000010000000500000061"))
-        ∷ (5, hex (codes "5453444348414e3107000000f0010000") ++ replicate 496 0x6e)
-        ∷ (6, hex (codes "5453444348414e3108000000f0010000") ++ replicate 496 0x6e)
-        ∷ (7, hex (codes "5453444348414e310000000026000000") ++ replicate 38 0x6e)
-        ∷ [])
-        ((0, 5) ∷ (5, 6) ∷ (6, 7) ∷ [])
+    ((0, hex (codes "5453444348414e3100000000010000000500000061"))
+    ∷ (5, hex (codes "5453444348414e3107000000f0010000") ++ replicate 496 0x6e)
+    ∷ (6, hex (codes "5453444348414e3108000000f0010000") ++ replicate 496 0x6e)
+    ∷ (7, hex (codes "5453444348414e310000000026000000") ++ replicate 38 0x6e)
+    ∷ [])
+    ((0, 5) ∷ (5, 6) ∷ (6, 7) ∷ [])
 
 pub chains_5 :
     (tree_at Chain chains_5_world 0 ≡ a_dir tt (file (codes "a") (replicate 1030 0x6e) none))
@@ -263,12 +263,12 @@ chains_5 = (refl, refl)
 abbrev chains_6_world : World
 chains_6_world =
     world 8 7
-        ((0, hex (codes "5453444348414e3100000000010000000500000061"))
-        ∷ (5, hex (codes "5453444348414e3107000000f00100006e6e6e6e01") ++ replicate 491 0x6e)
-        ∷ (6, hex (codes "5453444348414e3108000000f0010000") ++ replicate 496 0x6e)
-        ∷ (7, hex (codes "5453444348414e310000000026000000") ++ replicate 38 0x6e)
-        ∷ [])
-        ((0, 5) ∷ (5, 6) ∷ (6, 7) ∷ [])
+    ((0, hex (codes "5453444348414e3100000000010000000500000061"))
+    ∷ (5, hex (codes "5453444348414e3107000000f00100006e6e6e6e01") ++ replicate 491 0x6e)
+    ∷ (6, hex (codes "5453444348414e3108000000f0010000") ++ replicate 496 0x6e)
+    ∷ (7, hex (codes "5453444348414e310000000026000000") ++ replicate 38 0x6e)
+    ∷ [])
+    ((0, 5) ∷ (5, 6) ∷ (6, 7) ∷ [])
 
 pub chains_6 : tree_at Chain chains_6_world 0 ≡ a_dir tt (file (codes "a") (hex (codes "6e6e6e6e01") ++ replicate 1025 0x6e) none)
 chains_6 = refl
@@ -276,12 +276,12 @@ chains_6 = refl
 abbrev chains_7_world : World
 chains_7_world =
     world 8 32
-        ((0, hex (codes "5453444348414e3100000000010000000100000063"))
-        ∷ (1, hex (codes "5453444348414e3103000000f0010000f0f0f0") ++ replicate 493 0x8a)
-        ∷ (2, hex (codes "5453444348414e3104000000f0010000") ++ replicate 496 0x8a)
-        ∷ (3, hex (codes "5453444348414e310000000029000000") ++ replicate 41 0x8a)
-        ∷ [])
-        ((0, 1) ∷ (1, 2) ∷ (2, 3) ∷ [])
+    ((0, hex (codes "5453444348414e3100000000010000000100000063"))
+    ∷ (1, hex (codes "5453444348414e3103000000f0010000f0f0f0") ++ replicate 493 0x8a)
+    ∷ (2, hex (codes "5453444348414e3104000000f0010000") ++ replicate 496 0x8a)
+    ∷ (3, hex (codes "5453444348414e310000000029000000") ++ replicate 41 0x8a)
+    ∷ [])
+    ((0, 1) ∷ (1, 2) ∷ (2, 3) ∷ [])
 
 pub chains_7 :
     (tree_at Chain chains_7_world 0 ≡ a_dir tt (file (codes "c") (hex (codes "f0f0f0") ++ replicate 1030 0x8a) none))
@@ -291,12 +291,12 @@ chains_7 = (refl, refl)
 abbrev chains_8_world : World
 chains_8_world =
     world 8 32
-        ((0, hex (codes "5453444348414e3100000000010000000100000063"))
-        ∷ (1, hex (codes "5453444348414e3103000000f0010000f0f0f0") ++ replicate 493 0x8a)
-        ∷ (2, hex (codes "5453444348414e3104000000f0010000") ++ replicate 496 0x8a)
-        ∷ (3, hex (codes "5453444348414e310000000029000000") ++ replicate 41 0x8a)
-        ∷ [])
-        ((0, 1) ∷ (1, 2) ∷ (2, 3) ∷ [])
+    ((0, hex (codes "5453444348414e3100000000010000000100000063"))
+    ∷ (1, hex (codes "5453444348414e3103000000f0010000f0f0f0") ++ replicate 493 0x8a)
+    ∷ (2, hex (codes "5453444348414e3104000000f0010000") ++ replicate 496 0x8a)
+    ∷ (3, hex (codes "5453444348414e310000000029000000") ++ replicate 41 0x8a)
+    ∷ [])
+    ((0, 1) ∷ (1, 2) ∷ (2, 3) ∷ [])
 
 pub chains_8 : tree_at Chain chains_8_world 0 ≡ a_dir tt (file (codes "c") (hex (codes "f0f0f0") ++ replicate 1030 0x8a) none)
 chains_8 = refl
@@ -304,11 +304,11 @@ chains_8 = refl
 abbrev chains_9_world : World
 chains_9_world =
     world 12 7
-        ((0, hex (codes "5453444348414e3100000000010000000100000063"))
-        ∷ (1, hex (codes "5453444348414e3103000000f0010000") ++ replicate 496 0x92)
-        ∷ (2, hex (codes "5453444348414e310000000014000000") ++ (replicate 17 0x92 ++ hex (codes "f3f3f3")))
-        ∷ [])
-        ((0, 1) ∷ (1, 2) ∷ [])
+    ((0, hex (codes "5453444348414e3100000000010000000100000063"))
+    ∷ (1, hex (codes "5453444348414e3103000000f0010000") ++ replicate 496 0x92)
+    ∷ (2, hex (codes "5453444348414e310000000014000000") ++ (replicate 17 0x92 ++ hex (codes "f3f3f3")))
+    ∷ [])
+    ((0, 1) ∷ (1, 2) ∷ [])
 
 pub chains_9 :
     (tree_at Chain chains_9_world 0 ≡ a_dir tt (file (codes "c") (replicate 513 0x92 ++ hex (codes "f3f3f3")) none))
@@ -318,13 +318,13 @@ chains_9 = (refl, refl)
 abbrev chains_10_world : World
 chains_10_world =
     world 8 7
-        ((0, hex (codes "5453444348414e3100000000020000000100000061") ++ (replicate 27 0x00 ++ hex (codes "0200000042")))
-        ∷ (1, hex (codes "5453444348414e3100000000ef010000") ++ replicate 495 0x2e)
-        ∷ (2, hex (codes "5453444348414e3104000000f0010000") ++ replicate 496 0xae)
-        ∷ (3, hex (codes "5453444348414e3105000000f0010000") ++ (replicate 17 0xae ++ replicate 479 0x11))
-        ∷ (4, hex (codes "5453444348414e310000000010000000") ++ replicate 16 0x11)
-        ∷ [])
-        ((0, 1) ∷ (0, 2) ∷ (2, 3) ∷ (3, 4) ∷ [])
+    ((0, hex (codes "5453444348414e3100000000020000000100000061") ++ (replicate 27 0x00 ++ hex (codes "0200000042")))
+    ∷ (1, hex (codes "5453444348414e3100000000ef010000") ++ replicate 495 0x2e)
+    ∷ (2, hex (codes "5453444348414e3104000000f0010000") ++ replicate 496 0xae)
+    ∷ (3, hex (codes "5453444348414e3105000000f0010000") ++ (replicate 17 0xae ++ replicate 479 0x11))
+    ∷ (4, hex (codes "5453444348414e310000000010000000") ++ replicate 16 0x11)
+    ∷ [])
+    ((0, 1) ∷ (0, 2) ∷ (2, 3) ∷ (3, 4) ∷ [])
 
 pub chains_10 :
     (tree_at Chain chains_10_world 0 ≡ a_dir tt (file (codes "B") (replicate 513 0xae ++ replicate 495 0x11) (file (codes "a") (replicate 495 0x2e) none)))
@@ -334,11 +334,11 @@ chains_10 = (refl, refl)
 abbrev chains_11_world : World
 chains_11_world =
     world 8 7
-        ((0, hex (codes "5453444348414e3100000000010000000100000061"))
-        ∷ (1, hex (codes "5453444348414e3103000000f0010000") ++ replicate 496 0x67)
-        ∷ (2, hex (codes "5453444348414e31000000000100000067"))
-        ∷ [])
-        ((0, 1) ∷ (1, 2) ∷ [])
+    ((0, hex (codes "5453444348414e3100000000010000000100000061"))
+    ∷ (1, hex (codes "5453444348414e3103000000f0010000") ++ replicate 496 0x67)
+    ∷ (2, hex (codes "5453444348414e31000000000100000067"))
+    ∷ [])
+    ((0, 1) ∷ (1, 2) ∷ [])
 
 pub chains_11 :
     (tree_at Chain chains_11_world 0 ≡ a_dir tt (file (codes "a") (replicate 497 0x67) none))
@@ -348,11 +348,11 @@ chains_11 = (refl, refl)
 abbrev chains_12_world : World
 chains_12_world =
     world 8 12
-        ((0, hex (codes "5453444348414e3100000000010000000100000042"))
-        ∷ (1, hex (codes "5453444348414e3104000000f0010000") ++ replicate 496 0x91)
-        ∷ (3, hex (codes "5453444348414e31000000000100000091"))
-        ∷ [])
-        ((0, 1) ∷ (1, 3) ∷ [])
+    ((0, hex (codes "5453444348414e3100000000010000000100000042"))
+    ∷ (1, hex (codes "5453444348414e3104000000f0010000") ++ replicate 496 0x91)
+    ∷ (3, hex (codes "5453444348414e31000000000100000091"))
+    ∷ [])
+    ((0, 1) ∷ (1, 3) ∷ [])
 
 pub chains_12 :
     (tree_at Chain chains_12_world 0 ≡ a_dir tt (file (codes "B") (replicate 497 0x91) none))
