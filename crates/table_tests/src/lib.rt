@@ -11,6 +11,4 @@ mod caps;
 #[cfg(test)]
 mod counts;
 #[cfg(test)]
-mod long_lists;
-#[cfg(test)]
 mod pointers;
