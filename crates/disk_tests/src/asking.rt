@@ -47,6 +47,16 @@ pub fn chain(alloc: Global, blocks: u32) -> Result<String, AllocError> {
     Ok(text)
 }
 
+/// What is answered to that.
+pub fn chain_replies(alloc: Global, blocks: u32) -> Result<String, AllocError> {
+    let mut text = String::from_str(alloc, "ok/blocks 1")?;
+    for block in 1..blocks {
+        let line = format!(in alloc; "/blocks {}", block.saturating_add(1))?;
+        text.push_str(line.as_str())?;
+    }
+    Ok(text)
+}
+
 /// The requests that the lines of a text spell.
 fn requests(alloc: Global, text: &str) -> Result<Vec<Request>, AllocError> {
     let bytes = spelled(alloc, text)?;

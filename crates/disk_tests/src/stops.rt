@@ -1,15 +1,13 @@
 //! Requests and what is done between them, stopped at each call. The image that is left is opened, and shows the disk before or
 //! after.
 
-ghost use Rattle.std.specs.Prelude.{◌≡◌, OnOk, IfOk};
+ghost use Rattle.std.specs.Prelude.{IfOk};
 ghost use Rattle.tsd_core.specs.Core.{IsReady, IsAt};
-ghost use Rattle.tsd_model.specs.Rank.{rank_of};
-ghost use Rattle.tsd_model.specs.declared.requests.PlaceKind.TheVariants.{Near};
 
 use crate::asking::{ask_all, chain, spelled, spelled_lines};
-use crate::disks::{formatted, opened};
+use crate::disks::{EIGHT, MANY, TIGHT, formatted, opened, placement, upgrade};
 use image_device::{Device, Failed, FuseStation, MemStation, Pick};
-use place_policy::{Placement, near_rank};
+use place_policy::Placement;
 use script_text::parse_line;
 use std::alloc::Global;
 use std::process::Abort;
@@ -18,7 +16,7 @@ use tsd_core::Core;
 use tsd_model::{Geometry, PlaceKind};
 
 /// What a stop leaves in the sectors that are loose.
-const PICKS: [Pick; 5] = [
+pub const PICKS: [Pick; 5] = [
     Pick::Old,
     Pick::New,
     Pick::Torn(0),
@@ -37,6 +35,9 @@ enum Stopped<'a> {
 
     /// The end of a run.
     Close,
+
+    /// An opening, and the upgrade to version 2.
+    Upgrade,
 }
 
 /// A disk after some requests, what is stopped then, and what the image shows that is left.
@@ -50,32 +51,8 @@ struct Case<'a> {
     new: &'a str,
 }
 
-/// Eight blocks.
-const EIGHT: Geometry = Geometry {
-    sectors: 1,
-    blocks: 8,
-    primaries: 1,
-    slots: 32,
-};
-
-/// Eight blocks, with room for five pointers.
-const TIGHT: Geometry = Geometry {
-    sectors: 1,
-    blocks: 8,
-    primaries: 1,
-    slots: 5,
-};
-
-/// Sixty-four blocks.
-const MANY: Geometry = Geometry {
-    sectors: 1,
-    blocks: 64,
-    primaries: 1,
-    slots: 256,
-};
-
-/// Requests over eight blocks.
-const REQUESTS: [Case<'static>; 8] = [
+/// What is stopped at each call with each pick.
+const CASES: [Case<'static>; 11] = [
     Case {
         size: EIGHT,
         before: "open 1/alloc 1 0 W - 1/write 1 1 - 6869",
@@ -142,10 +119,7 @@ const REQUESTS: [Case<'static>; 8] = [
         old: "ok/data -/data -/list -/free 5",
         new: "ok/data -/data -/list 2/free 5",
     },
-];
-
-/// A block with 32 pointers is deleted, and reclaimed.
-const WIDE: [Case<'static>; 3] = [
+    // A block with 32 pointers is deleted, and reclaimed.
     Case {
         size: MANY,
         before: "open 1/alloc 1 0 W - 1/alloc 1 1 - - 32",
@@ -171,6 +145,16 @@ const WIDE: [Case<'static>; 3] = [
         new: "ok/data -/data -",
     },
 ];
+
+/// Both versions answer alike.
+const UPGRADE: Case<'static> = Case {
+    size: EIGHT,
+    before: "open 1/alloc 1 0 W - 1/write 1 1 - 6869",
+    then: Stopped::Upgrade,
+    check: "open 1/write 1 0 R 6869/write 1 0 W 6869/setcap 1 0 W C D/read 1 0 R/read 1 0 C/read 1 1 -",
+    old: "ok/no denied read write/ok/ok/no denied none read/data 6869/data 6869",
+    new: "ok/no denied read write/ok/ok/no denied none read/data 6869/data 6869",
+};
 
 /// Opens the disk, and asks what comes before.
 fn begin<D: Device>(
@@ -207,6 +191,7 @@ fn carry_out<D: Device>(
             core.settle_some(dev)?;
         }
         Stopped::Close => core.close(dev)?,
+        Stopped::Upgrade => upgrade(alloc, dev).map_err(|_| Failed)?,
     }
     Ok(())
 }
@@ -282,7 +267,7 @@ fn try_call(
     Ok(())
 }
 
-/// Stops at each call, with all that may be left in the sectors that are loose.
+/// Stops at each call, with each pick.
 fn try_all(rt: &impl Abort, alloc: Global, place: &Placement, case: &Case) -> Result<(), Fail> {
     let ends = calls(alloc, place, case)?;
     assert!(rt; ends.0 < ends.1);
@@ -294,7 +279,7 @@ fn try_all(rt: &impl Abort, alloc: Global, place: &Placement, case: &Case) -> Re
     Ok(())
 }
 
-/// Stops at each call, with what may be left by turns.
+/// Stops at each call, with the picks by turns.
 fn try_turns(rt: &impl Abort, alloc: Global, place: &Placement, case: &Case) -> Result<(), Fail> {
     let ends = calls(alloc, place, case)?;
     assert!(rt; ends.0 < ends.1);
@@ -306,36 +291,28 @@ fn try_turns(rt: &impl Abort, alloc: Global, place: &Placement, case: &Case) -> 
 }
 
 #[test]
-fn requests(rt: HostRuntime) -> Result<(), Fail> {
+fn each_call_with_each_pick(rt: HostRuntime) -> Result<(), Fail> {
     let alloc = rt.alloc();
-    let near = Box::new(
-        alloc,
-        |hint: u32, block: u32| -> u64
-            ensures { result ≡ rank_of Near hint block }
-        { near_rank(hint, block) },
-    )?;
-    let place = Placement::new(PlaceKind::Near, near);
-    for case in &REQUESTS {
-        try_all(&rt, alloc, &place, case)?;
-    }
-    for case in &WIDE {
+    let place = placement(alloc, PlaceKind::Near)?;
+    for case in &CASES {
         try_all(&rt, alloc, &place, case)?;
     }
     Ok(())
 }
 
-/// Twelve blocks are lost and none of them is reclaimed yet, when new blocks are wanted.
+#[test]
+fn an_upgrade(rt: HostRuntime) -> Result<(), Fail> {
+    let alloc = rt.alloc();
+    let place = placement(alloc, PlaceKind::Near)?;
+    try_turns(&rt, alloc, &place, &UPGRADE)
+}
+
+/// Forty blocks are lost and none of them is reclaimed yet, when new blocks are wanted.
 #[test]
 fn new_blocks_after_a_long_chain(rt: HostRuntime) -> Result<(), Fail> {
     let alloc = rt.alloc();
-    let near = Box::new(
-        alloc,
-        |hint: u32, block: u32| -> u64
-            ensures { result ≡ rank_of Near hint block }
-        { near_rank(hint, block) },
-    )?;
-    let place = Placement::new(PlaceKind::Near, near);
-    let mut before = chain(alloc, 12)?;
+    let place = placement(alloc, PlaceKind::Near)?;
+    let mut before = chain(alloc, 40)?;
     before.push_str("/delete 1 0 W 1")?;
     let case = Case {
         size: MANY,
