@@ -30,6 +30,9 @@ struct Plain {
     /// How many requests were granted.
     granted: u32,
 
+    /// How many runs were stopped.
+    stops: u32,
+
     /// What is drawn next.
     seed: u32,
 }
@@ -50,6 +53,7 @@ impl Plain {
             sessions: Sessions::none(alloc),
             before: None,
             granted: 0,
+            stops: 0,
             seed,
         })
     }
@@ -84,6 +88,13 @@ fn image_formatted(alloc: Global, size: &Geometry, upgrades: bool) -> Result<Mem
         upgrade(alloc, &mut station)?;
     }
     Ok(station)
+}
+
+/// How many sessions a run begins, and for how many random things it asks.
+#[derive(Clone, Copy)]
+struct Length {
+    sessions: u32,
+    turns: u32,
 }
 
 /// Asks both, and compares the replies. False where the device failed.
@@ -134,22 +145,25 @@ fn turn<D: Device>(
     Ok(is_done)
 }
 
-/// Begins all sessions. False where the device failed.
-fn begin_all<D: Device>(
+/// Begins so many sessions. False where the device failed.
+fn begin<D: Device>(
     rt: &impl Abort,
     alloc: Global,
     core: &mut Core,
     dev: &mut D,
     place: &Placement,
     plain: &mut Plain,
+    count: u32,
 ) -> Result<bool, Fail>
     requires ready { IsReady core.old }
     requires at { D.told → IsAt core.old (D.view dev.old) }
     ensures ready { IfOk result (λ done. done ≡ true → IsReady core.new) }
     ensures at { D.told → IfOk result (λ done. done ≡ true → IsAt core.new (D.view dev.new)) }
 {
-    for session in 1..65 {
-        let request = Request::Begin { session };
+    for before in 0..count {
+        let request = Request::Begin {
+            session: before.saturating_add(1),
+        };
         if !ask_both(rt, alloc, core, dev, place, plain, &request)? {
             return Ok(false);
         }
@@ -180,15 +194,14 @@ fn turns<D: Device>(
     Ok(true)
 }
 
-/// Opens the disk, begins all sessions, asks both for so many random things, and may close the disk. False where the device
-/// failed.
+/// Opens the disk, begins sessions, asks both for random things, and may close the disk. False where the device failed.
 fn run<D: Device>(
     rt: &impl Abort,
     alloc: Global,
     dev: &mut D,
     place: &Placement,
     plain: &mut Plain,
-    count: u32,
+    length: Length,
 ) -> Result<bool, Fail> {
     plain.sessions = Sessions::none(alloc);
     let mut core = match opened(alloc, dev) {
@@ -196,10 +209,10 @@ fn run<D: Device>(
         Err(OpenFault::Device) => return Ok(false),
         Err(fault) => return Err(Fail::from(fault)),
     };
-    if !begin_all(rt, alloc, &mut core, dev, place, plain)? {
+    if !begin(rt, alloc, &mut core, dev, place, plain, length.sessions)? {
         return Ok(false);
     }
-    if !turns(rt, alloc, &mut core, dev, place, plain, count)? {
+    if !turns(rt, alloc, &mut core, dev, place, plain, length.turns)? {
         return Ok(false);
     }
     if draw(&mut plain.seed, 2) == 0 {
@@ -207,6 +220,18 @@ fn run<D: Device>(
     }
     Ok(true)
 }
+
+/// A run with all sessions.
+const LONG: Length = Length {
+    sessions: 64,
+    turns: 200,
+};
+
+/// A run that may be stopped.
+const SHORT: Length = Length {
+    sessions: 8,
+    turns: 60,
+};
 
 /// Runs over one image, each opened again after the one before.
 fn try_runs(
@@ -220,7 +245,7 @@ fn try_runs(
     let mut station = image_formatted(alloc, size, upgrades)?;
     let mut plain = Plain::formatted(alloc, size, upgrades, seed)?;
     for round in 0..4 {
-        assert!(rt; run(rt, alloc, &mut station, place, &mut plain, 200)?);
+        assert!(rt; run(rt, alloc, &mut station, place, &mut plain, LONG)?);
         assert!(rt;
             opens_as(alloc, &mut station, &plain.world)?,
             "after {round}"
@@ -242,7 +267,9 @@ fn stop(
     let pick = PICKS[draw(&mut plain.seed, 5) as usize];
     let passes = u64::from(draw(&mut plain.seed, 300));
     let mut fuse = FuseStation::new(image, passes, pick);
-    run(rt, alloc, &mut fuse, place, plain, 60)?;
+    if !run(rt, alloc, &mut fuse, place, plain, SHORT)? {
+        plain.stops = plain.stops.saturating_add(1);
+    }
     let mut image = fuse.into_image();
     if opens_as(alloc, &mut image, &plain.world)? {
         plain.before = None;
@@ -269,6 +296,7 @@ fn try_stops(
         image = stop(rt, alloc, place, &mut plain, image)?;
     }
     assert!(rt; plain.granted > 400);
+    assert!(rt; plain.stops > 12);
     Ok(())
 }
 

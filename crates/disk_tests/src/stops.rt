@@ -307,12 +307,12 @@ fn an_upgrade(rt: HostRuntime) -> Result<(), Fail> {
     try_turns(&rt, alloc, &place, &UPGRADE)
 }
 
-/// Forty blocks are lost and none of them is reclaimed yet, when new blocks are wanted.
+/// Twenty blocks are lost and none of them is reclaimed yet, when new blocks are wanted.
 #[test]
 fn new_blocks_after_a_long_chain(rt: HostRuntime) -> Result<(), Fail> {
     let alloc = rt.alloc();
     let place = placement(alloc, PlaceKind::Near)?;
-    let mut before = chain(alloc, 40)?;
+    let mut before = chain(alloc, 20)?;
     before.push_str("/delete 1 0 W 1")?;
     let case = Case {
         size: MANY,
