@@ -20,6 +20,8 @@ pub struct Marks {
     marked: BitArray,
     /// While blocks are being marked, the marked ones whose targets are still to be marked.
     waiting: Work,
+    /// The block where the search for a step begins: a guess, so a wrong one costs time alone.
+    place: u32,
 }
 
 impl Model for Marks {
@@ -40,6 +42,7 @@ impl Marks {
         Ok(Marks {
             marked: BitArray::new(alloc, blocks)?,
             waiting: Work::new(alloc, blocks)?,
+            place: 0,
         })
     }
 
@@ -48,6 +51,18 @@ impl Marks {
         ensures { result ≡ is_marked self.now block }
     {
         self.marked.get(block)
+    }
+
+    /// The block where the last step was, or 0.
+    pub(crate) fn place(&self) -> u32 {
+        self.place
+    }
+
+    /// Remembers the block of a step.
+    pub(crate) fn set_place(&mut self, block: u32)
+        ensures { self.new ≡ self.old }
+    {
+        self.place = block;
     }
 }
 

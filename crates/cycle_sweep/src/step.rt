@@ -1,6 +1,6 @@
 //! The next step of a sweep.
 
-ghost use Rattle.std.specs.Prelude.{◌≡◌, ℕ, ◌<◌, ◌&&◌, nat_le, not, false, [], length, IfSome, IsNone, IsTrue, ◌↔◌};
+ghost use Rattle.std.specs.Prelude.{◌≡◌, ℕ, ◌<◌, ◌≤◌, ◌&&◌, nat_le, not, false, [], length, IfSome, IsNone, IsTrue, ◌↔◌};
 ghost use Rattle.tsd_model.specs.Reach.{reach, swept};
 ghost use Rattle.tsd_model.specs.World.{World, is_live, has_number};
 ghost use Rattle.block_alloc.specs.LiveMap.{is_live as is_live_in};
@@ -16,12 +16,41 @@ use reclaim::{STEP_TARGETS, first_targets};
 use ref_counts::RefCounts;
 use tsd_model::BlockList;
 
-/// The next step of a sweep, at the first live block that isn't marked and where one may be taken: its first 16 targets, or
-/// all where it has no more. The block is freed exactly where pairs lead neither from it nor to it then. None exactly
-/// where each live block is marked.
+/// The next step of a sweep, at a live block that isn't marked and where one may be taken: its first 16 targets, or all
+/// where it has no more. The block is freed exactly where pairs lead neither from it nor to it then. None exactly where
+/// each live block is marked.
 ///
-/// Carrying the step out means to take away the pairs from the block to these targets and, if it is freed, the block.
+/// Carrying the step out means to take away the pairs from the block to these targets and, if it is freed, the block. The
+/// search goes round all blocks, and begins where the last step was.
 pub fn next_sweep_step(
+    pointers: &PointerTable,
+    counts: &RefCounts,
+    live: &LiveMap,
+    marks: &mut Marks,
+) -> Option<OutStep>
+    requires tables { AreTables pointers.now live.now }
+    requires counts { HaveCounts pointers.now live.now counts.now }
+    requires marks { (b : ℕ) → is_marked marks.old b ≡ has_number (reach (graph_of pointers.now live.now)) b }
+    ensures step { IfSome result (λ s. MaySweep (graph_of pointers.now live.now) s) }
+    ensures freed { IfSome result (λ s. IsTrue s.freed ↔ IsAloneAfter (graph_of pointers.now live.now) s) }
+
+    // What a disk with this graph sweeps to is the same after the step, and there is less of it.
+    ensures kept { IfSome result (λ s. AreSweptBy (graph_of pointers.now live.now) s) }
+    ensures none { IsNone result ↔ ((b : ℕ) → IsTrue (is_live (graph_of pointers.now live.now) b) → IsTrue (is_marked marks.old b)) }
+
+    // A disk with this graph is swept then.
+    ensures swept { IsNone result → (r : World) → HasGraphOf (graph_of pointers.now live.now) r → swept r ≡ r }
+    ensures marks { marks.new ≡ marks.old }
+{
+    let step = step_around(pointers, counts, live, marks);
+    if let Some(found) = &step {
+        marks.set_place(found.block);
+    }
+    step
+}
+
+/// The step at a live block that isn't marked and where one may be taken. The search goes round all blocks.
+fn step_around(
     pointers: &PointerTable,
     counts: &RefCounts,
     live: &LiveMap,
@@ -32,16 +61,35 @@ pub fn next_sweep_step(
     requires marks { (b : ℕ) → is_marked marks.now b ≡ has_number (reach (graph_of pointers.now live.now)) b }
     ensures step { IfSome result (λ s. MaySweep (graph_of pointers.now live.now) s) }
     ensures freed { IfSome result (λ s. IsTrue s.freed ↔ IsAloneAfter (graph_of pointers.now live.now) s) }
-
-    // What a disk with this graph sweeps to is the same after the step, and there is less of it.
-    ensures kept { IfSome result (λ s. AreSweptBy (graph_of pointers.now live.now) s) }
-    ensures none { IsNone result ↔ ((b : ℕ) → IsTrue (is_live (graph_of pointers.now live.now) b) → IsTrue (is_marked marks.now b)) }
-
-    // A disk with this graph is swept then.
-    ensures swept { IsNone result → (r : World) → HasGraphOf (graph_of pointers.now live.now) r → swept r ≡ r }
+    ensures stuck { IsNone result → (b : ℕ) → IsTrue (is_live (graph_of pointers.now live.now) b) → is_marked marks.now b ≡ false → IsStuck (graph_of pointers.now live.now) b }
 {
     let blocks = live.geometry().blocks;
-    for block in 0..blocks {
+    let place = marks.place().min(blocks);
+    let step = step_within(pointers, counts, live, marks, place, blocks);
+    if step.is_some() {
+        return step;
+    }
+    step_within(pointers, counts, live, marks, 0, place)
+}
+
+/// The step at the first live block from `start` on and below `end` that isn't marked and where one may be taken.
+fn step_within(
+    pointers: &PointerTable,
+    counts: &RefCounts,
+    live: &LiveMap,
+    marks: &Marks,
+    start: u32,
+    end: u32,
+) -> Option<OutStep>
+    requires tables { AreTables pointers.now live.now }
+    requires counts { HaveCounts pointers.now live.now counts.now }
+    requires marks { (b : ℕ) → is_marked marks.now b ≡ has_number (reach (graph_of pointers.now live.now)) b }
+    requires end { end ≤ pointers.now.geometry.blocks }
+    ensures step { IfSome result (λ s. MaySweep (graph_of pointers.now live.now) s) }
+    ensures freed { IfSome result (λ s. IsTrue s.freed ↔ IsAloneAfter (graph_of pointers.now live.now) s) }
+    ensures stuck { IsNone result → (b : ℕ) → start ≤ b → b < end → IsTrue (is_live (graph_of pointers.now live.now) b) → is_marked marks.now b ≡ false → IsStuck (graph_of pointers.now live.now) b }
+{
+    for block in start..end {
         if is_unmarked(live, marks, block) {
             let step = step_at(pointers, counts, live, block);
             if step.is_some() {

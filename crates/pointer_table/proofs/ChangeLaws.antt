@@ -1,9 +1,8 @@
--- A slot that is filled or emptied: what is still known of the slots, the array of empty ones and the index.
-use Rattle.std.proofs.Common.{◌≡◌, ℕ, ◌+◌, ◌-◌, ◌*◌, ◌/◌, ◌<◌, ◌≤◌, Bool, true, false, List, length, get_or, set, refl, sym, ◌∙◌, ap, subst, arith, inl, inr}
+-- A slot that is filled or emptied: what is still known of the slots, the list of empty ones and the index.
+use Rattle.std.proofs.Common.{◌≡◌, ℕ, ◌+◌, ◌/◌, ◌<◌, ◌≤◌, false, List, length, get_or, set, sym, ◌∙◌, ap, subst, arith}
 use Rattle.std.proofs.Common.{Option, Some, None}
 use Rattle.std.specs.Prelude.{is_some}
-use Rattle.std.proofs.lemmas.Bool.{cases_eq, both_ways}
-use Rattle.std.proofs.lemmas.List.{length-set, get_or-set_same, get_or-set_other, get_or_default}
+use Rattle.std.proofs.lemmas.Bool.{both_ways}
 use Rattle.tsd_model.specs.declared.geometry.Geometry.{Geometry}
 use Rattle.image_device.specs.Image.{Image, put_at}
 use Rattle.image_layout.specs.declared.place.Patch.{Patch}
@@ -13,17 +12,18 @@ use Rattle.pointer_table.proofs.SectorLaws.{stored_kept}
 use Rattle.tsd_model.specs.Geometry.{IsLawful}
 use Rattle.tsd_model.specs.Pairs.{holds}
 use Rattle.pointer_table.specs.Indexed.{IsIndex, HasRoom, IsPlaceOf}
-use Rattle.pointer_table.specs.Order.{AreEmpties, AreSmall}
+use Rattle.pointer_table.specs.Empties.{AreEmpties}
+use Rattle.pointer_table.specs.Order.{AreSmall}
 use Rattle.pointer_table.specs.Raw.{slot_in, slots_in}
 use Rattle.pointer_table.specs.Reading.{AreWithinTo}
 use Rattle.pointer_table.specs.Slots.{slot_at, pairs_in}
 use Rattle.pointer_table.specs.Table.{Table, pairs, IsWithin, IsTable}
-use Rattle.pointer_table.specs.Threads.{no_link, IsWith}
+use Rattle.pointer_table.specs.Threads.{IsWith}
 use Rattle.pointer_table.specs.declared.index.Index.{Index}
 use Rattle.pointer_table.specs.declared.raw.RawSlot.{RawSlot}
-use Rattle.pointer_table.proofs.IndexLaws.{room_here}
-use Rattle.pointer_table.proofs.RawLaws.{length-slots_in, slots_in-set}
-use Rattle.pointer_table.proofs.SlotLaws.{some_inside, holds_from_slot, set_same, set_other, length-pairs_in_le}
+use Rattle.pointer_table.proofs.EmptyLaws.{first_empty, empties_taken, empties_given}
+use Rattle.pointer_table.proofs.RawLaws.{slots_in-set}
+use Rattle.pointer_table.proofs.SlotLaws.{some_inside, holds_from_slot, set_same, set_other}
 use Rattle.pointer_table.proofs.TableLaws.{with_slot, set_in, fits, added, removed, held_added, held_removed}
 
 -- ---- one slot
@@ -42,97 +42,48 @@ slot_emptied slots place e held = record {
   others = λ k off. sym (set_other slots place k None off);
 }
 
-not_some : (slot : Option (ℕ × ℕ)) (e : ℕ × ℕ) → slot ≡ None → slot ≡ Some e → ⊥
-not_some slot e none some = cc
-
--- ---- the array of empty slots
-
-pub empties_filled : (slots : List (Option (ℕ × ℕ))) (held : ℕ) (places : List ℕ) (e : ℕ × ℕ) → AreEmpties slots held places → held < length places
-    → AreEmpties (set slots (get_or places held 0) (Some e)) (held + 1) places
-empties_filled slots held places e empties room = record {
-  count = empties.count ∙ sym (length-set slots (get_or places held 0) (Some e));
-  inside = λ i low within. let old = empties.inside i (omega arith) within in let all = length-set slots (get_or places held 0) (Some e) in omega arith;
-  empty = λ i low within. set_other slots (get_or places held 0) (get_or places i 0) (Some e)
-      (λ same. let one = empties.apart i held (omega arith) within (omega arith) room same in omega arith) ∙ empties.empty i (omega arith) within;
-  apart = λ i j low u high v same. empties.apart i j (omega arith) u (omega arith) v same;
-}
-
-pub empties_emptied : (slots : List (Option (ℕ × ℕ))) (held left : ℕ) (places : List ℕ) (place : ℕ) (e : ℕ × ℕ) → AreEmpties slots held places → held ≡ left + 1 → held ≤ length places
-    → slot_at slots place ≡ Some e → AreEmpties (set slots place None) left (set places left place)
-empties_emptied slots held left places place e empties one_more room here = record {
-  count = length-set places left place ∙ (empties.count ∙ sym (length-set slots place None));
-  inside = λ i low within. let all = length-set slots place None in let long = length-set places left place in elim (cases_eq i left) [
-    | inl same ↦ (let at = at_left i same in let inside = some_inside slots place e here in omega arith)
-    | inr off ↦ (let at = past i off in let old = empties.inside i (omega arith) (omega arith) in omega arith)
-  ];
-  empty = λ i low within. let long = length-set places left place in elim (cases_eq i left) [
-    | inl same ↦ ap (slot_at (set slots place None)) (at_left i same) ∙ set_same slots place None (some_inside slots place e here)
-    | inr off ↦
-        (let old = empties.empty i (omega arith) (omega arith) in
-        ap (slot_at (set slots place None)) (past i off) ∙ (set_other slots place (get_or places i 0) None
-        (λ same. not_some (slot_at slots place) e (ap (slot_at slots) (sym same) ∙ old) here) ∙ old))
-  ];
-  apart = λ i j low u high v same. let long = length-set places left place in elim (cases_eq i left) [
-    | inl i_same ↦ elim (cases_eq j left) [
-      | inl j_same ↦ i_same ∙ sym j_same
-      | inr j_off ↦ absurd (not_some (slot_at slots place) e
-          (ap (slot_at slots) (sym (at_left i i_same) ∙ (same ∙ past j j_off)) ∙ empties.empty j (omega arith) (omega arith)) here)
-    ]
-    | inr i_off ↦ elim (cases_eq j left) [
-      | inl j_same ↦ absurd (not_some (slot_at slots place) e
-          (ap (slot_at slots) (sym (at_left j j_same) ∙ (sym same ∙ past i i_off)) ∙ empties.empty i (omega arith) (omega arith)) here)
-      | inr j_off ↦ empties.apart i j (omega arith) (omega arith) (omega arith) (omega arith) (sym (past i i_off) ∙ (same ∙ past j j_off))
-    ]
-  ];
-}
-  where
-    at_left : (i : ℕ) → i ≡ left → get_or (set places left place) i 0 ≡ place
-    at_left i same = ap (λ k. get_or (set places left place) k 0) same ∙ get_or-set_same places left place 0 (omega arith)
-
-    past : (i : ℕ) → (i ≡ left → ⊥) → get_or (set places left place) i 0 ≡ get_or places i 0
-    past i off = get_or-set_other places left i place 0 off
-
 -- ---- what a table in memory keeps
 
-abbrev pub Kept : Geometry → List RawSlot → ℕ → List ℕ → Index → Type 0
-Kept g items held empties x =
+abbrev pub Kept : Geometry → List RawSlot → ℕ → Index → Type 0
+Kept g items held x =
     IsTable (record { geometry = g; slots = slots_in items })
     × (held ≡ length (pairs (record { geometry = g; slots = slots_in items })))
-    × AreEmpties (slots_in items) held empties
+    × AreEmpties (slots_in items) held x.empty x.by_bucket.next.items
     × IsIndex (slot_at (slots_in items)) x
     × HasRoom g.blocks g.slots x
 
-pub held_within : (g : Geometry) (items : List RawSlot) (held : ℕ) (empties : List ℕ) (x : Index) → Kept g items held empties x → (held ≤ length empties) × (length empties ≡ g.slots)
-held_within g items held empties x kept =
-    let most = length-pairs_in_le (slots_in items) in
-    let is = kept.1 in
-    let all = kept.2.count in
-    let count = kept.0.count in
-    (omega arith, omega arith)
+-- a table that isn't full has an empty slot, the first of the list
+few_held : (t : Table) (g : Geometry) (items : List RawSlot) (held : ℕ) (x : Index) → ◌≡◌ {A = Table} (record { geometry = g; slots = slots_in items }) t
+    → Kept g items held x → length (pairs t) < t.geometry.slots → held < length (slots_in items)
+few_held t g items held x is kept room =
+    let same : length (pairs (record { geometry = g; slots = slots_in items })) ≡ length (pairs t) = ap (λ (v : Table). length (pairs v)) is in
+    let sizes : g.slots ≡ t.geometry.slots = ap (λ (v : Table). v.geometry.slots) is in
+    let all = kept.0.count in
+    let held_is = kept.1 in
+    omega arith
 
--- an empty slot is filled
-pub filled : (t : Table) (g : Geometry) (items : List RawSlot) (held : ℕ) (empties : List ℕ) (x now : Index) (place a b : ℕ) (raw : RawSlot) → ◌≡◌ {A = Table} (record { geometry = g; slots = slots_in items }) t
-    → Kept g items held empties x → length (pairs t) < t.geometry.slots → holds (pairs t) a b ≡ false → IsWithin t.geometry (a, b) → place ≡ get_or empties held place → slot_in raw ≡ Some (a, b)
+pub next_empty : (t : Table) (g : Geometry) (items : List RawSlot) (held : ℕ) (x : Index) → ◌≡◌ {A = Table} (record { geometry = g; slots = slots_in items }) t
+    → Kept g items held x → length (pairs t) < t.geometry.slots → (x.empty < length (slots_in items)) × (slot_at (slots_in items) x.empty ≡ None)
+next_empty t g items held x is kept room = first_empty (slots_in items) held x.empty x.by_bucket.next.items kept.2 (few_held t g items held x is kept room)
+
+-- it is filled
+pub filled : (t : Table) (g : Geometry) (items : List RawSlot) (held : ℕ) (x now : Index) (place a b : ℕ) (raw : RawSlot) → ◌≡◌ {A = Table} (record { geometry = g; slots = slots_in items }) t
+    → Kept g items held x → length (pairs t) < t.geometry.slots → holds (pairs t) a b ≡ false → IsWithin t.geometry (a, b) → place ≡ x.empty → slot_in raw ≡ Some (a, b)
     → ((next : ℕ → Option (ℕ × ℕ)) → IsWith (slot_at (slots_in items)) place (a, b) next → IsIndex next now)
     → ((blocks places : ℕ) → HasRoom blocks places x → HasRoom blocks places now)
-    → Kept g (set items place raw) (held + 1) empties now
-filled t g items held empties x now place a b raw is kept room absent within place_read raw_is index rooms = (table, many, empties_now, index_now, rooms g.blocks g.slots kept.4)
+    → now.empty ≡ get_or x.by_bucket.next.items x.empty 0
+    → ((k : ℕ) → slot_at (slots_in items) k ≡ None → (k ≡ place → ⊥) → get_or now.by_bucket.next.items k 0 ≡ get_or x.by_bucket.next.items k 0)
+    → Kept g (set items place raw) (held + 1) now
+filled t g items held x now place a b raw is kept room absent within place_is raw_is index rooms first stays = (table, many, empties_now, index_now, rooms g.blocks g.slots kept.4)
   where
     u : Table
     u = record { geometry = g; slots = slots_in items }
 
-    few : held < length empties
-    few = let same : length (pairs u) ≡ length (pairs t) = ap (λ (v : Table). length (pairs v)) is in let sizes : g.slots ≡ t.geometry.slots = ap (λ (v : Table). v.geometry.slots) is in
-        let here = held_within g items held empties x kept in let all = here.1 in let held_is = kept.1 in omega arith
-
-    place_is : place ≡ get_or empties held 0
-    place_is = place_read ∙ get_or_default empties held place 0 few
-
     empty : slot_at (slots_in items) place ≡ None
-    empty = ap (slot_at (slots_in items)) place_is ∙ kept.2.empty held (omega arith) few
+    empty = ap (slot_at (slots_in items)) place_is ∙ (next_empty t g items held x is kept room).1
 
     inside : place < length (slots_in items)
-    inside = let at : get_or empties held 0 < length (slots_in items) = kept.2.inside held (omega arith) few in let same = place_is in omega arith
+    inside = let at = (next_empty t g items held x is kept room).0 in let same = place_is in omega arith
 
     not_held : holds (pairs u) a b ≡ false
     not_held = ap (λ (v : Table). holds (pairs v) a b) is ∙ absent
@@ -148,48 +99,62 @@ filled t g items held empties x now place a b raw is kept room absent within pla
     many = ap (λ (n : ℕ). n + 1) kept.1 ∙ (sym (held_added u place a b kept.0 (let here = inside in let all = kept.0.count in omega arith) empty not_held)
         ∙ ap (λ (slots : List (Option (ℕ × ℕ))). length (pairs_in slots)) slots_are)
 
-    empties_now : AreEmpties (slots_in (set items place raw)) (held + 1) empties
-    empties_now = subst (λ (slots : List (Option (ℕ × ℕ))). AreEmpties slots (held + 1) empties) (ap (λ (p : ℕ). set (slots_in items) p (Some (a, b))) (sym place_is) ∙ slots_are)
-        (empties_filled (slots_in items) held empties (a, b) kept.2 few)
+    taken : AreEmpties (set (slots_in items) x.empty (Some (a, b))) (held + 1) (get_or x.by_bucket.next.items x.empty 0) now.by_bucket.next.items
+    taken = empties_taken (slots_in items) held x.empty x.by_bucket.next.items now.by_bucket.next.items (a, b) kept.2 (few_held t g items held x is kept room)
+        (λ k none off. stays k none (λ same. off (same ∙ place_is)))
+
+    empties_now : AreEmpties (slots_in (set items place raw)) (held + 1) now.empty now.by_bucket.next.items
+    empties_now = subst (λ (link : ℕ). AreEmpties (slots_in (set items place raw)) (held + 1) link now.by_bucket.next.items) (sym first)
+        (subst (λ (slots : List (Option (ℕ × ℕ))). AreEmpties slots (held + 1) (get_or x.by_bucket.next.items x.empty 0) now.by_bucket.next.items)
+        (ap (λ (p : ℕ). set (slots_in items) p (Some (a, b))) (sym place_is) ∙ slots_are) taken)
 
     index_now : IsIndex (slot_at (slots_in (set items place raw))) now
     index_now = subst (λ (slots : List (Option (ℕ × ℕ))). IsIndex (slot_at slots) now) slots_are
         (index (slot_at (set (slots_in items) place (Some (a, b)))) (slot_filled (slots_in items) place (a, b) inside empty))
 
--- the slot that is filled next
-pub next_empty : (t : Table) (g : Geometry) (items : List RawSlot) (held : ℕ) (empties : List ℕ) (x : Index) (place : ℕ) → ◌≡◌ {A = Table} (record { geometry = g; slots = slots_in items }) t
-    → Kept g items held empties x → length (pairs t) < t.geometry.slots → place ≡ get_or empties held place → (place < t.geometry.slots) × (slot_at t.slots place ≡ None)
-next_empty t g items held empties x place is kept room place_read = (inside, ap (λ (v : Table). slot_at v.slots place) (sym is) ∙ (ap (slot_at (slots_in items)) place_is ∙ kept.2.empty held (omega arith) few))
+-- the same in the steps of the code: the slot is taken off the list, and then the pair is threaded
+pub put_kept : (t : Table) (g : Geometry) (items : List RawSlot) (held : ℕ) (x taken now : Index) (place a b : ℕ) (raw : RawSlot) → ◌≡◌ {A = Table} (record { geometry = g; slots = slots_in items }) t
+    → Kept g items held x → length (pairs t) < t.geometry.slots → holds (pairs t) a b ≡ false → IsWithin t.geometry (a, b) → place ≡ x.empty
+    → taken ≡ record x { empty = get_or x.by_bucket.next.items x.empty 0 } → slot_in raw ≡ Some (a, b)
+    → ((next : ℕ → Option (ℕ × ℕ)) → IsWith (slot_at (slots_in items)) place (a, b) next → IsIndex next now)
+    → ((blocks places : ℕ) → HasRoom blocks places taken → HasRoom blocks places now)
+    → now.empty ≡ taken.empty
+    → ((k : ℕ) → slot_at (slots_in items) k ≡ None → (k ≡ place → ⊥) → get_or now.by_bucket.next.items k 0 ≡ get_or taken.by_bucket.next.items k 0)
+    → Kept g (set items place raw) (held + 1) now
+put_kept t g items held x taken now place a b raw is kept room absent within place_is taken_is raw_is index rooms first stays =
+    filled t g items held x now place a b raw is kept room absent within place_is raw_is index
+    (λ blocks places old. rooms blocks places (subst (HasRoom blocks places) (sym taken_is) (same_room blocks places old)))
+    (first ∙ ap (λ (y : Index). y.empty) taken_is)
+    (λ k none off. stays k none off ∙ ap (λ (y : Index). get_or y.by_bucket.next.items k 0) taken_is)
   where
-    few : held < length empties
-    few = let same : length (pairs (record { geometry = g; slots = slots_in items })) ≡ length (pairs t) = ap (λ (v : Table). length (pairs v)) is in
-        let sizes : g.slots ≡ t.geometry.slots = ap (λ (v : Table). v.geometry.slots) is in
-        let here = held_within g items held empties x kept in let all = here.1 in let held_is = kept.1 in omega arith
-
-    place_is : place ≡ get_or empties held 0
-    place_is = place_read ∙ get_or_default empties held place 0 few
-
-    inside : place < t.geometry.slots
-    inside = let at : get_or empties held 0 < length (slots_in items) = kept.2.inside held (omega arith) few in
-        let all : length (slots_in items) ≡ g.slots = kept.0.count in
-        let sizes : g.slots ≡ t.geometry.slots = ap (λ (v : Table). v.geometry.slots) is in let same = place_is in omega arith
+    same_room : (blocks places : ℕ) → HasRoom blocks places x → HasRoom blocks places (record x { empty = get_or x.by_bucket.next.items x.empty 0 })
+    same_room blocks places old = record {
+      sources = old.sources;
+      targets = old.targets;
+      by_source = old.by_source;
+      by_target = old.by_target;
+      by_bucket = old.by_bucket;
+    }
 
 -- where a slot holds a pair, one is held
-pub some_held : (t : Table) (g : Geometry) (items : List RawSlot) (held : ℕ) (empties : List ℕ) (x : Index) (place a b : ℕ) → ◌≡◌ {A = Table} (record { geometry = g; slots = slots_in items }) t
-    → Kept g items held empties x → slot_at t.slots place ≡ Some (a, b) → 1 ≤ held
-some_held t g items held empties x place a b is kept here =
+pub some_held : (t : Table) (g : Geometry) (items : List RawSlot) (held : ℕ) (x : Index) (place a b : ℕ) → ◌≡◌ {A = Table} (record { geometry = g; slots = slots_in items }) t
+    → Kept g items held x → slot_at t.slots place ≡ Some (a, b) → 1 ≤ held
+some_held t g items held x place a b is kept here =
     let u : Table = record { geometry = g; slots = slots_in items } in
     let fewer = held_removed u place a b kept.0 (ap (λ (v : Table). slot_at v.slots place) is ∙ here) in
     let held_is = kept.1 in
     omega arith
 
 -- a slot is emptied
-pub emptied : (t : Table) (g : Geometry) (items : List RawSlot) (held left : ℕ) (empties : List ℕ) (x now : Index) (place a b : ℕ) (raw : RawSlot) → ◌≡◌ {A = Table} (record { geometry = g; slots = slots_in items }) t
-    → Kept g items held empties x → slot_at t.slots place ≡ Some (a, b) → held ≡ left + 1 → slot_in raw ≡ None
-    → ((next : ℕ → Option (ℕ × ℕ)) → IsWith next place (a, b) (slot_at (slots_in items)) → IsIndex next now)
-    → ((blocks places : ℕ) → HasRoom blocks places x → HasRoom blocks places now)
-    → Kept g (set items place raw) left (set empties left place) now
-emptied t g items held left empties x now place a b raw is kept here one_more raw_is index rooms = (table, many, empties_now, index_now, rooms g.blocks g.slots kept.4)
+pub emptied : (t : Table) (g : Geometry) (items : List RawSlot) (held left : ℕ) (x cut now : Index) (place a b : ℕ) (raw : RawSlot) → ◌≡◌ {A = Table} (record { geometry = g; slots = slots_in items }) t
+    → Kept g items held x → slot_at t.slots place ≡ Some (a, b) → held ≡ left + 1 → slot_in raw ≡ None
+    → ((next : ℕ → Option (ℕ × ℕ)) → IsWith next place (a, b) (slot_at (slots_in items)) → IsIndex next cut)
+    → ((next : ℕ → Option (ℕ × ℕ)) → next place ≡ None → IsIndex next cut → IsIndex next now)
+    → HasRoom g.blocks g.slots now
+    → now.empty ≡ place → now.by_bucket.next.items ≡ set cut.by_bucket.next.items place x.empty → place < length cut.by_bucket.next.items
+    → ((k : ℕ) → slot_at (slots_in items) k ≡ None → get_or cut.by_bucket.next.items k 0 ≡ get_or x.by_bucket.next.items k 0)
+    → Kept g (set items place raw) left now
+emptied t g items held left x cut now place a b raw is kept here one_more raw_is index given rooms first links inside stays = (table, many, empties_now, index_now, rooms)
   where
     u : Table
     u = record { geometry = g; slots = slots_in items }
@@ -210,13 +175,16 @@ emptied t g items held left empties x now place a b raw is kept here one_more ra
         let less : left ≡ length (pairs_in (set (slots_in items) place None)) = omega arith in
         less ∙ ap (λ (slots : List (Option (ℕ × ℕ))). length (pairs_in slots)) slots_are
 
-    empties_now : AreEmpties (slots_in (set items place raw)) left (set empties left place)
-    empties_now = subst (λ (slots : List (Option (ℕ × ℕ))). AreEmpties slots left (set empties left place)) slots_are
-        (empties_emptied (slots_in items) held left empties place (a, b) kept.2 one_more (held_within g items held empties x kept).0 there)
+    empties_now : AreEmpties (slots_in (set items place raw)) left now.empty now.by_bucket.next.items
+    empties_now = subst (λ (link : ℕ). AreEmpties (slots_in (set items place raw)) left link now.by_bucket.next.items) (sym first)
+        (subst (AreEmpties (slots_in (set items place raw)) left place) (sym links)
+        (subst (λ (slots : List (Option (ℕ × ℕ))). AreEmpties slots left place (set cut.by_bucket.next.items place x.empty)) slots_are
+        (empties_given (slots_in items) held left x.empty x.by_bucket.next.items cut.by_bucket.next.items place (a, b) kept.2 one_more there inside stays)))
 
     index_now : IsIndex (slot_at (slots_in (set items place raw))) now
     index_now = subst (λ (slots : List (Option (ℕ × ℕ))). IsIndex (slot_at slots) now) slots_are
-        (index (slot_at (set (slots_in items) place None)) (slot_emptied (slots_in items) place (a, b) there))
+        (given (slot_at (set (slots_in items) place None)) (set_same (slots_in items) place None (some_inside (slots_in items) place (a, b) there))
+        (index (slot_at (set (slots_in items) place None)) (slot_emptied (slots_in items) place (a, b) there)))
 
 -- ---- what is asked of a change of the index
 

@@ -1,20 +1,20 @@
 -- What a look-up by the index answers.
-use Rattle.std.proofs.Common.{◌≡◌, ℕ, ◌+◌, ◌*◌, ◌<◌, ◌≤◌, ◌%◌, Bool, true, false, List, length, get_or, replicate, refl, sym, ◌∙◌, ap, subst, arith, inl, inr}
+use Rattle.std.proofs.Common.{◌≡◌, ℕ, ◌<◌, ◌≤◌, ◌%◌, true, false, List, length, get_or, set, replicate, refl, sym, ◌∙◌, ap, subst, arith}
 use Rattle.std.proofs.Common.{Option, Some, None}
 use Rattle.std.proofs.lemmas.Bool.{false_from_ne_true, both_ways}
 use Rattle.std.proofs.lemmas.List.{get_or-replicate, length-replicate}
 use Rattle.tsd_model.specs.Pairs.{holds}
-use Rattle.tsd_model.specs.Next.{IsNext, IsNextSource, IsNextTarget}
-use Rattle.pointer_table.specs.Indexed.{IsThreadedBy, IsIndex, HasWays, HasRoom, IsPlaceOf, source_of, target_of}
+use Rattle.tsd_model.specs.Next.{IsNextSource, IsNextTarget}
+use Rattle.pointer_table.specs.Indexed.{IsThreadedBy, IsIndex, HasRoom, source_of, target_of}
 use Rattle.pointer_table.specs.Scanning.{is_at}
 use Rattle.pointer_table.specs.Slots.{slot_at, pairs_in}
-use Rattle.pointer_table.specs.Threads.{rank, mixed, group, linked, no_link, IsMember, IsFirst, LeadsTo, AreThreads, IsWith}
+use Rattle.pointer_table.specs.Threads.{rank, mixed, group, linked, no_link, IsFirst, LeadsTo, AreThreads}
 use Rattle.pointer_table.specs.declared.index.Index.{Index}
 use Rattle.pointer_table.specs.declared.threads.Threads.{Threads}
 use Rattle.pointer_table.specs.declared.way.Way.{Way}
 use Rattle.pointer_table.specs.declared.way.Way.TheVariants as way
 use Rattle.pointer_table.proofs.SlotLaws.{holds_from_slot, slot_from_holds, is_at_same, is_at_some}
-use Rattle.pointer_table.proofs.ThreadLaws.{same_rank, some_same}
+use Rattle.pointer_table.proofs.ThreadLaws.{same_rank, link_aside}
 
 -- ---- groups
 
@@ -26,9 +26,6 @@ target_group w n e is = ap (λ v. group v n e) is
 
 pub bucket_group : (w : Way) (n : ℕ) (e : ℕ × ℕ) → w ≡ way.Bucket → 0 < n → group w n e < n
 bucket_group w n e is some = let same : group w n e ≡ mixed (rank e) % n = ap (λ v. group v n e) is in omega arith
-
-pub ways_of : (held : ℕ → Option (ℕ × ℕ)) (x : Index) → IsIndex held x → HasWays x
-ways_of held x index = record { sources = index.sources.way_is; targets = index.targets.way_is; buckets = index.buckets.way_is; some = index.buckets.some }
 
 pub room_here : (blocks places : ℕ) (x : Index) → HasRoom blocks places x → HasRoom (length x.by_source.heads.items) places x
 room_here blocks places x room = record {
@@ -162,3 +159,17 @@ none_threaded way groups t some ways heads = record {
 
     all : (of : ℕ) → of < length t.heads.items → get_or t.heads.items of 0 ≡ no_link
     all of inside = ap (λ xs. get_or xs of 0) heads ∙ get_or-replicate groups of no_link 0 (let many = ap length heads in let every : length (replicate groups no_link) ≡ groups = length-replicate groups no_link in omega arith)
+
+-- ---- the link of an empty slot
+
+pub linked_aside : (way : Way) (held : ℕ → Option (ℕ × ℕ)) (t now : Threads) (place link : ℕ) → held place ≡ None → now.way ≡ t.way → now.heads.items ≡ t.heads.items → now.next.items ≡ set t.next.items place link
+    → IsThreadedBy way held t → IsThreadedBy way held now
+linked_aside way held t now place link none ways heads next threads = record {
+  way_is = ways ∙ threads.way_is;
+  some = (let many = ap length heads in let some = threads.some in omega arith);
+  threads =
+      subst (λ (w : Way). AreThreads held (group w (length now.heads.items)) now.heads.items now.next.items) (sym ways)
+      (subst (λ (xs : List ℕ). AreThreads held (group t.way (length xs)) xs now.next.items) (sym heads)
+      (subst (AreThreads held (group t.way (length t.heads.items)) t.heads.items) (sym next)
+      (link_aside held (group t.way (length t.heads.items)) t.heads.items t.next.items place link threads.threads none)));
+}

@@ -9,5 +9,6 @@ pub mod FreshLaws
 pub mod ThreadLaws
 pub mod IndexLaws
 pub mod OrderLaws
+pub mod EmptyLaws
 pub mod ThreadingLaws
 pub mod ChangeLaws

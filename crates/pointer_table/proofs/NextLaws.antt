@@ -1,16 +1,13 @@
 -- The targets of a block one after another.
-use Rattle.std.proofs.Common.{◌≡◌, ℕ, ◌+◌, ◌<◌, ◌≤◌, Bool, true, false, cond, nat_lt, nat_le, ◌&&◌, ◌||◌, ◌==◌, ◌⊎◌, inl, inr, List, [], ◌∷◌, ◌++◌, length, take, get_or, refl, sym, ◌∙◌, ap, arith}
-use Rattle.std.proofs.Common.{Option, Some, None}
+use Rattle.std.proofs.Common.{◌≡◌, ℕ, ◌+◌, ◌<◌, ◌≤◌, true, false, cond, nat_le, ◌&&◌, ◌==◌, inl, inr, List, [], ◌∷◌, ◌++◌, length, take, refl, sym, ◌∙◌, ap, arith}
+use Rattle.std.proofs.Common.{Some, None}
 use Rattle.std.specs.Prelude.{filter, map}
-use Rattle.std.proofs.lemmas.Bool.{or_cases, or_left, or_right, or_parts, and_parts, and_from, and_left, and_right, eqb-true, eq-eqb, ltb-true, ltb-false, leb-true, leb-false, le-leb, lt-leb, both_ways, false_from_ne_true}
+use Rattle.std.proofs.lemmas.Bool.{or_cases, or_left, or_right, and_parts, and_from, and_right, eqb-true, eq-eqb, leb-true, le-leb, lt-leb, both_ways, false_from_ne_true}
 use Rattle.std.proofs.lemmas.Bool.Decides.{nat_tests}
 use Rattle.std.proofs.lemmas.List.{append_assoc, append-nil, length_push, take_all, take_at}
 use Rattle.tsd_model.proofs.TakeLaws.{take-take-append}
 use Rattle.tsd_model.specs.Pairs.{is_pair, holds, pair_lt, is_below_first, is_rising}
-use Rattle.pointer_table.specs.declared.raw.RawSlot.{RawSlot}
-use Rattle.tsd_model.specs.Next.{IsNext, IsNextSource, IsNextTarget}
-use Rattle.pointer_table.specs.Raw.{slot_in, slots_in}
-use Rattle.pointer_table.specs.Slots.{pairs_in}
+use Rattle.tsd_model.specs.Next.{IsNextTarget}
 use Rattle.tsd_model.proofs.PairLaws.{above_first}
 
 -- ---- the targets of a block that are not below a number, ascending

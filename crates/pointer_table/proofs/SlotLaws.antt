@@ -50,6 +50,15 @@ holds_from_slot slots k a b h = holds-pairs_in slots a b ∙ any_at slots k a b 
 pub slot_from_holds : (slots : List (Option (ℕ × ℕ))) (a b : ℕ) → holds (pairs_in slots) a b ≡ true → (k : ℕ) × (k < length slots) × (slot_at slots k ≡ Some (a, b))
 slot_from_holds slots a b h = at_any slots a b (sym (holds-pairs_in slots a b) ∙ h)
 
+-- a slot holds a pair or none
+pub some_is : (slot : Option (ℕ × ℕ)) → is_some slot ≡ true → (e : ℕ × ℕ) × (slot ≡ Some e)
+some_is None on = absurd (cc)
+some_is (Some e) on = (e, refl)
+
+pub none_is : (slot : Option (ℕ × ℕ)) → is_some slot ≡ false → slot ≡ None
+none_is None off = refl
+none_is (Some e) off = absurd (cc)
+
 -- a slot past the last one is empty
 pub some_inside : (slots : List (Option (ℕ × ℕ))) (k : ℕ) (e : ℕ × ℕ) → slot_at slots k ≡ Some e → k < length slots
 some_inside [] k e h = absurd (cc)

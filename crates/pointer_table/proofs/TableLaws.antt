@@ -1,5 +1,5 @@
 -- Tables: made, changed, and compared with an image.
-use Rattle.std.proofs.Common.{◌≡◌, ℕ, ◌+◌, ◌*◌, ◌/◌, ◌%◌, ◌<◌, ◌==◌, false, inl, inr, ◌⊎◌, List, length, set, sym, ◌∙◌, ap, subst, arith}
+use Rattle.std.proofs.Common.{◌≡◌, ℕ, ◌+◌, ◌*◌, ◌/◌, ◌%◌, ◌<◌, false, inl, inr, ◌⊎◌, List, length, set, sym, ◌∙◌, ap, subst, arith}
 use Rattle.std.proofs.Common.{Option, Some, None}
 use Rattle.std.proofs.lemmas.Bool.{cases_eq, cases_order, both_ways, false_from_ne_true}
 use Rattle.std.proofs.lemmas.List.{length-set, set-set, set-get_or}
@@ -17,7 +17,7 @@ use Rattle.pointer_table.specs.Repeating.{IsRepeating}
 use Rattle.pointer_table.specs.Loading.{IsRepeatedOn, IsLeastRepeated, IsLoading}
 use Rattle.pointer_table.specs.Reading.{IsReadTo, AreWithinTo}
 use Rattle.pointer_table.specs.Repeats.{IsRepeatedIn, IsLeastOfAll}
-use Rattle.pointer_table.specs.Slots.{slot_at, pairs_in}
+use Rattle.pointer_table.specs.Slots.{slot_at}
 use Rattle.pointer_table.specs.Table.{Table, pairs, IsWithin, IsTable, ArePairs}
 use Rattle.tsd_model.proofs.PairLaws.{length-with_new_pair}
 use Rattle.image_layout.specs.declared.place.Patch.{Patch}
@@ -174,7 +174,7 @@ load_answers image g slots (Ok t) count read is found = record {
   none_repeated = λ e r. found.1 e (repeated_in image g slots e count read r);
   stored = record { count = ap length is.1 ∙ count; each = λ k inside. read.each k inside ∙ ap (λ ss. slot_at ss k) (sym is.1) };
 }
-load_answers image g slots (Err fault.NoMemory) count read is found = absurd found
+load_answers image g slots (Err fault.NoMemory) count read is found = tt
 load_answers image g slots (Err fault.Device) count read is found = absurd found
 load_answers image g slots (Err (fault.Slot k source target)) count read is found = absurd found
 load_answers image g slots (Err (fault.Repeated a b)) count read is found = (read.no_bad, least_on image g slots (a, b) count read found)

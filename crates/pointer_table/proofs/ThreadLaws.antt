@@ -1,5 +1,5 @@
 -- Links of threads, and what a change of the slots leaves of them.
-use Rattle.std.proofs.Common.{◌≡◌, ℕ, zero, suc, ◌+◌, ◌*◌, ◌<◌, ◌≤◌, ◌==◌, ◌-◌, Bool, true, false, cond, List, length, get_or, set, inl, inr, refl, sym, ◌∙◌, ap, subst, arith}
+use Rattle.std.proofs.Common.{◌≡◌, ℕ, ◌+◌, ◌<◌, ◌≤◌, ◌-◌, true, false, cond, List, length, get_or, set, inl, inr, refl, sym, ◌∙◌, ap, subst, arith}
 use Rattle.std.proofs.Common.{Option, Some, None}
 use Rattle.std.specs.Prelude.{IfSome}
 use Rattle.std.proofs.lemmas.Bool.{cases_eq, cases_lt, ne_eqb, ltb-true, ltb-false}
@@ -577,3 +577,34 @@ cut_fields held now way other heads next new_heads new_next place of r link e be
     renamed held way other heads next (heads_with heads (by e) before (get_or next place 0)) (next_with next before (get_or next place 0)) new_heads new_next
     ways heads_are next_are (heads_as_many heads new_heads of before link h)
     (cut_out held now by heads next place e before threads less (before_same now by of r (rank e) (by e) before groups ranks last))
+
+-- ---- links of empty slots
+
+-- a slot that holds nothing isn't the one in front
+in_front_held : (held : ℕ → Option (ℕ × ℕ)) (by : (ℕ × ℕ) → ℕ) (of limit k p : ℕ) → IsLast held by of limit p → held k ≡ None → k ≡ p → ⊥
+in_front_held held by of limit k p last none same = let some = last.member.here in let at = ap held same in cc
+
+pub put_others : (held : ℕ → Option (ℕ × ℕ)) (by : (ℕ × ℕ) → ℕ) (of limit : ℕ) (next now : List ℕ) (place behind link : ℕ) (before : Option ℕ) → IsBefore held by of limit before
+    → now ≡ next_with (set next place behind) before link → (k : ℕ) → held k ≡ None → (k ≡ place → ⊥) → get_or now k 0 ≡ get_or next k 0
+put_others held by of limit next now place behind link None last is k none off = ap (λ xs. get_or xs k 0) is ∙ get_or-set_other next place k behind 0 off
+put_others held by of limit next now place behind link (Some p) last is k none off =
+    ap (λ xs. get_or xs k 0) is
+    ∙ (get_or-set_other (set next place behind) p k link 0 (in_front_held held by of limit k p last none) ∙ get_or-set_other next place k behind 0 off)
+
+pub cut_others : (held : ℕ → Option (ℕ × ℕ)) (by : (ℕ × ℕ) → ℕ) (of limit : ℕ) (next now : List ℕ) (link : ℕ) (before : Option ℕ) → IsBefore held by of limit before
+    → now ≡ next_with next before link → (k : ℕ) → held k ≡ None → get_or now k 0 ≡ get_or next k 0
+cut_others held by of limit next now link None last is k none = ap (λ xs. get_or xs k 0) is
+cut_others held by of limit next now link (Some p) last is k none =
+    ap (λ xs. get_or xs k 0) is ∙ get_or-set_other next p k link 0 (in_front_held held by of limit k p last none)
+
+-- no thread knows of the link of an empty slot
+pub link_aside : (held : ℕ → Option (ℕ × ℕ)) (by : (ℕ × ℕ) → ℕ) (heads next : List ℕ) (place link : ℕ) → AreThreads held by heads next → held place ≡ None → AreThreads held by heads (set next place link)
+link_aside held by heads next place link threads none = record {
+  first = threads.first;
+  follow = λ k e here. subst (λ (l : ℕ). LeadsTo held by (by e) (rank e + 1) (linked l))
+      (sym (get_or-set_other next place k link 0 (λ same. let at = ap held same in absurd (cc)))) (threads.follow k e here);
+  groups = threads.groups;
+  inside = λ k e here. let len = length-set next place link in let old = threads.inside k e here in omega arith;
+  fits = threads.fits;
+  apart = threads.apart;
+}

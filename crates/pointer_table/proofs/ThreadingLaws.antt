@@ -1,17 +1,20 @@
--- Slots threaded one after another, from the last pair of their order to the first.
-use Rattle.std.proofs.Common.{◌≡◌, ◌⊎◌, ℕ, zero, suc, ◌+◌, ◌-◌, ◌<◌, ◌≤◌, ◌==◌, ◌||◌, Bool, true, false, cond, List, [], ◌∷◌, length, get_or, drop, refl, sym, ◌∙◌, ap, subst, arith, inl, inr, add-one, length-drop, drop-cons}
+-- Slots threaded one after another: from the last pair of their order to the first, and in their own order.
+use Rattle.std.proofs.Common.{◌≡◌, ℕ, suc, ◌+◌, ◌-◌, ◌<◌, ◌≤◌, ◌==◌, ◌||◌, Bool, true, false, cond, List, [], ◌∷◌, length, get_or, take, drop, refl, sym, ◌∙◌, ap, subst, arith, inl, inr, length-drop, drop-cons}
 use Rattle.std.proofs.Common.{Option, Some, None}
 use Rattle.std.specs.List.{list_any}
-use Rattle.std.proofs.lemmas.Bool.{cases_eq, cases_lt, or_cases, or_left, or_right, eqb-true, eq-eqb, ne_eqb, false_from_ne_true}
-use Rattle.std.proofs.lemmas.List.{get_or-drop, drop_all, get_or_past}
+use Rattle.std.proofs.lemmas.Bool.{cases_eq, cases_lt, or_cases, eqb-true, eq-eqb, ne_eqb, false_from_ne_true}
+use Rattle.std.proofs.lemmas.List.{get_or-drop, drop_all, get_or-take, get_or_past, length-take, take-map}
 use Rattle.std.proofs.lemmas.List.Folds.{list_any_at}
 use Rattle.tsd_model.specs.declared.geometry.Geometry.{Geometry}
-use Rattle.pointer_table.specs.Indexed.{IsIndex}
+use Rattle.pointer_table.specs.Indexed.{IsThreadedBy}
 use Rattle.pointer_table.specs.Order.{sort_key, IsOrder}
+use Rattle.pointer_table.specs.Raw.{slot_in, slots_in}
 use Rattle.pointer_table.specs.Slots.{slot_at}
-use Rattle.pointer_table.specs.Table.{Table, IsTable}
+use Rattle.pointer_table.specs.Table.{IsTable}
 use Rattle.pointer_table.specs.Threads.{rank, IsWith}
-use Rattle.pointer_table.specs.declared.index.Index.{Index}
+use Rattle.pointer_table.specs.declared.raw.RawSlot.{RawSlot}
+use Rattle.pointer_table.specs.declared.threads.Threads.{Threads}
+use Rattle.pointer_table.specs.declared.way.Way.{Way}
 use Rattle.pointer_table.proofs.ThreadLaws.{same_rank}
 
 -- the slots that stand in the order from a place on
@@ -20,10 +23,6 @@ is_threaded order left k = list_any (λ p. p == k) (drop left order)
 
 abbrev pub threaded : List (Option (ℕ × ℕ)) → List ℕ → ℕ → ℕ → Option (ℕ × ℕ)
 threaded slots order left k = cond (is_threaded order left k) (slot_at slots k) None
-
--- the same slots, given another way
-pub index_same : (held now : ℕ → Option (ℕ × ℕ)) (x : Index) → ((k : ℕ) → held k ≡ now k) → IsIndex held x → IsIndex now x
-index_same held now x same index = subst (λ (h : ℕ → Option (ℕ × ℕ)). IsIndex h x) (λ i k. same k i) index
 
 any_place : (p : ℕ → Bool) (xs : List ℕ) → list_any p xs ≡ true → (i : ℕ) × ((i < length xs) × (p (get_or xs i 0) ≡ true))
 any_place p [] h = absurd (cc)
@@ -50,16 +49,15 @@ pub none_threaded : (slots : List (Option (ℕ × ℕ))) (order : List ℕ) (lef
 none_threaded slots order left past k = sym (ap (λ xs. cond (list_any (λ p. p == k) xs) (slot_at slots k) None) (drop_all left order past))
 
 pub all_threaded : (slots : List (Option (ℕ × ℕ))) (order : List ℕ) → IsOrder slots order → (k : ℕ) → threaded slots order 0 k ≡ slot_at slots k
-all_threaded slots order sorted k = elim (cases_lt k (length slots)) [
-  | inl inside ↦ (let at = sorted.every k inside in ap (λ t. cond t (slot_at slots k) None) (threaded_from order 0 at.0 k (omega arith) at.1.0 at.1.1))
-  | inr past ↦
-      (let none : slot_at slots k ≡ None = get_or_past slots k None past in
-      ap (λ s. cond (is_threaded order 0 k) s None) none ∙ (either (is_threaded order 0 k) ∙ sym none))
-]
+all_threaded slots order sorted k = go (slot_at slots k) refl
   where
     either : (t : Bool) → ◌≡◌ {A = Option (ℕ × ℕ)} (cond t None None) None
     either true = refl
     either false = refl
+
+    go : (s : Option (ℕ × ℕ)) → slot_at slots k ≡ s → threaded slots order 0 k ≡ slot_at slots k
+    go None is = ap (λ s. cond (is_threaded order 0 k) s None) is ∙ (either (is_threaded order 0 k) ∙ sym is)
+    go (Some e) is = let at = sorted.holders.every k e is in ap (λ t. cond t (slot_at slots k) None) (threaded_from order 0 at.0 k (omega arith) at.1.0 at.1.1)
 
 -- what is threaded stands in the order behind
 held_behind : (slots : List (Option (ℕ × ℕ))) (order : List ℕ) (left k : ℕ) (f : ℕ × ℕ) → threaded slots order left k ≡ Some f → (is_threaded order left k ≡ true) × (slot_at slots k ≡ Some f)
@@ -73,7 +71,7 @@ not_behind : (slots : List (Option (ℕ × ℕ))) (order : List ℕ) (left : ℕ
 not_behind slots order left sorted inside = false_from_ne_true (is_threaded order (left + 1) (get_or order left 0)) (λ h.
     let at = threaded_place order (left + 1) (get_or order left 0) h in
     let low = at.1.0 in
-    let same = sorted.apart at.0 left at.1.1.0 inside at.1.1.1 in
+    let same = sorted.holders.apart at.0 left at.1.1.0 inside at.1.1.1 in
     omega arith)
 
 others_behind : (order : List ℕ) (left k : ℕ) → left < length order → (k ≡ get_or order left 0 → ⊥) → is_threaded order left k ≡ is_threaded order (left + 1) k
@@ -90,23 +88,6 @@ thread_more slots order left e sorted inside here = record {
   filled = ap (λ t. cond t (slot_at slots (get_or order left 0)) None) (threaded_from order left left (get_or order left 0) (omega arith) inside refl) ∙ here;
   others = λ k off. ap (λ t. cond t (slot_at slots k) None) (others_behind order left k inside off);
 }
-
--- an empty slot more
-pub thread_none : (slots : List (Option (ℕ × ℕ))) (order : List ℕ) (left : ℕ) → left < length order → slot_at slots (get_or order left 0) ≡ None
-    → (k : ℕ) → threaded slots order (left + 1) k ≡ threaded slots order left k
-thread_none slots order left inside none k = elim (cases_eq k (get_or order left 0)) [
-  | inl same ↦
-      (let empty : slot_at slots k ≡ None = ap (slot_at slots) same ∙ none in
-      ap (λ s. cond (is_threaded order (left + 1) k) s None) empty ∙ (either (is_threaded order (left + 1) k) (is_threaded order left k)
-      ∙ sym (ap (λ s. cond (is_threaded order left k) s None) empty)))
-  | inr off ↦ sym (ap (λ t. cond t (slot_at slots k) None) (others_behind order left k inside off))
-]
-  where
-    either : (s t : Bool) → ◌≡◌ {A = Option (ℕ × ℕ)} (cond s None None) (cond t None None)
-    either true true = refl
-    either true false = refl
-    either false true = refl
-    either false false = refl
 
 -- the pair is below all that are threaded
 pub thread_least : (g : Geometry) (slots : List (Option (ℕ × ℕ))) (order : List ℕ) (left : ℕ) (e : ℕ × ℕ) → IsTable (record { geometry = g; slots = slots }) → IsOrder slots order → left < length order
@@ -126,31 +107,76 @@ thread_least g slots order left e table sorted inside here k f held =
       | inl same ↦
           (let pair : e ≡ f = same_rank e f (omega arith) (omega arith) same in
           let slot = table.apart (get_or order left 0) (get_or order at.0 0) e here (there ∙ ap Some (sym pair)) in
-          let place = sorted.apart left at.0 inside at.1.1.0 slot in
+          let place = sorted.holders.apart left at.0 inside at.1.1.0 slot in
           absurd (omega arith))
       | inr off ↦ omega arith
     ]
 
--- ---- the same at a place that is counted down to
-
-one_less : (l : ℕ) → 0 < l → (l - 1) + 1 ≡ l
-one_less l some = omega arith
-
--- the slot in front of the place, with its pair
-pub index_more : (g : Geometry) (slots : List (Option (ℕ × ℕ))) (order : List ℕ) (l : ℕ) (e : ℕ × ℕ) (x now : Index) → IsTable (record { geometry = g; slots = slots }) → IsOrder slots order
-    → 0 < l → l ≤ length order → slot_at slots (get_or order (l - 1) 0) ≡ Some e → IsIndex (threaded slots order l) x
-    → ((held next : ℕ → Option (ℕ × ℕ)) → IsWith held (get_or order (l - 1) 0) e next → ((k : ℕ) (f : ℕ × ℕ) → held k ≡ Some f → rank e < rank f) → IsIndex held x → IsIndex next now)
-    → IsIndex (threaded slots order (l - 1)) now
-index_more g slots order l e x now table sorted some inside here index more =
+-- the same at a place that is counted down to: what a change with the slot in front of it makes of the threads
+pub one_more : (g : Geometry) (slots : List (Option (ℕ × ℕ))) (order : List ℕ) (l : ℕ) (e : ℕ × ℕ) (before after : (ℕ → Option (ℕ × ℕ)) → Type 0) → IsTable (record { geometry = g; slots = slots }) → IsOrder slots order
+    → 0 < l → l ≤ length order → slot_at slots (get_or order (l - 1) 0) ≡ Some e → before (threaded slots order l)
+    → ((held now : ℕ → Option (ℕ × ℕ)) → IsWith held (get_or order (l - 1) 0) e now → ((k : ℕ) (f : ℕ × ℕ) → held k ≡ Some f → rank e < rank f) → before held → after now)
+    → after (threaded slots order (l - 1))
+one_more g slots order l e before after table sorted some inside here so_far more =
     let below : l - 1 < length order = omega arith in
-    let back = one_less l some in
+    let back : (l - 1) + 1 ≡ l = omega arith in
     more (threaded slots order ((l - 1) + 1)) (threaded slots order (l - 1)) (thread_more slots order (l - 1) e sorted below here)
-    (thread_least g slots order (l - 1) e table sorted below here) (subst (λ (n : ℕ). IsIndex (threaded slots order n) x) (sym back) index)
+    (thread_least g slots order (l - 1) e table sorted below here) (subst (λ (n : ℕ). before (threaded slots order n)) (sym back) so_far)
 
--- an empty slot in front of the place
-pub index_skips : (slots : List (Option (ℕ × ℕ))) (order : List ℕ) (l : ℕ) (x : Index) → 0 < l → l ≤ length order → slot_at slots (get_or order (l - 1) 0) ≡ None
-    → IsIndex (threaded slots order l) x → IsIndex (threaded slots order (l - 1)) x
-index_skips slots order l x some inside none index =
-    let below : l - 1 < length order = omega arith in
-    index_same (threaded slots order ((l - 1) + 1)) (threaded slots order (l - 1)) x (thread_none slots order (l - 1) below none)
-    (subst (λ (n : ℕ). IsIndex (threaded slots order n) x) (sym (one_less l some)) index)
+-- ---- slots threaded in their own order
+
+-- the slots in front of a place
+before_place : (slots : List (Option (ℕ × ℕ))) (place k : ℕ) → k < place → slot_at (take place slots) k ≡ slot_at slots k
+before_place slots place k low = get_or-take place slots k None low
+
+behind_place : (slots : List (Option (ℕ × ℕ))) (place k : ℕ) → place ≤ k → slot_at (take place slots) k ≡ None
+behind_place slots place k far = get_or_past (take place slots) k None (let len = length-take place slots in omega arith)
+
+pub front_empty : (slots : List (Option (ℕ × ℕ))) (place : ℕ) → slot_at (take place slots) place ≡ None
+front_empty slots place = behind_place slots place place (omega arith)
+
+-- what is held in front of a place is held
+pub front_held : (slots : List (Option (ℕ × ℕ))) (place k : ℕ) (e : ℕ × ℕ) → slot_at (take place slots) k ≡ Some e → (k < place) × (slot_at slots k ≡ Some e)
+front_held slots place k e here = elim (cases_lt k place) [
+  | inl low ↦ (low, sym (before_place slots place k low) ∙ here)
+  | inr far ↦ (let none = behind_place slots place k far in absurd (cc))
+]
+
+pub front_more : (slots : List (Option (ℕ × ℕ))) (place : ℕ) (e : ℕ × ℕ) → slot_at slots place ≡ Some e → IsWith (slot_at (take place slots)) place e (slot_at (take (place + 1) slots))
+front_more slots place e here = record {
+  empty = front_empty slots place;
+  filled = before_place slots (place + 1) place (omega arith) ∙ here;
+  others = λ k off. elim (cases_lt k place) [
+    | inl low ↦ before_place slots (place + 1) k (omega arith) ∙ sym (before_place slots place k low)
+    | inr far ↦ behind_place slots (place + 1) k (omega arith) ∙ sym (behind_place slots place k far)
+  ];
+}
+
+pub front_same : (slots : List (Option (ℕ × ℕ))) (place : ℕ) → slot_at slots place ≡ None → (k : ℕ) → slot_at (take place slots) k ≡ slot_at (take (place + 1) slots) k
+front_same slots place none k = elim (cases_lt k place) [
+  | inl low ↦ before_place slots place k low ∙ sym (before_place slots (place + 1) k (omega arith))
+  | inr far ↦ behind_place slots place k far ∙ sym (elim (cases_eq k place) [
+    | inl same ↦ before_place slots (place + 1) k (omega arith) ∙ (ap (slot_at slots) same ∙ none)
+    | inr off ↦ behind_place slots (place + 1) k (omega arith)
+  ])
+]
+
+-- the same of slots as the memory holds them
+slots_front : (raws : List RawSlot) (n : ℕ) → take n (slots_in raws) ≡ slots_in (take n raws)
+slots_front raws n = take-map slot_in n raws
+
+pub raws_held : (raws : List RawSlot) (place k : ℕ) (e : ℕ × ℕ) → slot_at (slots_in (take place raws)) k ≡ Some e → (k < place) × (slot_at (slots_in raws) k ≡ Some e)
+raws_held raws place k e here = front_held (slots_in raws) place k e (ap (λ slots. slot_at slots k) (slots_front raws place) ∙ here)
+
+pub raws_more : (raws : List RawSlot) (place : ℕ) (e : ℕ × ℕ) → slot_at (slots_in raws) place ≡ Some e → IsWith (slot_at (slots_in (take place raws))) place e (slot_at (slots_in (take (place + 1) raws)))
+raws_more raws place e here =
+    subst (λ (slots : List (Option (ℕ × ℕ))). IsWith (slot_at slots) place e (slot_at (slots_in (take (place + 1) raws)))) (slots_front raws place)
+    (subst (λ (slots : List (Option (ℕ × ℕ))). IsWith (slot_at (take place (slots_in raws))) place e (slot_at slots)) (slots_front raws (place + 1)) (front_more (slots_in raws) place e here))
+
+pub raws_same : (raws : List RawSlot) (place : ℕ) → slot_at (slots_in raws) place ≡ None → (k : ℕ) → slot_at (slots_in (take place raws)) k ≡ slot_at (slots_in (take (place + 1) raws)) k
+raws_same raws place none k =
+    sym (ap (λ slots. slot_at slots k) (slots_front raws place)) ∙ (front_same (slots_in raws) place none k ∙ ap (λ slots. slot_at slots k) (slots_front raws (place + 1)))
+
+-- slots given another way
+pub threaded_same : (way : Way) (held now : ℕ → Option (ℕ × ℕ)) (t : Threads) → ((k : ℕ) → held k ≡ now k) → IsThreadedBy way held t → IsThreadedBy way now t
+threaded_same way held now t same threads = subst (λ (h : ℕ → Option (ℕ × ℕ)). IsThreadedBy way h t) (λ i k. same k i) threads

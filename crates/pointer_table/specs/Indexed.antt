@@ -20,13 +20,6 @@ pub record IsIndex (held : ℕ → Option (ℕ × ℕ)) (x : Index) : Type 0 whe
   pub targets : IsThreadedBy way.Target held x.by_target
   pub buckets : IsThreadedBy way.Bucket held x.by_bucket
 
--- each is threaded its way, and there is a bucket
-pub record HasWays (x : Index) : Type 0 where
-  pub sources : x.by_source.way ≡ way.Source
-  pub targets : x.by_target.way ≡ way.Target
-  pub buckets : x.by_bucket.way ≡ way.Bucket
-  pub some : 0 < length x.by_bucket.heads.items
-
 -- there is a head for each block, and a link for each slot
 pub record HasRoom (blocks slots : ℕ) (x : Index) : Type 0 where
   pub sources : length x.by_source.heads.items ≡ blocks

@@ -12,3 +12,4 @@ pub mod Fresh
 pub mod Threads
 pub mod Indexed
 pub mod Order
+pub mod Empties

@@ -1,5 +1,5 @@
 -- The least pair that two slots of a list hold.
-use Rattle.std.specs.Prelude.{◌≡◌, ℕ, ◌<◌, false, List, length, Option, Some, None}
+use Rattle.std.specs.Prelude.{◌≡◌, ℕ, false, List, length, Option, Some, None}
 use Rattle.tsd_model.specs.Pairs.{pair_lt}
 use Rattle.pointer_table.specs.Slots.{slot_at, IsRepeated}
 

@@ -1,5 +1,5 @@
 -- What a look at each slot computes, and what the code is compared with.
-use Rattle.std.specs.Prelude.{ℕ, ◌==◌, ◌||◌, cond, nat_lt, nat_le, Bool, false, Option, Some, None}
+use Rattle.std.specs.Prelude.{ℕ, cond, Bool, false, Option, Some, None}
 use Rattle.tsd_model.specs.Pairs.{is_pair, pair_lt}
 
 -- the slot holds the pair (a, b)

@@ -9,7 +9,7 @@
 -- of its group, and the link behind a pair leads to the next one of its group, ascending: that is the invariant, said of each
 -- head and each link alone. Where an ascending walk through a group stands is therefore known without the walk. A pair is
 -- looked for in its bucket, the targets of a source and the sources of a target in their groups; a question that begins right
--- above a pair which is held begins its walk there. Empty slots stand behind one another in an array of their own.
+-- above a pair which is held begins its walk there. The empty slots are linked to a list (Empties.antt).
 --
 -- Slots are given as a function from their numbers, so that the same words serve for slots of which some are threaded only.
 use Rattle.std.specs.Prelude.{◌≡◌, ℕ, ◌+◌, ◌*◌, ◌/◌, ◌%◌, ◌^◌, ◌<◌, ◌≤◌, ◌==◌, nat_lt, cond, Bool, false, List, length, slice_index_or, slice_set, Option, Some, None, ⊤}

@@ -1,22 +1,28 @@
-//! The index of the slots: by source, by target and by pair.
+//! The index of the slots: by source, by target and by pair, and the empty ones.
 
-ghost use Rattle.std.specs.Prelude.{◌≡◌, ℕ, ◌<◌, ◌≤◌, length, Option, Some, None, IfOk, IfErr};
+ghost use Rattle.std.specs.Prelude.{◌≡◌, ℕ, ◌<◌, length, slice_index_or, slice_set, count_by, is_some, Option, Some, None, IfOk, OnOk, IfErr};
 ghost use Rattle.tsd_model.specs.Geometry.{IsLawful};
 ghost use Rattle.tsd_model.specs.Next.{IsNextSource, IsNextTarget};
-ghost use Rattle.pointer_table.specs.Indexed.{IsIndex, HasRoom, HasWays, IsPlaceOf, source_of, target_of};
+ghost use Rattle.pointer_table.specs.Empties.{AreEmpties};
+ghost use Rattle.pointer_table.specs.Indexed.{IsIndex, HasRoom, IsPlaceOf, source_of, target_of};
 ghost use Rattle.pointer_table.specs.Raw.{slots_in};
+ghost use Rattle.pointer_table.specs.Reading.{AreWithinTo};
+ghost use Rattle.pointer_table.specs.Repeating.{IsRefusal};
+ghost use Rattle.pointer_table.specs.Repeats.{IsLeastOfAll};
 ghost use Rattle.pointer_table.specs.Scanning.{is_at};
 ghost use Rattle.pointer_table.specs.Slots.{slot_at, pairs_in};
 ghost use Rattle.pointer_table.specs.Threads.{rank, no_link, IsWith};
 
+use crate::empties::link_empties;
 use crate::fault::TableFault;
 use crate::raw::RawSlot;
+use crate::threading::{by_bucket, by_ends};
 use crate::threads::{NO_LINK, Threads};
-use crate::way::{Way, rank};
+use crate::way::rank;
 use std::alloc::Global;
 use tsd_model::Geometry;
 
-/// The slots that hold pairs, threaded by source, by target and by bucket.
+/// The slots that hold pairs, threaded by source, by target and by bucket, and the empty ones in a list.
 #[derive(Drop)]
 pub(crate) struct Index {
     /// The pairs of each source, ascending.
@@ -27,6 +33,9 @@ pub(crate) struct Index {
 
     /// The pairs of each bucket.
     pub by_bucket: Threads,
+
+    /// The first empty slot. The links by bucket lead from each empty slot to the next one.
+    pub empty: u32,
 }
 
 /// Whether a slot holds a pair.
@@ -66,22 +75,29 @@ fn target_in(slots: &[RawSlot], place: u32) -> Option<u32>
 }
 
 impl Index {
-    /// The index of slots that are all empty.
-    pub(crate) fn none(alloc: Global, geometry: &Geometry) -> Result<Index, TableFault>
-        requires { IsLawful geometry.now }
-        ensures index { IfOk result (IsIndex (λ k. None)) }
+    /// The index of slots that were read, of which none is bad. Slot numbers are sorted before the links by bucket are taken.
+    pub(crate) fn of(
+        alloc: Global,
+        geometry: &Geometry,
+        slots: &[RawSlot],
+    ) -> Result<Index, TableFault>
+        requires lawful { IsLawful geometry.now }
+        requires count { length slots.now ≡ geometry.now.slots }
+        requires within { AreWithinTo geometry.now geometry.now.slots (slots_in slots.now) }
+        ensures none { OnOk result (IsLeastOfAll (slots_in slots.now) None) }
+        ensures index { IfOk result (IsIndex (slot_at (slots_in slots.now))) }
         ensures room { IfOk result (HasRoom geometry.now.blocks geometry.now.slots) }
-        ensures err { IfErr result (λ e. e ≡ TableFault.NoMemory) }
+        ensures empties { IfOk result (λ x. AreEmpties (slots_in slots.now) (count_by is_some (slots_in slots.now)) x.empty x.by_bucket.next.items) }
+        ensures err { IfErr result (IsRefusal (slots_in slots.now)) }
     {
-        let blocks = geometry.blocks as usize;
-        let slots = geometry.slots as usize;
-        let by_source = Threads::none(alloc, Way::Source, blocks, slots, true)?;
-        let by_target = Threads::none(alloc, Way::Target, blocks, slots, true)?;
-        let by_bucket = Threads::none(alloc, Way::Bucket, slots / 2 + 1, slots, false)?;
+        let (by_source, by_target) = by_ends(alloc, geometry, slots)?;
+        let mut by_bucket = by_bucket(alloc, geometry, slots)?;
+        let empty = link_empties(slots, &mut by_bucket);
         Ok(Index {
             by_source,
             by_target,
             by_bucket,
+            empty,
         })
     }
 
@@ -160,6 +176,9 @@ impl Index {
         requires absent { (k : ℕ) → slot_at (slots_in slots.now) k ≡ Some (source, target) → ⊥ }
         ensures index { (now : ℕ → Option (ℕ × ℕ)) → IsWith (slot_at (slots_in slots.now)) place (source, target) now → IsIndex now self.new }
         ensures room { (blocks places : ℕ) → HasRoom blocks places self.old → HasRoom blocks places self.new }
+        ensures empty { self.new.empty ≡ self.old.empty }
+        ensures empties { (k : ℕ) → slot_at (slots_in slots.now) k ≡ None → (k ≡ place → ⊥)
+            → slice_index_or self.new.by_bucket.next.items k 0 ≡ slice_index_or self.old.by_bucket.next.items k 0 }
     {
         self.by_source.add(slots, place, source, target);
         self.by_target.add(slots, place, source, target);
@@ -172,26 +191,35 @@ impl Index {
         requires held { slot_at (slots_in slots.now) place ≡ Some (source, target) }
         ensures index { (left : ℕ → Option (ℕ × ℕ)) → IsWith left place (source, target) (slot_at (slots_in slots.now)) → IsIndex left self.new }
         ensures room { (blocks places : ℕ) → HasRoom blocks places self.old → HasRoom blocks places self.new }
+        ensures empty { self.new.empty ≡ self.old.empty }
+        ensures empties { (k : ℕ) → slot_at (slots_in slots.now) k ≡ None
+            → slice_index_or self.new.by_bucket.next.items k 0 ≡ slice_index_or self.old.by_bucket.next.items k 0 }
     {
         self.by_source.remove(slots, place, source, target);
         self.by_target.remove(slots, place, source, target);
         self.by_bucket.remove(slots, place, source, target);
     }
 
-    /// Threads the pair of a slot, which is below all pairs that are threaded.
-    pub(crate) fn add_first(&mut self, place: u32, source: u32, target: u32)
-        requires ways { HasWays self.old }
-        requires room { HasRoom (length self.old.by_source.heads.items) (length self.old.by_source.next.items) self.old }
-        requires source { source < length self.old.by_source.heads.items }
-        requires target { target < length self.old.by_source.heads.items }
-        requires inside { place < length self.old.by_source.next.items }
-        requires few { length self.old.by_source.next.items < no_link }
-        ensures index { (held now : ℕ → Option (ℕ × ℕ)) → IsWith held place (source, target) now
-            → ((k : ℕ) (f : ℕ × ℕ) → held k ≡ Some f → rank (source, target) < rank f) → IsIndex held self.old → IsIndex now self.new }
+    /// Takes the first slot off the list of empty slots.
+    pub(crate) fn take_empty(&mut self) -> u32
+        requires { self.old.empty < length self.old.by_bucket.next.items }
+        ensures place { result ≡ self.old.empty }
+        ensures now { self.new ≡ record self.old { empty = slice_index_or self.old.by_bucket.next.items self.old.empty 0 } }
+    {
+        let place = self.empty;
+        self.empty = self.by_bucket.next[place as usize];
+        place
+    }
+
+    /// Puts an empty slot in front of the list of empty slots.
+    pub(crate) fn give_empty(&mut self, place: u32)
+        requires { place < length self.old.by_bucket.next.items }
+        ensures empty { self.new.empty ≡ place }
+        ensures next { self.new.by_bucket.next.items ≡ slice_set self.old.by_bucket.next.items place self.old.empty }
+        ensures index { (held : ℕ → Option (ℕ × ℕ)) → held place ≡ None → IsIndex held self.old → IsIndex held self.new }
         ensures room { (blocks places : ℕ) → HasRoom blocks places self.old → HasRoom blocks places self.new }
     {
-        self.by_source.add_first(place, source, target);
-        self.by_target.add_first(place, source, target);
-        self.by_bucket.add_first(place, source, target);
+        self.by_bucket.link_empty(place, self.empty);
+        self.empty = place;
     }
 }

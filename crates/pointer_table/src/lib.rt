@@ -7,12 +7,14 @@
 //! `add` and `remove` change one slot and give the patch of its sector: where an image had the slots of the table, it
 //! has them again with the patch. Each question is answered by the pairs that the slots hold, ascending. An image whose
 //! sectors are those of `fresh_sector` has a table that holds no pair. A load that answers Ok leaves the device's count
-//! of faults as it was. Only `load` takes memory: 26 bytes a slot and 16 a block.
+//! of faults as it was. Only `load` takes memory, and at no moment more than the table keeps: 22 bytes a slot and 16 a block.
+//! A slot has 8 bytes, three links of 4, and 2 for its share of the heads of buckets; a block has two heads and two ends.
 //!
-//! How it stays fast: the slots that hold pairs are threaded by source, by target and by bucket (`specs/Threads.antt`), so
-//! no question looks at all of them.
+//! How it stays fast: the slots that hold pairs are threaded by source, by target and by bucket (`specs/Threads.antt`), and the
+//! empty ones are linked to a list (`specs/Empties.antt`), so no question or change looks at all of them.
 #![tactic(auto)]
 
+mod empties;
 mod fault;
 mod fresh;
 mod index;
@@ -24,6 +26,7 @@ mod out_step;
 mod raw;
 mod sector;
 mod table;
+mod threading;
 mod threads;
 mod way;
 

@@ -1,20 +1,16 @@
-//! The targets of a block in a row, and the slots of a table threaded.
+//! The targets of a block in a row, and how many pairs are held.
 
 ghost use Rattle.std.specs.Prelude.{◌≡◌, ℕ, ◌+◌, ◌^◌, ◌<◌, length, count_by, is_some, Option, None, IsTrue};
-ghost use Rattle.tsd_model.specs.Geometry.{IsLawful};
 ghost use Rattle.tsd_model.specs.Pairs.{holds};
 ghost use Rattle.tsd_model.specs.Step.{targets_from};
-ghost use Rattle.pointer_table.specs.Indexed.{IsIndex, HasRoom};
-ghost use Rattle.pointer_table.specs.Order.{AreSmall, IsOrder};
+ghost use Rattle.pointer_table.specs.Indexed.{IsIndex};
 ghost use Rattle.pointer_table.specs.Raw.{slots_in};
 ghost use Rattle.pointer_table.specs.Slots.{slot_at, pairs_in};
-ghost use Rattle.pointer_table.specs.Table.{IsTable};
 
 use crate::index::Index;
-use crate::order::pair_at;
 use crate::raw::RawSlot;
+use tsd_model::BlockList;
 use tsd_model::lists::BLOCKS_MAX;
-use tsd_model::{BlockList, Geometry};
 
 /// How many slots hold a pair.
 pub(crate) fn count_held(slots: &[RawSlot]) -> u32
@@ -40,23 +36,4 @@ pub(crate) fn targets_from(slots: &[RawSlot], index: &Index, source: u32, start:
         from = target + 1;
     }
     targets
-}
-
-/// Threads the slots of a table, from the last pair of the order to the first.
-pub(crate) fn thread(geometry: &Geometry, slots: &[RawSlot], order: &[u32], index: &mut Index)
-    requires table { IsTable (record { geometry = geometry.now; slots = slots_in slots.now }) }
-    requires order { IsOrder (slots_in slots.now) order.now }
-    requires none { IsIndex (λ k. None) index.old }
-    requires room { HasRoom geometry.now.blocks geometry.now.slots index.old }
-    ensures index { IsIndex (slot_at (slots_in slots.now)) index.new }
-    ensures room { HasRoom geometry.now.blocks geometry.now.slots index.new }
-{
-    let mut left = order.len();
-    while left > 0 {
-        left -= 1;
-        let place = order[left];
-        if let Some((source, target)) = pair_at(slots, place) {
-            index.add_first(place, source, target);
-        }
-    }
 }

@@ -9,8 +9,6 @@ ghost use Rattle.tsd_model.specs.Step.{targets_from};
 ghost use Rattle.pointer_table.specs.Changes.{IsChange, IsSlotSector, KeepsStored};
 ghost use Rattle.pointer_table.specs.Loading.{IsLoading};
 ghost use Rattle.tsd_model.specs.Next.{IsNextSource, IsNextTarget};
-ghost use Rattle.pointer_table.specs.Indexed.{IsIndex, HasRoom};
-ghost use Rattle.pointer_table.specs.Order.{AreNumbers};
 ghost use Rattle.pointer_table.specs.Raw.{slots_in};
 ghost use Rattle.pointer_table.specs.Reading.{AreWithinTo};
 ghost use Rattle.pointer_table.specs.Repeating.{IsRepeating};
@@ -21,8 +19,7 @@ ghost use Rattle.pointer_table.specs.Table.{pairs, IsWithin, IsTable, ArePairs};
 use crate::fault::{NoPointer, TableFault, TableFull};
 use crate::index::Index;
 use crate::load::{empty_slots, read_slots};
-use crate::next::{count_held, targets_from, thread};
-use crate::order::{least_repeated, numbers, sort_by_pair};
+use crate::next::{count_held, targets_from};
 use crate::raw::RawSlot;
 use crate::sector::{PER_SECTOR, sector_bytes};
 use image_device::Device;
@@ -39,16 +36,14 @@ pub struct PointerTable {
     slots: Vec<RawSlot>,
     /// How many slots hold a pair.
     held: u32,
-    /// From as many on as slots hold a pair, the empty slots.
-    empties: Vec<u32>,
-    /// The slots that hold pairs, by source, by target and by pair.
+    /// The slots that hold pairs, by source, by target and by pair, and the empty ones.
     index: Index,
 }
 
 impl Model for PointerTable {
     ghost use Rattle.std.specs.Prelude.{◌≡◌, length};
+    ghost use Rattle.pointer_table.specs.Empties.{AreEmpties};
     ghost use Rattle.pointer_table.specs.Indexed.{IsIndex, HasRoom};
-    ghost use Rattle.pointer_table.specs.Order.{AreEmpties};
     ghost use Rattle.pointer_table.specs.Raw.{slots_in};
     ghost use Rattle.pointer_table.specs.Slots.{slot_at};
     ghost use Rattle.pointer_table.specs.Table.{Table, pairs, IsTable};
@@ -60,7 +55,7 @@ impl Model for PointerTable {
     ghost invariant = { λ t.
         IsTable (record { geometry = t.geometry; slots = slots_in t.slots.items })
         × (t.held ≡ length (pairs (record { geometry = t.geometry; slots = slots_in t.slots.items })))
-        × AreEmpties (slots_in t.slots.items) t.held t.empties.items
+        × AreEmpties (slots_in t.slots.items) t.held t.index.empty t.index.by_bucket.next.items
         × IsIndex (slot_at (slots_in t.slots.items)) t.index
         × HasRoom t.geometry.blocks t.geometry.slots t.index };
 }
@@ -84,10 +79,8 @@ impl PointerTable {
         ensures cause { IsErrOf result TableFault.Device → Rose (D.view dev.old).faults (D.view dev.new).faults }
     {
         let mut slots = empty_slots(alloc, geometry)?;
-        let order = numbers(alloc, geometry.slots)?;
-        let index = Index::none(alloc, geometry)?;
         read_slots(dev, geometry, &mut slots)?;
-        PointerTable::of_slots(geometry, slots, order, index)
+        PointerTable::of_slots(alloc, geometry, slots)
     }
 
     /// The size of the disk.
@@ -189,31 +182,22 @@ impl PointerTable {
 
     /// The table of slots that were read, of which none is bad.
     fn of_slots(
+        alloc: Global,
         geometry: &Geometry,
         slots: Vec<RawSlot>,
-        mut order: Vec<u32>,
-        mut index: Index,
     ) -> Result<PointerTable, TableFault>
         requires lawful { IsLawful geometry.now }
         requires count { length slots.items ≡ geometry.now.slots }
         requires within { AreWithinTo geometry.now geometry.now.slots (slots_in slots.items) }
-        requires numbers { AreNumbers geometry.now.slots order.items }
-        requires index { IsIndex (λ k. None) index }
-        requires room { HasRoom geometry.now.blocks geometry.now.slots index }
         ensures table { IfOk result (λ t. (t.geometry ≡ geometry.now) × (t.slots ≡ slots_in slots.items)) }
         ensures repeated { IsRepeating (slots_in slots.items) result }
     {
-        sort_by_pair(&slots, &mut order);
-        if let Some((source, target)) = least_repeated(&slots, &order) {
-            return Err(TableFault::Repeated { source, target });
-        }
+        let index = Index::of(alloc, geometry, &slots)?;
         let held = count_held(&slots);
-        thread(geometry, &slots, &order, &mut index);
         Ok(PointerTable {
             geometry: *geometry,
             slots,
             held,
-            empties: order,
             index,
         })
     }
@@ -228,7 +212,7 @@ impl PointerTable {
         ensures stored { KeepsStored self.old self.new result }
         ensures table { IsTable self.new }
     {
-        let place = self.empties[self.held as usize];
+        let place = self.index.take_empty();
         self.index.add(&self.slots, place, source, target);
         self.slots[place as usize] = RawSlot::of(source, target);
         self.held += 1;
@@ -245,8 +229,8 @@ impl PointerTable {
     {
         self.index.remove(&self.slots, place, source, target);
         self.slots[place as usize] = RawSlot::EMPTY;
+        self.index.give_empty(place);
         self.held -= 1;
-        self.empties[self.held as usize] = place;
         self.patch(place as usize)
     }
 

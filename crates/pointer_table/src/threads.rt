@@ -1,6 +1,6 @@
 //! Threads through the slots: of each group of pairs an ascending list, by heads and links.
 
-ghost use Rattle.std.specs.Prelude.{◌≡◌, ℕ, ◌+◌, ◌<◌, ◌≤◌, List, length, slice_set, replicate, Option, Some, None, IfSome, IfOk, IfErr};
+ghost use Rattle.std.specs.Prelude.{◌≡◌, ℕ, ◌+◌, ◌<◌, ◌≤◌, List, length, slice_index_or, slice_set, replicate, Option, Some, None, IfSome, IfOk, IfErr};
 ghost use Rattle.pointer_table.specs.Raw.{slot_in, slots_in};
 ghost use Rattle.pointer_table.specs.Slots.{slot_at};
 ghost use Rattle.pointer_table.specs.Threads.{rank, is_below, group, linked, no_link, after, heads_with, next_with};
@@ -23,7 +23,7 @@ pub(crate) struct Threads {
     /// For each group the slot of its first pair.
     pub heads: Vec<u32>,
 
-    /// For each slot that holds a pair the slot of the next pair of its group.
+    /// For each slot that holds a pair the slot of the next pair of its group. What stands at an empty slot no thread asks.
     pub next: Vec<u32>,
 
     /// For each group the slot that was last added at its end, where that is kept. A wrong one costs time alone.
@@ -199,6 +199,8 @@ impl Threads {
         ensures way { self.new.way ≡ self.old.way }
         ensures groups { length self.new.heads.items ≡ length self.old.heads.items }
         ensures slots { length self.new.next.items ≡ length self.old.next.items }
+        ensures empties { (k : ℕ) → slot_at (slots_in slots.now) k ≡ None → (k ≡ place → ⊥)
+            → slice_index_or self.new.next.items k 0 ≡ slice_index_or self.old.next.items k 0 }
     {
         let of = self.group(source, target);
         let before = self.before(slots, of, rank(source, target), self.end(of));
@@ -216,6 +218,8 @@ impl Threads {
         ensures way { self.new.way ≡ self.old.way }
         ensures groups { length self.new.heads.items ≡ length self.old.heads.items }
         ensures slots { length self.new.next.items ≡ length self.old.next.items }
+        ensures empties { (k : ℕ) → slot_at (slots_in slots.now) k ≡ None
+            → slice_index_or self.new.next.items k 0 ≡ slice_index_or self.old.next.items k 0 }
     {
         let of = self.group(source, target);
         let before = self.before(slots, of, rank(source, target), NO_LINK);
@@ -241,6 +245,16 @@ impl Threads {
         let of = self.group(source, target);
         let link = self.put(of, None, place);
         self.keep_end(of, link, place);
+    }
+
+    /// Sets the link of an empty slot, which is in no thread.
+    pub(crate) fn link_empty(&mut self, place: u32, behind: u32)
+        requires { place < length self.old.next.items }
+        ensures way { self.new.way ≡ self.old.way }
+        ensures heads { self.new.heads.items ≡ self.old.heads.items }
+        ensures next { self.new.next.items ≡ slice_set self.old.next.items place behind }
+    {
+        self.next[place as usize] = behind;
     }
 
     /// The end of a group, where that is kept.

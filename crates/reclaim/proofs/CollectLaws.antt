@@ -12,6 +12,7 @@ use Rattle.block_alloc.specs.LiveMap.{is_live as is_live_in}
 use Rattle.disk_laws.proofs.DoomLaws.{live_below}
 use Rattle.graph_laws.proofs.ToldLaws.{live-world_with}
 use Rattle.graph_laws.specs.Graph.{zeros_in, no_record}
+use Rattle.graph_laws.specs.Steps.{IsLost}
 use Rattle.graph_laws.proofs.LostLaws.{alone_count, count_alone}
 use Rattle.reclaim.specs.Held.{Held}
 use Rattle.reclaim.specs.Tables.{graph_of, AreTables, HaveCounts, HoldsLost, is_uncounted}
@@ -61,23 +62,35 @@ live_told t live b within = live-world_with t.geometry live.live (pairs t) (zero
     ∙ ap (λ s. s && slice_index_or live.live b false) (lt-ltb b t.geometry.blocks within)
 
 -- where the tables tell a graph, they are its lost blocks
+pub uncounted_lost : (t : Table) (live : LiveMap) (counts : Counts) (b : ℕ) → HaveCounts t live counts → b < t.geometry.blocks
+    → is_uncounted live.live counts.counts t.geometry.primaries b ≡ true → IsLost (graph_of t live) b
+uncounted_lost t live counts b have within is =
+    let on = and_parts (nat_le t.geometry.primaries b && is_live_in live.live b) (slice_index counts.counts b == 0) is in
+    let both = and_parts (nat_le t.geometry.primaries b) (is_live_in live.live b) on.0 in record {
+      live = live_told t live b within ∙ both.1;
+      apart = leb-true t.geometry.primaries b both.0;
+      alone = count_alone (pairs t) b (sym (have.each b within) ∙ eqb-true (slice_index counts.counts b) 0 on.1);
+    }
+
+pub lost_within : (t : Table) (live : LiveMap) (b : ℕ) → AreTables t live → IsLost (graph_of t live) b → b < t.geometry.blocks
+lost_within t live b tables lost = subst (λ n. b < n) tables.raw.laid_out.each_block (live_below (graph_of t live).blocks b lost.live)
+
+pub lost_uncounted : (t : Table) (live : LiveMap) (counts : Counts) (b : ℕ) → AreTables t live → HaveCounts t live counts → IsLost (graph_of t live) b
+    → is_uncounted live.live counts.counts t.geometry.primaries b ≡ true
+lost_uncounted t live counts b tables have lost =
+    let within = lost_within t live b tables lost in
+    and_from (nat_le t.geometry.primaries b && is_live_in live.live b) (slice_index counts.counts b == 0)
+    (and_from (nat_le t.geometry.primaries b) (is_live_in live.live b) (le-leb t.geometry.primaries b lost.apart) (sym (live_told t live b within) ∙ lost.live))
+    (eq-eqb (slice_index counts.counts b) 0 (have.each b within ∙ alone_count (pairs t) b lost.alone))
+
 pub collected_lost : (t : Table) (live : LiveMap) (counts : Counts) (h : Held) → AreTables t live → HaveCounts t live counts
     → ((b : ℕ) → has_number h.blocks b ≡ (nat_lt b counts.geometry.blocks && is_uncounted live.live counts.counts t.geometry.primaries b)) → HoldsLost (graph_of t live) h
 collected_lost t live counts h tables have held b = (
   λ is.
       let at = and_parts (nat_lt b counts.geometry.blocks) (is_uncounted live.live counts.counts t.geometry.primaries b) (sym (held b) ∙ is) in
-      let on = and_parts (nat_le t.geometry.primaries b && is_live_in live.live b) (slice_index counts.counts b == 0) at.1 in
-      let both = and_parts (nat_le t.geometry.primaries b) (is_live_in live.live b) on.0 in
-      let within : b < t.geometry.blocks = subst (λ n. b < n) (ap (λ (g : Geometry). g.blocks) have.geometry) (ltb-true b counts.geometry.blocks at.0) in record {
-        live = live_told t live b within ∙ both.1;
-        apart = leb-true t.geometry.primaries b both.0;
-        alone = count_alone (pairs t) b (sym (have.each b within) ∙ eqb-true (slice_index counts.counts b) 0 on.1);
-      },
+      uncounted_lost t live counts b have (subst (λ n. b < n) (ap (λ (g : Geometry). g.blocks) have.geometry) (ltb-true b counts.geometry.blocks at.0)) at.1,
   λ lost.
-      let within : b < t.geometry.blocks = subst (λ n. b < n) tables.raw.laid_out.each_block (live_below (graph_of t live).blocks b lost.live) in
       held b ∙ and_from (nat_lt b counts.geometry.blocks) (is_uncounted live.live counts.counts t.geometry.primaries b)
-      (lt-ltb b counts.geometry.blocks (subst (λ n. b < n) (sym (ap (λ (g : Geometry). g.blocks) have.geometry)) within))
-      (and_from (nat_le t.geometry.primaries b && is_live_in live.live b) (slice_index counts.counts b == 0)
-      (and_from (nat_le t.geometry.primaries b) (is_live_in live.live b) (le-leb t.geometry.primaries b lost.apart) (sym (live_told t live b within) ∙ lost.live))
-      (eq-eqb (slice_index counts.counts b) 0 (have.each b within ∙ alone_count (pairs t) b lost.alone))),
+      (lt-ltb b counts.geometry.blocks (subst (λ n. b < n) (sym (ap (λ (g : Geometry). g.blocks) have.geometry)) (lost_within t live b tables lost)))
+      (lost_uncounted t live counts b tables have lost),
 )

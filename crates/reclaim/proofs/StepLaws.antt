@@ -1,9 +1,9 @@
 -- The step at a block that waits.
-use Rattle.std.proofs.Common.{◌≡◌, ℕ, ◌+◌, ◌<◌, Bool, true, false, cond, ◌==◌, nat_le, List, [], length, refl, sym, ◌∙◌, ap, arith, take, ◌⊎◌, ◌↔◌, inl, inr}
+use Rattle.std.proofs.Common.{◌≡◌, ℕ, ◌+◌, ◌<◌, Bool, true, false, cond, ◌==◌, nat_le, Option, Some, None, List, [], length, refl, sym, ◌∙◌, ap, arith, take, ◌⊎◌, ◌↔◌, inl, inr}
 use Rattle.std.proofs.lemmas.Bool.{eq-eqb, or_right, cases_Bool}
 use Rattle.std.proofs.lemmas.Bool.Decides.{nat_tests}
 use Rattle.std.proofs.lemmas.List.{length-take}
-use Rattle.std.specs.Prelude.{IsTrue}
+use Rattle.std.specs.Prelude.{IsTrue, IfSome, IsNone}
 use Rattle.tsd_model.specs.World.{World, has_number}
 use Rattle.tsd_model.specs.Doomed.{doomed}
 use Rattle.tsd_model.specs.Step.{targets_from}
@@ -33,6 +33,11 @@ popped_lost w old new b holds pop = (holds b).0 (ap (λ xs. has_number xs b) pop
 
 pub some_doomed : (w : World) (old new : Held) (b : ℕ) → IsLaidOut w → HoldsLost w old → IsPopped old new b → doomed w ≡ [] → ⊥
 some_doomed w old new b laid_out holds pop none = lost_none w laid_out.each_block none b (popped_lost w old new b holds pop)
+
+-- where nothing is doomed, no block is found that is lost
+pub found_none : (w : World) (found : Option ℕ) → IsLaidOut w → IfSome found (λ b. IsLost w b) → doomed w ≡ [] → IsNone found
+found_none w None laid_out lost none = refl
+found_none w (Some b) laid_out lost none = absurd (lost_none w laid_out.each_block none b lost)
 
 -- ---- what a step may promise
 

@@ -3,6 +3,7 @@
 ghost use Rattle.std.specs.Prelude.{◌≡◌, ◌⊎◌, true, length, ℕ, ◌&&◌, ◌==◌, not, [], IfSome, IsNone, IsTrue, ◌↔◌};
 ghost use Rattle.tsd_model.specs.World.{has_number};
 ghost use Rattle.tsd_model.specs.Doomed.{doomed};
+ghost use Rattle.graph_laws.specs.Steps.{IsLost};
 ghost use Rattle.reclaim.specs.Stepping.{MayStep, TakesAll, AreKeptBy};
 ghost use Rattle.reclaim.specs.Tables.{graph_of, AreTables, HaveCounts, HoldsLost};
 
@@ -40,14 +41,27 @@ pub fn next_step(
     ensures work { IfSome result (λ s. (b : ℕ) → has_number work.new.blocks b ≡ (has_number work.old.blocks b && not (s.freed && (s.block == b)))) }
 {
     let block = work.pop()?;
-    let all = pointers.targets_from(block, 0);
-    let freed = all.len() <= STEP_TARGETS;
-    if !freed {
+    let step = step_at(pointers, live, block);
+    if !step.freed {
         work.push(block);
     }
-    Some(OutStep {
+    Some(step)
+}
+
+/// The step at a lost block: its first 16 targets, or all where it has no more, and then it is freed.
+pub(crate) fn step_at(pointers: &PointerTable, live: &LiveMap, block: u32) -> OutStep
+    requires tables { AreTables pointers.now live.now }
+    requires lost { IsLost (graph_of pointers.now live.now) block }
+    ensures block { result.block ≡ block }
+    ensures step { MayStep (graph_of pointers.now live.now) result }
+    ensures freed { IsTrue result.freed ↔ TakesAll (graph_of pointers.now live.now) result }
+    ensures wide { (result.freed ≡ true) ⊎ (length result.targets ≡ 16) }
+    ensures kept { AreKeptBy (graph_of pointers.now live.now) result }
+{
+    let all = pointers.targets_from(block, 0);
+    OutStep {
         block,
         targets: first_targets(all.as_slice()),
-        freed,
-    })
+        freed: all.len() <= STEP_TARGETS,
+    }
 }

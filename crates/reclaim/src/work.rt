@@ -97,7 +97,7 @@ impl Work {
 }
 
 /// Whether a block is live, isn't primary, and has count 0. A hidden block is live here.
-fn is_uncounted(counts: &RefCounts, live: &LiveMap, primaries: u32, block: u32) -> bool
+pub(crate) fn is_uncounted(counts: &RefCounts, live: &LiveMap, primaries: u32, block: u32) -> bool
     requires block { block < counts.now.geometry.blocks }
     requires sizes { live.now.geometry ≡ counts.now.geometry }
     ensures { result ≡ is_uncounted live.now.live counts.now.counts primaries block }

@@ -11,7 +11,7 @@ use crate::checks::{are_tables, have_counts};
 use block_alloc::LiveMap;
 use image_device::MemStation;
 use pointer_table::{OutStep, PointerTable};
-use reclaim::{Work, next_step};
+use reclaim::{Guesses, Work, find_step, next_step};
 use ref_counts::RefCounts;
 use std::alloc::Global;
 use std::process::Abort;
@@ -117,6 +117,13 @@ pub fn next(rt: &impl Abort, alloc: Global, disk: &Disk) -> Result<Option<OutSte
     let mut work = Work::new(alloc, size.blocks)?;
     work.collect(&disk.counts, &disk.live, size.primaries);
     Ok(next_step(&disk.pointers, &disk.counts, &disk.live, &mut work))
+}
+
+/// The next step, by guesses.
+pub fn found(rt: &impl Abort, disk: &Disk, guesses: &mut Guesses) -> Result<Option<OutStep>, Fail> {
+    assert!(rt; are_tables(&disk.pointers, &disk.live));
+    assert!(rt; have_counts(&disk.pointers, &disk.live, &disk.counts));
+    Ok(find_step(&disk.pointers, &disk.counts, &disk.live, guesses))
 }
 
 /// Carries a step out.

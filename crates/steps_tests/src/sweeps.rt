@@ -1,5 +1,7 @@
 //! Sweeps by steps, in graphs that were worked by hand and in those of random runs of the plain program.
 
+ghost use Rattle.std.specs.Prelude.{◌≡◌, length};
+
 use crate::checks::{are_tables, have_counts};
 use crate::disk::{Disk, add, carry_out, disk_with, sized};
 use cycle_sweep::{Marks, mark, next_sweep_step};
@@ -10,17 +12,49 @@ use std::process::Abort;
 use std::test::Fail;
 use tsd_model::{Cap, CapList, CapPair, Geometry, Hint, PlaceKind, Request, Shown, lawful};
 
-/// The marks and the next step of a sweep.
-fn marked(rt: &impl Abort, alloc: Global, disk: &Disk) -> Result<(Marks, Option<OutStep>), Fail> {
+/// Marks what is reached, and gives the next step of a sweep.
+fn step_with(
+    rt: &impl Abort,
+    disk: &Disk,
+    blocks: u32,
+    marks: &mut Marks,
+) -> Result<Option<OutStep>, Fail>
+    requires { length marks.old ≡ blocks }
+    ensures { length marks.new ≡ blocks }
+{
     let pointers = &disk.pointers;
     let live = &disk.live;
     assert!(rt; are_tables(pointers, live));
     assert!(rt; have_counts(pointers, live, &disk.counts));
     let size = pointers.geometry();
-    let mut marks = Marks::new(alloc, size.blocks)?;
-    mark(pointers, live, size.primaries, &mut marks);
-    let step = next_sweep_step(pointers, &disk.counts, live, &marks);
+    assert!(rt; size.blocks == blocks);
+    mark(pointers, live, size.primaries, marks);
+    Ok(next_sweep_step(pointers, &disk.counts, live, marks))
+}
+
+/// The marks and the next step of a sweep.
+fn marked(rt: &impl Abort, alloc: Global, disk: &Disk) -> Result<(Marks, Option<OutStep>), Fail> {
+    let blocks = disk.pointers.geometry().blocks;
+    let mut marks = Marks::new(alloc, blocks)?;
+    let step = step_with(rt, disk, blocks, &mut marks)?;
     Ok((marks, step))
+}
+
+/// The block of the next step of a sweep that keeps its marks, and whether it is freed; the step is carried out.
+fn next_with(
+    rt: &impl Abort,
+    disk: &mut Disk,
+    blocks: u32,
+    marks: &mut Marks,
+) -> Result<Option<(u32, bool)>, Fail>
+    requires { length marks.old ≡ blocks }
+    ensures { length marks.new ≡ blocks }
+{
+    let Some(step) = step_with(rt, disk, blocks, marks)? else {
+        return Ok(None);
+    };
+    carry_out(rt, disk, &step)?;
+    Ok(Some((step.block, step.freed)))
 }
 
 /// Whether a block of the disk is live in the bitmap.
@@ -121,6 +155,21 @@ fn a_fan_goes_in_steps_of_sixteen(rt: HostRuntime) -> Result<(), Fail> {
     assert_eq!(rt; next(&rt, alloc, &mut disk)?, Some((3, 1, Some(2), true)));
     assert_eq!(rt; sweep(&rt, alloc, &mut disk, [0].as_slice())?, 33);
     assert_eq!(rt; (disk.live.free_count(), disk.pointers.len()), (39, 0));
+    Ok(())
+}
+
+#[test]
+fn a_search_goes_round_from_the_last_step(rt: HostRuntime) -> Result<(), Fail> {
+    let alloc = rt.alloc();
+    let mut disk = disk_with(&rt, alloc, 8, 5, [(2, 3), (3, 2)].as_slice())?;
+    let mut marks = Marks::new(alloc, 8)?;
+    let kept = &mut marks;
+    assert_eq!(rt; next_with(&rt, &mut disk, 8, kept)?, Some((1, true)));
+    assert_eq!(rt; next_with(&rt, &mut disk, 8, kept)?, Some((2, false)));
+    assert_eq!(rt; next_with(&rt, &mut disk, 8, kept)?, Some((3, true)));
+    assert_eq!(rt; next_with(&rt, &mut disk, 8, kept)?, Some((4, true)));
+    assert_eq!(rt; next_with(&rt, &mut disk, 8, kept)?, Some((2, true)));
+    assert_eq!(rt; next_with(&rt, &mut disk, 8, kept)?, None);
     Ok(())
 }
 

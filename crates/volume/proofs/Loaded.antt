@@ -81,9 +81,9 @@ none_hidden m k same none b = ap (λ bits. is_live bits b) same ∙ sym (ap (λ 
     and_true true = refl
     and_true false = refl
 
-pub parts_fit : (h : Header) (t : ImageTables) (s : Bool) (room : ℕ) (marks : List Bool) (k : Kept) → DoFit h t → room ≡ h.geometry.blocks → marks ≡ replicate h.geometry.blocks false → k ≡ record { counts = replicate h.geometry.blocks 0; gone = replicate h.geometry.blocks false; doomed = 0; pairs = 0 }
-    → AreParts h t.pointers t.counts t.live t.caps s (room, length marks) k false
-parts_fit h t s room marks k fit waits marked new =
+pub parts_fit : (h : Header) (t : ImageTables) (s : Bool) (marks : List Bool) (k : Kept) → DoFit h t → marks ≡ replicate h.geometry.blocks false → k ≡ record { counts = replicate h.geometry.blocks 0; gone = replicate h.geometry.blocks false; doomed = 0; pairs = 0 }
+    → AreParts h t.pointers t.counts t.live t.caps s (length marks) k false
+parts_fit h t s marks k fit marked new =
     let none : (b : ℕ) → is_gone k.gone b ≡ false = λ b. ap (λ (q : Kept). is_gone q.gone b) new ∙ none_gone h.geometry.blocks b in
     record {
       pointers = fit.pointers;
@@ -91,7 +91,7 @@ parts_fit h t s room marks k fit waits marked new =
       live = fit.live;
       kept_version = fit.version;
       kept = fit.caps;
-      waits = (waits, ap length marked ∙ length-replicate h.geometry.blocks false);
+      marks_each = ap length marked ∙ length-replicate h.geometry.blocks false;
       sound = fit.sound s;
       counted = ap (λ (q : Kept). length q.counts) new ∙ length-replicate h.geometry.blocks 0;
       hidden = none_hidden t.live k fit.none_hidden none;

@@ -21,7 +21,7 @@ use image_layout::sectors::{SECTOR_BYTES, SWEEP_FLAG};
 use image_layout::{Header, is_open};
 use image_tables::load_tables;
 use intent_journal::{Batch, Ring};
-use reclaim::{Ahead, Work};
+use reclaim::{Ahead, Guesses};
 use std::alloc::Global;
 
 /// Whether a sweep has begun and not ended.
@@ -68,7 +68,7 @@ impl Volume {
         let tables = load_tables(alloc, dev, header)?;
         let is_sweeping = read_flag(dev)?;
         let batch = Batch::new(alloc)?;
-        let work = Work::new(alloc, header.geometry.blocks)?;
+        let guesses = Guesses::new(alloc)?;
         let marks = Marks::new(alloc, header.geometry.blocks)?;
         let ahead = Ahead::new(alloc, header.geometry.blocks)?;
         Ok(Volume {
@@ -79,7 +79,7 @@ impl Volume {
             counts: tables.counts,
             live: tables.live,
             caps: tables.caps,
-            work,
+            guesses,
             marks,
             ahead,
             is_sweeping,

@@ -15,7 +15,7 @@ ghost use Rattle.volume_laws.specs.Graphs.{IsNext};
 use crate::volume::Volume;
 use image_device::{Device, Failed};
 use pointer_table::OutStep;
-use reclaim::next_step;
+use reclaim::find_step;
 use volume_changes::{note_step, put_step};
 
 /// How many steps of reclamation one call of `settle_some` makes at most.
@@ -114,6 +114,8 @@ impl Volume {
             step,
         );
         note_step(&mut self.ahead, self.is_ready, step);
+        self.guesses
+            .push_uncounted(&self.counts, step.targets.as_slice());
         let outcome = self.ring.commit(dev, &self.batch);
         self.is_spent = outcome.is_err();
         outcome
@@ -190,9 +192,7 @@ impl Volume {
         if self.is_settled() {
             return None;
         }
-        self.work
-            .collect(&self.counts, &self.live, self.header.geometry.primaries);
-        next_step(&self.pointers, &self.counts, &self.live, &mut self.work)
+        find_step(&self.pointers, &self.counts, &self.live, &mut self.guesses)
     }
 
     /// Whether a step is left.

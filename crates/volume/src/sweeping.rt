@@ -214,6 +214,6 @@ impl Volume {
             self.header.geometry.primaries,
             &mut self.marks,
         );
-        next_sweep_step(&self.pointers, &self.counts, &self.live, &self.marks)
+        next_sweep_step(&self.pointers, &self.counts, &self.live, &mut self.marks)
     }
 }

@@ -8,7 +8,7 @@ use cycle_sweep::Marks;
 use image_layout::Header;
 use intent_journal::{Batch, Ring};
 use pointer_table::PointerTable;
-use reclaim::{Ahead, Work};
+use reclaim::{Ahead, Guesses};
 use ref_counts::RefCounts;
 use std::marker::Model;
 
@@ -29,8 +29,8 @@ pub struct Volume {
     pub(crate) live: LiveMap,
     pub(crate) caps: CapStore,
 
-    /// Room for the blocks to which no pair leads. Between calls they don't matter.
-    pub(crate) work: Work,
+    /// Some blocks to which no pair leads, perhaps, so that a step of reclamation needn't look for one.
+    pub(crate) guesses: Guesses,
 
     /// Room for the marks of a sweep. Between calls they don't matter.
     pub(crate) marks: Marks,
@@ -56,7 +56,7 @@ impl Model for Volume {
 
     ghost view = { λ v. record { tables = tables_in v.header v.pointers v.counts v.live v.caps v.is_sweeping; ring = v.ring; is_ready = v.is_ready; is_spent = v.is_spent } };
 
-    ghost invariant = { λ v. AreParts v.header v.pointers v.counts v.live v.caps v.is_sweeping (v.work.room, length v.marks) v.ahead v.is_ready };
+    ghost invariant = { λ v. AreParts v.header v.pointers v.counts v.live v.caps v.is_sweeping (length v.marks) v.ahead v.is_ready };
 }
 
 impl Volume {

@@ -16,7 +16,7 @@ use Rattle.volume_laws.specs.Graphs.{graph_in}
 use Rattle.volume_laws.specs.Volume.{AreParts, tables_in}
 use Rattle.volume_laws.proofs.TableWorlds.{graph_raw}
 
-module _ (h : Header) (p : Pointers) (k : Counts) (l : LiveMap) (s : Store) (is : Bool) (room : ℕ × ℕ) (a : Kept) (ready : Bool) (parts : AreParts h p k l s is room a ready) where
+module _ (h : Header) (p : Pointers) (k : Counts) (l : LiveMap) (s : Store) (is : Bool) (marks : ℕ) (a : Kept) (ready : Bool) (parts : AreParts h p k l s is marks a ready) where
   pub same_graph : graph_in (tables_in h p k l s is) ≡ graph_of p l
   same_graph i = graph (sym parts.pointers i) l.live (pairs p)
 

@@ -1,4 +1,4 @@
-use Rattle.std.proofs.Common.{◌≡◌, ◌≤◌, length, arith}
+use Rattle.std.proofs.Common.{length, arith}
 use Rattle.pointer_table.specs.Raw.{slots_in}
 use Rattle.pointer_table.proofs.IndexLaws.{target_past, target_none, target_some}
 use Rattle.pointer_table.proofs.index.Index.next_target.Goals as goal

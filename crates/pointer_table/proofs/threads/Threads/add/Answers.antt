@@ -1,8 +1,8 @@
-use Rattle.std.proofs.Common.{◌∙◌, arith}
+use Rattle.std.proofs.Common.{length, ◌∙◌}
 use Rattle.pointer_table.specs.Raw.{slots_in}
 use Rattle.pointer_table.specs.Slots.{slot_at}
-use Rattle.pointer_table.specs.Threads.{after}
-use Rattle.pointer_table.proofs.ThreadLaws.{put_fields, heads_as_many, next_as_many_put}
+use Rattle.pointer_table.specs.Threads.{group, after}
+use Rattle.pointer_table.proofs.ThreadLaws.{put_fields, put_others, heads_as_many, next_as_many_put}
 use Rattle.pointer_table.proofs.threads.Threads.add.Goals as goal
 
 pub returns : goal.returns
@@ -23,4 +23,7 @@ returns c =
       groups = heads_as_many t.heads.items u.heads.items of before c.args.place (c.keep_end.ensures.heads ∙ c.put-link.ensures.heads);
       slots = next_as_many_put t.next.items u.next.items c.args.place (after t.heads.items t.next.items of before) before c.args.place
           (c.keep_end.ensures.next ∙ c.put-link.ensures.next);
+      empties =
+          put_others (slot_at (slots_in c.args.slots.now)) (group t.way (length t.heads.items)) of c.rank.result t.next.items u.next.items c.args.place (after t.heads.items t.next.items of before)
+          c.args.place before c.before-before.ensures (c.keep_end.ensures.next ∙ c.put-link.ensures.next);
     }

@@ -1,4 +1,4 @@
-use Rattle.std.proofs.Common.{◌≡◌, ◌<◌, ◌≤◌, ◌∙◌, subst, sym, arith, refl, Option, Some, None}
+use Rattle.std.proofs.Common.{◌∙◌, arith, refl, None}
 use Rattle.pointer_table.specs.Threads.{rank, after}
 use Rattle.pointer_table.proofs.ThreadLaws.{put_fields, heads_as_many, next_as_many_put}
 use Rattle.pointer_table.proofs.threads.Threads.add_first.Goals as goal

@@ -1,7 +1,8 @@
-use Rattle.std.proofs.Common.{◌∙◌}
+use Rattle.std.proofs.Common.{length, ◌∙◌}
 use Rattle.pointer_table.specs.Raw.{slots_in}
 use Rattle.pointer_table.specs.Slots.{slot_at}
-use Rattle.pointer_table.proofs.ThreadLaws.{cut_fields, heads_as_many, next_as_many}
+use Rattle.pointer_table.specs.Threads.{group}
+use Rattle.pointer_table.proofs.ThreadLaws.{cut_fields, cut_others, heads_as_many, next_as_many}
 use Rattle.pointer_table.proofs.threads.Threads.remove.Goals as goal
 
 pub returns : goal.returns
@@ -19,4 +20,7 @@ returns c =
       way = c.keep_end.ensures.way ∙ c.set_after.ensures.way;
       groups = heads_as_many t.heads.items u.heads.items c.group-of.result before c.after-link.result (c.keep_end.ensures.heads ∙ c.set_after.ensures.heads);
       slots = next_as_many t.next.items u.next.items before c.after-link.result (c.keep_end.ensures.next ∙ c.set_after.ensures.next);
+      empties =
+          cut_others (slot_at (slots_in c.args.slots.now)) (group t.way (length t.heads.items)) c.group-of.result c.rank.result t.next.items u.next.items c.after-link.result before
+          c.before-before.ensures (c.keep_end.ensures.next ∙ c.set_after.ensures.next);
     }

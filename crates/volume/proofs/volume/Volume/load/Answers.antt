@@ -26,8 +26,8 @@ returns-in_err-batch-clause-rests g c told =
     let view = g.D.Device.view in
     rests_joined (view c.args.dev.now) (view c.load_tables.new.dev) (view c.read_flag.new.dev) (c.in_ok-tables.ensures.rests told) (c.in_ok-is_sweeping.ensures.rests told)
 
-pub returns-in_err-work-clause-rests : goal.returns-in_err-work-clause-rests
-returns-in_err-work-clause-rests g c told =
+pub returns-in_err-guesses-clause-rests : goal.returns-in_err-guesses-clause-rests
+returns-in_err-guesses-clause-rests g c told =
     let view = g.D.Device.view in
     rests_joined (view c.args.dev.now) (view c.load_tables.new.dev) (view c.read_flag.new.dev) (c.in_ok-tables.ensures.rests told) (c.in_ok-is_sweeping.ensures.rests told)
 
@@ -48,7 +48,7 @@ returns-clause-rests g c told =
 
 pub invariant_of-result : goal.invariant_of-result
 invariant_of-result g c =
-    parts_fit c.args.header.now c.in_ok-tables.tables c.in_ok-is_sweeping.is_sweeping c.in_ok-work.work.room c.in_ok-marks.marks c.in_ok-ahead.ahead c.in_ok-tables.ensures.fit (ap (λ w. w.room) c.in_ok-work.ensures) c.in_ok-marks.ensures c.in_ok-ahead.ensures
+    parts_fit c.args.header.now c.in_ok-tables.tables c.in_ok-is_sweeping.is_sweeping c.in_ok-marks.marks c.in_ok-ahead.ahead c.in_ok-tables.ensures.fit c.in_ok-marks.ensures c.in_ok-ahead.ensures
 
 pub returns-clause-read : goal.returns-clause-read
 returns-clause-read g c told =
@@ -72,3 +72,9 @@ returns-clause-at g c told =
 
 pub returns-in_err-ahead-clause-read : goal.returns-in_err-ahead-clause-read
 returns-in_err-ahead-clause-read g c told = let is = err_from_is_err_and c.from_residual-in_err-ahead.result c.from_residual-in_err-ahead.ensures.1 in rw (is.1, is.2) tt
+
+pub returns-in_err-guesses-clause-read : goal.returns-in_err-guesses-clause-read
+returns-in_err-guesses-clause-read g c told = let is = err_from_is_err_and c.from_residual-in_err-guesses.result c.from_residual-in_err-guesses.ensures.1 in rw (is.1, is.2) tt
+
+pub returns-in_err-marks-clause-read : goal.returns-in_err-marks-clause-read
+returns-in_err-marks-clause-read g c told = let is = err_from_is_err_and c.from_residual-in_err-marks.result c.from_residual-in_err-marks.ensures.1 in rw (is.1, is.2) tt

@@ -1,0 +1,5 @@
+pub mod PathLaws
+pub mod NamesLaws
+pub mod AskedLaws
+pub mod SpelledLaws
+pub mod AnswerLaws

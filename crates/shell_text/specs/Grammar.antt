@@ -1,0 +1,62 @@
+-- The lines that spell asks of a file system, said apart from any reading.
+use Rattle.std.specs.Prelude.{◌≡◌, ℕ, ◌≤◌, true, List, [], ◌∷◌, length, codes}
+use Rattle.std.specs.List.{join_with_byte}
+use Rattle.script_text.specs.Grammar.{IsData}
+use Rattle.fs_trees.specs.Names.{Path, is_path}
+use Rattle.fs_trees.specs.declared.ask.ShellAsk.{ShellAsk}
+use Rattle.fs_trees.specs.declared.ask.ShellAsk.TheVariants as ask
+use Rattle.fs_trees.specs.declared.ask.ShellKind.{ShellKind}
+use Rattle.fs_trees.specs.declared.ask.ShellKind.TheVariants.{Inode, Chain}
+
+-- what one word of a line says
+pub data Field : Type 0 where
+  Command : List ℕ → Field
+  Place : Path → Field
+  Bytes : List ℕ → Field
+
+-- a chain's tree has no directories to make, and no copies
+abbrev pub inodes_alone : ShellKind → List Field → List Field
+inodes_alone Inode fs = fs
+inodes_alone Chain fs = []
+
+-- the line of each ask, word by word, and no line for Bad
+abbrev pub fields : ShellKind → ShellAsk → List Field
+fields kind ask.Bad = []
+fields kind ask.Make = Command (codes "mkfs") ∷ []
+fields kind (ask.Put path bytes) = Command (codes "put") ∷ Place path ∷ Bytes bytes ∷ []
+fields kind (ask.Append path bytes) = Command (codes "append") ∷ Place path ∷ Bytes bytes ∷ []
+fields kind (ask.Cat path) = Command (codes "cat") ∷ Place path ∷ []
+fields kind (ask.Ls path) = Command (codes "ls") ∷ Place path ∷ []
+fields kind (ask.MakeDir path) = inodes_alone kind (Command (codes "mkdir") ∷ Place path ∷ [])
+fields kind (ask.Rm path) = Command (codes "rm") ∷ Place path ∷ []
+fields kind (ask.Copy path new) = inodes_alone kind (Command (codes "cp") ∷ Place path ∷ Place new ∷ [])
+fields kind ask.Df = Command (codes "df") ∷ []
+
+-- a slash, and the names with a slash between each two
+abbrev pub path_text : Path → List ℕ
+path_text path = 47 ∷ join_with_byte 47 path
+
+-- at most 16 names, each of them one
+abbrev pub IsPathWord : List ℕ → Path → Type 0
+IsPathWord w path = (is_path path ≡ true) × (w ≡ path_text path)
+
+-- the word spells this
+abbrev pub IsField : Field → List ℕ → Type 0
+IsField (Command name) w = w ≡ name
+IsField (Place path) w = IsPathWord w path
+IsField (Bytes bytes) w = IsData w bytes
+
+-- the words spell these, one each
+abbrev pub AreFields : List Field → List (List ℕ) → Type 0
+AreFields [] [] = Unit {0}
+AreFields [] (w ∷ ws) = ⊥
+AreFields (f ∷ fs) [] = ⊥
+AreFields (f ∷ fs) (w ∷ ws) = IsField f w × AreFields fs ws
+
+-- The line spells the ask: its words are parted by one space each, and there is at least one.
+pub record IsShellLine (kind : ShellKind) (line : List ℕ) (a : ShellAsk) : Type 0 where
+  pub short : length line ≤ 8400
+  pub words : List (List ℕ)
+  pub some : 1 ≤ length words
+  pub spelled : AreFields (fields kind a) words
+  pub parted : line ≡ join_with_byte 32 words
