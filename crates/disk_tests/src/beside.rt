@@ -194,7 +194,37 @@ fn turns<D: Device>(
     Ok(true)
 }
 
-/// Opens the disk, begins sessions, asks both for random things, and may close the disk. False where the device failed.
+/// Closes the disk. False where the device failed.
+fn is_closed<D: Device>(core: &mut Core, dev: &mut D) -> bool
+    requires ready { IsReady core.old }
+    requires at { D.told → IsAt core.old (D.view dev.old) }
+{
+    core.close(dev).is_ok()
+}
+
+/// Begins sessions, asks both for random things, and may close the disk. False where the device failed.
+fn run_open<D: Device>(
+    rt: &impl Abort,
+    alloc: Global,
+    core: &mut Core,
+    dev: &mut D,
+    place: &Placement,
+    plain: &mut Plain,
+    length: Length,
+) -> Result<bool, Fail>
+    requires ready { IsReady core.old }
+    requires at { D.told → IsAt core.old (D.view dev.old) }
+{
+    if !begin(rt, alloc, core, dev, place, plain, length.sessions)? {
+        return Ok(false);
+    }
+    if !turns(rt, alloc, core, dev, place, plain, length.turns)? {
+        return Ok(false);
+    }
+    Ok(draw(&mut plain.seed, 2) == 0 || is_closed(core, dev))
+}
+
+/// Opens the disk, and runs over it. False where the device failed.
 fn run<D: Device>(
     rt: &impl Abort,
     alloc: Global,
@@ -204,21 +234,11 @@ fn run<D: Device>(
     length: Length,
 ) -> Result<bool, Fail> {
     plain.sessions = Sessions::none(alloc);
-    let mut core = match opened(alloc, dev) {
-        Ok(core) => core,
-        Err(OpenFault::Device) => return Ok(false),
-        Err(fault) => return Err(Fail::from(fault)),
-    };
-    if !begin(rt, alloc, &mut core, dev, place, plain, length.sessions)? {
-        return Ok(false);
+    match opened(alloc, dev) {
+        Ok(mut core) => run_open(rt, alloc, &mut core, dev, place, plain, length),
+        Err(OpenFault::Device) => Ok(false),
+        Err(fault) => Err(Fail::from(fault)),
     }
-    if !turns(rt, alloc, &mut core, dev, place, plain, length.turns)? {
-        return Ok(false);
-    }
-    if draw(&mut plain.seed, 2) == 0 {
-        return Ok(core.close(dev).is_ok());
-    }
-    Ok(true)
 }
 
 /// A run with all sessions.
