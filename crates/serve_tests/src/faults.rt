@@ -1,7 +1,7 @@
 //! Faults of the outside, and when replies go out.
 
 use crate::outside::{Counting, Drip, Looking};
-use crate::spelled::{NEVER, run, spelled, words};
+use crate::spelled::{NEVER, WHOLE, run, run_over, spelled, words};
 use image_device::{MemSource, MemStation};
 use place_policy::PlaceBook;
 use std::alloc::Global;
@@ -57,5 +57,45 @@ pub fn replies_before_takes(rt: &impl Abort, alloc: Global, book: &PlaceBook) ->
     assert_eq!(rt; status, Status::Done);
     assert_eq!(rt; port.inner.sent(), output.as_slice());
     assert_eq!(rt; source.seen(), [0, 3, 6, 21, 37].as_slice());
+    Ok(())
+}
+
+/// More calls than the runs make.
+const CALLS_MAX: u64 = 10_000;
+
+/// A write to a disk that is there, each of whose calls fails once: the first write that fails leaves what was answered before,
+/// and the first put that fails leaves nothing.
+pub fn failing_calls(rt: &impl Abort, alloc: Global, book: &PlaceBook) -> Result<(), Fail> {
+    let (mut is_put, mut is_written) = (false, false);
+    for call in 0..CALLS_MAX {
+        let mut port = MemStation::new(alloc, vec![in alloc; call]?);
+        let made = run_over(
+            alloc,
+            book,
+            ("fresh 8 1 R W near", ""),
+            WHOLE,
+            NEVER,
+            &mut port,
+        )?;
+        let before = port.write_calls();
+        if made == Status::Done {
+            let texts = ("run near", "open 1/write 1 0 W 01/");
+            let status = run_over(alloc, book, texts, WHOLE, NEVER, &mut port)?;
+            if status == Status::Done {
+                assert!(rt; is_put && is_written);
+                return Ok(());
+            }
+            if status == Status::PutFault && !is_put {
+                is_put = true;
+                assert!(rt; port.sent().is_empty());
+            }
+            if port.write_calls() != before && !is_written {
+                is_written = true;
+                assert_eq!(rt; status, Status::DeviceFault);
+                assert_eq!(rt; port.sent(), b"ok\n".as_slice());
+            }
+        }
+    }
+    assert!(rt; false, "it is never done");
     Ok(())
 }

@@ -7,8 +7,6 @@
 #[cfg(test)]
 mod faults;
 #[cfg(test)]
-mod images;
-#[cfg(test)]
 mod loops;
 #[cfg(test)]
 mod outside;
@@ -16,6 +14,10 @@ mod outside;
 mod runs;
 #[cfg(test)]
 mod spelled;
+#[cfg(test)]
+mod stops;
+#[cfg(test)]
+mod stories;
 #[cfg(test)]
 mod texts;
 #[cfg(test)]

@@ -10,7 +10,7 @@ use std::test::Fail;
 use tsd_serve::Status;
 
 /// Words, input and output.
-const RUNS: [(&str, &str, &str); 20] = [
+const RUNS: [(&str, &str, &str); 22] = [
     ("fresh 8 1 R W near", "", ""),
     ("fresh 8 1 R W near", "open 1/read 1 0 R/", "ok/data -/"),
     (
@@ -97,6 +97,16 @@ const RUNS: [(&str, &str, &str); 20] = [
         "fresh 600 1 R W zone",
         "open 1/alloc 1 0 W 512 32/alloc 1 0 W 512 32/alloc 1 0 W 512 32/contig 1 0 W 512 32/",
         "ok/blocks 512 513 514 515 516 517 518 519 520 521 522 523 524 525 526 527 528 529 530 531 532 533 534 535 536 537 538 539 540 541 542 543/blocks 544 545 546 547 548 549 550 551 552 553 554 555 556 557 558 559 560 561 562 563 564 565 566 567 568 569 570 571 572 573 574 575/blocks 576 577 578 579 580 581 582 583 584 585 586 587 588 589 590 591 592 593 594 595 596 597 598 599 256 257 258 259 260 261 262 263/blocks 264 265 266 267 268 269 270 271 272 273 274 275 276 277 278 279 280 281 282 283 284 285 286 287 288 289 290 291 292 293 294 295/",
+    ),
+    (
+        "fresh 64 1 R W near",
+        "open 1/alloc 1 0 W - 1/alloc 1 1 - - 32/delete 1 0 W 1/free/",
+        "ok/blocks 1/blocks 2 3 4 5 6 7 8 9 10 11 12 13 14 15 16 17 18 19 20 21 22 23 24 25 26 27 28 29 30 31 32 33/gone 33/free 63/",
+    ),
+    (
+        "fresh 64 1 R W near",
+        "open 1/alloc 1 0 W - 1/alloc 1 1 - - 1/alloc 1 2 - - 1/alloc 1 3 - - 1/alloc 1 4 - - 1/alloc 1 5 - - 1/alloc 1 6 - - 1/alloc 1 7 - - 1/alloc 1 8 - - 1/alloc 1 9 - - 1/alloc 1 10 - - 1/alloc 1 11 - - 1/alloc 1 12 - - 1/alloc 1 13 - - 1/alloc 1 14 - - 1/alloc 1 15 - - 1/alloc 1 16 - - 1/alloc 1 17 - - 1/alloc 1 18 - - 1/alloc 1 19 - - 1/alloc 1 20 - - 1/alloc 1 21 - - 1/alloc 1 22 - - 1/alloc 1 23 - - 1/alloc 1 24 - - 1/alloc 1 25 - - 1/alloc 1 26 - - 1/alloc 1 27 - - 1/alloc 1 28 - - 1/alloc 1 29 - - 1/alloc 1 30 - - 1/alloc 1 31 - - 1/alloc 1 32 - - 1/alloc 1 33 - - 1/alloc 1 34 - - 1/alloc 1 35 - - 1/alloc 1 36 - - 1/alloc 1 37 - - 1/alloc 1 38 - - 1/alloc 1 39 - - 1/delete 1 0 W 1/free/alloc 1 0 W - 2/",
+        "ok/blocks 1/blocks 2/blocks 3/blocks 4/blocks 5/blocks 6/blocks 7/blocks 8/blocks 9/blocks 10/blocks 11/blocks 12/blocks 13/blocks 14/blocks 15/blocks 16/blocks 17/blocks 18/blocks 19/blocks 20/blocks 21/blocks 22/blocks 23/blocks 24/blocks 25/blocks 26/blocks 27/blocks 28/blocks 29/blocks 30/blocks 31/blocks 32/blocks 33/blocks 34/blocks 35/blocks 36/blocks 37/blocks 38/blocks 39/blocks 40/gone 40/free 63/blocks 1 2/",
     ),
     (
         "fresh 00008 8 R W low",

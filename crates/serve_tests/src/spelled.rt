@@ -1,7 +1,7 @@
 //! Runs over memory, from texts that are easy to read.
 //!
-//! In a text R, W, C and D stand for 32 digits `a`, `b`, `c` and `d`, B for the 1,024 digits of a block of 512 bytes, and a
-//! slash for a line feed.
+//! In a text R, W, C and D stand for 32 digits `a`, `b`, `c` and `d`, B for the 1,024 digits of a block of 512 bytes, Z for
+//! the 64 digits of a seed of zeros, and a slash for a line feed. Input and output of `serve` are in hexadecimal.
 
 ghost use Rattle.std.specs.Prelude.{◌<◌};
 
@@ -30,6 +30,7 @@ pub fn spelled(alloc: Global, text: &str) -> Result<Vec<u8>, AllocError> {
         match *byte {
             b'R' | b'W' | b'C' | b'D' => push_digits(&mut bytes, digit_of(*byte), 32)?,
             b'B' => push_digits(&mut bytes, b'1', 1_024)?,
+            b'Z' => push_digits(&mut bytes, b'0', 64)?,
             b'/' => bytes.push(b'\n')?,
             other => bytes.push(other)?,
         }
@@ -53,8 +54,36 @@ fn digit_of(letter: u8) -> u8 {
     }
 }
 
+/// The bytes that a text in hexadecimal stands for. Spaces in it say nothing.
+pub fn packed(alloc: Global, text: &str) -> Result<Vec<u8>, AllocError> {
+    let mut bytes = Vec::new(alloc);
+    let mut first = None;
+    for digit in spelled(alloc, text)? {
+        match (value_of(digit), first) {
+            (None, _) => {}
+            (Some(value), None) => first = Some(value),
+            (Some(value), Some(high)) => {
+                bytes.push(value.wrapping_add(16_u8.wrapping_mul(high)))?;
+                first = None;
+            }
+        }
+    }
+    Ok(bytes)
+}
+
+fn value_of(digit: u8) -> Option<u8> {
+    match digit {
+        b'0'..=b'9' => Some(digit.wrapping_sub(b'0')),
+        b'a'..=b'f' => Some(digit.wrapping_sub(b'a').wrapping_add(10)),
+        _ => None,
+    }
+}
+
 /// The number of a call that never comes.
 pub const NEVER: u64 = u64::MAX;
+
+/// More bytes than a text stands for.
+pub const WHOLE: usize = 10_000;
 
 /// What a run over memory gives: its status, and what was sent. The take and the call of these numbers fail.
 pub fn run(
@@ -67,24 +96,29 @@ pub fn run(
     requires { 0 < cut }
 {
     let (take, call) = failing;
-    let input = spelled(alloc, texts.1)?;
-    let words = words(alloc, spelled(alloc, texts.0)?.as_slice())?;
-    let mut source = MemSource::new(input, cut, vec![in alloc; take]?);
     let mut port = MemStation::new(alloc, vec![in alloc; call]?);
-    let status = tsd(alloc, &words, &mut source, &mut port, book);
+    let status = run_over(alloc, book, texts, cut, take, &mut port)?;
     let sent = port.sent().to_vec(alloc)?;
     Ok((status, sent))
 }
 
-/// The status of a run over an image that is there.
+/// The status of a run over an image that is there, its input cut into pieces of this size. The take of this number fails.
 pub fn run_over<P: Port>(
     alloc: Global,
     book: &PlaceBook,
     texts: (&str, &str),
+    cut: usize,
+    take: u64,
     port: &mut P,
-) -> Result<Status, Fail> {
-    let input = spelled(alloc, texts.1)?;
+) -> Result<Status, Fail>
+    requires { 0 < cut }
+{
+    let input = if texts.0.starts_with("serve") {
+        packed(alloc, texts.1)?
+    } else {
+        spelled(alloc, texts.1)?
+    };
     let words = words(alloc, spelled(alloc, texts.0)?.as_slice())?;
-    let mut source = MemSource::new(input, 9, Vec::new(alloc));
+    let mut source = MemSource::new(input, cut, vec![in alloc; take]?);
     Ok(tsd(alloc, &words, &mut source, port, book))
 }
