@@ -1,7 +1,8 @@
 //! Faults of the outside, and when replies go out.
 
+use crate::disks::made;
 use crate::outside::{Counting, Drip, Looking};
-use crate::spelled::{NEVER, WHOLE, run, run_over, spelled, words};
+use crate::spelled::{NEVER, run, run_over, spelled, words};
 use image_device::{MemSource, MemStation};
 use place_policy::PlaceBook;
 use std::alloc::Global;
@@ -63,37 +64,27 @@ pub fn replies_before_takes(rt: &impl Abort, alloc: Global, book: &PlaceBook) ->
 /// More calls than the runs make.
 const CALLS_MAX: u64 = 10_000;
 
-/// A write to a disk that is there, each of whose calls fails once: the first write that fails leaves what was answered before,
-/// and the first put that fails leaves nothing.
-pub fn failing_calls(rt: &impl Abort, alloc: Global, book: &PlaceBook) -> Result<(), Fail> {
+/// A write to a disk, of which each call fails in turn. The first put that fails leaves no answer, and the first write that
+/// fails the answer before it.
+pub fn first_failures(rt: &impl Abort, alloc: Global, book: &PlaceBook) -> Result<(), Fail> {
+    let saved = made(rt, alloc, book, &[("fresh 8 1 R W near", "")])?;
     let (mut is_put, mut is_written) = (false, false);
     for call in 0..CALLS_MAX {
-        let mut port = MemStation::new(alloc, vec![in alloc; call]?);
-        let made = run_over(
-            alloc,
-            book,
-            ("fresh 8 1 R W near", ""),
-            WHOLE,
-            NEVER,
-            &mut port,
-        )?;
-        let before = port.write_calls();
-        if made == Status::Done {
-            let texts = ("run near", "open 1/write 1 0 W 01/");
-            let status = run_over(alloc, book, texts, WHOLE, NEVER, &mut port)?;
-            if status == Status::Done {
-                assert!(rt; is_put && is_written);
-                return Ok(());
-            }
-            if status == Status::PutFault && !is_put {
-                is_put = true;
-                assert!(rt; port.sent().is_empty());
-            }
-            if port.write_calls() != before && !is_written {
-                is_written = true;
-                assert_eq!(rt; status, Status::DeviceFault);
-                assert_eq!(rt; port.sent(), b"ok\n".as_slice());
-            }
+        let mut port = saved.disk(call)?;
+        let texts = ("run near", "open 1/write 1 0 W 01/");
+        let status = run_over(alloc, book, texts, &mut port)?;
+        if status == Status::Done {
+            assert!(rt; is_put && is_written);
+            return Ok(());
+        }
+        if status == Status::PutFault && !is_put {
+            is_put = true;
+            assert!(rt; port.sent().is_empty());
+        }
+        if port.write_calls() != 0 && !is_written {
+            is_written = true;
+            assert_eq!(rt; status, Status::DeviceFault);
+            assert_eq!(rt; port.sent(), b"ok\n".as_slice());
         }
     }
     assert!(rt; false, "it is never done");

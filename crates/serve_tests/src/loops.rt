@@ -1,9 +1,9 @@
-//! The two loops over a disk that is open, one after the other.
+//! The two loops over a disk that is open.
 
-use crate::spelled::{NEVER, WHOLE, packed, run_over, spelled};
+use crate::spelled::run_over;
 use image_device::{MemSource, MemStation};
 use image_opening::open_core;
-use place_policy::PlaceBook;
+use place_policy::{PlaceBook, Placement};
 use request_frames::FrameCutter;
 use script_text::LineCutter;
 use std::alloc::Global;
@@ -12,55 +12,55 @@ use std::test::Fail;
 use tsd_model::PlaceKind;
 use tsd_serve::{INPUT_MAX, Status, serve_frames, serve_lines};
 
-/// Frames: session 1 is opened, and the free blocks are asked for.
-const FRAMES: &str = "0500 01 01000000 0100 07";
+/// The status of a run over lines, where the image is opened.
+fn lines_over(
+    alloc: Global,
+    place: &Placement,
+    source: &mut MemSource,
+    port: &mut MemStation,
+) -> Result<Status, Status> {
+    let mut core = open_core(alloc, port)?;
+    let mut cutter = LineCutter::new();
+    Ok(serve_lines(&mut core, place, &mut cutter, source, port, INPUT_MAX))
+}
 
-/// The frames of the replies: done, and 7 are free.
-const ANSWERS: &str = "0100 01 0500 04 07000000";
+/// The same over frames. Where there is no memory for a cutter it is Done.
+fn frames_over(
+    alloc: Global,
+    place: &Placement,
+    source: &mut MemSource,
+    port: &mut MemStation,
+) -> Result<Status, Status> {
+    let mut core = open_core(alloc, port)?;
+    match FrameCutter::new(alloc) {
+        Ok(mut cutter) => Ok(serve_frames(&mut core, place, &mut cutter, source, port, INPUT_MAX)),
+        Err(_) => Err(Status::NoMemory),
+    }
+}
 
-/// Lines, and then frames, over one core.
+/// Lines and frames over one disk that is opened for each: session 1 is opened, and the free blocks are asked for.
 pub fn loops(rt: &impl Abort, alloc: Global, book: &PlaceBook) -> Result<(), Fail> {
     let mut port = MemStation::new(alloc, Vec::new(alloc));
-    let status = run_over(
-        alloc,
-        book,
-        ("fresh 8 1 R W near", ""),
-        WHOLE,
-        NEVER,
-        &mut port,
-    )?;
+    let status = run_over(alloc, book, ("fresh 8 1 R W near", ""), &mut port)?;
     assert_eq!(rt; status, Status::Done);
-    match open_core(alloc, &mut port) {
-        Ok(mut core) => {
-            let place = book.pick(PlaceKind::Near);
-            let mut source = MemSource::new(spelled(alloc, "open 2/free/")?, 9, Vec::new(alloc));
-            let mut lines = LineCutter::new();
-            let status = serve_lines(
-                &mut core,
-                place,
-                &mut lines,
-                &mut source,
-                &mut port,
-                INPUT_MAX,
-            );
-            assert_eq!(rt; status, Status::Done);
-            let mut wanted = spelled(alloc, "ok/free 7/")?;
-            assert_eq!(rt; port.sent(), wanted.as_slice());
-            let mut source = MemSource::new(packed(alloc, FRAMES)?, 3, Vec::new(alloc));
-            let mut frames = FrameCutter::new(alloc)?;
-            let status = serve_frames(
-                &mut core,
-                place,
-                &mut frames,
-                &mut source,
-                &mut port,
-                INPUT_MAX,
-            );
-            assert_eq!(rt; status, Status::Done);
-            wanted.extend_from_slice(packed(alloc, ANSWERS)?.as_slice())?;
-            assert_eq!(rt; port.sent(), wanted.as_slice());
-        }
-        Err(_) => assert!(rt; false, "it isn't opened"),
-    }
+    let place = book.pick(PlaceKind::Near);
+    let mut lines = MemSource::new(b"open 1\nfree\n".to_vec(alloc)?, 9, Vec::new(alloc));
+    assert_eq!(rt;
+        lines_over(alloc, place, &mut lines, &mut port),
+        Ok(Status::Done)
+    );
+    let mut frames = MemSource::new(
+        b"\x05\0\x01\x01\0\0\0\x01\0\x07".to_vec(alloc)?,
+        3,
+        Vec::new(alloc),
+    );
+    assert_eq!(rt;
+        frames_over(alloc, place, &mut frames, &mut port),
+        Ok(Status::Done)
+    );
+    assert_eq!(rt;
+        port.sent(),
+        b"ok\nfree 7\n\x01\0\x01\x05\0\x04\x07\0\0\0".as_slice()
+    );
     Ok(())
 }

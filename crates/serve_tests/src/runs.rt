@@ -10,7 +10,7 @@ use std::test::Fail;
 use tsd_serve::Status;
 
 /// Words, input and output.
-const RUNS: [(&str, &str, &str); 22] = [
+const RUNS: [(&str, &str, &str); 24] = [
     ("fresh 8 1 R W near", "", ""),
     ("fresh 8 1 R W near", "open 1/read 1 0 R/", "ok/data -/"),
     (
@@ -103,10 +103,16 @@ const RUNS: [(&str, &str, &str); 22] = [
         "open 1/alloc 1 0 W - 1/alloc 1 1 - - 32/delete 1 0 W 1/free/",
         "ok/blocks 1/blocks 2 3 4 5 6 7 8 9 10 11 12 13 14 15 16 17 18 19 20 21 22 23 24 25 26 27 28 29 30 31 32 33/gone 33/free 63/",
     ),
+    ("fresh 64 1 R W near", "open 1/alloc 1 0 W - 1/L", "ok/K"),
     (
         "fresh 64 1 R W near",
-        "open 1/alloc 1 0 W - 1/alloc 1 1 - - 1/alloc 1 2 - - 1/alloc 1 3 - - 1/alloc 1 4 - - 1/alloc 1 5 - - 1/alloc 1 6 - - 1/alloc 1 7 - - 1/alloc 1 8 - - 1/alloc 1 9 - - 1/alloc 1 10 - - 1/alloc 1 11 - - 1/alloc 1 12 - - 1/alloc 1 13 - - 1/alloc 1 14 - - 1/alloc 1 15 - - 1/alloc 1 16 - - 1/alloc 1 17 - - 1/alloc 1 18 - - 1/alloc 1 19 - - 1/alloc 1 20 - - 1/alloc 1 21 - - 1/alloc 1 22 - - 1/alloc 1 23 - - 1/alloc 1 24 - - 1/alloc 1 25 - - 1/alloc 1 26 - - 1/alloc 1 27 - - 1/alloc 1 28 - - 1/alloc 1 29 - - 1/alloc 1 30 - - 1/alloc 1 31 - - 1/alloc 1 32 - - 1/alloc 1 33 - - 1/alloc 1 34 - - 1/alloc 1 35 - - 1/alloc 1 36 - - 1/alloc 1 37 - - 1/alloc 1 38 - - 1/alloc 1 39 - - 1/delete 1 0 W 1/free/alloc 1 0 W - 2/",
-        "ok/blocks 1/blocks 2/blocks 3/blocks 4/blocks 5/blocks 6/blocks 7/blocks 8/blocks 9/blocks 10/blocks 11/blocks 12/blocks 13/blocks 14/blocks 15/blocks 16/blocks 17/blocks 18/blocks 19/blocks 20/blocks 21/blocks 22/blocks 23/blocks 24/blocks 25/blocks 26/blocks 27/blocks 28/blocks 29/blocks 30/blocks 31/blocks 32/blocks 33/blocks 34/blocks 35/blocks 36/blocks 37/blocks 38/blocks 39/blocks 40/gone 40/free 63/blocks 1 2/",
+        "open 1/alloc 1 0 W - 1/Ldelete 1 0 W 1/free/alloc 1 0 W - 2/",
+        "ok/Kgone 40/free 63/blocks 1 2/",
+    ),
+    (
+        "fresh 8 1 AAAAAAAAAAAAAAAAAAAAAAAAAAAAAAAA W near",
+        "open 1/read 1 0 R/read 1  0 R/read 1 0 R /open 00000000002/open 0000000002",
+        "ok/data -/no bad-request/no bad-request/no bad-request/ok/",
     ),
     (
         "fresh 00008 8 R W low",
@@ -116,7 +122,7 @@ const RUNS: [(&str, &str, &str); 22] = [
 ];
 
 /// Words that are no command. A seed has 64 digits.
-const FAULTY: [&str; 22] = [
+const FAULTY: [&str; 44] = [
     "",
     "fresh",
     "fresh 7 1 R W near",
@@ -132,13 +138,35 @@ const FAULTY: [&str; 22] = [
     "fresh 8 1 R W",
     "fresh 8 1 R W near near",
     "fresher 8 1 R W near",
+    "fresh 8 1 R  near",
+    "fresh 8 1 R W near ",
+    " fresh 8 1 R W near",
+    "fresh 4294967304 1 R W near",
+    "run",
     "run nearer",
+    "run near near",
+    "serve",
+    "serve Zone",
+    "serve near 1",
     "check now",
+    "checks",
     "upgrades",
+    "upgrade 2",
+    "format 64 1 256 2",
     "format 64 1 256 2 RR0",
     "format 64 1 256 17 RR",
+    "format 64 1 0 2 Z",
+    "format 64 1 4194305 2 Z",
+    "format 64 1 256 0 Z",
+    "format 8 1 256 8 Z",
+    "format 64 1 256 2 R",
+    "format 64 1 256 2 Z near",
     "load RR 0 zone",
     "load RR 200001 zone",
+    "load R 1 zone",
+    "load Z 1",
+    "load Z 1 far",
+    "load Z - near",
 ];
 
 /// One run, its input cut into pieces of this size.

@@ -1,7 +1,8 @@
 //! Runs over memory, from texts that are easy to read.
 //!
-//! In a text R, W, C and D stand for 32 digits `a`, `b`, `c` and `d`, B for the 1,024 digits of a block of 512 bytes, Z for
-//! the 64 digits of a seed of zeros, and a slash for a line feed. Input and output of `serve` are in hexadecimal.
+//! In a text R, W, C and D stand for 32 digits `a`, `b`, `c` and `d`, B for the 1,024 digits of a block of 512 bytes, Z for the
+//! 64 digits of a seed of zeros, and a slash for a line feed. L stands for the lines `alloc 1 1 - - 1` to `alloc 1 39 - - 1`,
+//! and K for the lines `blocks 1` to `blocks 40`. What `serve` takes and sends is written in hexadecimal.
 
 ghost use Rattle.std.specs.Prelude.{◌<◌};
 
@@ -31,6 +32,8 @@ pub fn spelled(alloc: Global, text: &str) -> Result<Vec<u8>, AllocError> {
             b'R' | b'W' | b'C' | b'D' => push_digits(&mut bytes, digit_of(*byte), 32)?,
             b'B' => push_digits(&mut bytes, b'1', 1_024)?,
             b'Z' => push_digits(&mut bytes, b'0', 64)?,
+            b'L' => push_numbered(&mut bytes, b"alloc 1 ", b" - - 1\n", 39)?,
+            b'K' => push_numbered(&mut bytes, b"blocks ", b"\n", 40)?,
             b'/' => bytes.push(b'\n')?,
             other => bytes.push(other)?,
         }
@@ -52,6 +55,24 @@ fn digit_of(letter: u8) -> u8 {
         b'C' => b'c',
         _ => b'd',
     }
+}
+
+/// One text for each number from 1 to this one, which is below 100: the number stands between the two parts.
+fn push_numbered(
+    bytes: &mut Vec<u8>,
+    front: &[u8],
+    back: &[u8],
+    last: u8,
+) -> Result<(), AllocError> {
+    for number in 1..=last {
+        bytes.extend_from_slice(front)?;
+        if number > 9 {
+            bytes.push(b'0'.wrapping_add(number / 10))?;
+        }
+        bytes.push(b'0'.wrapping_add(number % 10))?;
+        bytes.extend_from_slice(back)?;
+    }
+    Ok(())
 }
 
 /// The bytes that a text in hexadecimal stands for. Spaces in it say nothing.
@@ -79,6 +100,15 @@ fn value_of(digit: u8) -> Option<u8> {
     }
 }
 
+/// The bytes that a text of a run with these words stands for.
+pub fn bytes_of(alloc: Global, words: &str, text: &str) -> Result<Vec<u8>, AllocError> {
+    if words.starts_with("serve") {
+        packed(alloc, text)
+    } else {
+        spelled(alloc, text)
+    }
+}
+
 /// The number of a call that never comes.
 pub const NEVER: u64 = u64::MAX;
 
@@ -97,13 +127,23 @@ pub fn run(
 {
     let (take, call) = failing;
     let mut port = MemStation::new(alloc, vec![in alloc; call]?);
-    let status = run_over(alloc, book, texts, cut, take, &mut port)?;
+    let status = run_cut(alloc, book, texts, cut, take, &mut port)?;
     let sent = port.sent().to_vec(alloc)?;
     Ok((status, sent))
 }
 
-/// The status of a run over an image that is there, its input cut into pieces of this size. The take of this number fails.
+/// The status of a run over an image that is there.
 pub fn run_over<P: Port>(
+    alloc: Global,
+    book: &PlaceBook,
+    texts: (&str, &str),
+    port: &mut P,
+) -> Result<Status, Fail> {
+    run_cut(alloc, book, texts, 9, NEVER, port)
+}
+
+/// The same, with the input in pieces of this size. The take of this number fails.
+pub fn run_cut<P: Port>(
     alloc: Global,
     book: &PlaceBook,
     texts: (&str, &str),
@@ -113,11 +153,7 @@ pub fn run_over<P: Port>(
 ) -> Result<Status, Fail>
     requires { 0 < cut }
 {
-    let input = if texts.0.starts_with("serve") {
-        packed(alloc, texts.1)?
-    } else {
-        spelled(alloc, texts.1)?
-    };
+    let input = bytes_of(alloc, texts.0, texts.1)?;
     let words = words(alloc, spelled(alloc, texts.0)?.as_slice())?;
     let mut source = MemSource::new(input, cut, vec![in alloc; take]?);
     Ok(tsd(alloc, &words, &mut source, port, book))

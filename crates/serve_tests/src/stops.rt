@@ -1,7 +1,10 @@
-//! Runs that are stopped at each of their calls, and what the disk says then.
+//! Runs that are stopped at each of their calls, or of which each call fails once, and what the disk says then.
+//!
+//! After so many whole answers the disk is as it was after so many requests, or after one more.
 
-use crate::spelled::{NEVER, WHOLE, run_over, spelled};
-use image_device::{Device, FuseStation, MemStation, Pick};
+use crate::disks::made;
+use crate::spelled::{NEVER, run_over, spelled};
+use image_device::{FuseStation, MemStation, Pick};
 use place_policy::PlaceBook;
 use std::alloc::Global;
 use std::process::Abort;
@@ -11,139 +14,204 @@ use tsd_serve::Status;
 /// A run that is stopped.
 #[derive(Clone, Copy)]
 struct Stop {
-    /// Words and input of the run that made the disk.
-    before: (&'static str, &'static str),
+    /// Words and inputs of the runs that make the disk. Where there are none it was never written.
+    before: &'static [(&'static str, &'static str)],
 
     /// Words and input of the run that is stopped.
     run: (&'static str, &'static str),
 
-    /// Where it has sent this, the request in question is answered.
-    sent: &'static str,
+    /// What that run answers, where it isn't stopped.
+    output: &'static str,
 
     /// What is asked of the disk that is left.
     look: &'static str,
 
-    /// What it may say where the request isn't answered, parted by upright strokes.
-    early: &'static str,
-
-    /// What it may say where the request is answered.
-    late: &'static str,
+    /// What it says before the first request, after it, after the second one, and so on. An empty text: it is no image.
+    said: &'static [&'static str],
 }
 
-const STOPS: [Stop; 7] = [
+/// A disk of eight blocks, with nothing on it.
+const SMALL: (&str, &str) = ("fresh 8 1 R W near", "");
+
+/// Short runs. Those that make their disk are an image once it is formatted, which is before the first request.
+const SHORT: [Stop; 5] = [
+    // A block is written.
+    Stop {
+        before: &[],
+        run: (
+            "fresh 8 1 R W near",
+            "open 1/write 1 0 R 6869/read 1 0 R/write 1 0 W 686900/read 1 0 R/",
+        ),
+        output: "ok/no denied read write/data -/ok/data 6869/",
+        look: "open 1/read 1 0 R/",
+        said: &[
+            "",
+            "ok/data -/",
+            "ok/data -/",
+            "ok/data -/",
+            "ok/data 6869/",
+            "ok/data 6869/",
+        ],
+    },
     // A chain of three blocks is reclaimed.
     Stop {
-        before: (
+        before: &[],
+        run: (
             "fresh 8 1 R W near",
-            "open 1/alloc 1 0 W - 1/alloc 1 1 - - 1/alloc 1 2 - - 1/",
+            "open 1/alloc 1 0 W - 1/alloc 1 1 - - 1/alloc 1 2 - - 1/delete 1 0 W 1/free/",
         ),
-        run: ("run near", "open 1/delete 1 0 W 1/"),
-        sent: "ok/gone 3/",
+        output: "ok/blocks 1/blocks 2/blocks 3/gone 3/free 7/",
         look: "free/",
-        early: "free 4/|free 7/",
-        late: "free 7/",
-    },
-    // A block with 32 pointers is reclaimed.
-    Stop {
-        before: (
-            "fresh 64 1 R W near",
-            "open 1/alloc 1 0 W - 1/alloc 1 1 - - 32/",
-        ),
-        run: ("run near", "open 1/delete 1 0 W 1/"),
-        sent: "ok/gone 33/",
-        look: "free/",
-        early: "free 30/|free 63/",
-        late: "free 63/",
+        said: &[
+            "", "free 7/", "free 6/", "free 5/", "free 4/", "free 7/", "free 7/",
+        ],
     },
     // Two blocks that point to each other are swept.
     Stop {
-        before: (
-            "fresh 8 1 R W near",
-            "open 1/alloc 1 0 W - 1/alloc 1 1 - - 1/create 1 2 - 1/delete 1 0 W 1/",
-        ),
-        run: ("run near", "open 1/sweep 1 W/"),
-        sent: "ok/gone 2/",
-        look: "free/",
-        early: "free 5/|free 7/",
-        late: "free 7/",
-    },
-    // A block is written.
-    Stop {
-        before: ("fresh 8 1 R W near", ""),
+        before: &[],
         run: (
-            "run near",
-            "open 1/write 1 0 R 6869/read 1 0 R/write 1 0 W 686900/read 1 0 R/",
+            "fresh 8 1 R W near",
+            "open 1/alloc 1 0 W - 1/alloc 1 1 - - 1/create 1 2 - 1/delete 1 0 W 1/free/sweep 1 R/sweep 1 W/free/",
         ),
-        sent: "ok/no denied read write/data -/ok/",
-        look: "open 1/read 1 0 R/",
-        early: "ok/data -/|ok/data 6869/",
-        late: "ok/data 6869/",
+        output: "ok/blocks 1/blocks 2/ok/gone 0/free 5/no denied read write/gone 2/free 7/",
+        look: "free/",
+        said: &[
+            "", "free 7/", "free 6/", "free 5/", "free 5/", "free 5/", "free 5/", "free 5/",
+            "free 7/", "free 7/",
+        ],
+    },
+    // Capabilities are replaced.
+    Stop {
+        before: &[],
+        run: (
+            "fresh 8 1 R W near",
+            "open 1/open 2/alloc 1 0 W - 1/read 2 0 R/setcap 1 0 W C D/read 2 1 -/alloc 1 1 - - 1/read 2 0 R/read 2 0 C/read 2 1 -/",
+        ),
+        output: "ok/ok/blocks 1/data -/ok/no denied none read/no denied none write/no denied none read/data -/data -/",
+        look: "open 1/read 1 0 R/read 1 0 C/free/",
+        said: &[
+            "",
+            "ok/data -/no denied none read/free 7/",
+            "ok/data -/no denied none read/free 7/",
+            "ok/data -/no denied none read/free 6/",
+            "ok/data -/no denied none read/free 6/",
+            "ok/no denied none read/data -/free 6/",
+            "ok/no denied none read/data -/free 6/",
+            "ok/no denied none read/data -/free 6/",
+            "ok/no denied none read/data -/free 6/",
+            "ok/no denied none read/data -/free 6/",
+            "ok/no denied none read/data -/free 6/",
+        ],
     },
     // A block is written, reclaimed and taken again: then it is zero.
     Stop {
-        before: ("fresh 8 1 R W near", ""),
+        before: &[SMALL],
         run: (
             "run near",
             "open 1/alloc 1 0 W - 1/write 1 1 - 6869/delete 1 0 W 1/alloc 1 0 W - 1/read 1 1 -/",
         ),
-        sent: "ok/blocks 1/ok/gone 1/blocks 1/",
+        output: "ok/blocks 1/ok/gone 1/blocks 1/data -/",
         look: "open 1/read 1 0 R/read 1 1 -/",
-        early: "ok/data -/no free-block/|ok/data -/data -/|ok/data -/data 6869/",
-        late: "ok/data -/data -/",
+        said: &[
+            "ok/data -/no free-block/",
+            "ok/data -/no free-block/",
+            "ok/data -/data -/",
+            "ok/data -/data 6869/",
+            "ok/data -/no free-block/",
+            "ok/data -/data -/",
+            "ok/data -/data -/",
+        ],
     },
-    // An upgrade: each version answers alike.
+];
+
+/// What a disk with the first capabilities answers: alike in both versions of the image.
+const ALIKE: &str = "ok/no denied read write/ok/ok/no denied none read/data 6869/";
+
+/// Runs of many calls.
+const LONG: [Stop; 3] = [
+    // An upgrade.
     Stop {
-        before: ("fresh 8 1 R W near", ""),
+        before: &[SMALL],
         run: ("upgrade", ""),
-        sent: "version 2/",
+        output: "version 2/",
         look: "open 1/write 1 0 R 6869/write 1 0 W 6869/setcap 1 0 W C D/read 1 0 R/read 1 0 C/",
-        early: "ok/no denied read write/ok/ok/no denied none read/data 6869/",
-        late: "ok/no denied read write/ok/ok/no denied none read/data 6869/",
+        said: &[ALIKE, ALIKE],
+    },
+    // A block with 32 pointers is reclaimed.
+    Stop {
+        before: &[],
+        run: (
+            "fresh 64 1 R W near",
+            "open 1/alloc 1 0 W - 1/alloc 1 1 - - 32/delete 1 0 W 1/free/",
+        ),
+        output: "ok/blocks 1/blocks 2 3 4 5 6 7 8 9 10 11 12 13 14 15 16 17 18 19 20 21 22 23 24 25 26 27 28 29 30 31 32 33/gone 33/free 63/",
+        look: "free/",
+        said: &[
+            "", "free 63/", "free 62/", "free 30/", "free 63/", "free 63/",
+        ],
     },
     // A chain of 40 blocks is reclaimed in the background, and two blocks are taken.
     Stop {
-        before: (
-            "fresh 64 1 R W near",
-            "open 1/alloc 1 0 W - 1/alloc 1 1 - - 1/alloc 1 2 - - 1/alloc 1 3 - - 1/alloc 1 4 - - 1/alloc 1 5 - - 1/alloc 1 6 - - 1/alloc 1 7 - - 1/alloc 1 8 - - 1/alloc 1 9 - - 1/alloc 1 10 - - 1/alloc 1 11 - - 1/alloc 1 12 - - 1/alloc 1 13 - - 1/alloc 1 14 - - 1/alloc 1 15 - - 1/alloc 1 16 - - 1/alloc 1 17 - - 1/alloc 1 18 - - 1/alloc 1 19 - - 1/alloc 1 20 - - 1/alloc 1 21 - - 1/alloc 1 22 - - 1/alloc 1 23 - - 1/alloc 1 24 - - 1/alloc 1 25 - - 1/alloc 1 26 - - 1/alloc 1 27 - - 1/alloc 1 28 - - 1/alloc 1 29 - - 1/alloc 1 30 - - 1/alloc 1 31 - - 1/alloc 1 32 - - 1/alloc 1 33 - - 1/alloc 1 34 - - 1/alloc 1 35 - - 1/alloc 1 36 - - 1/alloc 1 37 - - 1/alloc 1 38 - - 1/alloc 1 39 - - 1/",
-        ),
+        before: &[("fresh 64 1 R W near", "open 1/alloc 1 0 W - 1/L")],
         run: ("run near", "open 1/delete 1 0 W 1/free/alloc 1 0 W - 2/"),
-        sent: "ok/gone 40/",
+        output: "ok/gone 40/free 63/blocks 1 2/",
         look: "free/",
-        early: "free 23/|free 63/",
-        late: "free 63/|free 61/",
+        said: &["free 23/", "free 23/", "free 63/", "free 63/", "free 61/"],
     },
 ];
 
 /// More calls than a run makes.
 const CALLS_MAX: u64 = 10_000;
 
-/// More sectors than a disk has.
-const SECTORS_MAX: u32 = 210;
-
-/// How many runs a test stops.
-const SHARE: usize = 3;
-
-/// A share of the runs, each stopped at each of its calls.
-pub fn stops(rt: &impl Abort, alloc: Global, book: &PlaceBook, first: usize) -> Result<(), Fail> {
-    for stop in STOPS.iter().skip(first).take(SHARE) {
-        at_each_call(rt, alloc, book, stop)?;
+/// Short runs, each stopped at each of its calls.
+pub fn short_stops(
+    rt: &impl Abort,
+    alloc: Global,
+    book: &PlaceBook,
+    pick: Pick,
+) -> Result<(), Fail> {
+    for stop in SHORT {
+        stops(rt, alloc, book, &stop, pick)?;
     }
     Ok(())
 }
 
-/// A run over copies of a disk, stopped at each call from the first one until it is done, with one pick after the other.
-fn at_each_call(rt: &impl Abort, alloc: Global, book: &PlaceBook, stop: &Stop) -> Result<(), Fail> {
-    let mut disk = MemStation::new(alloc, Vec::new(alloc));
-    let made = run_over(alloc, book, stop.before, WHOLE, NEVER, &mut disk)?;
-    assert_eq!(rt; made, Status::Done);
+/// Long runs, each stopped at each of its calls.
+pub fn long_stops(
+    rt: &impl Abort,
+    alloc: Global,
+    book: &PlaceBook,
+    pick: Pick,
+) -> Result<(), Fail> {
+    for stop in LONG {
+        stops(rt, alloc, book, &stop, pick)?;
+    }
+    Ok(())
+}
+
+/// Short runs, of which each call fails once, one after the other.
+pub fn failing_calls(rt: &impl Abort, alloc: Global, book: &PlaceBook) -> Result<(), Fail> {
+    for stop in SHORT {
+        fails(rt, alloc, book, &stop)?;
+    }
+    Ok(())
+}
+
+/// A run that is stopped at each call from the first one until it is done.
+fn stops(
+    rt: &impl Abort,
+    alloc: Global,
+    book: &PlaceBook,
+    stop: &Stop,
+    pick: Pick,
+) -> Result<(), Fail> {
+    let saved = made(rt, alloc, book, stop.before)?;
     for passes in 0..CALLS_MAX {
-        let pick = match passes % 3 {
-            0 => Pick::Old,
-            1 => Pick::New,
-            _ => Pick::Torn(1),
-        };
-        let fuse = FuseStation::new(copy_of(alloc, &mut disk)?, passes, pick);
-        if stopped(rt, alloc, book, stop, fuse)? == Status::Done {
+        let mut fuse = FuseStation::new(saved.disk(NEVER)?, passes, pick);
+        let status = run_over(alloc, book, stop.run, &mut fuse)?;
+        let answered = count_answers(rt, alloc, stop, status, fuse.sent())?;
+        ask(rt, alloc, book, stop, answered, &mut fuse.into_image())?;
+        if status == Status::Done {
             return Ok(());
         }
     }
@@ -151,55 +219,61 @@ fn at_each_call(rt: &impl Abort, alloc: Global, book: &PlaceBook, stop: &Stop) -
     Ok(())
 }
 
-/// The status of a run that is stopped. The disk that is left is asked.
-fn stopped(
+/// A run of which each call fails, from the first one until it is done. The device goes on after it.
+fn fails(rt: &impl Abort, alloc: Global, book: &PlaceBook, stop: &Stop) -> Result<(), Fail> {
+    let saved = made(rt, alloc, book, stop.before)?;
+    for call in 0..CALLS_MAX {
+        let mut port = saved.disk(call)?;
+        let status = run_over(alloc, book, stop.run, &mut port)?;
+        let answered = count_answers(rt, alloc, stop, status, port.sent())?;
+        ask(rt, alloc, book, stop, answered, &mut port)?;
+        if status == Status::Done {
+            return Ok(());
+        }
+    }
+    assert!(rt; false, "it is never done");
+    Ok(())
+}
+
+/// How many answers were sent, which are the first ones of the run. It is done where these are all, and else a call failed.
+fn count_answers(
+    rt: &impl Abort,
+    alloc: Global,
+    stop: &Stop,
+    status: Status,
+    sent: &[u8],
+) -> Result<usize, Fail> {
+    let input = stop.run.1;
+    let output = spelled(alloc, stop.output)?;
+    assert!(rt; output.starts_with(sent), "{input}");
+    match status {
+        Status::Done => assert_eq!(rt; output.len(), sent.len()),
+        other => assert!(rt; matches!(other, Status::DeviceFault | Status::PutFault)),
+    }
+    Ok(sent.iter().filter(|byte| **byte == b'\n').count())
+}
+
+/// Asks a disk after so many answers. What it says then is no image, or is done.
+fn ask(
     rt: &impl Abort,
     alloc: Global,
     book: &PlaceBook,
     stop: &Stop,
-    mut fuse: FuseStation,
-) -> Result<Status, Fail> {
-    let status = run_over(alloc, book, stop.run, WHOLE, NEVER, &mut fuse)?;
-    let answered = fuse
-        .sent()
-        .starts_with(spelled(alloc, stop.sent)?.as_slice());
-    let allowed = if answered { stop.late } else { stop.early };
-    let mut left = fuse.into_image();
-    let looked = run_over(
-        alloc,
-        book,
-        ("run near", stop.look),
-        WHOLE,
-        NEVER,
-        &mut left,
-    )?;
-    assert_eq!(rt; looked, Status::Done, "{allowed}");
-    let allows = is_one_of(left.sent(), spelled(alloc, allowed)?.as_slice());
-    assert!(rt; allows, "{allowed}");
-    assert!(rt;
-        matches!(
-            status,
-            Status::Done | Status::DeviceFault | Status::PutFault
-        ),
-        "{allowed}"
-    );
-    Ok(status)
-}
-
-/// A disk with the same sectors, which has sent nothing.
-fn copy_of(alloc: Global, disk: &mut MemStation) -> Result<MemStation, Fail> {
-    let mut copy = MemStation::new(alloc, Vec::new(alloc));
-    for sector in 0..SECTORS_MAX {
-        let mut bytes = [0; 512];
-        disk.read(sector, &mut bytes)?;
-        if bytes != [0; 512] {
-            copy.poke(sector, &bytes)?;
-        }
+    answered: usize,
+    left: &mut MemStation,
+) -> Result<(), Fail> {
+    let input = stop.run.1;
+    let before = left.sent().len();
+    let status = run_over(alloc, book, ("run near", stop.look), left)?;
+    let said = left.sent().get(before..).unwrap_or(b"?");
+    let mut allows = false;
+    for text in stop.said.iter().skip(answered).take(2) {
+        allows = allows || spelled(alloc, text)?.as_slice() == said;
     }
-    Ok(copy)
-}
-
-/// Whether it is one of the texts that upright strokes part.
-fn is_one_of(sent: &[u8], texts: &[u8]) -> bool {
-    texts.split(|byte| *byte == b'|').any(|text| text == sent)
+    assert!(rt; allows, "{input} {answered}");
+    match status {
+        Status::Done => assert!(rt; !said.is_empty()),
+        other => assert!(rt; said.is_empty() && matches!(other, Status::NotImage(_))),
+    }
+    Ok(())
 }

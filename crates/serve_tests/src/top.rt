@@ -4,12 +4,14 @@ ghost use Rattle.std.specs.Prelude.{◌≡◌, ◌+◌, ◌*◌, ◌^◌, slice_
 ghost use Rattle.tsd_model.specs.Rank.{rank_of, zones_after};
 ghost use Rattle.tsd_model.specs.declared.requests.PlaceKind.TheVariants.{Low, Near, Spread};
 
-use crate::faults::{failing_calls, faults, one_byte_puts, replies_before_takes};
+use crate::faults::{faults, first_failures, one_byte_puts, replies_before_takes};
+use crate::images::{commands, framed, kept, refused};
 use crate::loops::loops;
 use crate::runs::{all_runs, faulty_words};
 use crate::spelled::WHOLE;
-use crate::stops::stops;
+use crate::stops::{failing_calls, long_stops, short_stops};
 use crate::stories::stories;
+use image_device::Pick;
 use place_policy::{PlaceBook, Placement, ZONE_TURNS, low_rank, near_rank, spread_rank, zone_rank};
 use std::alloc::Global;
 use std::process::Abort;
@@ -21,8 +23,11 @@ use tsd_model::PlaceKind;
 enum Part {
     Runs,
     Faults,
+    Images,
     Stories,
-    Stops(usize),
+    ShortStops(Pick),
+    LongStops(Pick),
+    FailingCalls,
 }
 
 #[test]
@@ -36,23 +41,43 @@ fn faults_of_the_outside(rt: HostRuntime) -> Result<(), Fail> {
 }
 
 #[test]
-fn runs_over_one_disk(rt: HostRuntime) -> Result<(), Fail> {
+fn runs_over_one_image(rt: HostRuntime) -> Result<(), Fail> {
+    over_places(&rt, rt.alloc(), Part::Images)
+}
+
+#[test]
+fn steps_over_one_disk(rt: HostRuntime) -> Result<(), Fail> {
     over_places(&rt, rt.alloc(), Part::Stories)
 }
 
+/// What a stop leaves in the sectors that are loose.
+const PICKS: [Pick; 5] = [
+    Pick::Old,
+    Pick::New,
+    Pick::Torn(0),
+    Pick::Torn(1),
+    Pick::Torn(255),
+];
+
 #[test]
-fn reclamation_that_is_stopped(rt: HostRuntime) -> Result<(), Fail> {
-    over_places(&rt, rt.alloc(), Part::Stops(0))
+fn short_runs_that_are_stopped(rt: HostRuntime) -> Result<(), Fail> {
+    for pick in PICKS {
+        over_places(&rt, rt.alloc(), Part::ShortStops(pick))?;
+    }
+    Ok(())
 }
 
 #[test]
-fn writes_that_are_stopped(rt: HostRuntime) -> Result<(), Fail> {
-    over_places(&rt, rt.alloc(), Part::Stops(3))
+fn long_runs_that_are_stopped(rt: HostRuntime) -> Result<(), Fail> {
+    for pick in PICKS {
+        over_places(&rt, rt.alloc(), Part::LongStops(pick))?;
+    }
+    Ok(())
 }
 
 #[test]
-fn reclamation_in_the_background_that_is_stopped(rt: HostRuntime) -> Result<(), Fail> {
-    over_places(&rt, rt.alloc(), Part::Stops(6))
+fn runs_of_which_a_call_fails(rt: HostRuntime) -> Result<(), Fail> {
+    over_places(&rt, rt.alloc(), Part::FailingCalls)
 }
 
 /// One part, over the four placements.
@@ -88,22 +113,34 @@ fn over_places(rt: &impl Abort, alloc: Global, part: Part) -> Result<(), Fail> {
         Placement::new(PlaceKind::Spread, spread),
         Placement::new(PlaceKind::Zone, zone),
     );
+    run_part(rt, alloc, &book, part)
+}
+
+fn run_part(rt: &impl Abort, alloc: Global, book: &PlaceBook, part: Part) -> Result<(), Fail> {
     match part {
         Part::Runs => {
-            all_runs(rt, alloc, &book)?;
-            faulty_words(rt, alloc, &book)
+            all_runs(rt, alloc, book)?;
+            faulty_words(rt, alloc, book)
         }
         Part::Faults => {
-            faults(rt, alloc, &book)?;
-            one_byte_puts(rt, alloc, &book)?;
-            replies_before_takes(rt, alloc, &book)?;
-            failing_calls(rt, alloc, &book)
+            faults(rt, alloc, book)?;
+            one_byte_puts(rt, alloc, book)?;
+            replies_before_takes(rt, alloc, book)?;
+            first_failures(rt, alloc, book)
+        }
+        Part::Images => {
+            kept(rt, alloc, book)?;
+            refused(rt, alloc, book)?;
+            framed(rt, alloc, book)?;
+            commands(rt, alloc, book)?;
+            loops(rt, alloc, book)
         }
         Part::Stories => {
-            stories(rt, alloc, &book, 1)?;
-            stories(rt, alloc, &book, WHOLE)?;
-            loops(rt, alloc, &book)
+            stories(rt, alloc, book, 1)?;
+            stories(rt, alloc, book, WHOLE)
         }
-        Part::Stops(first) => stops(rt, alloc, &book, first),
+        Part::ShortStops(pick) => short_stops(rt, alloc, book, pick),
+        Part::LongStops(pick) => long_stops(rt, alloc, book, pick),
+        Part::FailingCalls => failing_calls(rt, alloc, book),
     }
 }
