@@ -33,8 +33,11 @@ struct Stop {
 /// A disk of eight blocks, with nothing on it.
 const SMALL: (&str, &str) = ("fresh 8 1 R W near", "");
 
-/// Short runs. Those that make their disk are an image once it is formatted, which is before the first request.
-const SHORT: [Stop; 5] = [
+/// What a disk with the first capabilities answers: alike in both versions of the image.
+const ALIKE: &str = "ok/no denied read write/ok/ok/no denied none read/data 6869/";
+
+/// A disk that its run makes is an image once it is formatted, which is before the first answer.
+const STOPS: [Stop; 10] = [
     // A block is written.
     Stop {
         before: &[],
@@ -51,6 +54,24 @@ const SHORT: [Stop; 5] = [
             "ok/data -/",
             "ok/data 6869/",
             "ok/data 6869/",
+        ],
+    },
+    // Blocks are taken, but not more than are free.
+    Stop {
+        before: &[],
+        run: (
+            "fresh 8 1 R W near",
+            "open 1/alloc 1 0 W - 3/free/alloc 1 0 W - 5/free/",
+        ),
+        output: "ok/blocks 1 2 3/free 4/no full 4 5/free 4/",
+        look: "free/open 1/list 1 0 R 0/",
+        said: &[
+            "",
+            "free 7/ok/list -/",
+            "free 4/ok/list 1 2 3/",
+            "free 4/ok/list 1 2 3/",
+            "free 4/ok/list 1 2 3/",
+            "free 4/ok/list 1 2 3/",
         ],
     },
     // A chain of three blocks is reclaimed.
@@ -122,13 +143,29 @@ const SHORT: [Stop; 5] = [
             "ok/data -/data -/",
         ],
     },
-];
-
-/// What a disk with the first capabilities answers: alike in both versions of the image.
-const ALIKE: &str = "ok/no denied read write/ok/ok/no denied none read/data 6869/";
-
-/// Runs of many calls.
-const LONG: [Stop; 3] = [
+    // Nine times a block is written: before the ninth the ring is emptied.
+    Stop {
+        before: &[SMALL],
+        run: (
+            "run near",
+            "open 1/write 1 0 W 01/write 1 0 W 02/write 1 0 W 03/write 1 0 W 04/write 1 0 W 05/write 1 0 W 06/write 1 0 W 07/write 1 0 W 08/write 1 0 W 09/",
+        ),
+        output: "ok/ok/ok/ok/ok/ok/ok/ok/ok/ok/",
+        look: "open 1/read 1 0 R/",
+        said: &[
+            "ok/data -/",
+            "ok/data -/",
+            "ok/data 01/",
+            "ok/data 02/",
+            "ok/data 03/",
+            "ok/data 04/",
+            "ok/data 05/",
+            "ok/data 06/",
+            "ok/data 07/",
+            "ok/data 08/",
+            "ok/data 09/",
+        ],
+    },
     // An upgrade.
     Stop {
         before: &[SMALL],
@@ -163,35 +200,17 @@ const LONG: [Stop; 3] = [
 /// More calls than a run makes.
 const CALLS_MAX: u64 = 10_000;
 
-/// Short runs, each stopped at each of its calls.
-pub fn short_stops(
-    rt: &impl Abort,
-    alloc: Global,
-    book: &PlaceBook,
-    pick: Pick,
-) -> Result<(), Fail> {
-    for stop in SHORT {
+/// Each run, stopped at each of its calls.
+pub fn all_stops(rt: &impl Abort, alloc: Global, book: &PlaceBook, pick: Pick) -> Result<(), Fail> {
+    for stop in STOPS {
         stops(rt, alloc, book, &stop, pick)?;
     }
     Ok(())
 }
 
-/// Long runs, each stopped at each of its calls.
-pub fn long_stops(
-    rt: &impl Abort,
-    alloc: Global,
-    book: &PlaceBook,
-    pick: Pick,
-) -> Result<(), Fail> {
-    for stop in LONG {
-        stops(rt, alloc, book, &stop, pick)?;
-    }
-    Ok(())
-}
-
-/// Short runs, of which each call fails once, one after the other.
+/// Each run, of which each call fails once, one after the other.
 pub fn failing_calls(rt: &impl Abort, alloc: Global, book: &PlaceBook) -> Result<(), Fail> {
-    for stop in SHORT {
+    for stop in STOPS {
         fails(rt, alloc, book, &stop)?;
     }
     Ok(())
@@ -226,10 +245,10 @@ fn fails(rt: &impl Abort, alloc: Global, book: &PlaceBook, stop: &Stop) -> Resul
         let mut port = saved.disk(call)?;
         let status = run_over(alloc, book, stop.run, &mut port)?;
         let answered = count_answers(rt, alloc, stop, status, port.sent())?;
-        ask(rt, alloc, book, stop, answered, &mut port)?;
         if status == Status::Done {
             return Ok(());
         }
+        ask(rt, alloc, book, stop, answered, &mut port)?;
     }
     assert!(rt; false, "it is never done");
     Ok(())

@@ -32,7 +32,7 @@ enum Step {
 }
 
 /// Several disks, one after the other.
-const STEPS: [Step; 68] = [
+const STEPS: [Step; 72] = [
     // A disk that was never written is no image.
     Step::Blank,
     Step::Run("fresh 7 1 R W near", "", "", 2),
@@ -123,6 +123,21 @@ const STEPS: [Step; 68] = [
         "load 1 granted 1 refused 0 free 7 pointers 0/",
         0,
     ),
+    // A load that fills the disk.
+    Step::Blank,
+    Step::Run(
+        "format 64 1 256 2 Z",
+        "",
+        "cap 0 76b8e0ada0f13d90405d6ae55386bd28 bdd219b8a08ded1aa836efcc8b770dc7/cap 1 da41597c5157488d7724e03fb8d84a37 6a43b8f41518a11cc387b669b2ee6586/",
+        0,
+    ),
+    Step::Run(
+        "load Z 2000 zone",
+        "",
+        "load 2000 granted 1197 refused 803 free 0 pointers 256/",
+        0,
+    ),
+    Step::Run("check", "", "clean 64 0 256/", 0),
     // Each run takes blocks by its own placement.
     Step::Blank,
     Step::Run("fresh 600 1 R W low", "", "", 0),
@@ -194,45 +209,84 @@ const STEPS: [Step; 68] = [
     ),
 ];
 
+/// A disk, and how often a write was called before its last run.
+#[derive(Drop)]
+struct Stage {
+    disk: MemStation,
+    before: u64,
+}
+
 /// All steps, the input of a run cut into pieces of this size.
 pub fn stories(rt: &impl Abort, alloc: Global, book: &PlaceBook, cut: usize) -> Result<(), Fail>
     requires { 0 < cut }
 {
-    let mut disk = blank(alloc);
-    let mut before = 0;
+    let mut stage = Stage {
+        disk: blank(alloc),
+        before: 0,
+    };
     for step in STEPS {
-        match step {
-            Step::Blank => disk = blank(alloc),
-            Step::Run(words, input, output, code) => {
-                before = disk.write_calls();
-                let sent = ends(rt, alloc, book, &mut disk, (words, input, code), cut)?;
-                let wanted = bytes_of(alloc, words, output)?;
-                assert_eq!(rt; sent.as_slice(), wanted.as_slice(), "{words} {input}");
-            }
-            Step::Writes(count) => {
-                assert_eq!(rt; disk.write_calls(), before.saturating_add(count));
-            }
-            Step::Poke(sector, digits, rest) => {
-                disk.poke(sector, &sector_of(alloc, digits, rest)?)?;
-            }
-            Step::Erased => assert!(rt; !has_caps(&mut disk)?),
-        }
+        do_step(rt, alloc, book, &mut stage, step, cut)?;
     }
     Ok(())
 }
 
-/// What a run over the disk sends. It ends with the status of this code.
+/// One step.
+fn do_step(
+    rt: &impl Abort,
+    alloc: Global,
+    book: &PlaceBook,
+    stage: &mut Stage,
+    step: Step,
+    cut: usize,
+) -> Result<(), Fail>
+    requires { 0 < cut }
+{
+    match step {
+        Step::Blank => {
+            stage.disk = blank(alloc);
+            Ok(())
+        }
+        Step::Run(words, input, output, code) => {
+            stage.before = stage.disk.write_calls();
+            ends(
+                rt,
+                alloc,
+                book,
+                &mut stage.disk,
+                (words, input, output, code),
+                cut,
+            )
+        }
+        Step::Writes(count) => {
+            assert_eq!(rt;
+                stage.disk.write_calls(),
+                stage.before.saturating_add(count)
+            );
+            Ok(())
+        }
+        Step::Poke(sector, digits, rest) => {
+            stage.disk.poke(sector, &sector_of(alloc, digits, rest)?)?;
+            Ok(())
+        }
+        Step::Erased => {
+            assert!(rt; !has_caps(&mut stage.disk)?);
+            Ok(())
+        }
+    }
+}
+
+/// A run over the disk, which sends this and ends with the status of this code.
 fn ends(
     rt: &impl Abort,
     alloc: Global,
     book: &PlaceBook,
     disk: &mut MemStation,
-    run: (&str, &str, u8),
+    run: (&str, &str, &str, u8),
     cut: usize,
-) -> Result<Vec<u8>, Fail>
+) -> Result<(), Fail>
     requires { 0 < cut }
 {
-    let (words, input, code) = run;
+    let (words, input, output, code) = run;
     let before = disk.sent().len();
     let (cut, take) = if code == Status::SourceFault.code() {
         (WHOLE, 1)
@@ -240,12 +294,14 @@ fn ends(
         (cut, NEVER)
     };
     let status = run_cut(alloc, book, (words, input), cut, take, disk)?;
+    let wanted = bytes_of(alloc, words, output)?;
     assert_eq!(rt; status.code(), code, "{words} {input}");
-    let mut sent = Vec::new(alloc);
-    for byte in disk.sent().iter().skip(before) {
-        sent.push(*byte)?;
-    }
-    Ok(sent)
+    assert_eq!(rt;
+        disk.sent().get(before..),
+        Some(wanted.as_slice()),
+        "{words} {input}"
+    );
+    Ok(())
 }
 
 /// A sector that begins with these bytes, and holds this byte from there on.

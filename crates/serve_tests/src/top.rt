@@ -9,7 +9,7 @@ use crate::images::{commands, framed, kept, refused};
 use crate::loops::loops;
 use crate::runs::{all_runs, faulty_words};
 use crate::spelled::WHOLE;
-use crate::stops::{failing_calls, long_stops, short_stops};
+use crate::stops::{all_stops, failing_calls};
 use crate::stories::stories;
 use image_device::Pick;
 use place_policy::{PlaceBook, Placement, ZONE_TURNS, low_rank, near_rank, spread_rank, zone_rank};
@@ -25,8 +25,7 @@ enum Part {
     Faults,
     Images,
     Stories,
-    ShortStops(Pick),
-    LongStops(Pick),
+    Stops(Pick),
     FailingCalls,
 }
 
@@ -50,29 +49,29 @@ fn steps_over_one_disk(rt: HostRuntime) -> Result<(), Fail> {
     over_places(&rt, rt.alloc(), Part::Stories)
 }
 
-/// What a stop leaves in the sectors that are loose.
-const PICKS: [Pick; 5] = [
-    Pick::Old,
-    Pick::New,
-    Pick::Torn(0),
-    Pick::Torn(1),
-    Pick::Torn(255),
-];
-
 #[test]
-fn short_runs_that_are_stopped(rt: HostRuntime) -> Result<(), Fail> {
-    for pick in PICKS {
-        over_places(&rt, rt.alloc(), Part::ShortStops(pick))?;
-    }
-    Ok(())
+fn stops_that_leave_old_sectors(rt: HostRuntime) -> Result<(), Fail> {
+    over_places(&rt, rt.alloc(), Part::Stops(Pick::Old))
 }
 
 #[test]
-fn long_runs_that_are_stopped(rt: HostRuntime) -> Result<(), Fail> {
-    for pick in PICKS {
-        over_places(&rt, rt.alloc(), Part::LongStops(pick))?;
-    }
-    Ok(())
+fn stops_that_leave_new_sectors(rt: HostRuntime) -> Result<(), Fail> {
+    over_places(&rt, rt.alloc(), Part::Stops(Pick::New))
+}
+
+#[test]
+fn stops_that_leave_zeros(rt: HostRuntime) -> Result<(), Fail> {
+    over_places(&rt, rt.alloc(), Part::Stops(Pick::Torn(0)))
+}
+
+#[test]
+fn stops_that_leave_ones(rt: HostRuntime) -> Result<(), Fail> {
+    over_places(&rt, rt.alloc(), Part::Stops(Pick::Torn(1)))
+}
+
+#[test]
+fn stops_that_leave_greatest_bytes(rt: HostRuntime) -> Result<(), Fail> {
+    over_places(&rt, rt.alloc(), Part::Stops(Pick::Torn(255)))
 }
 
 #[test]
@@ -139,8 +138,7 @@ fn run_part(rt: &impl Abort, alloc: Global, book: &PlaceBook, part: Part) -> Res
             stories(rt, alloc, book, 1)?;
             stories(rt, alloc, book, WHOLE)
         }
-        Part::ShortStops(pick) => short_stops(rt, alloc, book, pick),
-        Part::LongStops(pick) => long_stops(rt, alloc, book, pick),
+        Part::Stops(pick) => all_stops(rt, alloc, book, pick),
         Part::FailingCalls => failing_calls(rt, alloc, book),
     }
 }
