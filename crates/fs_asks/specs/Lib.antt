@@ -1,2 +1,3 @@
 pub mod Client
 pub mod Asks
+pub mod Leftovers

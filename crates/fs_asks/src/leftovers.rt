@@ -1,5 +1,12 @@
 //! The pairs out of a block, of which some are named by its contents and others are left over.
 
+ghost use Rattle.std.specs.Prelude.{◌≡◌, ◌≢◌, ◌<◌, ◌≤◌, ◌+◌, ◌^◌, ℕ, List, [], false, length, filter, not, IfOk, IfErr, OnOk};
+ghost use Rattle.tsd_model.specs.World.{has_number};
+ghost use Rattle.fs_trees.specs.declared.refusal.FsRefusal.TheVariants as no;
+ghost use Rattle.fs_port.specs.Calls.{Counts, LeavesOnly, Stays};
+ghost use Rattle.fs_port.specs.Files.{OnAnswer};
+ghost use Rattle.fs_asks.specs.Leftovers.{targets_of, named_targets, other_targets};
+
 use crate::client::Client;
 use fs_port::Blocks;
 use fs_trees::FsRefusal;
@@ -8,8 +15,12 @@ use tsd_model::lists::BLOCKS_MAX;
 
 /// What names blocks: the contents of one.
 pub trait Names {
+    /// The blocks that it names.
+    ghost blocks: { Self → List ℕ };
+
     /// Whether it names this block.
-    fn names(&self, block: u32) -> bool;
+    fn names(&self, block: u32) -> bool
+        ensures { result ≡ has_number (blocks self.now) block };
 }
 
 /// Contents that name nothing.
@@ -17,6 +28,8 @@ pub trait Names {
 pub struct NoNames;
 
 impl Names for NoNames {
+    ghost blocks = { λ _. [] };
+
     fn names(&self, _block: u32) -> bool {
         false
     }
@@ -33,7 +46,11 @@ pub struct PairCount {
 }
 
 /// Where the targets behind these begin, or the end where there are none.
-fn next_start(targets: &BlockList, start: u32, end: u32) -> u32 {
+fn next_start(targets: &BlockList, start: u32, end: u32) -> u32
+    requires { start < end }
+    ensures later { start < result }
+    ensures within { result ≤ end }
+{
     match targets.as_slice().last() {
         Some(last) if targets.len() == BLOCKS_MAX && start <= *last && *last < end => *last + 1,
         _ => end,
@@ -41,7 +58,11 @@ fn next_start(targets: &BlockList, start: u32, end: u32) -> u32 {
 }
 
 /// The count with these targets.
-fn counted<N: Names>(count: PairCount, targets: &BlockList, namer: &N) -> PairCount {
+fn counted<N: Names>(count: PairCount, targets: &BlockList, namer: &N) -> PairCount
+    requires { count.named + count.others + length targets.now < 2 ^ 32 }
+    ensures named { result.named ≡ count.named + length (filter (has_number (N.blocks namer.now)) targets.now) }
+    ensures all { result.named + result.others ≡ count.named + count.others + length targets.now }
+{
     let named = targets
         .as_slice()
         .iter()

@@ -1,5 +1,12 @@
 //! New entries of directories.
 
+ghost use Rattle.std.specs.Prelude.{◌≡◌, IsTrue};
+ghost use Rattle.fs_trees.specs.Names.{is_path};
+ghost use Rattle.fs_trees.specs.Answer.{done};
+ghost use Rattle.fs_trees.specs.declared.ask.ShellAsk.TheVariants as ask;
+ghost use Rattle.fs_port.specs.Files.{Answers};
+ghost use Rattle.inode_fs.specs.Asking.{MayAsk, Changes, mounted_by};
+
 use crate::content::{Content, check_free, make_file, new_block};
 use crate::finding::{Found, Place, find_file, find_place, read_inode};
 use fs_asks::Client;
@@ -56,7 +63,12 @@ pub fn put<K: Blocks>(
     disk: &mut K,
     path: &Path,
     bytes: &Data,
-) -> Result<(), FsRefusal> {
+) -> Result<(), FsRefusal>
+    requires { MayAsk K.told client.now (K.view disk.old) }
+    requires named { IsTrue (is_path path.now) }
+    ensures answer { K.told → Answers (mounted_by client.now) (K.view disk.old) (K.view disk.new) (ask.Put path.now bytes.now) result (λ _ answer. answer ≡ done) }
+    ensures changes { Changes K.told client.now (K.view disk.old) (K.view disk.new) (ask.Put path.now bytes.now) result }
+{
     let place = find_place(client, disk, path, FsRefusal::IsDir)?;
     check_old(client, disk, &place)?;
     check_entry(&place)?;
@@ -74,7 +86,16 @@ pub fn put<K: Blocks>(
 }
 
 /// Makes a directory without entries at a path.
-pub fn make_dir<K: Blocks>(client: &Client, disk: &mut K, path: &Path) -> Result<(), FsRefusal> {
+pub fn make_dir<K: Blocks>(
+    client: &Client,
+    disk: &mut K,
+    path: &Path,
+) -> Result<(), FsRefusal>
+    requires { MayAsk K.told client.now (K.view disk.old) }
+    requires named { IsTrue (is_path path.now) }
+    ensures answer { K.told → Answers (mounted_by client.now) (K.view disk.old) (K.view disk.new) (ask.MakeDir path.now) result (λ _ answer. answer ≡ done) }
+    ensures changes { Changes K.told client.now (K.view disk.old) (K.view disk.new) (ask.MakeDir path.now) result }
+{
     let place = find_place(client, disk, path, FsRefusal::Exists)?;
     if place.old.is_some() {
         return Err(FsRefusal::Exists);
@@ -133,7 +154,12 @@ pub fn append<K: Blocks>(
     disk: &mut K,
     path: &Path,
     bytes: &Data,
-) -> Result<(), FsRefusal> {
+) -> Result<(), FsRefusal>
+    requires { MayAsk K.told client.now (K.view disk.old) }
+    requires named { IsTrue (is_path path.now) }
+    ensures answer { K.told → Answers (mounted_by client.now) (K.view disk.old) (K.view disk.new) (ask.Append path.now bytes.now) result (λ _ answer. answer ≡ done) }
+    ensures changes { Changes K.told client.now (K.view disk.old) (K.view disk.new) (ask.Append path.now bytes.now) result }
+{
     let place = find_place(client, disk, path, FsRefusal::IsDir)?;
     let file = match place.old {
         Some(old) => read_inode(client, disk, old)?,
@@ -154,7 +180,13 @@ pub fn copy<K: Blocks>(
     disk: &mut K,
     path: &Path,
     new: &Path,
-) -> Result<(), FsRefusal> {
+) -> Result<(), FsRefusal>
+    requires { MayAsk K.told client.now (K.view disk.old) }
+    requires named { IsTrue (is_path path.now) }
+    requires new_named { IsTrue (is_path new.now) }
+    ensures answer { K.told → Answers (mounted_by client.now) (K.view disk.old) (K.view disk.new) (ask.Copy path.now new.now) result (λ _ answer. answer ≡ done) }
+    ensures changes { Changes K.told client.now (K.view disk.old) (K.view disk.new) (ask.Copy path.now new.now) result }
+{
     let file = find_file(client, disk, path)?;
     let place = find_place(client, disk, new, FsRefusal::Exists)?;
     if place.old.is_some() {

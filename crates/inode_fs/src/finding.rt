@@ -1,5 +1,12 @@
 //! The way to an inode.
 
+ghost use Rattle.std.specs.Prelude.{◌≡◌, ◌≢◌, false, None, Some, IsTrue, IfOk, IfErr, OnOk};
+ghost use Rattle.fs_trees.specs.declared.refusal.FsRefusal.TheVariants as no;
+ghost use Rattle.inode_layout.specs.Block.{inode_of};
+ghost use Rattle.inode_layout.specs.Said.{blocks_said, is_directory};
+ghost use Rattle.inode_fs.specs.Asking.{MayAsk, Looks, tree_of};
+ghost use Rattle.inode_fs.specs.Finding.{IsAt, IsPlace, not_found, no_file_found, no_directory_found, no_place_found};
+
 use fs_asks::{Client, Names};
 use fs_port::Blocks;
 use fs_trees::{FsRefusal, Name, Path};
@@ -16,6 +23,8 @@ pub struct Found {
 }
 
 impl Names for Found {
+    ghost blocks = { λ found. blocks_said (inode_of found.inode) };
+
     fn names(&self, block: u32) -> bool {
         self.inode.names(block)
     }
@@ -64,7 +73,17 @@ fn child<K: Blocks>(
 }
 
 /// The inode at the end of a way from the root, each block on it read once.
-pub fn walk<K: Blocks>(client: &Client, disk: &mut K, names: &[Name]) -> Result<Found, FsRefusal> {
+pub fn walk<K: Blocks>(
+    client: &Client,
+    disk: &mut K,
+    names: &[Name],
+) -> Result<Found, FsRefusal>
+    requires { MayAsk K.told client.now (K.view disk.old) }
+    ensures found { K.told → IfOk result (λ found. IsAt client.now (K.view disk.new) names.now found) }
+    ensures none { K.told → OnOk result (not_found (tree_of client.now (K.view disk.old)) names.now ≡ None) }
+    ensures refused { K.told → IfErr result (λ e. e ≢ no.Device → not_found (tree_of client.now (K.view disk.old)) names.now ≡ Some e) }
+    ensures looks { Looks K.told (K.view disk.old) (K.view disk.new) result }
+{
     let mut found = read_inode(client, disk, client.root)?;
     for name in names {
         found = child(client, disk, &found, name)?;
@@ -77,7 +96,13 @@ pub fn find_file<K: Blocks>(
     client: &Client,
     disk: &mut K,
     path: &Path,
-) -> Result<Found, FsRefusal> {
+) -> Result<Found, FsRefusal>
+    requires { MayAsk K.told client.now (K.view disk.old) }
+    ensures found { K.told → IfOk result (λ found. IsAt client.now (K.view disk.new) path.now found × (is_directory (inode_of found.inode) ≡ false)) }
+    ensures none { K.told → OnOk result (no_file_found (tree_of client.now (K.view disk.old)) path.now ≡ None) }
+    ensures refused { K.told → IfErr result (λ e. e ≢ no.Device → no_file_found (tree_of client.now (K.view disk.old)) path.now ≡ Some e) }
+    ensures looks { Looks K.told (K.view disk.old) (K.view disk.new) result }
+{
     let found = walk(client, disk, path.as_slice())?;
     if found.inode.is_directory() {
         return Err(FsRefusal::IsDir);
@@ -90,7 +115,13 @@ pub fn find_directory<K: Blocks>(
     client: &Client,
     disk: &mut K,
     names: &[Name],
-) -> Result<Found, FsRefusal> {
+) -> Result<Found, FsRefusal>
+    requires { MayAsk K.told client.now (K.view disk.old) }
+    ensures found { K.told → IfOk result (λ found. IsAt client.now (K.view disk.new) names.now found × IsTrue (is_directory (inode_of found.inode))) }
+    ensures none { K.told → OnOk result (no_directory_found (tree_of client.now (K.view disk.old)) names.now ≡ None) }
+    ensures refused { K.told → IfErr result (λ e. e ≢ no.Device → no_directory_found (tree_of client.now (K.view disk.old)) names.now ≡ Some e) }
+    ensures looks { Looks K.told (K.view disk.old) (K.view disk.new) result }
+{
     let found = walk(client, disk, names)?;
     if !found.inode.is_directory() {
         return Err(FsRefusal::NotDir);
@@ -104,7 +135,13 @@ pub fn find_place<'a, K: Blocks>(
     disk: &mut K,
     path: &'a Path,
     at_root: FsRefusal,
-) -> Result<Place<'a>, FsRefusal> {
+) -> Result<Place<'a>, FsRefusal>
+    requires { MayAsk K.told client.now (K.view disk.old) }
+    ensures found { K.told → IfOk result (λ place. IsPlace client.now (K.view disk.new) path.now place) }
+    ensures none { K.told → OnOk result (no_place_found (tree_of client.now (K.view disk.old)) path.now at_root ≡ None) }
+    ensures refused { K.told → IfErr result (λ e. e ≢ no.Device → no_place_found (tree_of client.now (K.view disk.old)) path.now at_root ≡ Some e) }
+    ensures looks { Looks K.told (K.view disk.old) (K.view disk.new) result }
+{
     match path.as_slice() {
         [] => Err(at_root),
         [way @ .., last] => {

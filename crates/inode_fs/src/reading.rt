@@ -1,5 +1,11 @@
 //! What files and directories hold.
 
+ghost use Rattle.std.specs.Prelude.{IsTrue};
+ghost use Rattle.fs_trees.specs.Names.{is_path};
+ghost use Rattle.fs_trees.specs.declared.ask.ShellAsk.TheVariants as ask;
+ghost use Rattle.fs_port.specs.Files.{Answers, TellsSize, TellsPart, TellsNext};
+ghost use Rattle.inode_fs.specs.Asking.{MayAsk, Looks, mounted_by};
+
 use crate::finding::{Found, find_directory, find_file};
 use fs_asks::Client;
 use fs_port::Blocks;
@@ -8,7 +14,12 @@ use tsd_model::Data;
 use tsd_model::lists::DATA_MAX;
 
 /// How many bytes a file has.
-pub fn size<K: Blocks>(client: &Client, disk: &mut K, path: &Path) -> Result<u64, FsRefusal> {
+pub fn size<K: Blocks>(client: &Client, disk: &mut K, path: &Path) -> Result<u64, FsRefusal>
+    requires { MayAsk K.told client.now (K.view disk.old) }
+    requires named { IsTrue (is_path path.now) }
+    ensures answer { K.told → Answers (mounted_by client.now) (K.view disk.old) (K.view disk.new) (ask.Cat path.now) result TellsSize }
+    ensures looks { Looks K.told (K.view disk.old) (K.view disk.new) result }
+{
     let file = find_file(client, disk, path)?;
     Ok(file.inode.amount() as u64)
 }
@@ -39,7 +50,12 @@ pub fn read_part<K: Blocks>(
     path: &Path,
     start: u64,
     into: &mut Data,
-) -> Result<(), FsRefusal> {
+) -> Result<(), FsRefusal>
+    requires { MayAsk K.told client.now (K.view disk.old) }
+    requires named { IsTrue (is_path path.now) }
+    ensures answer { K.told → Answers (mounted_by client.now) (K.view disk.old) (K.view disk.new) (ask.Cat path.now) result (λ _. TellsPart start into.new) }
+    ensures looks { Looks K.told (K.view disk.old) (K.view disk.new) result }
+{
     *into = Data::new();
     let file = find_file(client, disk, path)?;
     let size = file.inode.amount() as u64;
@@ -56,7 +72,12 @@ pub fn name_after<K: Blocks>(
     disk: &mut K,
     path: &Path,
     after: &Name,
-) -> Result<Option<Name>, FsRefusal> {
+) -> Result<Option<Name>, FsRefusal>
+    requires { MayAsk K.told client.now (K.view disk.old) }
+    requires named { IsTrue (is_path path.now) }
+    ensures answer { K.told → Answers (mounted_by client.now) (K.view disk.old) (K.view disk.new) (ask.Ls path.now) result (TellsNext after.now) }
+    ensures looks { Looks K.told (K.view disk.old) (K.view disk.new) result }
+{
     let found = find_directory(client, disk, path.as_slice())?;
     Ok(found.inode.name_after(after.as_slice()))
 }
