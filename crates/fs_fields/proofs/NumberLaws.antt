@@ -1,6 +1,7 @@
 -- Numbers in a row, from one of them on.
 use Rattle.std.proofs.Common.{◌≡◌, ℕ, suc, ◌+◌, ◌*◌, ◌-◌, ◌<◌, Bool, true, false, not, ◌&&◌, ◌||◌, ◌==◌, List, [], ◌∷◌, length, refl, sym, ◌∙◌, ap, arith}
-use Rattle.std.specs.Prelude.{drop}
+use Rattle.std.specs.Prelude.{take, drop}
+use Rattle.std.proofs.lemmas.List.{take_rest}
 use Rattle.byteorder.specs.Endian.{little_number}
 use Rattle.tsd_model.specs.World.{has_number}
 use Rattle.fs_trees.specs.Fields.{numbers}
@@ -41,3 +42,15 @@ module _ (xs : List ℕ) (count i : ℕ) (h : i < count) where
   pub apart_goes_on : has_number (numbers (count - (i + 1)) (drop (4 * (i + 1)) xs)) (little_number 4 (drop (4 * i) xs)) ≡ false → are_apart (numbers (count - i) (drop (4 * i) xs)) ≡ are_apart (numbers (count - (i + 1)) (drop (4 * (i + 1)) xs))
   unfolding first rest
   apart_goes_on p = ap are_apart split ∙ ap (λ t. not t && are_apart rest) p
+
+-- whether the number is among those behind it, as they are cut out
+pub among_rest : (xs : List ℕ) (count i : ℕ) → i < count → (n : ℕ) (found : Bool) → n ≡ little_number 4 (drop (4 * i) xs)
+    → found ≡ has_number (numbers (count - i - 1) (take (length xs - (4 * i + 4)) (drop (4 * i + 4) xs))) n
+    → has_number (numbers (count - (i + 1)) (drop (4 * (i + 1)) xs)) (little_number 4 (drop (4 * i) xs)) ≡ found
+among_rest xs count i h n found is tells =
+    let next : 4 * i + 4 ≡ 4 * (i + 1) = omega arith in
+    let less : count - i - 1 ≡ count - (i + 1) = omega arith in
+    let whole = take_rest xs (4 * i + 4) ∙ ap (λ k. drop k xs) next in
+    sym (tells ∙ (ap (λ ys. has_number (numbers (count - i - 1) ys) n) whole
+    ∙ (ap (λ k. has_number (numbers k (drop (4 * (i + 1)) xs)) n) less
+    ∙ ap (has_number (numbers (count - (i + 1)) (drop (4 * (i + 1)) xs))) is)))

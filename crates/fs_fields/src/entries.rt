@@ -1,15 +1,16 @@
 //! Entries of directories.
 
-ghost use Rattle.std.specs.Prelude.{◌≡◌, ◌≤◌, ◌*◌, ◌++◌, ◌&&◌, length, find, flat_map, OnOk};
+ghost use Rattle.std.specs.Prelude.{◌≡◌, ◌↔◌, ◌≤◌, ◌+◌, ◌*◌, ◌++◌, ◌&&◌, length, find, flat_map, IsOk, OnOk, OnErr};
 ghost use Rattle.fs_trees.specs.Names.{name_lt, are_ascending};
 ghost use Rattle.fs_trees.specs.Fields.{entries, entry_names, all_named, entry_bytes};
 ghost use Rattle.fs_trees.specs.Inode.{block_named};
 ghost use Rattle.fs_fields.specs.Around.{place_in, behind_in, listed_before, listed_behind};
 
 use crate::names::{is_below, is_name, trimmed};
-use crate::numbers::{NUMBER_BYTES, number_at};
-use byteorder::{ByteOrder, LittleEndian};
+use crate::numbers::{number_at, write_number};
 use fs_trees::Name;
+use fs_trees::name::NAME_MAX;
+use tsd_model::lists::DATA_MAX;
 use tsd_model::{Data, ListFull};
 
 /// How many bytes an entry has: the number of a block, and the field of a name.
@@ -43,7 +44,8 @@ fn place_of(list: &[u8], amount: usize, name: &[u8]) -> usize
 {
     for i in 0..amount {
         let entry = &list[32 * i..32 * i + 32];
-        if !is_below(trimmed(&entry[4..]), name) {
+        let other = trimmed(&entry[4..]);
+        if !is_below(other, name) {
             return i;
         }
     }
@@ -60,7 +62,8 @@ fn behind(list: &[u8], amount: usize, place: usize, name: &[u8]) -> usize
 {
     if place < amount {
         let entry = &list[32 * place..32 * place + 32];
-        if !is_below(name, trimmed(&entry[4..])) {
+        let other = trimmed(&entry[4..]);
+        if !is_below(name, other) {
             return place + 1;
         }
     }
@@ -72,6 +75,8 @@ pub fn around<'a>(list: &'a [u8], amount: usize, name: &[u8]) -> (&'a [u8], &'a 
     requires { 32 * amount ≤ length list.now }
     ensures before { result.0.now ≡ flat_map entry_bytes (listed_before name.now (entries amount list.now)) }
     ensures behind { result.1.now ≡ flat_map entry_bytes (listed_behind name.now (entries amount list.now)) }
+    ensures sized_before { length result.0.now ≡ 32 * length (listed_before name.now (entries amount list.now)) }
+    ensures sized_behind { length result.1.now ≡ 32 * length (listed_behind name.now (entries amount list.now)) }
 {
     let place = place_of(list, amount, name);
     let next = behind(list, amount, place, name);
@@ -125,13 +130,17 @@ pub fn are_in_order(list: &[u8], amount: usize) -> bool
     true
 }
 
-/// Adds an entry's bytes at the end, where there is room for them.
+/// Adds an entry's bytes at the end. A list without room for them stays as it is.
 pub fn write_entry(into: &mut Data, name: &[u8], block: u32) -> Result<(), ListFull>
     requires { length name.now ≤ 28 }
-    ensures { OnOk result (into.new ≡ into.old ++ entry_bytes (record { name = name.now; block = block })) }
+    ensures variant { IsOk result ↔ (length into.old + 32 ≤ 4096) }
+    ensures ok { OnOk result (into.new ≡ into.old ++ entry_bytes (record { name = name.now; block = block })) }
+    ensures err { OnErr result (into.new ≡ into.old) }
 {
-    let mut bytes = [0; ENTRY_BYTES];
-    LittleEndian::write_u32(&mut bytes, block);
-    bytes[NUMBER_BYTES..NUMBER_BYTES + name.len()].copy_from_slice(name);
-    into.extend_from_slice(&bytes)
+    if into.len() + ENTRY_BYTES > DATA_MAX {
+        return Err(ListFull);
+    }
+    write_number(into, block)?;
+    into.extend_from_slice(name)?;
+    into.extend_from_slice(&[0; NAME_MAX][name.len()..])
 }

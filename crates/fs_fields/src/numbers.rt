@@ -1,6 +1,6 @@
 //! Numbers in bytes.
 
-ghost use Rattle.std.specs.Prelude.{◌≡◌, ◌≤◌, ◌<◌, ◌+◌, ◌*◌, ◌-◌, ◌++◌, length, drop, OnOk, OnErr};
+ghost use Rattle.std.specs.Prelude.{◌≡◌, ◌↔◌, ◌≤◌, ◌+◌, ◌*◌, ◌++◌, length, drop, IsOk, OnOk, OnErr};
 ghost use Rattle.byteorder.specs.Endian.{little_number, little_bytes};
 ghost use Rattle.tsd_model.specs.World.{has_number};
 ghost use Rattle.fs_trees.specs.Fields.{numbers};
@@ -51,9 +51,9 @@ pub fn are_apart(list: &[u8], count: usize) -> bool
 
 /// Adds a number's bytes at the end. A list without room for them stays as it is.
 pub fn write_number(into: &mut Data, number: u32) -> Result<(), ListFull>
+    ensures variant { IsOk result ↔ (length into.old + 4 ≤ 4096) }
     ensures ok { OnOk result (into.new ≡ into.old ++ little_bytes 4 number) }
     ensures err { OnErr result (into.new ≡ into.old) }
-    ensures full { OnErr result (4096 < length into.old + 4) }
 {
     let mut bytes = [0; NUMBER_BYTES];
     LittleEndian::write_u32(&mut bytes, number);

@@ -10,8 +10,8 @@ loop-len-preserved c = record {
   same = cut_zero c.args.field.now c.loop-len.len (omega arith) c.loop-len.invariant.within (omega arith) ∙ c.loop-len.invariant.same;
 }
 
-pub returns : goal.returns
-returns c = elim c.loop-len-test.branch [
+pub returns-clause-value : goal.returns-clause-value
+returns-clause-value c = elim c.loop-len-test.branch [
   | then-loop-len-test+else-field-len-eq0 w ↦ sym (cut_other c.args.field.now c.loop-len.len (omega arith) c.loop-len.invariant.within (ne_eqb _ _ w.if-field-len-eq0.false)) ∙ c.loop-len.invariant.same
   | else-loop-len-test w ↦ cut_all c.args.field.now c.loop-len.len (omega arith) ∙ c.loop-len.invariant.same
 ]
