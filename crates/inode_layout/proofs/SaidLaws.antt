@@ -8,10 +8,7 @@ use Rattle.std.specs.Option.{option_or, option_and_then}
 use Rattle.byteorder.specs.Endian.{little_number}
 use Rattle.fs_trees.specs.Fields.{only_if, begins_with, numbers, entries}
 use Rattle.fs_trees.specs.Inode.{Inode, directory, regular, magic, entries_room, data_room, ordered, as_regular, of_kind, inode_in}
-use Rattle.inode_layout.specs.Said.{directory_said, file_said, of_kind_said, said_in, is_in_order}
-
-abbrev pub in_order : Inode → Option Inode
-in_order i = only_if (is_in_order i) (λ _. Some i)
+use Rattle.inode_layout.specs.Said.{directory_said, file_said, of_kind_said, said_in, is_in_order, in_order}
 
 or_none : (x : Option Inode) → option_or x None ≡ x
 or_none None = refl

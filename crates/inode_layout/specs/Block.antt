@@ -10,13 +10,16 @@ abbrev pub said : InodeKind → ℕ → ℕ → List ℕ → tree.Inode
 said Directory amount count body = tree.directory (entries count body)
 said Regular amount count body = tree.regular amount (numbers count body)
 
--- the bytes behind the head
+-- its block, the length of that, and what stands behind the head
+abbrev pub bytes_of : Inode → List ℕ
+bytes_of i = i.bytes
+
+abbrev pub block_len_of : Inode → ℕ
+block_len_of i = length (bytes_of i)
+
 abbrev pub body_of : Inode → List ℕ
-body_of i = drop 16 i.bytes
+body_of i = drop 16 (bytes_of i)
 
 -- what the block says
 abbrev pub inode_of : Inode → tree.Inode
 inode_of i = said i.kind i.amount i.count (body_of i)
-
-abbrev pub block_len_of : Inode → ℕ
-block_len_of i = length i.bytes

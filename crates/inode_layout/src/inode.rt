@@ -1,9 +1,11 @@
 //! What an inode's block says.
 
 ghost use Rattle.std.specs.Prelude.{◌≡◌, ◌≤◌, ◌<◌, ◌*◌, ◌+◌, length};
+ghost use Rattle.fs_trees.specs.Fields.{begins_with};
+ghost use Rattle.fs_trees.specs.Inode.{magic};
 ghost use Rattle.inode_layout.specs.Kinds.{item_bytes, items_for};
 
-use crate::kind::{InodeKind, item_bytes};
+use crate::kind::{InodeKind, item_bytes, items_for, kind_of, room_for};
 use fs_fields::{are_apart, are_in_order, block_of, next_name, number_at};
 use fs_trees::Name;
 use tsd_model::Data;
@@ -28,27 +30,51 @@ pub struct Inode {
     ghost counts: { count ≡ items_for kind amount (length bytes) },
 }
 
+/// Whether a block begins as an inode's.
+fn has_magic(bytes: &[u8]) -> bool
+    requires { 16 ≤ length bytes.now }
+    ensures { result ≡ begins_with magic bytes.now }
+{
+    &bytes[..MAGIC.len()] == MAGIC.as_slice()
+}
+
 impl Inode {
-    ghost use Rattle.std.specs.Prelude.{slice_index, option_map};
+    ghost use Rattle.std.specs.Prelude.{slice_index, option_map, None, IfSome};
     ghost use Rattle.tsd_model.specs.World.{has_number};
-    ghost use Rattle.inode_layout.specs.Said.{said_in, is_in_order, blocks_said, is_directory, amount_said, entry_said, next_said};
-    ghost use Rattle.inode_layout.specs.Block.{inode_of, body_of, block_len_of};
+    ghost use Rattle.inode_layout.specs.Said.{said_in, is_in_order, blocks_said, is_directory, item_size, amount_said, entry_said, next_said};
+    ghost use Rattle.inode_layout.specs.Block.{inode_of, bytes_of, body_of, block_len_of};
 
     /// The inode in a block's bytes, where its head is one's. The order of its list isn't looked at.
+    #[tactic(none)]
     pub fn parse(bytes: Data) -> Option<Inode>
-        ensures { option_map inode_of result ≡ said_in (length bytes) bytes }
+        ensures said { 16 ≤ length bytes → option_map inode_of result ≡ said_in (length bytes) bytes }
+        ensures short { length bytes < 16 → result ≡ None }
+        ensures kept { IfSome result (λ inode. bytes_of inode ≡ bytes) }
     {
-        let len = bytes.len();
-        if len < HEAD_BYTES || !bytes.as_slice().starts_with(&MAGIC) {
+        if bytes.len() < HEAD_BYTES {
             return None;
         }
-        let amount = number_at(bytes.as_slice(), 12);
-        let (kind, count) = match number_at(bytes.as_slice(), 8) {
-            1 => (InodeKind::Directory, amount as usize),
-            2 => (InodeKind::Regular, (amount as usize).div_ceil(len)),
-            _ => return None,
+        Inode::parse_whole(bytes)
+    }
+
+    /// The inode in the bytes of a block that has room for a head.
+    #[tactic(none)]
+    fn parse_whole(bytes: Data) -> Option<Inode>
+        requires { 16 ≤ length bytes }
+        ensures said { option_map inode_of result ≡ said_in (length bytes) bytes }
+        ensures kept { IfSome result (λ inode. bytes_of inode ≡ bytes) }
+    {
+        if !has_magic(bytes.as_slice()) {
+            return None;
+        }
+        let len = bytes.len();
+        let kind = match kind_of(number_at(bytes.as_slice(), 8)) {
+            Some(kind) => kind,
+            None => return None,
         };
-        if count > (len - HEAD_BYTES) / item_bytes(kind) {
+        let amount = number_at(bytes.as_slice(), 12);
+        let count = items_for(kind, amount, len);
+        if count > room_for(kind, len) {
             return None;
         }
         Some(Inode {
@@ -63,7 +89,10 @@ impl Inode {
     pub fn is_directory(&self) -> bool
         ensures { result ≡ is_directory (inode_of self.now) }
     {
-        self.kind == InodeKind::Directory
+        match self.kind {
+            InodeKind::Directory => true,
+            InodeKind::Regular => false,
+        }
     }
 
     /// The number of entries of a directory, or the size of a file.
@@ -76,7 +105,7 @@ impl Inode {
     /// How many blocks it names.
     pub fn count(&self) -> usize
         ensures value { result ≡ length (blocks_said (inode_of self.now)) }
-        ensures fits { 16 + item_bytes self.now.kind * result ≤ block_len_of self.now }
+        ensures fits { 16 + item_size (inode_of self.now) * result ≤ block_len_of self.now }
     {
         self.count
     }
@@ -85,14 +114,16 @@ impl Inode {
     pub fn block_len(&self) -> usize
         ensures value { result ≡ block_len_of self.now }
         ensures fits { result ≤ 4096 }
-        ensures some { 16 ≤ result }
+        ensures whole { 16 ≤ result }
     {
         self.bytes.len()
     }
 
     /// The bytes behind its head.
     pub fn body(&self) -> &[u8]
-        ensures { result.now ≡ body_of self.now }
+        ensures value { result.now ≡ body_of self.now }
+        ensures whole { 16 + length result.now ≡ block_len_of self.now }
+        ensures fits { block_len_of self.now ≤ 4096 }
     {
         &self.bytes.as_slice()[HEAD_BYTES..]
     }
@@ -109,7 +140,7 @@ impl Inode {
     pub fn names(&self, block: u32) -> bool
         ensures { result ≡ has_number (blocks_said (inode_of self.now)) block }
     {
-        for place in 0..self.count {
+        for place in 0..self.count() {
             if self.named(place) == block {
                 return true;
             }

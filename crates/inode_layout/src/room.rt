@@ -4,15 +4,14 @@ ghost use Rattle.std.specs.Prelude.{◌≡◌, ◌≤◌, ◌<◌};
 ghost use Rattle.std.specs.Int.{div_ceil};
 ghost use Rattle.fs_trees.specs.Inode.{entries_room, data_room};
 
-use crate::inode::HEAD_BYTES;
-use fs_fields::{ENTRY_BYTES, NUMBER_BYTES};
+use crate::kind::{InodeKind, room_for};
 
 /// How many entries a directory has room for in a block of this length.
 pub fn entries_room(len: usize) -> usize
     requires { 16 ≤ len }
     ensures { result ≡ entries_room len }
 {
-    (len - HEAD_BYTES) / ENTRY_BYTES
+    room_for(InodeKind::Directory, len)
 }
 
 /// How many blocks of a file an inode has room for in a block of this length.
@@ -20,7 +19,7 @@ pub fn data_room(len: usize) -> usize
     requires { 16 ≤ len }
     ensures { result ≡ data_room len }
 {
-    (len - HEAD_BYTES) / NUMBER_BYTES
+    room_for(InodeKind::Regular, len)
 }
 
 /// How many blocks of this length so many bytes take.

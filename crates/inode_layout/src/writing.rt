@@ -1,8 +1,10 @@
 //! What is written as an inode.
+#![tactic(none)]
 
-ghost use Rattle.std.specs.Prelude.{◌≡◌, ◌≤◌, ◌+◌, ◌*◌, ◌++◌, [], length, IsTrue};
+ghost use Rattle.std.specs.Prelude.{◌≡◌, ◌≤◌, ◌+◌, ◌*◌, ◌++◌, [], length, flat_map, IsTrue};
+ghost use Rattle.byteorder.specs.Endian.{little_bytes};
 ghost use Rattle.fs_trees.specs.Inode.{directory, regular, entries_room, with_listed, without_listed, inode_bytes};
-ghost use Rattle.fs_trees.specs.Fields.{numbers};
+ghost use Rattle.fs_trees.specs.Fields.{numbers, entry_bytes};
 ghost use Rattle.inode_layout.specs.Kinds.{kind_number};
 ghost use Rattle.inode_layout.specs.Block.{inode_of, block_len_of};
 ghost use Rattle.inode_layout.specs.Said.{entries_said, head_bytes, is_directory};
@@ -12,14 +14,40 @@ use crate::kind::{InodeKind, kind_number};
 use fs_fields::{ENTRY_BYTES, NUMBER_BYTES, around, write_entry, write_number};
 use tsd_model::Data;
 
+/// Adds bytes for which there is room.
+fn add(into: &mut Data, bytes: &[u8])
+    requires { length into.old + length bytes.now ≤ 4096 }
+    ensures { into.new ≡ into.old ++ bytes.now }
+{
+    let _ = into.extend_from_slice(bytes);
+}
+
+/// Adds an entry for which there is room.
+fn add_entry(into: &mut Data, name: &[u8], block: u32)
+    requires named { length name.now ≤ 28 }
+    requires fits { length into.old + 32 ≤ 4096 }
+    ensures { into.new ≡ into.old ++ entry_bytes (record { name = name.now; block = block }) }
+{
+    let _ = write_entry(into, name, block);
+}
+
+/// Adds numbers for which there is room.
+fn add_numbers(into: &mut Data, numbers: &[u32])
+    requires { length into.old + 4 * length numbers.now ≤ 4096 }
+    ensures { into.new ≡ into.old ++ flat_map (little_bytes 4) numbers.now }
+{
+    for number in numbers {
+        let _ = write_number(into, *number);
+    }
+}
+
 /// The head of an inode.
 fn head(kind: InodeKind, amount: u32) -> Data
     ensures { result ≡ head_bytes (kind_number kind) amount }
 {
     let mut bytes = Data::new();
-    let _ = bytes.extend_from_slice(&MAGIC);
-    let _ = write_number(&mut bytes, kind_number(kind));
-    let _ = write_number(&mut bytes, amount);
+    add(&mut bytes, &MAGIC);
+    add_numbers(&mut bytes, &[kind_number(kind), amount]);
     bytes
 }
 
@@ -37,10 +65,8 @@ pub fn file_inode(size: u32, shared: &[u8], count: usize, blocks: &[u32]) -> Dat
     ensures { result ≡ inode_bytes (regular size (numbers count shared.now ++ blocks.now)) }
 {
     let mut bytes = head(InodeKind::Regular, size);
-    let _ = bytes.extend_from_slice(&shared[..NUMBER_BYTES * count]);
-    for block in blocks {
-        let _ = write_number(&mut bytes, *block);
-    }
+    add(&mut bytes, shared);
+    add_numbers(&mut bytes, blocks);
     bytes
 }
 
@@ -54,9 +80,9 @@ pub fn directory_with(old: &Inode, name: &[u8], block: u32) -> Data
     let (before, behind) = around(old.body(), old.count(), name);
     let amount = (before.len() + behind.len()) / ENTRY_BYTES + 1;
     let mut bytes = head(InodeKind::Directory, amount as u32);
-    let _ = bytes.extend_from_slice(before);
-    let _ = write_entry(&mut bytes, name, block);
-    let _ = bytes.extend_from_slice(behind);
+    add(&mut bytes, before);
+    add_entry(&mut bytes, name, block);
+    add(&mut bytes, behind);
     bytes
 }
 
@@ -68,7 +94,7 @@ pub fn directory_without(old: &Inode, name: &[u8]) -> Data
     let (before, behind) = around(old.body(), old.count(), name);
     let amount = (before.len() + behind.len()) / ENTRY_BYTES;
     let mut bytes = head(InodeKind::Directory, amount as u32);
-    let _ = bytes.extend_from_slice(before);
-    let _ = bytes.extend_from_slice(behind);
+    add(&mut bytes, before);
+    add(&mut bytes, behind);
     bytes
 }
