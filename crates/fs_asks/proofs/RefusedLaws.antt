@@ -41,7 +41,7 @@ judged_form kind s (ask.SetCap n b shown caps) h = absurd (cc)
 judged_form kind s (ask.Sweep n shown) h = absurd (cc)
 
 -- want of memory is nothing to it
-same_answer : (kind : PlaceKind) (s : State) (q : Request) (want : Bool) → is_of_files q ≡ true → answer kind s q want ≡ judged kind s q (verdict s.world s.sessions q)
+pub same_answer : (kind : PlaceKind) (s : State) (q : Request) (want : Bool) → is_of_files q ≡ true → answer kind s q want ≡ judged kind s q (verdict s.world s.sessions q)
 same_answer kind s q false h = refl
 same_answer kind s (ask.Read n b shown) true h = refl
 same_answer kind s (ask.Write n b shown bytes) true h = refl
@@ -62,8 +62,8 @@ granted_form kind s q want h e =
     ap (λ o. has_wanted_form q o.reply) (same_answer kind s q want h)
     ∙ (ap (λ x. has_wanted_form q (judged kind s q x).reply) e ∙ judged_form kind s q h)
 
-pub other_form : (old new : View) (q : Request) (r : Reply) → is_of_files q ≡ true → IsCarriedOut old new q r → has_wanted_form q r ≡ false → IsRefused old q (refusal_in r) × (new.world ≡ old.world)
-other_form old new q r h done other = elim (verdict old.world old.sessions q) as (λ x. verdict old.world old.sessions q ≡ x → IsRefused old q (refusal_in r) × (new.world ≡ old.world)) [
+pub other_form : (old new : View) (q : Request) (r : Reply) → is_of_files q ≡ true → IsCarriedOut old new q r → has_wanted_form q r ≡ false → IsRefused old q (refusal_in r) × (state_of new ≡ state_of old)
+other_form old new q r h done other = elim (verdict old.world old.sessions q) as (λ x. verdict old.world old.sessions q ≡ x → IsRefused old q (refusal_in r) × (state_of new ≡ state_of old)) [
   | None ↦ λ e.
       let formed = granted_form old.kind (state_of old) q done.0 h e in
       let form : has_wanted_form q r ≡ true = ap (has_wanted_form q) (sym done.2) ∙ formed in
@@ -71,6 +71,6 @@ other_form old new q r h done other = elim (verdict old.world old.sessions q) as
   | Some rule ↦ λ e.
       let whole = refused_answer old.kind (state_of old) q done.0 rule e in
       let told : r ≡ reply.Refused rule = sym done.2 ∙ ap (λ o. o.reply) whole in
-      let stays : new.world ≡ old.world = ap (λ st. st.world) (sym done.1) ∙ ap (λ o. o.state.world) whole in
+      let stays : state_of new ≡ state_of old = sym done.1 ∙ ap (λ o. o.state) whole in
       ((rule, e, ap refusal_in (sym told)), stays)
 ] refl

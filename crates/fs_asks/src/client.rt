@@ -1,9 +1,9 @@
 //! The requests of a file system.
 
-ghost use Rattle.std.specs.Prelude.{◌≡◌, ◌≤◌, false, length, IfOk};
+ghost use Rattle.std.specs.Prelude.{◌≡◌, false, IfOk};
 ghost use Rattle.tsd_model.specs.declared.replies.Reply.TheVariants as reply;
 ghost use Rattle.fs_port.specs.Calls.{IsCarriedOut};
-ghost use Rattle.fs_asks.specs.Asks.{refusal_of, refusal_in, AsksOnce};
+ghost use Rattle.fs_asks.specs.Asks.{refusal_of, bytes_in, done_in, gone_in, blocks_in, targets_in, AsksOnce};
 
 use fs_port::Blocks;
 use fs_trees::FsRefusal;
@@ -33,17 +33,61 @@ fn refusal_of(rule: Rule) -> FsRefusal
     }
 }
 
-/// What a reply is where another was wanted.
-fn other(given: Reply) -> FsRefusal
-    ensures { result ≡ refusal_in given }
+/// The bytes of a reply, or what it is where they were wanted.
+fn bytes_in(reply: Reply) -> Result<Data, FsRefusal>
+    ensures { result ≡ bytes_in reply }
 {
-    match given {
-        Reply::Refused(rule) => refusal_of(rule),
-        _ => FsRefusal::NotThisFs,
+    match reply {
+        Reply::Bytes(bytes) => Ok(bytes),
+        Reply::Refused(rule) => Err(refusal_of(rule)),
+        _ => Err(FsRefusal::NotThisFs),
     }
 }
 
-#[tactic(auto, using(crate::proofs::RefusedLaws::other_form))]
+/// Whether it is done, or what the reply is where that was wanted.
+fn done_in(reply: Reply) -> Result<(), FsRefusal>
+    ensures { result ≡ done_in reply }
+{
+    match reply {
+        Reply::Done => Ok(()),
+        Reply::Refused(rule) => Err(refusal_of(rule)),
+        _ => Err(FsRefusal::NotThisFs),
+    }
+}
+
+/// How many blocks are gone, or what the reply is where that was wanted.
+fn gone_in(reply: Reply) -> Result<u32, FsRefusal>
+    ensures { result ≡ gone_in reply }
+{
+    match reply {
+        Reply::Gone(gone) => Ok(gone),
+        Reply::Refused(rule) => Err(refusal_of(rule)),
+        _ => Err(FsRefusal::NotThisFs),
+    }
+}
+
+/// The new blocks of a reply, or what it is where they were wanted.
+fn blocks_in(reply: Reply) -> Result<BlockList, FsRefusal>
+    ensures { result ≡ blocks_in reply }
+{
+    match reply {
+        Reply::Blocks(blocks) => Ok(blocks),
+        Reply::Refused(rule) => Err(refusal_of(rule)),
+        _ => Err(FsRefusal::NotThisFs),
+    }
+}
+
+/// The targets of a reply, or what it is where they were wanted.
+fn targets_in(reply: Reply) -> Result<BlockList, FsRefusal>
+    ensures { result ≡ targets_in reply }
+{
+    match reply {
+        Reply::Targets(targets) => Ok(targets),
+        Reply::Refused(rule) => Err(refusal_of(rule)),
+        _ => Err(FsRefusal::NotThisFs),
+    }
+}
+
 impl Client {
     ghost use Rattle.fs_asks.specs.Client.{shown_at, read_by, write_by, link_by, unlink_by, alloc_by, list_by};
 
@@ -70,8 +114,7 @@ impl Client {
             shown: self.shown(block),
         };
         match disk.ask(&request) {
-            Ok(Reply::Bytes(bytes)) => Ok(bytes),
-            Ok(reply) => Err(other(reply)),
+            Ok(reply) => bytes_in(reply),
             Err(_) => Err(FsRefusal::Device),
         }
     }
@@ -89,8 +132,7 @@ impl Client {
             bytes,
         };
         match disk.ask(&request) {
-            Ok(Reply::Done) => Ok(()),
-            Ok(reply) => Err(other(reply)),
+            Ok(reply) => done_in(reply),
             Err(_) => Err(FsRefusal::Device),
         }
     }
@@ -108,8 +150,7 @@ impl Client {
             target,
         };
         match disk.ask(&request) {
-            Ok(Reply::Done) => Ok(()),
-            Ok(reply) => Err(other(reply)),
+            Ok(reply) => done_in(reply),
             Err(_) => Err(FsRefusal::Device),
         }
     }
@@ -132,8 +173,7 @@ impl Client {
             target,
         };
         match disk.ask(&request) {
-            Ok(Reply::Gone(gone)) => Ok(gone),
-            Ok(reply) => Err(other(reply)),
+            Ok(reply) => gone_in(reply),
             Err(_) => Err(FsRefusal::Device),
         }
     }
@@ -147,7 +187,6 @@ impl Client {
     ) -> Result<BlockList, FsRefusal>
         requires unspent { (K.view disk.old).spent ≡ false }
         ensures step { K.told → IfOk result (λ blocks. IsCarriedOut (K.view disk.old) (K.view disk.new) (alloc_by self.now source count) (reply.Blocks blocks)) }
-        ensures few { IfOk result (λ blocks. length blocks ≤ 64) }
         ensures once { AsksOnce K.told (K.view disk.old) (K.view disk.new) (alloc_by self.now source count) result }
     {
         let request = Request::Alloc {
@@ -158,8 +197,7 @@ impl Client {
             count,
         };
         match disk.ask(&request) {
-            Ok(Reply::Blocks(blocks)) => Ok(blocks),
-            Ok(reply) => Err(other(reply)),
+            Ok(reply) => blocks_in(reply),
             Err(_) => Err(FsRefusal::Device),
         }
     }
@@ -173,7 +211,6 @@ impl Client {
     ) -> Result<BlockList, FsRefusal>
         requires unspent { (K.view disk.old).spent ≡ false }
         ensures step { K.told → IfOk result (λ targets. IsCarriedOut (K.view disk.old) (K.view disk.new) (list_by self.now source start) (reply.Targets targets)) }
-        ensures few { IfOk result (λ targets. length targets ≤ 64) }
         ensures once { AsksOnce K.told (K.view disk.old) (K.view disk.new) (list_by self.now source start) result }
     {
         let request = Request::List {
@@ -183,8 +220,7 @@ impl Client {
             start,
         };
         match disk.ask(&request) {
-            Ok(Reply::Targets(targets)) => Ok(targets),
-            Ok(reply) => Err(other(reply)),
+            Ok(reply) => targets_in(reply),
             Err(_) => Err(FsRefusal::Device),
         }
     }

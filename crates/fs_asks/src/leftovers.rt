@@ -1,11 +1,11 @@
 //! The pairs out of a block, of which some are named by its contents and others are left over.
 
-ghost use Rattle.std.specs.Prelude.{◌≡◌, ◌≢◌, ◌<◌, ◌≤◌, ◌+◌, ◌^◌, ℕ, List, [], false, length, filter, not, IfOk, IfErr, OnOk};
+ghost use Rattle.std.specs.Prelude.{◌≡◌, ◌<◌, ◌≤◌, ◌+◌, ◌^◌, ℕ, List, [], false, length, filter, IfOk, IfErr};
 ghost use Rattle.tsd_model.specs.World.{has_number};
 ghost use Rattle.fs_trees.specs.declared.refusal.FsRefusal.TheVariants as no;
-ghost use Rattle.fs_port.specs.Calls.{Counts, LeavesOnly, Stays};
-ghost use Rattle.fs_port.specs.Files.{OnAnswer};
-ghost use Rattle.fs_asks.specs.Leftovers.{targets_of, named_targets, other_targets};
+ghost use Rattle.fs_port.specs.Calls.{IsValidNow};
+ghost use Rattle.fs_asks.specs.Leftovers.{named_targets, other_targets, next_in};
+ghost use Rattle.fs_asks.specs.May.{MayWrite, Looks};
 
 use crate::client::Client;
 use fs_port::Blocks;
@@ -45,42 +45,67 @@ pub struct PairCount {
     pub others: usize,
 }
 
-/// Where the targets behind these begin, or the end where there are none.
-fn next_start(targets: &BlockList, start: u32, end: u32) -> u32
+/// Where the targets behind a page of them begin, which was listed from a start on; the end where there are none.
+pub fn next_start(targets: &BlockList, start: u32, end: u32) -> u32
     requires { start < end }
+    ensures value { result ≡ next_in targets.now start end }
     ensures later { start < result }
     ensures within { result ≤ end }
 {
-    match targets.as_slice().last() {
-        Some(last) if targets.len() == BLOCKS_MAX && start <= *last && *last < end => *last + 1,
-        _ => end,
+    let targets = targets.as_slice();
+    if targets.len() < BLOCKS_MAX {
+        return end;
     }
+    let last = targets[BLOCKS_MAX - 1];
+    if start <= last && last < end {
+        last + 1
+    } else {
+        end
+    }
+}
+
+/// How many of these it names.
+fn count_named<N: Names>(targets: &BlockList, namer: &N) -> usize
+    ensures value { result ≡ length (filter (has_number (N.blocks namer.now)) targets.now) }
+    ensures fits { result ≤ length targets.now }
+{
+    targets
+        .as_slice()
+        .iter()
+        .filter(|target| namer.names(**target))
+        .count()
 }
 
 /// The count with these targets.
 fn counted<N: Names>(count: PairCount, targets: &BlockList, namer: &N) -> PairCount
-    requires { count.named + count.others + length targets.now < 2 ^ 32 }
+    requires { count.named + count.others < 2 ^ 40 }
     ensures named { result.named ≡ count.named + length (filter (has_number (N.blocks namer.now)) targets.now) }
     ensures all { result.named + result.others ≡ count.named + count.others + length targets.now }
+    ensures few { length targets.now ≤ 64 }
 {
-    let named = targets
-        .as_slice()
-        .iter()
-        .filter(|target| namer.names(**target))
-        .count();
+    let all = targets.len();
+    let named = count_named(targets, namer);
     PairCount {
         named: count.named + named,
-        others: count.others + (targets.len() - named),
+        others: count.others + (all - named),
     }
 }
 
-/// Counts the pairs out of a block.
+/// Counts the pairs out of a block that the client may write. Only a fault refuses it.
 pub fn count_pairs<K: Blocks, N: Names>(
     client: &Client,
     disk: &mut K,
     source: u32,
     namer: &N,
-) -> Result<PairCount, FsRefusal> {
+) -> Result<PairCount, FsRefusal>
+    requires unspent { (K.view disk.old).spent ≡ false }
+    requires valid { K.told → IsValidNow (K.view disk.old) }
+    requires may { K.told → MayWrite client.now (K.view disk.old) source }
+    ensures named { K.told → IfOk result (λ count. count.named ≡ length (named_targets (K.view disk.old).world source (N.blocks namer.now))) }
+    ensures others { K.told → IfOk result (λ count. count.others ≡ length (other_targets (K.view disk.old).world source (N.blocks namer.now))) }
+    ensures only { K.told → IfErr result (λ e. e ≡ no.Device) }
+    ensures looks { Looks K.told (K.view disk.old) (K.view disk.new) result }
+{
     let end = disk.geometry().blocks;
     let mut count = PairCount {
         named: 0,
@@ -88,42 +113,12 @@ pub fn count_pairs<K: Blocks, N: Names>(
     };
     let mut start = 0;
     while start < end {
-        let targets = client.list(disk, source, start)?;
+        let targets = match client.targets(disk, source, start) {
+            Ok(targets) => targets,
+            Err(refusal) => return Err(refusal),
+        };
         count = counted(count, &targets, namer);
         start = next_start(&targets, start, end);
     }
     Ok(count)
-}
-
-/// Deletes the pairs from a block to those of these that it doesn't name.
-fn delete_page<K: Blocks, N: Names>(
-    client: &Client,
-    disk: &mut K,
-    source: u32,
-    targets: &BlockList,
-    namer: &N,
-) -> Result<(), FsRefusal> {
-    for target in targets.as_slice() {
-        if !namer.names(*target) {
-            client.unlink(disk, source, *target)?;
-        }
-    }
-    Ok(())
-}
-
-/// Deletes the pairs out of a block that it doesn't name.
-pub fn delete_others<K: Blocks, N: Names>(
-    client: &Client,
-    disk: &mut K,
-    source: u32,
-    namer: &N,
-) -> Result<(), FsRefusal> {
-    let end = disk.geometry().blocks;
-    let mut start = 0;
-    while start < end {
-        let targets = client.list(disk, source, start)?;
-        delete_page(client, disk, source, &targets, namer)?;
-        start = next_start(&targets, start, end);
-    }
-    Ok(())
 }
