@@ -26,23 +26,13 @@ pub record MayAsk (told : Type 0) (c : Client) (v : View) : Type 0 where
   pub valid : told → IsValidNow v
   pub tree : told → IsTrue (is_there (tree_of c v))
 
--- what no call touches, and what a fault is
-pub record Keeps {X : Type 0} (told : Type 0) (old new : View) (result : Result X FsRefusal) : Type 0 where
+-- a call that may change the tree, as this ask does: what holds whatever it answers
+pub record Changes {X : Type 0} (told : Type 0) (c : Client) (old new : View) (a : ShellAsk) (result : Result X FsRefusal) : Type 0 where
+  pub world : told → OnAnswer result (LeavesWorld (mounted_by c) old new)
+  pub crash : told → LeavesOnly old new (IsEitherTree (mounted_by c) old a)
   pub valid : told → OnAnswer result (IsValidNow new)
   pub stays : OnAnswer result (Stays old new)
   pub counts : Counts old new
   pub unspent : OnAnswer result (new.spent ≡ false)
   pub faultless : OnAnswer result (new.faults ≡ old.faults)
   pub cause : IfErr result (λ e. e ≡ no.Device → Rose old.faults new.faults)
-
--- a call that only looks
-pub record Looks {X : Type 0} (told : Type 0) (old new : View) (result : Result X FsRefusal) : Type 0 where
-  pub keeps : Keeps told old new result
-  pub world : told → OnAnswer result (new.world ≡ old.world)
-  pub crash : told → LeavesOnly old new (λ w. w ≡ old.world)
-
--- a call that may change the tree, as this ask does
-pub record Changes {X : Type 0} (told : Type 0) (c : Client) (old new : View) (a : ShellAsk) (result : Result X FsRefusal) : Type 0 where
-  pub keeps : Keeps told old new result
-  pub world : told → OnAnswer result (LeavesWorld (mounted_by c) old new)
-  pub crash : told → LeavesOnly old new (IsEitherTree (mounted_by c) old a)

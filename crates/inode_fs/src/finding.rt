@@ -1,16 +1,24 @@
 //! The way to an inode.
 
-ghost use Rattle.std.specs.Prelude.{◌≡◌, ◌≢◌, false, None, Some, IsTrue, IfOk, IfErr, OnOk};
+ghost use Rattle.std.specs.Prelude.{◌≡◌, ◌≢◌, ◌≤◌, ℕ, ◌∷◌, length, false, None, Some, is_some, IsTrue, IfOk, IfErr, OnOk, OnErr};
+ghost use Rattle.tsd_model.specs.Geometry.{block_len};
+ghost use Rattle.fs_trees.specs.Names.{Path};
+ghost use Rattle.fs_trees.specs.InodeTree.{inode_at};
 ghost use Rattle.fs_trees.specs.declared.refusal.FsRefusal.TheVariants as no;
-ghost use Rattle.inode_layout.specs.Block.{inode_of};
-ghost use Rattle.inode_layout.specs.Said.{blocks_said, is_directory};
-ghost use Rattle.inode_fs.specs.Asking.{MayAsk, Looks, tree_of};
-ghost use Rattle.inode_fs.specs.Finding.{IsAt, IsPlace, not_found, no_file_found, no_directory_found, no_place_found};
+ghost use Rattle.fs_laws.specs.Ways.{HoldsWrite};
+ghost use Rattle.fs_port.specs.View.{state_of};
+ghost use Rattle.fs_port.specs.Calls.{IsValidNow};
+ghost use Rattle.fs_asks.specs.May.{MayWrite, Looks};
+ghost use Rattle.inode_layout.specs.Block.{inode_of, block_len_of};
+ghost use Rattle.inode_layout.specs.Said.{blocks_said, is_directory, said_in};
+ghost use Rattle.inode_fs.specs.Asking.{MayAsk, tree_of};
+ghost use Rattle.inode_fs.specs.Finding.{Stands, IsStanding, IsFurther, IsOpenNow, IsAt, IsPlace, block_said, node_tree, not_found, no_file_found, no_directory_found, no_place_found};
 
 use fs_asks::{Client, Names};
 use fs_port::Blocks;
 use fs_trees::{FsRefusal, Name, Path};
 use inode_layout::Inode;
+use tsd_model::Data;
 
 /// An inode that was read, and its block.
 #[derive(Drop)]
@@ -43,16 +51,53 @@ pub struct Place<'a> {
     pub old: Option<u32>,
 }
 
-/// Reads an inode.
+/// The inode in the bytes of a block.
+fn found_in(block: u32, bytes: Data) -> Result<Found, FsRefusal>
+    ensures block { IfOk result (λ found. found.block ≡ block) }
+    ensures said { 16 ≤ length bytes → IfOk result (λ found. Some (inode_of found.inode) ≡ said_in (length bytes) bytes) }
+    ensures kept { IfOk result (λ found. block_len_of found.inode ≡ length bytes) }
+    ensures none { 16 ≤ length bytes → OnErr result (said_in (length bytes) bytes ≡ None) }
+    ensures refusal { IfErr result (λ e. e ≡ no.NotThisFs) }
+{
+    match Inode::parse(bytes) {
+        Some(inode) => Ok(Found { block, inode }),
+        None => Err(FsRefusal::NotThisFs),
+    }
+}
+
+/// Reads the inode in a block. Only a fault refuses it.
 pub fn read_inode<K: Blocks>(
     client: &Client,
     disk: &mut K,
     block: u32,
-) -> Result<Found, FsRefusal> {
-    let bytes = client.read(disk, block)?;
-    match Inode::parse(bytes) {
-        Some(inode) => Ok(Found { block, inode }),
-        None => Err(FsRefusal::NotThisFs),
+) -> Result<Found, FsRefusal>
+    requires unspent { (K.view disk.old).spent ≡ false }
+    requires valid { K.told → IsValidNow (K.view disk.old) }
+    requires may { K.told → MayWrite client.now (K.view disk.old) block }
+    requires inode { K.told → IsTrue (is_some (inode_at (K.view disk.old).world block)) }
+    ensures block { IfOk result (λ found. found.block ≡ block) }
+    ensures says { K.told → IfOk result (λ found. inode_at (K.view disk.old).world block ≡ Some (inode_of found.inode)) }
+    ensures whole { K.told → IfOk result (λ found. block_len_of found.inode ≡ block_len (K.view disk.old).world.geometry) }
+    ensures held { K.told → OnOk result (HoldsWrite (state_of (K.view disk.new)) client.now.session block) }
+    ensures only { K.told → IfErr result (λ e. e ≡ no.Device) }
+    ensures looks { Looks K.told (K.view disk.old) (K.view disk.new) result }
+{
+    match client.look(disk, block) {
+        Ok(bytes) => found_in(block, bytes),
+        Err(refusal) => Err(refusal),
+    }
+}
+
+/// What a directory names so: its block, or why there is none.
+fn block_of_name(found: &Found, name: &Name) -> Result<u32, FsRefusal>
+    ensures { result ≡ block_said name.now (inode_of found.now.inode) }
+{
+    if !found.inode.is_directory() {
+        return Err(FsRefusal::NotDir);
+    }
+    match found.inode.entry(name.as_slice()) {
+        Some(block) => Ok(block),
+        None => Err(FsRefusal::NoEntry),
     }
 }
 
@@ -62,13 +107,18 @@ fn child<K: Blocks>(
     disk: &mut K,
     directory: &Found,
     name: &Name,
-) -> Result<Found, FsRefusal> {
-    if !directory.inode.is_directory() {
-        return Err(FsRefusal::NotDir);
-    }
-    match directory.inode.entry(name.as_slice()) {
-        Some(block) => read_inode(client, disk, block),
-        None => Err(FsRefusal::NoEntry),
+) -> Result<Found, FsRefusal>
+    requires unspent { (K.view disk.old).spent ≡ false }
+    requires valid { K.told → IsValidNow (K.view disk.old) }
+    requires session { K.told → IsOpenNow client.now (K.view disk.old) }
+    requires stands { K.told → IsStanding client.now (K.view disk.old) directory.now }
+    ensures further { K.told → (more : ℕ) → Stands client.now (K.view disk.old) more directory.now → IfOk result (λ found. IsFurther client.now (K.view disk.old) (K.view disk.new) more directory.now name.now found) }
+    ensures lost { K.told → (more : ℕ) (ns : Path) → Stands client.now (K.view disk.old) more directory.now → IfErr result (λ e. e ≢ no.Device → not_found (node_tree (K.view disk.old) more directory.now) (name.now ∷ ns) ≡ Some e) }
+    ensures looks { Looks K.told (K.view disk.old) (K.view disk.new) result }
+{
+    match block_of_name(directory, name) {
+        Ok(block) => read_inode(client, disk, block),
+        Err(refusal) => Err(refusal),
     }
 }
 
@@ -78,7 +128,7 @@ pub fn walk<K: Blocks>(
     disk: &mut K,
     names: &[Name],
 ) -> Result<Found, FsRefusal>
-    requires { MayAsk K.told client.now (K.view disk.old) }
+    requires may { MayAsk K.told client.now (K.view disk.old) }
     ensures found { K.told → IfOk result (λ found. IsAt client.now (K.view disk.new) names.now found) }
     ensures none { K.told → OnOk result (not_found (tree_of client.now (K.view disk.old)) names.now ≡ None) }
     ensures refused { K.told → IfErr result (λ e. e ≢ no.Device → not_found (tree_of client.now (K.view disk.old)) names.now ≡ Some e) }
@@ -97,7 +147,7 @@ pub fn find_file<K: Blocks>(
     disk: &mut K,
     path: &Path,
 ) -> Result<Found, FsRefusal>
-    requires { MayAsk K.told client.now (K.view disk.old) }
+    requires may { MayAsk K.told client.now (K.view disk.old) }
     ensures found { K.told → IfOk result (λ found. IsAt client.now (K.view disk.new) path.now found × (is_directory (inode_of found.inode) ≡ false)) }
     ensures none { K.told → OnOk result (no_file_found (tree_of client.now (K.view disk.old)) path.now ≡ None) }
     ensures refused { K.told → IfErr result (λ e. e ≢ no.Device → no_file_found (tree_of client.now (K.view disk.old)) path.now ≡ Some e) }
@@ -116,7 +166,7 @@ pub fn find_directory<K: Blocks>(
     disk: &mut K,
     names: &[Name],
 ) -> Result<Found, FsRefusal>
-    requires { MayAsk K.told client.now (K.view disk.old) }
+    requires may { MayAsk K.told client.now (K.view disk.old) }
     ensures found { K.told → IfOk result (λ found. IsAt client.now (K.view disk.new) names.now found × IsTrue (is_directory (inode_of found.inode))) }
     ensures none { K.told → OnOk result (no_directory_found (tree_of client.now (K.view disk.old)) names.now ≡ None) }
     ensures refused { K.told → IfErr result (λ e. e ≢ no.Device → no_directory_found (tree_of client.now (K.view disk.old)) names.now ≡ Some e) }
@@ -136,7 +186,7 @@ pub fn find_place<'a, K: Blocks>(
     path: &'a Path,
     at_root: FsRefusal,
 ) -> Result<Place<'a>, FsRefusal>
-    requires { MayAsk K.told client.now (K.view disk.old) }
+    requires may { MayAsk K.told client.now (K.view disk.old) }
     ensures found { K.told → IfOk result (λ place. IsPlace client.now (K.view disk.new) path.now place) }
     ensures none { K.told → OnOk result (no_place_found (tree_of client.now (K.view disk.old)) path.now at_root ≡ None) }
     ensures refused { K.told → IfErr result (λ e. e ≢ no.Device → no_place_found (tree_of client.now (K.view disk.old)) path.now at_root ≡ Some e) }

@@ -16,6 +16,7 @@ mod changing;
 mod content;
 mod file_system;
 mod finding;
+mod letting_go;
 mod marks;
 mod mounting;
 mod reading;

@@ -2,7 +2,8 @@
 
 use crate::finding::Found;
 use crate::marks::Marks;
-use fs_asks::{Client, NoNames, count_pairs, delete_others};
+use crate::letting_go::delete_others;
+use fs_asks::{Client, NoNames, count_pairs};
 use fs_port::Blocks;
 use fs_trees::FsRefusal;
 use fs_trees::name::PATH_MAX;

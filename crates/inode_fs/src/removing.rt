@@ -8,7 +8,8 @@ ghost use Rattle.fs_port.specs.Files.{Answers};
 ghost use Rattle.inode_fs.specs.Asking.{MayAsk, Changes, mounted_by};
 
 use crate::finding::{find_place, read_inode};
-use fs_asks::{Client, NoNames, delete_others};
+use crate::letting_go::delete_others;
+use fs_asks::{Client, NoNames};
 use fs_port::Blocks;
 use fs_trees::{FsRefusal, Path};
 use inode_layout::{directory_without, empty_directory};
