@@ -64,7 +64,7 @@ pub fn put<K: Blocks>(
     path: &Path,
     bytes: &Data,
 ) -> Result<(), FsRefusal>
-    requires { MayAsk K.told client.now (K.view disk.old) }
+    requires may { MayAsk K.told client.now (K.view disk.old) }
     requires named { IsTrue (is_path path.now) }
     ensures answer { K.told → Answers (mounted_by client.now) (K.view disk.old) (K.view disk.new) (ask.Put path.now bytes.now) result (λ _ answer. answer ≡ done) }
     ensures changes { Changes K.told client.now (K.view disk.old) (K.view disk.new) (ask.Put path.now bytes.now) result }
@@ -91,7 +91,7 @@ pub fn make_dir<K: Blocks>(
     disk: &mut K,
     path: &Path,
 ) -> Result<(), FsRefusal>
-    requires { MayAsk K.told client.now (K.view disk.old) }
+    requires may { MayAsk K.told client.now (K.view disk.old) }
     requires named { IsTrue (is_path path.now) }
     ensures answer { K.told → Answers (mounted_by client.now) (K.view disk.old) (K.view disk.new) (ask.MakeDir path.now) result (λ _ answer. answer ≡ done) }
     ensures changes { Changes K.told client.now (K.view disk.old) (K.view disk.new) (ask.MakeDir path.now) result }
@@ -155,7 +155,7 @@ pub fn append<K: Blocks>(
     path: &Path,
     bytes: &Data,
 ) -> Result<(), FsRefusal>
-    requires { MayAsk K.told client.now (K.view disk.old) }
+    requires may { MayAsk K.told client.now (K.view disk.old) }
     requires named { IsTrue (is_path path.now) }
     ensures answer { K.told → Answers (mounted_by client.now) (K.view disk.old) (K.view disk.new) (ask.Append path.now bytes.now) result (λ _ answer. answer ≡ done) }
     ensures changes { Changes K.told client.now (K.view disk.old) (K.view disk.new) (ask.Append path.now bytes.now) result }
@@ -181,7 +181,7 @@ pub fn copy<K: Blocks>(
     path: &Path,
     new: &Path,
 ) -> Result<(), FsRefusal>
-    requires { MayAsk K.told client.now (K.view disk.old) }
+    requires may { MayAsk K.told client.now (K.view disk.old) }
     requires named { IsTrue (is_path path.now) }
     requires new_named { IsTrue (is_path new.now) }
     ensures answer { K.told → Answers (mounted_by client.now) (K.view disk.old) (K.view disk.new) (ask.Copy path.now new.now) result (λ _ answer. answer ≡ done) }

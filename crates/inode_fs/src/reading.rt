@@ -16,7 +16,7 @@ use tsd_model::lists::DATA_MAX;
 
 /// How many bytes a file has.
 pub fn size<K: Blocks>(client: &Client, disk: &mut K, path: &Path) -> Result<u64, FsRefusal>
-    requires { MayAsk K.told client.now (K.view disk.old) }
+    requires may { MayAsk K.told client.now (K.view disk.old) }
     requires named { IsTrue (is_path path.now) }
     ensures answer { K.told → Answers (mounted_by client.now) (K.view disk.old) (K.view disk.new) (ask.Cat path.now) result TellsSize }
     ensures looks { Looks K.told (K.view disk.old) (K.view disk.new) result }
@@ -52,7 +52,7 @@ pub fn read_part<K: Blocks>(
     start: u64,
     into: &mut Data,
 ) -> Result<(), FsRefusal>
-    requires { MayAsk K.told client.now (K.view disk.old) }
+    requires may { MayAsk K.told client.now (K.view disk.old) }
     requires named { IsTrue (is_path path.now) }
     ensures answer { K.told → Answers (mounted_by client.now) (K.view disk.old) (K.view disk.new) (ask.Cat path.now) result (λ _. TellsPart start into.new) }
     ensures looks { Looks K.told (K.view disk.old) (K.view disk.new) result }
@@ -74,7 +74,7 @@ pub fn name_after<K: Blocks>(
     path: &Path,
     after: &Name,
 ) -> Result<Option<Name>, FsRefusal>
-    requires { MayAsk K.told client.now (K.view disk.old) }
+    requires may { MayAsk K.told client.now (K.view disk.old) }
     requires named { IsTrue (is_path path.now) }
     ensures answer { K.told → Answers (mounted_by client.now) (K.view disk.old) (K.view disk.new) (ask.Ls path.now) result (TellsNext after.now) }
     ensures looks { Looks K.told (K.view disk.old) (K.view disk.new) result }

@@ -17,7 +17,7 @@ use inode_layout::{directory_without, empty_directory};
 /// Takes away a file, or a directory without entries: the directory above is written without it, which decides, and then
 /// lets go of it.
 pub fn remove<K: Blocks>(client: &Client, disk: &mut K, path: &Path) -> Result<(), FsRefusal>
-    requires { MayAsk K.told client.now (K.view disk.old) }
+    requires may { MayAsk K.told client.now (K.view disk.old) }
     requires named { IsTrue (is_path path.now) }
     ensures answer { K.told → Answers (mounted_by client.now) (K.view disk.old) (K.view disk.new) (ask.Rm path.now) result (λ _ answer. answer ≡ done) }
     ensures changes { Changes K.told client.now (K.view disk.old) (K.view disk.new) (ask.Rm path.now) result }
