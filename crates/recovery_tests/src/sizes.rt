@@ -47,12 +47,12 @@ fn each_size_opens(rt: HostRuntime) -> Result<(), Fail> {
 fn a_large_disk_opens(rt: HostRuntime) -> Result<(), Fail> {
     let size = Geometry {
         sectors: 8,
-        blocks: 65_536,
+        blocks: 1_048_576,
         primaries: 16,
-        slots: 262_144,
+        slots: 4_194_304,
     };
     let mut station = MemStation::new(rt.alloc(), Vec::new(rt.alloc()));
     format_sized(&mut station, &size, &pairs(16)?)?;
-    assert_eq!(rt; open(rt.alloc(), &mut station), Ok((65_520, 0)));
+    assert_eq!(rt; open(rt.alloc(), &mut station), Ok((1_048_560, 0)));
     Ok(())
 }

@@ -15,6 +15,8 @@ loop-target-preserved g c =
     let items = c.as_slice-target-items.result.now in
     let same = c.as_slice-target-items.ensures.value in record {
       live = c.loop-target.invariant.live;
+      counts = c.in_ok-take.ensures.counts d.live c.loop-target.invariant.counts;
+      geometry = c.in_ok-take.ensures.geometry ∙ c.loop-target.invariant.geometry;
       world = subst (λ (ts : List ℕ). graph_of c.take.new.pointers d.live ≡ without_pointers w a (take (i + 1) ts)) same
           (world_next w (graph_of d.pointers d.live) (graph_of c.take.new.pointers d.live) a items i c.loop-target-test.true
           (subst (λ (ts : List ℕ). graph_of d.pointers d.live ≡ without_pointers w a (take i ts)) (sym same) c.loop-target.invariant.world)
