@@ -4,6 +4,7 @@ use Rattle.tsd_model.specs.World.{World, is_live, is_free, has_number}
 use Rattle.tsd_model.specs.Records.{kept_of}
 use Rattle.tsd_model.specs.Sessions.{sessions_max, is_open}
 use Rattle.tsd_model.specs.Attained.{record_level}
+use Rattle.tsd_model.specs.Valid.{IsValid}
 use Rattle.tsd_model.specs.declared.caps.Cap.{Cap}
 use Rattle.tsd_model.specs.declared.requests.Level.TheVariants as level
 use Rattle.fs_trees.specs.Names.{Name, name_lt}
@@ -57,10 +58,11 @@ tree_on f v = cond f.mounted (tree_at f.kind v.world f.root) nothing
 abbrev pub step_on : FilesView → View → ShellAsk → Outcome
 step_on f v a = step_in f.kind v.world f.root (tree_on f v) a
 
--- the answer is that of the step, and so is the tree afterwards; nothing is said of Device
+-- The answer is that of the step, and so is the tree afterwards. A refusal leaves the disk as it was, also where nothing
+-- is mounted. Nothing is said of Device.
 pub record Answers {X : Type 0} (f : FilesView) (old new : View) (a : ShellAsk) (result : Result X FsRefusal) (tells : X → Answer → Type 0) : Type 0 where
   pub ok : IfOk result (λ x. tells x (step_on f old a).answer × (tree_at f.kind new.world f.root ≡ (step_on f old a).tree))
-  pub err : IfErr result (λ e. e ≢ no.Device → ((step_on f old a).answer ≡ refused e) × (tree_on f new ≡ tree_on f old))
+  pub err : IfErr result (λ e. e ≢ no.Device → ((step_on f old a).answer ≡ refused e) × (new.world ≡ old.world))
 
 -- ---- what a call leaves
 
@@ -75,20 +77,38 @@ pub record LeavesWorld (f : FilesView) (old new : View) : Type 0 where
   pub others : OthersStay f.root old.world new.world
   pub taken : (b : ℕ) → IsTrue (is_free old.world b) → IsTrue (is_live new.world b) → IsTrue (has_number (named_at f.kind new.world f.root).blocks b)
 
--- what a crash within the call leaves: the tree before or the tree after, and what the root didn't reach as it was
+-- the tree of a step, or the tree that was there before where the step refuses
+abbrev pub unless_refused : Answer → Tree → Tree → Tree
+unless_refused (refused r) after before = before
+unless_refused answer after before = after
+
+-- the tree under the root once an ask is answered
+abbrev pub tree_after : FilesView → View → ShellAsk → Tree
+tree_after f old a = unless_refused (step_on f old a).answer (step_on f old a).tree (tree_at f.kind old.world f.root)
+
+-- what every crash within a call leaves: a valid world of the same size, and what the root didn't reach as it was
+pub record IsLeft (f : FilesView) (old : View) (w : World) : Type 0 where
+  pub valid : IsValid w
+  pub geometry : w.geometry ≡ old.world.geometry
+  pub others : OthersStay f.root old.world w
+
+-- what a crash within the call leaves: the tree before or the tree after
 abbrev pub IsEitherTree : FilesView → View → ShellAsk → World → Type 0
 IsEitherTree f old a w =
-    ((tree_at f.kind w f.root ≡ tree_at f.kind old.world f.root) ⊎ (tree_at f.kind w f.root ≡ (step_on f old a).tree))
-    × OthersStay f.root old.world w
+    ((tree_at f.kind w f.root ≡ tree_at f.kind old.world f.root) ⊎ (tree_at f.kind w f.root ≡ tree_after f old a))
+    × IsLeft f old w
 
--- what a crash within mounting leaves: the tree as it was, and what the root didn't reach
+-- what a crash within mounting leaves: the tree as it was
 abbrev pub IsTreeAlone : FilesView → View → World → Type 0
-IsTreeAlone f old w = (tree_at f.kind w f.root ≡ tree_at f.kind old.world f.root) × OthersStay f.root old.world w
+IsTreeAlone f old w = (tree_at f.kind w f.root ≡ tree_at f.kind old.world f.root) × IsLeft f old w
 
 -- ---- making and mounting
 
 abbrev pub mounted_now : FilesView → FilesView
 mounted_now f = record f { mounted = true }
+
+abbrev pub unmounted_now : FilesView → FilesView
+unmounted_now f = record f { mounted = false }
 
 -- after it a tree is mounted, and the disk is tidy under the root
 pub record Mounts (f : FilesView) (now : FilesView) (new : View) (t : Tree) : Type 0 where

@@ -10,7 +10,7 @@ ghost use Rattle.fs_trees.specs.Tree.{is_there, nothing};
 ghost use Rattle.fs_trees.specs.declared.ask.ShellAsk.TheVariants as ask;
 ghost use Rattle.fs_trees.specs.declared.refusal.FsRefusal.TheVariants as no;
 ghost use Rattle.fs_port.specs.Calls.{Counts, IsValidNow, LeavesOnly, Stays};
-ghost use Rattle.fs_port.specs.Files.{FilesView, Answers, HasTree, IsEitherTree, IsReady, IsTreeAlone, LeavesWorld, Mounts, OnAnswer, TellsNext, TellsPart, TellsSize, has_dirs, mounted_now};
+ghost use Rattle.fs_port.specs.Files.{FilesView, Answers, HasTree, IsEitherTree, IsReady, IsTreeAlone, LeavesWorld, Mounts, OnAnswer, TellsNext, TellsPart, TellsSize, has_dirs, mounted_now, unmounted_now};
 
 use crate::blocks::Blocks;
 use fs_trees::{FsRefusal, Name, Path};
@@ -43,7 +43,7 @@ pub trait Files {
         ensures faultless { OnAnswer result ((K.view disk.new).faults ≡ (K.view disk.old).faults) }
         ensures cause { IfErr result (λ e. e ≡ no.Device → Rose (K.view disk.old).faults (K.view disk.new).faults) };
 
-    /// Mounts the tree under the root, and deletes the pairs that it doesn't name.
+    /// Mounts the tree under the root, and deletes the pairs that it doesn't name. Where it fails nothing is mounted.
     fn mount<K: Blocks>(&mut self, disk: &mut K) -> Result<(), FsRefusal>
         requires ready { IsReady (view self.old) (K.view disk.old) }
         requires valid { K.told → IsValidNow (K.view disk.old) }
@@ -57,7 +57,7 @@ pub trait Files {
         ensures stays { OnAnswer result (Stays (K.view disk.old) (K.view disk.new)) }
         ensures counts { Counts (K.view disk.old) (K.view disk.new) }
         ensures mounted { OnOk result (view self.new ≡ mounted_now (view self.old)) }
-        ensures unmounted { OnErr result (view self.new ≡ view self.old) }
+        ensures unmounted { OnErr result (view self.new ≡ unmounted_now (view self.old)) }
         ensures unspent { OnAnswer result ((K.view disk.new).spent ≡ false) }
         ensures faultless { OnAnswer result ((K.view disk.new).faults ≡ (K.view disk.old).faults) }
         ensures cause { IfErr result (λ e. e ≡ no.Device → Rose (K.view disk.old).faults (K.view disk.new).faults) };

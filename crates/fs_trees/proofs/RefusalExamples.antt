@@ -1,5 +1,5 @@
 -- Worked refusals: of two that apply the earlier is answered, by computing.
-use Rattle.std.specs.Prelude.{◌≡◌, ℕ, zero, suc, ⊤, Bool, true, false, List, [], ◌∷◌, refl, codes}
+use Rattle.std.specs.Prelude.{◌≡◌, ℕ, zero, suc, ⊤, true, false, List, [], ◌∷◌, refl, codes}
 use Rattle.tsd_model.specs.declared.geometry.Geometry.{Geometry}
 use Rattle.fs_trees.specs.Names.{Name, Path, is_name, is_path, name_lt}
 use Rattle.fs_trees.specs.Tree.{Entries, none, file, dir, nothing, a_dir, Tree}

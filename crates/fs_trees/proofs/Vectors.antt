@@ -3,7 +3,6 @@ use Rattle.std.specs.Prelude.{◌≡◌, ℕ, List, [], ◌∷◌, refl, codes, 
 use Rattle.tsd_model.specs.World.{World}
 use Rattle.tsd_model.specs.Step.{filled}
 use Rattle.tsd_model.specs.Run.{fresh_world}
-use Rattle.tsd_model.specs.declared.geometry.Geometry.{Geometry}
 use Rattle.fs_trees.specs.Tree.{none, file, dir, nothing, a_dir}
 use Rattle.fs_trees.specs.Answer.{done, bytes, listed, free_blocks, refused}
 use Rattle.fs_trees.specs.Layouts.{tree_at, step_at}

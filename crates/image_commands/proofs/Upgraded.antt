@@ -1,6 +1,7 @@
 -- A disk that was opened and upgraded, and its line put.
 use Rattle.std.proofs.Common.{◌≡◌, ◌⊎◌, inl, inr, ℕ, List, sym, ◌∙◌, ap, subst, ◌≤◌}
-use Rattle.std.specs.Prelude.{Result, Ok, Err, IfErr, OnOk}
+use Rattle.std.specs.Prelude.{Result, Ok, Err, IfErr, OnErr, OnOk}
+use Rattle.image_device.specs.Counts.{Rose}
 use Rattle.tsd_model.specs.World.{World}
 use Rattle.tsd_model.specs.Records.{upgraded}
 use Rattle.image_device.specs.Image.{zeros}
@@ -89,3 +90,13 @@ upgraded_there old mid new v (Err why) good opened at done closed erased = tt
 pub not_for_memory : {T : Type 0} → (P : Type 0) (result : Result T Status) → IfErr result (λ why. why ≡ status.DeviceFault) → IfErr result (λ why. why ≡ status.NoMemory → P)
 not_for_memory P (Ok u) failed = tt
 not_for_memory P (Err why) failed = λ memory. absurd (cc)
+
+-- what is so of a device that failed
+pub by_device : {T : Type 0} → (P : Status → Type 0) (result : Result T Status) → IfErr result (λ why. why ≡ status.DeviceFault) → P status.DeviceFault → IfErr result P
+by_device P (Ok u) failed so = tt
+by_device P (Err why) failed so = subst P (sym failed) so
+
+-- its count of faults rose from the start on
+pub rose_since : {T : Type 0} → (old mid new : ℕ) (result : Result T Status) → mid ≡ old → OnErr result (Rose mid new) → IfErr result (λ why. why ≡ status.DeviceFault → Rose old new)
+rose_since old mid new (Ok u) same cause = tt
+rose_since old mid new (Err why) same cause = λ device. subst (λ n. Rose n new) same cause

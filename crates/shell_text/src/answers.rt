@@ -83,7 +83,8 @@ fn put_refusal(into: &mut OutBuf, refusal: &FsRefusal)
 fn pair(into: &mut OutBuf, name: &[u8], first: u32, second: u32)
     requires short { length name.now < 14 }
     requires room { length into.old + REFUSAL_ROOM ≤ LINE_MAX }
-    ensures text { into.new ≡ into.old ++ 32 ∷ join_with_byte 32 (name.now ∷ decimal first ∷ decimal second ∷ []) }
+    ensures text { into.new
+        ≡ into.old ++ 32 ∷ join_with_byte 32 (name.now ∷ decimal first ∷ decimal second ∷ []) }
     ensures room { length into.new ≤ length into.old + REFUSAL_ROOM }
 {
     put_word(into, name);
@@ -147,7 +148,9 @@ pub fn print_end(into: &mut OutBuf)
 /// An answer that is sent in parts is the answer: the head, the parts in their order, and the end of the line.
 pub fn long_answers_in_parts()
     // A file's bytes, in whatever parts.
-    ensures data { (parts : List (List ℕ)) → let x = flat_map (λ part. part) parts in data_head (is_empty x) ++ flat_map encode_lower parts ≡ answer_text (bytes x) }
+    ensures data { (parts : List (List ℕ)) → let x = flat_map (λ part. part) parts in
+        data_head (is_empty x) ++ flat_map encode_lower parts ≡ answer_text (bytes x) }
     // The names in a directory, one a part.
-    ensures names { (ns : List Name) → names_head (is_empty ns) ++ flat_map (λ n. 32 ∷ n) ns ≡ answer_text (listed ns) }
+    ensures names { (ns : List Name) →
+        names_head (is_empty ns) ++ flat_map (λ n. 32 ∷ n) ns ≡ answer_text (listed ns) }
 {}

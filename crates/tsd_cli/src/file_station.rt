@@ -2,15 +2,13 @@
 
 ghost use Rattle.std.specs.Prelude.{ℕ, List};
 
+use crate::ahead::{Ahead, SECTOR, read_bytes};
 use image_device::{Device, Failed, Port};
 use std::fmt::{self, Formatter};
 use std::fs::{File, OpenOptions, TryLockError};
 use std::io::{self, ErrorKind, Write};
 use std::os::unix::fs::{FileExt, OpenOptionsExt};
 use std::path::Path;
-
-/// The bytes of a sector.
-const SECTOR: usize = 512;
 
 /// A new image is for its owner alone: it holds capabilities.
 const OWNER_ALONE: u32 = 0o600;
@@ -65,6 +63,7 @@ pub struct FileStation<'a, O> {
     path: &'a str,
     makes: bool,
     image: Image,
+    ahead: Ahead,
     output: O,
     trouble: Option<Trouble>,
     faults: u64,
@@ -80,6 +79,7 @@ impl<'a, O> FileStation<'a, O> {
             path,
             makes,
             image: Image::Untried,
+            ahead: Ahead::none(rt.alloc()),
             output,
             trouble: None,
             faults: 0,
@@ -142,19 +142,19 @@ fn make(rt: &HostRuntime, path: &str) -> io::Result<File> {
     Ok(file)
 }
 
-/// Reads a sector into a room of zeros.
-fn read_sector(image: &Image, sector: u32, room: &mut [u8; SECTOR]) -> Result<(), Trouble> {
+/// Reads a sector into a room of zeros, with those behind it where reads follow one another.
+fn read_sector(
+    image: &Image,
+    ahead: &mut Ahead,
+    sector: u32,
+    room: &mut [u8; SECTOR],
+) -> Result<(), Trouble> {
     let Image::Open(file) = image else {
         return Err(Trouble::NotOpen);
     };
-    let start = u64::from(sector) * SECTOR as u64;
-    let mut got = 0;
-    while got < SECTOR {
-        let count = file.read_at(&mut room[got..], start + got as u64)?;
-        if count == 0 {
-            return Ok(());
-        }
-        got += count;
+    ahead.follow(file, sector);
+    if !ahead.copy(sector, room) {
+        read_bytes(file, sector, room)?;
     }
     Ok(())
 }
@@ -200,7 +200,7 @@ impl<'a, O: Write> Device for FileStation<'a, O> {
         let mut room = [0u8; SECTOR];
         let mut answer = open_once(&mut self.image, self.rt, self.path, self.makes);
         if answer.is_ok() {
-            answer = read_sector(&self.image, sector, &mut room);
+            answer = read_sector(&self.image, &mut self.ahead, sector, &mut room);
         }
         match answer {
             Ok(()) => {
@@ -217,6 +217,7 @@ impl<'a, O: Write> Device for FileStation<'a, O> {
 
     fn write(&mut self, sector: u32, from: &[u8; 512]) -> Result<(), Failed> {
         self.writes = self.writes.saturating_add(1);
+        self.ahead.forget();
         let mut answer = open_once(&mut self.image, self.rt, self.path, self.makes);
         if answer.is_ok() {
             answer = write_sector(&self.image, sector, from);

@@ -7,6 +7,7 @@
 //! output and the command line are on a real machine is trusted, and shown by the stored run alone.
 #![tactic(auto)]
 
+mod ahead;
 mod file_station;
 mod help;
 mod input;

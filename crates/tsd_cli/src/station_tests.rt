@@ -3,6 +3,7 @@
 use crate::file_station::{FileStation, Trouble};
 use image_device::{Device, Failed, Port};
 use std::fs;
+use std::io::Write;
 use std::os::unix::fs::PermissionsExt;
 use std::test::Fail;
 
@@ -59,5 +60,45 @@ fn an_image_is_kept_in_a_file(rt: HostRuntime) -> Result<(), Fail> {
     assert_eq!(rt; again.read(WRITTEN - 1, &mut sector), Ok(()));
     assert_eq!(rt; sector, [0; 512]);
     fs::remove_file(&rt, PATH)?;
+    Ok(())
+}
+
+/// Another image, so that tests that run side by side don't meet.
+const ROW_PATH: &str = "file_station_row_test.img";
+
+/// Whether a sector's bytes all have this value.
+fn reads_as<O: Write>(station: &mut FileStation<'_, O>, sector: u32, value: u8) -> bool {
+    let mut bytes = [255; 512];
+    station.read(sector, &mut bytes) == Ok(()) && bytes == [value; 512]
+}
+
+/// Reads in a row, a write among what was read ahead, and the file's end among it too.
+#[test]
+fn sectors_are_read_in_a_row(rt: HostRuntime) -> Result<(), Fail> {
+    let alloc = rt.alloc();
+    let _none_left = fs::remove_file(&rt, ROW_PATH);
+    let mut station = FileStation::new(&rt, ROW_PATH, true, Vec::new(alloc));
+    for sector in 0..40u8 {
+        assert_eq!(rt; station.write(u32::from(sector), &[sector; 512]), Ok(()));
+    }
+    for sector in 0..20u8 {
+        assert!(rt;
+            reads_as(&mut station, u32::from(sector), sector),
+            "at {sector}"
+        );
+    }
+    assert_eq!(rt; station.write(35, &[99; 512]), Ok(()));
+    for sector in 20..40u8 {
+        let value = if sector == 35 { 99 } else { sector };
+        assert!(rt;
+            reads_as(&mut station, u32::from(sector), value),
+            "at {sector}"
+        );
+    }
+    for sector in 40..200u32 {
+        assert!(rt; reads_as(&mut station, sector, 0), "at {sector}");
+    }
+    assert!(rt; reads_as(&mut station, 7, 7));
+    fs::remove_file(&rt, ROW_PATH)?;
     Ok(())
 }

@@ -1,6 +1,8 @@
-use Rattle.std.proofs.Common.{inl}
+use Rattle.std.proofs.Common.{◌≡◌, ◌≢◌, inl, refl}
+use Rattle.image_opening.specs.Opened.{IsJudged, IsUnopened}
+use Rattle.tsd_words.specs.declared.status.Status.TheVariants as status
 use Rattle.image_device.proofs.Moments.{weakened}
-use Rattle.image_commands.proofs.Upgraded.{not_for_memory, upgrade_moments, upgraded_there}
+use Rattle.image_commands.proofs.Upgraded.{by_device, rose_since, not_for_memory, upgrade_moments, upgraded_there}
 use Rattle.image_commands.proofs.upgrade.upgrade.Goals as goal
 
 pub returns-in-Ok-clause-upgraded : goal.returns-in-Ok-clause-upgraded
@@ -22,3 +24,19 @@ returns-in-Ok-clause-no_memory g c told = not_for_memory _ c.upgrade_at.result c
 
 pub returns-in-Err-clause-no_memory : goal.returns-in-Err-clause-no_memory
 returns-in-Err-clause-no_memory g c told memory = c.open_volume.ensures.any_moment told
+
+pub returns-in-Ok-clause-judged : goal.returns-in-Ok-clause-judged
+returns-in-Ok-clause-judged g c told = by_device (IsJudged (g.D.Device.view c.args.dev.now).reads) c.upgrade_at.result c.upgrade_at.ensures.failed tt
+
+pub returns-in-Ok-clause-stops : goal.returns-in-Ok-clause-stops
+returns-in-Ok-clause-stops g c = by_device IsUnopened c.upgrade_at.result c.upgrade_at.ensures.failed tt
+
+pub returns-in-Ok-clause-fault : goal.returns-in-Ok-clause-fault
+returns-in-Ok-clause-fault g c =
+    by_device (λ why. why ≢ status.DeviceFault → (g.D.Device.view c.upgrade_at.new.dev).faults ≡ (g.D.Device.view c.args.dev.now).faults) c.upgrade_at.result c.upgrade_at.ensures.failed
+    (λ other. absurd (other refl))
+
+pub returns-in-Ok-clause-cause : goal.returns-in-Ok-clause-cause
+returns-in-Ok-clause-cause g c =
+    rose_since (g.D.Device.view c.args.dev.now).faults (g.D.Device.view c.open_volume.new.dev).faults (g.D.Device.view c.upgrade_at.new.dev).faults c.upgrade_at.result
+    c.in-Ok.ensures.faultless c.upgrade_at.ensures.cause

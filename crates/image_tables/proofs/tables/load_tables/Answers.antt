@@ -1,9 +1,13 @@
-use Rattle.std.proofs.Common.{sym, ◌∙◌, subst}
+use Rattle.std.proofs.Common.{sym, ap, ◌∙◌, subst, Err}
+use Rattle.image_device.specs.Counts.{Rose}
+use Rattle.block_alloc.specs.declared.fault.LoadFault.TheVariants as live_fault
+use Rattle.pointer_table.specs.declared.fault.TableFault.TheVariants as slot_fault
 use Rattle.std.proofs.lemmas.Result.{err_from_is_err_and}
 use Rattle.image_device.proofs.Resting.{rests_joined}
 use Rattle.tsd_model.specs.declared.geometry.Geometry.{Geometry}
 use Rattle.image_world.specs.Faults.{AreRight}
 use Rattle.image_tables.proofs.LoadLaws.{are_read, are_stored, do_fit, failed}
+use Rattle.image_tables.proofs.CapsLaws.{same_after_caps, rose_after_caps, loaded_is_no_fault}
 use Rattle.image_tables.proofs.TestLaws.{right_on}
 use Rattle.image_tables.proofs.tables.load_tables.Goals as goal
 
@@ -69,3 +73,16 @@ returns-clause-rests g c told =
     let first = view c.args.dev.now in
     rests_joined first (view c.load-3.new.dev) (view c.load-4.new.dev) (rests_joined first (view c.load-2.new.dev) (view c.load-3.new.dev)
     (rests_joined first (view c.load.new.dev) (view c.load-2.new.dev) (c.in_ok-pointers.ensures.rests told) (c.in_ok-live.ensures.rests told)) (c.in_ok-counts.ensures.rests told)) (c.in_ok-caps.ensures.rests told)
+
+pub returns-in_err-caps-clause-faultless : goal.returns-in_err-caps-clause-faultless
+returns-in_err-caps-clause-faultless g c not_device =
+    let is = err_from_is_err_and c.from_residual-in_err-caps.result c.from_residual-in_err-caps.ensures.1 in
+    same_after_caps c.from_residual-in_err-caps.result c.in_err-caps.field-0.0 (is.1 ∙ ap (λ y. Err y) is.2) c.in_err-caps.ensures.short not_device
+    ∙ c.in_ok-counts.ensures.faultless ∙ c.in_ok-live.ensures.faultless (loaded_is_no_fault c.in_ok-live.live live_fault.Device) ∙ c.in_ok-pointers.ensures.faultless (loaded_is_no_fault c.in_ok-pointers.pointers slot_fault.Device)
+
+pub returns-in_err-caps-clause-cause : goal.returns-in_err-caps-clause-cause
+returns-in_err-caps-clause-cause g c device =
+    let view = g.D.Device.view in
+    let is = err_from_is_err_and c.from_residual-in_err-caps.result c.from_residual-in_err-caps.ensures.1 in
+    subst (λ n. Rose n (view c.load-4.new.dev).faults) (c.in_ok-counts.ensures.faultless ∙ c.in_ok-live.ensures.faultless (loaded_is_no_fault c.in_ok-live.live live_fault.Device) ∙ c.in_ok-pointers.ensures.faultless (loaded_is_no_fault c.in_ok-pointers.pointers slot_fault.Device))
+    (rose_after_caps (view c.load-3.new.dev).faults (view c.load-4.new.dev).faults c.from_residual-in_err-caps.result c.in_err-caps.field-0.0 (is.1 ∙ ap (λ y. Err y) is.2) c.in_err-caps.ensures.cause device)

@@ -1,0 +1,111 @@
+//! Sectors of a file that are read together, where reads follow one another.
+
+use std::alloc::Global;
+use std::fs::File;
+use std::io;
+use std::os::unix::fs::FileExt;
+
+/// The bytes of a sector.
+pub const SECTOR: usize = 512;
+
+/// How many sectors are read together at most.
+const MOST: usize = 128;
+
+/// Sectors that were read before they were asked for. The file is locked, so no other process writes it, and each write of this
+/// one forgets them all: what is held is what the file has.
+#[derive(Drop)]
+pub struct Ahead {
+    /// Room for the bytes of 128 sectors, or none where there was no memory for it.
+    room: Vec<u8>,
+
+    /// The first sector that is held.
+    first: u32,
+
+    /// How many sectors are held.
+    count: usize,
+
+    /// The sector behind the one that was asked for last.
+    next: u32,
+
+    /// How many sectors were asked for in a row, at most 128.
+    row: usize,
+}
+
+impl Ahead {
+    /// Nothing is held.
+    pub fn none(alloc: Global) -> Ahead {
+        let room = match vec![in alloc; 0; SECTOR * MOST] {
+            Ok(zeros) => zeros,
+            Err(_) => Vec::new(alloc),
+        };
+        Ahead {
+            room,
+            first: 0,
+            count: 0,
+            next: 0,
+            row: 0,
+        }
+    }
+
+    /// Forgets what is held.
+    pub fn forget(&mut self) {
+        self.count = 0;
+    }
+
+    /// Copies a sector, if it is held.
+    pub fn copy(&self, sector: u32, into: &mut [u8; SECTOR]) -> bool {
+        let place = sector.wrapping_sub(self.first) as usize;
+        if place >= self.count || place >= MOST {
+            return false;
+        }
+        match self.room.get(place * SECTOR..place * SECTOR + SECTOR) {
+            Some(held) => {
+                into.copy_from_slice(held);
+                true
+            }
+            None => false,
+        }
+    }
+
+    /// Notes that a sector is asked for. Where it isn't held and comes in a row, it is read with as many behind it as came before
+    /// it. Where that fails nothing is held: nobody asked for the sectors behind it.
+    pub fn follow(&mut self, file: &File, sector: u32) {
+        let is_next = sector == self.next;
+        self.row = if is_next {
+            self.row.saturating_add(1).min(MOST)
+        } else {
+            1
+        };
+        self.next = sector.wrapping_add(1);
+        let is_held = (sector.wrapping_sub(self.first) as usize) < self.count;
+        if is_next && !is_held {
+            self.fill(file, sector);
+        }
+    }
+
+    /// Reads as many sectors as came in a row, this one and those behind it.
+    fn fill(&mut self, file: &File, sector: u32) {
+        self.count = 0;
+        let row = self.row.min(self.room.len() / SECTOR);
+        let room = &mut self.room[..row * SECTOR];
+        room.fill(0);
+        if read_bytes(file, sector, room).is_ok() {
+            self.first = sector;
+            self.count = row;
+        }
+    }
+}
+
+/// Reads a file's bytes from a sector on into a room of zeros. What is past the file's end stays zero.
+pub fn read_bytes(file: &File, sector: u32, room: &mut [u8]) -> io::Result<()> {
+    let start = u64::from(sector) * SECTOR as u64;
+    let mut got = 0;
+    while got < room.len() {
+        let count = file.read_at(&mut room[got..], start + got as u64)?;
+        if count == 0 {
+            return Ok(());
+        }
+        got += count;
+    }
+    Ok(())
+}
