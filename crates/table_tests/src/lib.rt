@@ -11,4 +11,6 @@ mod caps;
 #[cfg(test)]
 mod counts;
 #[cfg(test)]
+mod long_lists;
+#[cfg(test)]
 mod pointers;

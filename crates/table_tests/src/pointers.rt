@@ -347,7 +347,7 @@ fn random_changes_are_those_of_a_list(rt: HostRuntime) -> Result<(), Fail> {
     let mut pairs = Vec::new(alloc);
     let mut number = 1;
     let mut most = 0;
-    for turn in 0..2_000u32 {
+    for turn in 0..5_000u32 {
         number = next(number);
         let source = if number / 64 % 2 == 0 { 0 } else { 99 };
         let target = 2 + number / 65_536 % 98;
