@@ -58,7 +58,7 @@ module _ (c : Client) (old new : View) (q : Request) (a : ℕ) (after : World) (
     leads : ◌≡◌ {A = Option Rule} (verdict old.world old.sessions q) None → Leads old q after
     leads granted =
         let to : (answer old.kind (state_of old) q false).state.world ≡ after =
-            ap (λ o. o.state.world) (same_answer old.kind (state_of old) q false own) ∙ (ap (λ o. (judged old.kind (state_of old) q o).state.world) granted ∙ is) in
+        ap (λ o. o.state.world) (same_answer old.kind (state_of old) q false own) ∙ (ap (λ o. (judged old.kind (state_of old) q o).state.world) granted ∙ is) in
         record {
           valid = subst IsValid to (answer_valid old.kind (state_of old) q false now.valid);
           geometry = ap (λ w. w.geometry) (sym to) ∙ run_geometry old.kind (state_of old) (false ∷ []) (q ∷ []);
@@ -134,7 +134,7 @@ pub blocks_are : (c : Client) (old new : View) (a count : ℕ) (bs : List ℕ) �
 blocks_are c old new a count bs done =
     let q = alloc_by c a count in
     let is : (answer old.kind (state_of old) q done.0).reply ≡ reply.Blocks (chosen old.kind old.world (At a) count) =
-        ap (λ o. o.reply) (same_answer old.kind (state_of old) q done.0 refl) ∙ ap (λ o. (judged old.kind (state_of old) q o).reply) (granted_by_form old new q (reply.Blocks bs) done refl) in
+    ap (λ o. o.reply) (same_answer old.kind (state_of old) q done.0 refl) ∙ ap (λ o. (judged old.kind (state_of old) q o).reply) (granted_by_form old new q (reply.Blocks bs) done refl) in
     same_blocks (sym done.2 ∙ is)
   where
     same_blocks : {x y : List ℕ} → reply.Blocks x ≡ reply.Blocks y → x ≡ y

@@ -1,7 +1,7 @@
 -- What the checks find.
-use Rattle.std.proofs.Common.{◌≡◌, ℕ, ◌+◌, ◌<◌, ◌≤◌, Bool, true, false, not, ◌&&◌, ◌==◌, nat_lt, List, length, refl, sym, ◌∙◌, ap, subst, arith, inl, inr, suc, cond}
-use Rattle.std.proofs.lemmas.Bool.{eq-eqb, ne_eqb, cases_eq, lt-ltb, le-ltb, cases_lt, and_parts}
-use Rattle.std.specs.Prelude.{filter, IsTrue}
+use Rattle.std.proofs.Common.{◌≡◌, ℕ, ◌+◌, ◌<◌, ◌≤◌, Bool, true, false, not, ◌&&◌, ◌==◌, nat_lt, List, length, refl, sym, ◌∙◌, ap, subst, arith, inl, inr, cond}
+use Rattle.std.proofs.lemmas.Bool.{eq-eqb, ne_eqb, cases_eq, lt-ltb, le-ltb, cases_lt}
+use Rattle.std.specs.Prelude.{IsTrue}
 use Rattle.tsd_model.specs.Pairs.{is_pair, holds, count_to}
 use Rattle.tsd_model.specs.Next.{IsLeast}
 use Rattle.tsd_model.proofs.CountLaws.{filter_held, none_pass}
@@ -12,7 +12,7 @@ use Rattle.graph_laws.specs.Counts.{count_where}
 use Rattle.graph_laws.specs.Graph.{zeros_in, no_record}
 use Rattle.graph_laws.proofs.ToldLaws.{blocks-world_with}
 use Rattle.graph_laws.proofs.MarkingLaws.{count_lowered}
-use Rattle.reclaim.specs.Tables.{graph_of, AreTables}
+use Rattle.reclaim.specs.Tables.{AreTables}
 use Rattle.reclaim.proofs.CollectLaws.{live_told}
 use Rattle.std.specs.Prelude.{replicate}
 

@@ -1,21 +1,18 @@
 -- What a change of the tables is to the graph that they tell.
-use Rattle.std.proofs.Common.{◌≡◌, ℕ, ◌+◌, ◌<◌, ◌≤◌, Bool, true, false, not, ◌&&◌, ◌==◌, List, [], ◌∷◌, ◌++◌, length, take, get_or, refl, sym, ◌∙◌, ap, subst, arith, inl, inr}
+use Rattle.std.proofs.Common.{◌≡◌, ℕ, ◌+◌, ◌<◌, ◌≤◌, Bool, true, false, ◌==◌, List, [], ◌∷◌, ◌++◌, length, take, get_or, refl, sym, ◌∙◌, ap, subst, inl, inr}
 use Rattle.std.proofs.lemmas.Bool.{and_from, lt-ltb, eqb-true, or_cases}
-use Rattle.std.proofs.lemmas.List.{take_more, get_or_past}
+use Rattle.std.proofs.lemmas.List.{take_more}
 use Rattle.std.specs.Prelude.{slice_set, replicate, Option, Some, None, is_some, is_none, nat_lt}
-use Rattle.tsd_model.specs.Pairs.{holds, with_pair, without_pair}
+use Rattle.tsd_model.specs.Pairs.{with_pair, without_pair}
 use Rattle.tsd_model.specs.World.{World, contents, is_free, has_number}
 use Rattle.tsd_model.specs.Step.{with_contents, with_pointer, without_pointer, with_new_blocks, zeros}
-use Rattle.tsd_model.specs.declared.geometry.Geometry.{Geometry}
 use Rattle.pointer_table.specs.Table.{Table, pairs}
-use Rattle.pointer_table.specs.declared.out_step.OutStep.{OutStep}
-use Rattle.block_alloc.specs.LiveMap.{LiveMap, IsTable, is_live}
+use Rattle.block_alloc.specs.LiveMap.{LiveMap, is_live}
 use Rattle.graph_laws.specs.Graph.{graph, zeros_in, no_record}
-use Rattle.graph_laws.specs.Steps.{with_free, without_pointers, stepped}
+use Rattle.graph_laws.specs.Steps.{with_free, without_pointers}
 use Rattle.graph_laws.proofs.ToldLaws.{graph-set_free, world_with-set_live}
 use Rattle.tsd_model.specs.Doomed.{doomed}
 use Rattle.reclaim.specs.Ahead.{Kept, IsAheadOf, IsGrowing}
-use Rattle.reclaim.specs.Stepping.{after_step}
 use Rattle.reclaim.specs.Tables.{graph_of, AreTables}
 use Rattle.reclaim.proofs.CollectLaws.{live_told}
 use Rattle.reclaim.proofs.HeldLaws.{take-whole}

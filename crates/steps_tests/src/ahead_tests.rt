@@ -1,10 +1,11 @@
-//! What is doomed, told through changes, and found again by the plain rule.
+//! What is doomed, told through changes of disks of 8 to 40 blocks, and found again by the plain rule after each change.
 
 ghost use Rattle.std.specs.Prelude.{◌≡◌, ◌<◌, OnOk};
 ghost use Rattle.reclaim.specs.Ahead.{IsAheadOf};
 ghost use Rattle.reclaim.specs.Tables.{graph_of};
 
 use crate::disk::{Disk, disk_with};
+use crate::draws::draw;
 use crate::told::{ahead_of, allocate, create, delete, hides, step};
 use pointer_table::PointerTable;
 use reclaim::Ahead;
@@ -12,28 +13,27 @@ use std::alloc::{AllocError, Global};
 use std::process::Abort;
 use std::test::Fail;
 
-/// How many blocks a disk of the random test has.
-const BLOCKS: u32 = 16;
-
-/// The next number of a row that looks random, below a bound.
-fn draw(seed: &mut u32, bound: u32) -> u32
-    requires { 0 < bound }
-{
-    *seed = seed.wrapping_mul(1_664_525).wrapping_add(1_013_904_223);
-    (*seed >> 8) % bound
-}
-
 /// The pairs of a table.
 fn pairs_of(alloc: Global, pointers: &PointerTable) -> Result<Vec<(u32, u32)>, AllocError> {
     let mut pairs = Vec::new(alloc);
-    for source in 0..BLOCKS {
-        for target in 0..BLOCKS {
-            if pointers.has(source, target) {
-                pairs.push((source, target))?;
-            }
-        }
+    for source in 0..pointers.geometry().blocks {
+        push_pairs(&mut pairs, pointers, source)?;
     }
     Ok(pairs)
+}
+
+/// Pushes the pairs of a table from this source.
+fn push_pairs(
+    pairs: &mut Vec<(u32, u32)>,
+    pointers: &PointerTable,
+    source: u32,
+) -> Result<(), AllocError> {
+    for target in 0..pointers.geometry().blocks {
+        if pointers.has(source, target) {
+            pairs.push((source, target))?;
+        }
+    }
+    Ok(())
 }
 
 /// Whether a block is one of these.
@@ -44,30 +44,45 @@ fn is_among(block: u32, blocks: &[u32]) -> bool {
 /// The live blocks but block 0 to which only doomed blocks lead, found in rounds until no round can find more.
 fn plain_doomed(alloc: Global, live: &[u32], pairs: &[(u32, u32)]) -> Result<Vec<u32>, AllocError> {
     let mut doomed = Vec::new(alloc);
-    for _round in 0..BLOCKS {
-        for block in live {
-            let held = pairs.iter().any(|pair| pair.1 == *block
-                && !is_among(pair.0, doomed.as_slice()));
-            if *block != 0 && !held && !is_among(*block, doomed.as_slice()) {
-                doomed.push(*block)?;
-            }
-        }
+    for _round in live {
+        push_doomed(&mut doomed, live, pairs)?;
     }
     Ok(doomed)
 }
 
-/// Compares what is kept ahead with the plain rule.
-fn compare(rt: &impl Abort, alloc: Global, disk: &Disk, ahead: &Ahead) -> Result<(), Fail> {
-    assert!(rt; disk.live.geometry().blocks == BLOCKS);
+/// A round: pushes the live blocks but block 0 to which only doomed blocks lead.
+fn push_doomed(
+    doomed: &mut Vec<u32>,
+    live: &[u32],
+    pairs: &[(u32, u32)],
+) -> Result<(), AllocError> {
+    for block in live {
+        let held = pairs.iter().any(|pair| pair.1 == *block
+            && !is_among(pair.0, doomed.as_slice()));
+        if *block != 0 && !held && !is_among(*block, doomed.as_slice()) {
+            doomed.push(*block)?;
+        }
+    }
+    Ok(())
+}
+
+/// The live blocks.
+fn live_of(alloc: Global, disk: &Disk) -> Result<Vec<u32>, AllocError> {
     let mut live = Vec::new(alloc);
-    for block in 0..BLOCKS {
+    for block in 0..disk.live.geometry().blocks {
         if disk.live.raw_live(block) {
             live.push(block)?;
         }
     }
+    Ok(live)
+}
+
+/// Compares what is kept ahead with the plain rule, and gives how many blocks are doomed.
+fn compare(rt: &impl Abort, alloc: Global, disk: &Disk, ahead: &Ahead) -> Result<u32, Fail> {
+    let live = live_of(alloc, disk)?;
     let pairs = pairs_of(alloc, &disk.pointers)?;
     let doomed = plain_doomed(alloc, live.as_slice(), pairs.as_slice())?;
-    for block in 0..BLOCKS {
+    for block in 0..disk.live.geometry().blocks {
         assert_eq!(rt;
             ahead.is_doomed(block),
             is_among(block, doomed.as_slice()),
@@ -81,10 +96,10 @@ fn compare(rt: &impl Abort, alloc: Global, disk: &Disk, ahead: &Ahead) -> Result
     assert_eq!(rt; ahead.doomed() as usize, doomed.len());
     assert_eq!(rt; ahead.doomed_pairs() as usize, from_doomed);
     assert!(rt; hides(&disk.live, ahead));
-    Ok(())
+    Ok(ahead.doomed())
 }
 
-/// Makes a change that may be made at these blocks, or none.
+/// Makes a change that may be made at these blocks, or none: a step, a new block with a pair to it, or a pair added or deleted.
 fn change(
     rt: &impl Abort,
     alloc: Global,
@@ -124,37 +139,49 @@ fn change(
     Ok(())
 }
 
-/// Random changes, and after each of them the comparison.
-fn run(rt: &impl Abort, alloc: Global, mut seed: u32, changes: u32) -> Result<(), Fail> {
-    let pairs = [
-        (0, 1),
-        (0, 2),
-        (1, 3),
-        (2, 4),
-        (4, 5),
-        (5, 6),
-        (6, 4),
-        (3, 7),
-        (7, 8),
-        (8, 9),
-    ];
-    let mut disk = disk_with(rt, alloc, BLOCKS, 10, &pairs)?;
-    let mut ahead = ahead_of(rt, alloc, &disk)?;
-    for _turn in 0..changes {
-        let kind = draw(&mut seed, 6);
-        let source = draw(&mut seed, BLOCKS);
-        let target = draw(&mut seed, BLOCKS);
-        change(rt, alloc, &mut disk, &mut ahead, kind, source, target)?;
-        compare(rt, alloc, &disk, &ahead)?;
+/// A target of the source if there is one from this block on, else this block.
+fn near(disk: &Disk, source: u32, from: u32) -> u32 {
+    match disk.pointers.next_target(source, from) {
+        Some(target) => target,
+        None => from,
     }
-    Ok(())
+}
+
+/// Random changes, and after each of them the comparison. Gives after how many of them blocks were doomed.
+fn run(
+    rt: &impl Abort,
+    alloc: Global,
+    seed: &mut u32,
+    blocks: u32,
+    changes: u32,
+) -> Result<u32, Fail> {
+    let mut disk = disk_with(rt, alloc, blocks, 3, &[(0, 1), (1, 2)])?;
+    let mut ahead = ahead_of(rt, alloc, &disk)?;
+    let mut often: u32 = 0;
+    for _turn in 0..changes {
+        let kind = draw(seed, 6);
+        let source = draw(seed, blocks.max(1));
+        let mut target = draw(seed, blocks.max(1));
+        if kind > 3 {
+            target = near(&disk, source, target);
+        }
+        change(rt, alloc, &mut disk, &mut ahead, kind, source, target)?;
+        if compare(rt, alloc, &disk, &ahead)? > 0 {
+            often = often.saturating_add(1);
+        }
+    }
+    Ok(often)
 }
 
 #[test]
 fn what_is_doomed_is_told_through_random_changes(rt: HostRuntime) -> Result<(), Fail> {
-    for seed in 1..5 {
-        run(&rt, rt.alloc(), seed, 100)?;
+    let mut seed = 1;
+    let mut often: u32 = 0;
+    for blocks in 8..41 {
+        let count = run(&rt, rt.alloc(), &mut seed, blocks, 300)?;
+        often = often.saturating_add(count);
     }
+    assert!(rt; often > 3_000, "{often}");
     Ok(())
 }
 

@@ -1,9 +1,11 @@
 //! A small disk whose tables are changed in memory, and the steps of reclamation on it.
 
-ghost use Rattle.std.specs.Prelude.{◌≡◌, [], OnOk, IfOk, IfSome, IfNone};
+ghost use Rattle.std.specs.Prelude.{◌≡◌, ◌≤◌, [], OnOk, IfOk, IfSome, IfNone};
 ghost use Rattle.tsd_model.specs.Pairs.{with_pair, without_pair};
 ghost use Rattle.tsd_model.specs.Doomed.{doomed};
 ghost use Rattle.pointer_table.specs.Table.{pairs};
+ghost use Rattle.block_alloc.specs.LiveMap.{LiveMap as Live};
+ghost use Rattle.graph_laws.specs.Steps.{IsStep};
 ghost use Rattle.reclaim.specs.Stepping.{MayStep, after_step};
 ghost use Rattle.reclaim.specs.Tables.{graph_of, AreTables, HaveCounts};
 
@@ -11,7 +13,7 @@ use crate::checks::{are_tables, have_counts};
 use block_alloc::LiveMap;
 use image_device::MemStation;
 use pointer_table::{OutStep, PointerTable};
-use reclaim::{Work, next_step};
+use reclaim::{Guesses, Work, find_step, next_step};
 use ref_counts::RefCounts;
 use std::alloc::Global;
 use std::process::Abort;
@@ -26,13 +28,13 @@ pub struct Disk {
     pub live: LiveMap,
 }
 
-/// How large it is: one primary block.
+/// How large it is: one primary block, and as many slots as there are blocks, at least 128.
 pub fn sized(blocks: u32) -> Geometry {
     Geometry {
         sectors: 1,
         blocks,
         primaries: 1,
-        slots: 128,
+        slots: blocks.max(128),
     }
 }
 
@@ -96,7 +98,9 @@ pub fn take(
 ) -> Result<(), Fail>
     ensures geometry { OnOk result (pointers.new.geometry ≡ pointers.old.geometry) }
     ensures pairs { OnOk result (pairs pointers.new ≡ without_pair source target (pairs pointers.old)) }
+    ensures counts { (live : Live) → HaveCounts pointers.old live counts.old → OnOk result (HaveCounts pointers.new live counts.new) }
 {
+    let held = pointers.len();
     let patch = pointers.remove(source, target)?;
     assert!(rt; target < counts.geometry().blocks);
     assert!(rt; counts.count(target) > 0);
@@ -112,17 +116,42 @@ pub fn next(rt: &impl Abort, alloc: Global, disk: &Disk) -> Result<Option<OutSte
     ensures none { IfOk result (λ found. IfNone found (doomed (graph_of disk.now.pointers disk.now.live) ≡ [])) }
 {
     let size = disk.pointers.geometry();
-    assert!(rt; are_tables(&disk.pointers, &disk.live));
-    assert!(rt; have_counts(&disk.pointers, &disk.live, &disk.counts));
+    test_tables(rt, disk);
     let mut work = Work::new(alloc, size.blocks)?;
     work.collect(&disk.counts, &disk.live, size.primaries);
     Ok(next_step(&disk.pointers, &disk.counts, &disk.live, &mut work))
 }
 
-/// Carries a step out.
-pub fn carry_out(rt: &impl Abort, disk: &mut Disk, step: &OutStep) -> Result<(), Fail>
-    ensures { OnOk result (graph_of disk.new.pointers disk.new.live ≡ after_step (graph_of disk.old.pointers disk.old.live) step.now) }
+/// The next step, by guesses.
+pub fn found(rt: &impl Abort, disk: &Disk, guesses: &mut Guesses) -> Result<Option<OutStep>, Fail>
+    ensures tables { OnOk result (AreTables disk.now.pointers disk.now.live) }
+    ensures counts { OnOk result (HaveCounts disk.now.pointers disk.now.live disk.now.counts) }
+    ensures step { IfOk result (λ found. IfSome found (λ s. MayStep (graph_of disk.now.pointers disk.now.live) s)) }
 {
+    test_tables(rt, disk);
+    Ok(find_step(&disk.pointers, &disk.counts, &disk.live, guesses))
+}
+
+/// Tests that the tables are of one disk, tell a raw graph, and count its pairs.
+pub fn test_tables(rt: &impl Abort, disk: &Disk)
+    ensures tables { AreTables disk.now.pointers disk.now.live }
+    ensures counts { HaveCounts disk.now.pointers disk.now.live disk.now.counts }
+{
+    assert!(rt; are_tables(&disk.pointers, &disk.live));
+    assert!(rt; have_counts(&disk.pointers, &disk.live, &disk.counts));
+}
+
+/// Carries out a step of reclamation or of a sweep.
+pub fn carry_out(rt: &impl Abort, disk: &mut Disk, step: &OutStep) -> Result<(), Fail>
+    requires tables { AreTables disk.old.pointers disk.old.live }
+    requires counts { HaveCounts disk.old.pointers disk.old.live disk.old.counts }
+    requires step { IsStep (graph_of disk.old.pointers disk.old.live) step.now.block step.now.targets step.now.freed }
+    ensures graph { OnOk result (graph_of disk.new.pointers disk.new.live ≡ after_step (graph_of disk.old.pointers disk.old.live) step.now) }
+    ensures tables { OnOk result (AreTables disk.new.pointers disk.new.live) }
+    ensures counts { OnOk result (HaveCounts disk.new.pointers disk.new.live disk.new.counts) }
+    ensures geometry { OnOk result (disk.new.pointers.geometry ≡ disk.old.pointers.geometry) }
+{
+    assert!(rt; disk.pointers.geometry().primaries <= step.block);
     for target in step.targets.as_slice() {
         take(
             rt,

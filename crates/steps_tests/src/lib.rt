@@ -7,12 +7,24 @@
 #[cfg(test)]
 mod ahead_tests;
 #[cfg(test)]
+mod chains;
+#[cfg(test)]
 mod checks;
 #[cfg(test)]
 mod disk;
 #[cfg(test)]
+mod draws;
+#[cfg(test)]
+mod random_tests;
+#[cfg(test)]
 mod reclaim_tests;
+#[cfg(test)]
+mod sizes;
+#[cfg(test)]
+mod steps;
 #[cfg(test)]
 mod sweeps;
 #[cfg(test)]
 mod told;
+#[cfg(test)]
+mod worlds;

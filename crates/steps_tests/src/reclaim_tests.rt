@@ -1,6 +1,7 @@
 //! Steps carried out until none is left, on graphs of which it is known what must go.
 
-use crate::disk::{Disk, carry_out, disk_with, next};
+use crate::disk::{Disk, carry_out, disk_with, found, next};
+use reclaim::Guesses;
 use std::alloc::Global;
 use std::process::Abort;
 use std::test::Fail;
@@ -95,4 +96,59 @@ fn nothing_goes_that_a_primary_block_leads_to(rt: HostRuntime) -> Result<(), Fai
         &[],
         4,
     )
+}
+
+/// The blocks of the steps that guesses find, carried out until none is left.
+fn guessed(
+    rt: &impl Abort,
+    alloc: Global,
+    disk: &mut Disk,
+    guesses: &mut Guesses,
+) -> Result<Vec<u32>, Fail> {
+    let mut blocks = Vec::new(alloc);
+    for _turn in 0..1000 {
+        let Some(step) = found(rt, disk, guesses)? else {
+            return Ok(blocks);
+        };
+        carry_out(rt, disk, &step)?;
+        guesses.push_uncounted(&disk.counts, step.targets.as_slice());
+        blocks.push(step.block)?;
+    }
+    Err(Fail::from("the steps don't end"))
+}
+
+/// Compares the blocks of the steps that are found on a disk with a chain of lost blocks, whatever is guessed.
+fn check_guessed(rt: &impl Abort, alloc: Global, guesses: &mut Guesses) -> Result<(), Fail> {
+    let mut disk = disk_with(rt, alloc, 64, 5, &[(1, 2), (2, 3), (3, 4)])?;
+    let steps = guessed(rt, alloc, &mut disk, guesses)?;
+    assert_eq!(rt; steps.as_slice(), [1, 2, 3, 4].as_slice());
+    assert_eq!(rt; disk.pointers.len(), 0);
+    Ok(())
+}
+
+#[test]
+fn a_chain_is_found_without_a_guess(rt: HostRuntime) -> Result<(), Fail> {
+    let alloc = rt.alloc();
+    let mut guesses = Guesses::new(alloc)?;
+    check_guessed(&rt, alloc, &mut guesses)
+}
+
+#[test]
+fn wrong_guesses_are_passed_over(rt: HostRuntime) -> Result<(), Fail> {
+    let alloc = rt.alloc();
+    let mut guesses = Guesses::new(alloc)?;
+    for block in [1, 0, 3, 63, 64, 4_294_967_295] {
+        guesses.push(block);
+    }
+    check_guessed(&rt, alloc, &mut guesses)
+}
+
+#[test]
+fn more_wrong_guesses_than_there_is_room_for_are_passed_over(rt: HostRuntime) -> Result<(), Fail> {
+    let alloc = rt.alloc();
+    let mut guesses = Guesses::new(alloc)?;
+    for block in 0..5_000 {
+        guesses.push(block % 2 * 3);
+    }
+    check_guessed(&rt, alloc, &mut guesses)
 }

@@ -1,4 +1,4 @@
-use Rattle.std.proofs.Common.{◌≡◌, ◌<◌, rules, sym, ◌∙◌, ap, subst}
+use Rattle.std.proofs.Common.{◌≡◌, ◌<◌, rules, sym, subst}
 use Rattle.tsd_model.specs.declared.geometry.Geometry.{Geometry}
 use Rattle.steps_tests.proofs.CheckLaws.{raw_tables}
 use Rattle.steps_tests.proofs.checks.are_tables.Goals as goal

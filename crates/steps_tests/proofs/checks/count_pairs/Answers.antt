@@ -1,6 +1,5 @@
-use Rattle.std.proofs.Common.{◌≡◌, ◌+◌, ◌-◌, ◌≤◌, nat_lt, sym, ◌∙◌, ap, arith, length}
+use Rattle.std.proofs.Common.{◌+◌, ◌∙◌, arith}
 use Rattle.pointer_table.specs.Table.{pairs}
-use Rattle.graph_laws.specs.Counts.{count_where}
 use Rattle.steps_tests.proofs.CheckLaws.{none_below, one_below, all_below, count_fits}
 use Rattle.steps_tests.proofs.checks.count_pairs.Goals as goal
 

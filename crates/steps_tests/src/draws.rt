@@ -1,0 +1,12 @@
+//! Numbers that look random.
+
+ghost use Rattle.std.specs.Prelude.{◌<◌};
+
+/// The next number of a row that looks random, below a bound.
+pub fn draw(seed: &mut u32, bound: u32) -> u32
+    requires { 0 < bound }
+    ensures { result < bound }
+{
+    *seed = seed.wrapping_mul(1_664_525).wrapping_add(1_013_904_223);
+    (*seed >> 16) % bound
+}
