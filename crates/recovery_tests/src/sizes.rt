@@ -1,4 +1,4 @@
-//! Disks of every lawful size of a block, with the fewest and the most primary blocks, and a large disk.
+//! Disks of every lawful size of a block, with the fewest and the most primary blocks, and the largest disk of all.
 
 use super::disks::open;
 use cap_store::seed_caps;
@@ -43,16 +43,17 @@ fn each_size_opens(rt: HostRuntime) -> Result<(), Fail> {
     Ok(())
 }
 
+/// All the room that a header may name, on a station that holds only the sectors that were written.
 #[test]
-fn a_large_disk_opens(rt: HostRuntime) -> Result<(), Fail> {
+fn the_largest_disk_opens(rt: HostRuntime) -> Result<(), Fail> {
     let size = Geometry {
         sectors: 8,
-        blocks: 65_536,
+        blocks: 1_048_576,
         primaries: 16,
-        slots: 262_144,
+        slots: 4_194_304,
     };
     let mut station = MemStation::new(rt.alloc(), Vec::new(rt.alloc()));
     format_sized(&mut station, &size, &pairs(16)?)?;
-    assert_eq!(rt; open(rt.alloc(), &mut station), Ok((65_520, 0)));
+    assert_eq!(rt; open(rt.alloc(), &mut station), Ok((1_048_560, 0)));
     Ok(())
 }

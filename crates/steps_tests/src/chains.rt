@@ -1,4 +1,4 @@
-//! Chains of 200,000 blocks. They go in a test's time only where a step takes no longer than in a small graph, and only where no
+//! Chains of a million blocks. They go in a test's time only where a step takes no longer than in a small graph, and only where no
 //! call goes down a chain by calling itself.
 
 ghost use Rattle.std.specs.Prelude.{IfOk};
@@ -13,8 +13,8 @@ use std::alloc::{AllocError, Global};
 use std::process::Abort;
 use std::test::Fail;
 
-/// How many blocks a chain has: blocks 1 to 200,000.
-const LONG: u32 = 200_000;
+/// How many blocks a chain has: blocks 1 to 1,000,000.
+const LONG: u32 = 1_000_000;
 
 /// The pairs of a chain: from each block to the next one, or backward from each block to the one before.
 fn chain(alloc: Global, backward: bool) -> Result<Vec<(u32, u32)>, AllocError> {

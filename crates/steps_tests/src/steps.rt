@@ -19,7 +19,7 @@ use std::process::Abort;
 use std::test::Fail;
 
 /// No test makes more steps.
-const MOST: u32 = 500_000;
+const MOST: u32 = 2_500_000;
 
 /// How many steps there were, how many pairs they took away and how many blocks they freed.
 #[derive(Clone, Copy, Debug, PartialEq, Eq)]
