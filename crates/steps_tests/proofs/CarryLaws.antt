@@ -159,3 +159,9 @@ fresh_at xs i counts start now once within fresh before =
 -- as much room is left as there are blocks
 pub same_room : {n : ℕ} (old new : Table) → new.geometry ≡ old.geometry → n ≡ old.geometry.blocks → n ≡ new.geometry.blocks
 same_room old new size room = room ∙ sym (ap (λ (g : Geometry). g.blocks) size)
+
+-- the same of a list that is equal
+pub pushed_of : (mid new : Held) (counts ts us : List ℕ) → ts ≡ us
+    → ((b : ℕ) → has_number new.blocks b ≡ (has_number mid.blocks b || (has_number ts b && (slice_index counts b == 0))))
+    → (b : ℕ) → has_number new.blocks b ≡ (has_number mid.blocks b || (has_number us b && (slice_index counts b == 0)))
+pushed_of mid new counts ts us same pushed b = pushed b ∙ ap (λ (xs : List ℕ). has_number mid.blocks b || (has_number xs b && (slice_index counts b == 0))) same

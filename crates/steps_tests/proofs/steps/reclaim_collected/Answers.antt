@@ -1,8 +1,8 @@
-use Rattle.std.proofs.Common.{◌≡◌, ℕ, ◌||◌, ◌&&◌, ◌==◌, List, sym, ◌∙◌, ap, subst}
-use Rattle.std.specs.Prelude.{slice_index, true}
+use Rattle.std.proofs.Common.{◌≡◌, ℕ, List, sym, ◌∙◌, subst}
+use Rattle.std.specs.Prelude.{true}
 use Rattle.tsd_model.specs.World.{World, has_number}
 use Rattle.reclaim.specs.Tables.{graph_of, HoldsLost}
-use Rattle.steps_tests.proofs.CarryLaws.{holds_lost_after, same_room, step_counts, target_new}
+use Rattle.steps_tests.proofs.CarryLaws.{holds_lost_after, pushed_of, same_room, step_counts, target_new}
 use Rattle.steps_tests.proofs.steps.reclaim_collected.Goals as goal
 
 pub push_uncounted-requires-clause-fresh : goal.push_uncounted-requires-clause-fresh
@@ -13,7 +13,6 @@ push_uncounted-requires-clause-fresh g c = λ b is.
 pub loop-turn-preserved : goal.loop-turn-preserved
 loop-turn-preserved g c =
     let w = graph_of c.loop-turn.disk.pointers c.loop-turn.disk.live in
-    let v = graph_of c.carry_out.new.disk.pointers c.carry_out.new.disk.live in
     let s = c.in-Some.step in
     let counts = c.carry_out.new.disk.counts.counts in record {
       tables = c.in_ok-carry_out.ensures.tables;
@@ -22,6 +21,6 @@ loop-turn-preserved g c =
       work = subst (λ (x : World). HoldsLost x c.push_uncounted.new.work) (sym c.in_ok-carry_out.ensures.graph)
           (holds_lost_after w s c.loop-turn.work c.next_step.new.work c.push_uncounted.new.work counts c.loop-turn.invariant.tables.raw c.in-Some.ensures.step c.loop-turn.invariant.work
           c.in-Some.ensures.work
-          (λ b. c.push_uncounted.ensures.work b ∙ ap (λ (ts : List ℕ). has_number c.next_step.new.work.blocks b || (has_number ts b && (slice_index counts b == 0))) c.as_slice.ensures.value)
+          (pushed_of c.next_step.new.work c.push_uncounted.new.work counts c.as_slice.result.now s.targets c.as_slice.ensures.value c.push_uncounted.ensures.work)
           (step_counts w s c.carry_out.new.disk.pointers c.carry_out.new.disk.live c.carry_out.new.disk.counts c.loop-turn.invariant.tables.raw c.in-Some.ensures.step c.in_ok-carry_out.ensures.geometry c.in_ok-carry_out.ensures.graph c.in_ok-carry_out.ensures.counts));
     }
