@@ -142,7 +142,7 @@ fn watched_run<D: Device>(
     plain.sessions = Sessions::none(alloc);
     let mut core = opened(alloc, dev)?;
     begin(rt, alloc, &mut core, dev, place, plain, 64)?;
-    watched_turns(rt, alloc, &mut core, dev, place, plain, 120)?;
+    watched_turns(rt, alloc, &mut core, dev, place, plain, 200)?;
     if draw(&mut plain.seed, 2) == 0 {
         core.close(dev)?;
     }
@@ -167,7 +167,7 @@ fn try_runs(
             "after {round}"
         );
     }
-    assert!(rt; plain.granted > 300, "{} granted", plain.granted);
+    assert!(rt; plain.granted > 400, "{} granted", plain.granted);
     Ok(())
 }
 
@@ -228,11 +228,11 @@ fn try_stops(
 ) -> Result<(), Fail> {
     let mut image = image_formatted(alloc, size, upgrades)?;
     let mut plain = Plain::formatted(alloc, size, upgrades, seed)?;
-    for _stop in 0..30 {
+    for _stop in 0..60 {
         image = stop(rt, alloc, place, &mut plain, image)?;
     }
     assert!(rt; plain.granted > 300, "{} granted", plain.granted);
-    assert!(rt; plain.stops > 12, "{} stops", plain.stops);
+    assert!(rt; plain.stops > 25, "{} stops", plain.stops);
     Ok(())
 }
 
@@ -269,11 +269,16 @@ fn runs_from_the_lowest(rt: HostRuntime) -> Result<(), Fail> {
 }
 
 #[test]
-fn stopped_runs(rt: HostRuntime) -> Result<(), Fail> {
+fn stopped_runs_that_spread(rt: HostRuntime) -> Result<(), Fail> {
     let alloc = rt.alloc();
     let spread = placement(alloc, PlaceKind::Spread)?;
     try_stops(&rt, alloc, &spread, &SMALL, false, 5)?;
-    try_stops(&rt, alloc, &spread, &LARGE, true, 6)?;
+    try_stops(&rt, alloc, &spread, &LARGE, true, 6)
+}
+
+#[test]
+fn stopped_runs_by_zones(rt: HostRuntime) -> Result<(), Fail> {
+    let alloc = rt.alloc();
     let zone = placement(alloc, PlaceKind::Zone)?;
     try_stops(&rt, alloc, &zone, &SMALL, true, 7)?;
     try_stops(&rt, alloc, &zone, &LARGE, false, 8)

@@ -357,6 +357,24 @@ fn each_call_at_a_wide_block(rt: HostRuntime) -> Result<(), Fail> {
     Ok(())
 }
 
+/// Blocks of a tree are wanted again, before a step was made.
+const AFTER_A_TREE: Case<'static> = Case {
+    size: MANY,
+    before: "open 1/alloc 1 0 W - 1/alloc 1 1 - - 20/alloc 1 2 - - 5/delete 1 0 W 1",
+    then: Stopped::Ask("contig 1 0 W - 26"),
+    check: "free/open 1/list 1 0 R 0/read 1 26 -",
+    old: "free 63/ok/list -/no free-block",
+    new: "free 37/ok/list 1 2 3 4 5 6 7 8 9 10 11 12 13 14 15 16 17 18 19 20 21 22 23 24 25 26/data -",
+};
+
+/// Twenty-six blocks of a tree are lost and none of them is reclaimed yet, when as many new blocks are wanted.
+#[test]
+fn new_blocks_after_a_tree(rt: HostRuntime) -> Result<(), Fail> {
+    let alloc = rt.alloc();
+    let place = placement(alloc, PlaceKind::Near)?;
+    try_all(&rt, alloc, &place, &AFTER_A_TREE)
+}
+
 /// Forty blocks are lost and none of them is reclaimed yet, when new blocks are wanted.
 #[test]
 fn new_blocks_after_a_long_chain(rt: HostRuntime) -> Result<(), Fail> {

@@ -1,18 +1,18 @@
 -- What an ask answers, by the refusal that applies first, and what stands at the place of a path.
-use Rattle.std.proofs.Common.{◌≡◌, ◌≢◌, ℕ, suc, ◌+◌, ◌<◌, Bool, true, false, not, cond, ◌&&◌, nat_lt, List, [], ◌∷◌, ◌++◌, length, refl, sym, ◌∙◌, ap, subst, Option, Some, None, Result, Ok, Err}
+use Rattle.std.proofs.Common.{◌≡◌, ◌≢◌, ℕ, suc, true, false, not, ◌&&◌, nat_lt, List, [], ◌∷◌, ◌++◌, length, refl, sym, ◌∙◌, ap, Option, Some, None, Ok, Err}
 use Rattle.std.specs.Prelude.{map}
-use Rattle.tsd_model.specs.World.{World, free_count}
+use Rattle.tsd_model.specs.World.{free_count}
 use Rattle.tsd_model.specs.declared.geometry.Geometry.{Geometry}
 use Rattle.fs_trees.specs.Names.{Name, Path}
-use Rattle.fs_trees.specs.Tree.{Tree, nothing, a_file, a_dir, child, at, is_there, names, names_in}
+use Rattle.fs_trees.specs.Tree.{Tree, nothing, a_file, a_dir, child, at, is_there, names_in}
 use Rattle.fs_trees.specs.Fields.{Entry, entry_names}
-use Rattle.fs_trees.specs.Inode.{Inode, directory, regular, block_named}
+use Rattle.fs_trees.specs.Inode.{Inode, directory, regular}
 use Rattle.fs_trees.specs.InodeTree.{InodeNode, inode_at, node_at, inodes_under, tree_entries, inode_tree}
 use Rattle.fs_trees.specs.InodeTree as inodes
-use Rattle.fs_trees.specs.Answer.{Answer, done, refused}
+use Rattle.fs_trees.specs.Answer.{Answer, done}
 use Rattle.fs_trees.specs.Needs.{need_of}
-use Rattle.fs_trees.specs.Refusals.{Need, when, first_of, not_mounted, directory_of, lost_on_the_way, missing, is_root, has_entries, refusals, refusal}
-use Rattle.fs_trees.specs.Step.{change, judged, tree_step}
+use Rattle.fs_trees.specs.Refusals.{Need, when, first_of, not_mounted, directory_of, lost_on_the_way, missing, is_root, has_entries, refusal}
+use Rattle.fs_trees.specs.Step.{change, judged}
 use Rattle.fs_trees.specs.declared.ask.ShellAsk.{ShellAsk}
 use Rattle.fs_trees.specs.declared.ask.ShellAsk.TheVariants as ask
 use Rattle.fs_trees.specs.declared.ask.ShellKind.TheVariants as kind
@@ -58,7 +58,7 @@ after_is c old a h answer =
     let is = ap (judged t (free_count old.world) a) h in
     ap (λ o. unless_refused o.answer o.tree t) is ∙ ap (λ r. unless_refused r (change t (free_count old.world) a).tree t) answer
 
-is_mounted : (t : Tree) (rest : List (Option FsRefusal)) → is_there t ≡ true → first_of (not_mounted t ∷ rest) ≡ first_of rest
+pub is_mounted : (t : Tree) (rest : List (Option FsRefusal)) → is_there t ≡ true → first_of (not_mounted t ∷ rest) ≡ first_of rest
 is_mounted nothing rest h = absurd (cc)
 is_mounted (a_file x) rest h = refl
 is_mounted (a_dir d es) rest h = refl
@@ -123,14 +123,17 @@ module _ (c : Client) (v : View) (path : Path) (place : Place) (is_dir : is_dire
     pub old_at : at (tree_of c v) path ≡ inodes.tree_of v.world (node_at v.world i.above.more b)
     old_at = place_at ∙ ap (λ o. inodes.tree_of v.world (read_named (λ k. node_at v.world i.above.more k) o)) some
 
+    pub there_at : is_there (node_at v.world i.above.more b) ≡ true → is_there (at (tree_of c v) path) ≡ true
+    there_at there = ap is_there old_at ∙ tree_there (node_at v.world i.above.more b) there
+      where
+        tree_there : (x : InodeNode) → is_there x ≡ true → is_there (inodes.tree_of v.world x) ≡ true
+        tree_there nothing h = absurd (cc)
+        tree_there (a_file f) h = refl
+        tree_there (a_dir b es) h = refl
+
     module _ (there : is_there (node_at v.world i.above.more b) ≡ true) (k : Inode) (is : inode_at v.world b ≡ Some k) where
       pub old_there : is_there (at (tree_of c v) path) ≡ true
-      old_there = ap is_there old_at ∙ tree_there (node_at v.world i.above.more b) there
-        where
-          tree_there : (x : InodeNode) → is_there x ≡ true → is_there (inodes.tree_of v.world x) ≡ true
-          tree_there nothing h = absurd (cc)
-          tree_there (a_file f) h = refl
-          tree_there (a_dir b es) h = refl
+      old_there = there_at there
 
       pub entries_at : nat_lt 0 (length (names_in (at (tree_of c v) path))) ≡ (is_directory k && nat_lt 0 (length (blocks_said k)))
       entries_at =

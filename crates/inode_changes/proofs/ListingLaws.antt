@@ -1,14 +1,13 @@
 -- A directory's list with an entry set or taken out is in order, and fits its block.
-use Rattle.std.proofs.Common.{◌≡◌, ℕ, zero, suc, ◌+◌, ◌^◌, ◌<◌, ◌≤◌, Bool, true, false, cond, ◌&&◌, ◌||◌, ◌==◌, nat_lt, List, [], ◌∷◌, ◌++◌, length, refl, sym, ◌∙◌, ap, subst, arith, inl, inr, ◌⊎◌, Option, Some, None}
+use Rattle.std.proofs.Common.{◌≡◌, ℕ, suc, ◌+◌, ◌^◌, ◌≤◌, true, false, cond, ◌&&◌, ◌==◌, nat_lt, List, [], ◌∷◌, length, refl, sym, ◌∙◌, ap, arith, inl, inr, Option, Some, None}
 use Rattle.std.proofs.lemmas.Bool.{and_parts, and_from, or_cases, or_left, or_right, eq-eqb, eqb-true}
 use Rattle.std.proofs.lemmas.Bool.Decides.{nat_tests}
 use Rattle.std.specs.Prelude.{map}
-use Rattle.std.specs.List.{list_all}
 use Rattle.tsd_model.specs.Pairs.{holds, is_pair}
 use Rattle.fs_trees.specs.Names.{Name, name_lt, is_name, is_below_first_name, are_ascending}
 use Rattle.fs_trees.specs.Tree.{file, dir, nothing, a_file, a_dir, is_there}
 use Rattle.fs_trees.specs.Fields.{Entry, entry_names, all_named}
-use Rattle.fs_trees.specs.Inode.{block_named, with_listed, without_listed}
+use Rattle.fs_trees.specs.Inode.{with_listed, without_listed}
 use Rattle.fs_trees.specs.InodeTree.{InodeNode, InodeEntries, with_first, entries_by, named_pairs}
 use Rattle.fs_laws.proofs.ListLaws.{held_right}
 use Rattle.fs_laws.proofs.DirectoryLaws.{names_meet}

@@ -1,11 +1,10 @@
 -- Calls one after the other, whatever they answer.
-use Rattle.std.proofs.Common.{◌≡◌, ◌≢◌, ℕ, ◌≤◌, Bool, true, false, refl, sym, ◌∙◌, ap, subst, arith, inl, inr, ◌⊎◌, Result, Ok, Err}
+use Rattle.std.proofs.Common.{◌≡◌, ◌≢◌, ℕ, false, refl, sym, ◌∙◌, ap, subst, arith, inl, ◌⊎◌, Result, Ok, Err}
 use Rattle.std.specs.Prelude.{IfErr, OnOk}
 use Rattle.image_device.specs.Counts.{Rose}
-use Rattle.tsd_model.specs.World.{World, is_live, is_free}
-use Rattle.tsd_model.specs.Sessions.{is_open, Fits}
+use Rattle.tsd_model.specs.World.{World, is_live}
+use Rattle.tsd_model.specs.Sessions.{Fits}
 use Rattle.tsd_model.specs.Valid.{IsValid}
-use Rattle.tsd_model.specs.Step.{State}
 use Rattle.tsd_model.specs.declared.requests.Request.{Request}
 use Rattle.fs_trees.specs.Layouts.{IsTidy}
 use Rattle.fs_trees.specs.Outside.{OthersStay}
@@ -22,17 +21,8 @@ use Rattle.fs_asks.specs.May.{Looked, Looks}
 use Rattle.fs_steps.specs.Steps.{Leads, Went, Steps}
 use Rattle.inode_walks.specs.Asking.{mounted_by}
 use Rattle.inode_changes.specs.Changing.{Changes}
+use Rattle.inode_changes.specs.Runs.{Runs}
 use Rattle.inode_changes.proofs.RemovalLaws.{clash_free_live}
-
--- what holds of calls so far, where a stop leaves P
-pub record Runs {X : Type 0} (told : Type 0) (old new : View) (P : World → Type 0) (result : Result X FsRefusal) : Type 0 where
-  pub valid : told → OnAnswer result (IsValidNow new)
-  pub crash : told → LeavesOnly old new P
-  pub stays : OnAnswer result (Stays old new)
-  pub counts : Counts old new
-  pub unspent : OnAnswer result (new.spent ≡ false)
-  pub faultless : OnAnswer result (new.faults ≡ old.faults)
-  pub cause : IfErr result (λ e. e ≡ no.Device → Rose old.faults new.faults)
 
 on_answer : {X : Type 0} (P Q : Type 0) (result : Result X FsRefusal) → (P → Q) → OnAnswer result P → OnAnswer result Q
 on_answer P Q (Ok x) f h = (f h.0, tt)
@@ -146,3 +136,19 @@ looks_change {X} told c old new a result valid looks = changes_of told c old new
     left : (r : Result X FsRefusal) → OnAnswer r (Looked old new) → OnAnswer r (new.spent ≡ false) → OnAnswer r (LeavesWorld (mounted_by c) old new)
     left (Ok x) seen unspent = (leaves_same c old new seen.0.world unspent.0, tt)
     left (Err e) seen unspent = (tt, λ ne. leaves_same c old new (seen.1 ne).world (unspent.1 ne))
+
+-- a refusal of its own, not the disk's
+pub runs_but_refuses : {X Y : Type 0} (told : Type 0) (old new : View) (P : World → Type 0) (x : X) (e : FsRefusal) → e ≢ no.Device → Runs told old new P (Ok x) → Runs {X = Y} told old new P (Err e)
+runs_but_refuses told old new P x e ne h = record {
+  valid = λ t. (tt, λ _. (h.valid t).0);
+  crash = h.crash;
+  stays = (tt, λ _. h.stays.0);
+  counts = h.counts;
+  unspent = (tt, λ _. h.unspent.0);
+  faultless = (tt, λ _. h.faultless.0);
+  cause = λ d. absurd (ne d);
+}
+
+-- what is refused by the disk leaves the world
+pub leaves_refused : (c : Client) (first mid new : View) → mid.world ≡ first.world → new.spent ≡ false → state_of new ≡ state_of mid → LeavesWorld (mounted_by c) first new
+leaves_refused c first mid new e unspent same = leaves_same c first new (ap (λ st. st.world) same ∙ e) unspent

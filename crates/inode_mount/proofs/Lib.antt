@@ -1,0 +1,14 @@
+pub mod FitLaws
+pub mod ComeLaws
+pub mod WrongLaws
+pub mod SaysLaws
+pub mod RootLaws
+pub mod CountLaws
+pub mod SeeLaws
+pub mod SeenLaws
+pub mod LoopLaws
+pub mod RightLaws
+pub mod TrimLaws
+pub mod DropLaws
+pub mod TidyLaws
+pub mod MountLaws
