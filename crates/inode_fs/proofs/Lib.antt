@@ -1,5 +1,0 @@
-pub mod WalkLaws
-pub mod ReadLaws
-pub mod FurtherLaws
-pub mod WalkingLaws
-pub mod RefusalLaws

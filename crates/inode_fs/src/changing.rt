@@ -5,10 +5,11 @@ ghost use Rattle.fs_trees.specs.Names.{is_path};
 ghost use Rattle.fs_trees.specs.Answer.{done};
 ghost use Rattle.fs_trees.specs.declared.ask.ShellAsk.TheVariants as ask;
 ghost use Rattle.fs_port.specs.Files.{Answers};
-ghost use Rattle.inode_fs.specs.Asking.{MayAsk, Changes, mounted_by};
+ghost use Rattle.inode_walks.specs.Asking.{MayAsk, mounted_by};
+ghost use Rattle.inode_fs.specs.Changing.{Changes};
 
 use crate::content::{Content, check_free, make_file, new_block};
-use crate::finding::{Found, Place, find_file, find_place, read_inode};
+use inode_walks::{Found, Place, find_file, find_place, read_inode};
 use fs_asks::Client;
 use fs_fields::NUMBER_BYTES;
 use fs_port::Blocks;

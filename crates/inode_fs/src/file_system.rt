@@ -10,7 +10,8 @@ ghost use Rattle.fs_port.specs.Calls.{Counts, IsValidNow, LeavesOnly, Stays};
 ghost use Rattle.fs_port.specs.Files.{Answers, HasTree, IsEitherTree, IsReady, LeavesWorld, OnAnswer};
 
 use crate::marks::Marks;
-use crate::{changing, mounting, reading, removing};
+use crate::{changing, mounting, removing};
+use inode_walks as reading;
 use fs_asks::Client;
 use fs_port::{Blocks, Files};
 use fs_trees::{FsRefusal, Name, Path};

@@ -1,6 +1,6 @@
 //! Whether there is a tree under the root, and what else hangs there.
 
-use crate::finding::Found;
+use inode_walks::Found;
 use crate::marks::Marks;
 use crate::letting_go::delete_others;
 use fs_asks::{Client, NoNames, count_pairs};

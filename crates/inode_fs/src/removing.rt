@@ -5,9 +5,10 @@ ghost use Rattle.fs_trees.specs.Names.{is_path};
 ghost use Rattle.fs_trees.specs.Answer.{done};
 ghost use Rattle.fs_trees.specs.declared.ask.ShellAsk.TheVariants as ask;
 ghost use Rattle.fs_port.specs.Files.{Answers};
-ghost use Rattle.inode_fs.specs.Asking.{MayAsk, Changes, mounted_by};
+ghost use Rattle.inode_walks.specs.Asking.{MayAsk, mounted_by};
+ghost use Rattle.inode_fs.specs.Changing.{Changes};
 
-use crate::finding::{find_place, read_inode};
+use inode_walks::{find_place, read_inode};
 use crate::letting_go::delete_others;
 use fs_asks::{Client, NoNames};
 use fs_port::Blocks;

@@ -1,5 +1,5 @@
-use Rattle.inode_fs.proofs.WalkingLaws.{Walking}
-use Rattle.inode_fs.proofs.finding.walk.Given as goal
+use Rattle.inode_walks.proofs.WalkingLaws.{Walking}
+use Rattle.inode_walks.proofs.finding.walk.Given as goal
 
 -- what the names so far lead to was found
 abbrev pub invariant-loop-name : goal.invariant-loop-name

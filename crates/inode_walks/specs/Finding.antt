@@ -16,8 +16,8 @@ use Rattle.inode_layout.specs.Said.{entries_said, is_directory}
 use Rattle.fs_laws.specs.Ways.{HoldsWrite}
 use Rattle.fs_port.specs.View.{View, state_of}
 use Rattle.fs_asks.specs.declared.client.Client.{Client}
-use Rattle.inode_fs.specs.declared.finding.Found.{Found}
-use Rattle.inode_fs.specs.declared.finding.Place.{Place}
+use Rattle.inode_walks.specs.declared.finding.Found.{Found}
+use Rattle.inode_walks.specs.declared.finding.Place.{Place}
 
 -- the pairs from a node's block to what it names, and those below
 abbrev pub node_pairs : InodeNode → List (ℕ × ℕ)

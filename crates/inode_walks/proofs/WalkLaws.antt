@@ -17,7 +17,7 @@ use Rattle.fs_laws.proofs.DirectoryLaws.{read_named, entry_is_read}
 use Rattle.fs_laws.proofs.InodeLaws.{HasRoot, found, under_is}
 use Rattle.fs_laws.proofs.ListLaws.{held_left, held_right, number_left}
 use Rattle.fs_laws.proofs.MapLaws.{tree-at}
-use Rattle.inode_fs.specs.Finding.{node_pairs, not_found}
+use Rattle.inode_walks.specs.Finding.{node_pairs, not_found}
 
 -- ---- what is named in a directory is pointed to
 

@@ -11,7 +11,7 @@ use Rattle.fs_trees.specs.declared.ask.ShellAsk.TheVariants as ask
 use Rattle.fs_trees.specs.declared.ask.ShellKind.TheVariants.{Inode}
 use Rattle.fs_trees.specs.declared.refusal.FsRefusal.{FsRefusal}
 use Rattle.fs_trees.specs.declared.refusal.FsRefusal.TheVariants as no
-use Rattle.inode_fs.specs.Finding.{not_found, no_file_found, no_directory_found}
+use Rattle.inode_walks.specs.Finding.{not_found, no_file_found, no_directory_found}
 
 -- what isn't found is refused so, whatever else would be
 pub refused_by : (t : Tree) (p : Path) (e : FsRefusal) (rest : List (Option FsRefusal)) → not_found t p ≡ Some e → first_of (lost_on_the_way t p ∷ missing t p ∷ rest) ≡ Some e

@@ -24,10 +24,10 @@ use Rattle.fs_port.specs.View.{View, state_of, IsSound}
 use Rattle.fs_port.specs.Calls.{Stays}
 use Rattle.fs_asks.specs.declared.client.Client.{Client}
 use Rattle.fs_asks.specs.May.{MayWrite, Looked, Looks}
-use Rattle.inode_fs.specs.declared.finding.Found.{Found}
-use Rattle.inode_fs.specs.Asking.{MayAsk, tree_of}
-use Rattle.inode_fs.specs.Finding.{Stands, IsFurther, IsOpenNow, IsAt, node_pairs, node_tree, not_found}
-use Rattle.inode_fs.proofs.WalkLaws.{tree_child, is_found, root_stands}
+use Rattle.inode_walks.specs.declared.finding.Found.{Found}
+use Rattle.inode_walks.specs.Asking.{MayAsk, tree_of}
+use Rattle.inode_walks.specs.Finding.{Stands, IsFurther, IsOpenNow, IsAt, node_pairs, node_tree, not_found}
+use Rattle.inode_walks.proofs.WalkLaws.{tree_child, is_found, root_stands}
 
 -- ---- paths, name by name
 

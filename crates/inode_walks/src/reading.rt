@@ -5,7 +5,7 @@ ghost use Rattle.fs_trees.specs.Names.{is_path};
 ghost use Rattle.fs_trees.specs.declared.ask.ShellAsk.TheVariants as ask;
 ghost use Rattle.fs_port.specs.Files.{Answers, TellsSize, TellsPart, TellsNext};
 ghost use Rattle.fs_asks.specs.May.{Looks};
-ghost use Rattle.inode_fs.specs.Asking.{MayAsk, mounted_by};
+ghost use Rattle.inode_walks.specs.Asking.{MayAsk, mounted_by};
 
 use crate::finding::{Found, find_directory, find_file};
 use fs_asks::Client;

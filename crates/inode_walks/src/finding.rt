@@ -11,8 +11,8 @@ ghost use Rattle.fs_port.specs.Calls.{IsValidNow};
 ghost use Rattle.fs_asks.specs.May.{MayWrite, Looks};
 ghost use Rattle.inode_layout.specs.Block.{inode_of, block_len_of};
 ghost use Rattle.inode_layout.specs.Said.{blocks_said, is_directory, said_in};
-ghost use Rattle.inode_fs.specs.Asking.{MayAsk, tree_of};
-ghost use Rattle.inode_fs.specs.Finding.{Stands, IsStanding, IsFurther, IsOpenNow, IsAt, IsPlace, block_said, node_tree, not_found, no_file_found, no_directory_found, no_place_found};
+ghost use Rattle.inode_walks.specs.Asking.{MayAsk, tree_of};
+ghost use Rattle.inode_walks.specs.Finding.{Stands, IsStanding, IsFurther, IsOpenNow, IsAt, IsPlace, block_said, node_tree, not_found, no_file_found, no_directory_found, no_place_found};
 
 use fs_asks::{Client, Names};
 use fs_port::Blocks;

@@ -20,9 +20,9 @@ use Rattle.fs_asks.specs.declared.client.Client.{Client}
 use Rattle.fs_asks.specs.Client.{shown_at}
 use Rattle.fs_asks.specs.May.{MayWrite, Looked}
 use Rattle.inode_layout.specs.Block.{inode_of, block_len_of}
-use Rattle.inode_fs.specs.declared.finding.Found.{Found}
-use Rattle.inode_fs.specs.Finding.{node_pairs, Stands, IsOpenNow, IsFurther, node_tree, not_found, named_block, block_said}
-use Rattle.inode_fs.proofs.WalkLaws.{block_is, node_block, file_node, dir_node, child_node, child_pair, child_pairs, named_is_there, in_a_dir, in_a_file, nothing_there}
+use Rattle.inode_walks.specs.declared.finding.Found.{Found}
+use Rattle.inode_walks.specs.Finding.{node_pairs, Stands, IsOpenNow, IsFurther, node_tree, not_found, named_block, block_said}
+use Rattle.inode_walks.proofs.WalkLaws.{block_is, node_block, file_node, dir_node, child_node, child_pair, child_pairs, named_is_there, in_a_dir, in_a_file, nothing_there}
 
 -- what is read has an inode
 there_is_inode : (w : World) (more b : ℕ) → is_there (node_at w more b) ≡ true → is_some (inode_at w b) ≡ true
