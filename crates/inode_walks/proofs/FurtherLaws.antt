@@ -1,8 +1,8 @@
 -- From a directory to what a name is in it.
-use Rattle.std.proofs.Common.{◌≡◌, ◌≢◌, ℕ, zero, suc, ◌<◌, ◌≤◌, Bool, true, false, List, [], ◌∷◌, refl, sym, ◌∙◌, ap, subst, Option, Some, None, Result, Ok, Err}
+use Rattle.std.proofs.Common.{◌≡◌, ◌≢◌, ℕ, zero, suc, true, List, ◌∷◌, refl, sym, ◌∙◌, ap, subst, Option, Some, None, Result, Ok, Err}
 use Rattle.std.specs.Prelude.{is_some, IfOk, IfErr, OnOk}
 use Rattle.tsd_model.specs.Geometry.{block_len}
-use Rattle.tsd_model.specs.World.{World, is_live}
+use Rattle.tsd_model.specs.World.{World}
 use Rattle.tsd_model.specs.Pairs.{holds}
 use Rattle.fs_laws.specs.Ways.{HoldsWrite}
 use Rattle.fs_laws.proofs.WayLaws.{ways_lead_on}
@@ -11,7 +11,7 @@ use Rattle.fs_trees.specs.Names.{Name, Path}
 use Rattle.fs_trees.specs.Tree.{nothing, child, is_there}
 use Rattle.fs_trees.specs.Fields.{Entry}
 use Rattle.fs_trees.specs.Inode.{Inode, directory, regular, block_named}
-use Rattle.fs_trees.specs.InodeTree.{InodeNode, inode_at, node_by, node_at, tree_of}
+use Rattle.fs_trees.specs.InodeTree.{InodeNode, inode_at, node_by, node_at}
 use Rattle.fs_trees.specs.declared.refusal.FsRefusal.{FsRefusal}
 use Rattle.fs_trees.specs.declared.refusal.FsRefusal.TheVariants as no
 use Rattle.fs_port.specs.View.{View, state_of}
@@ -25,7 +25,7 @@ use Rattle.inode_walks.specs.Finding.{node_pairs, Stands, IsOpenNow, IsFurther, 
 use Rattle.inode_walks.proofs.WalkLaws.{block_is, node_block, file_node, dir_node, child_node, child_pair, child_pairs, named_is_there, in_a_dir, in_a_file, nothing_there}
 
 -- what is read has an inode
-there_is_inode : (w : World) (more b : ℕ) → is_there (node_at w more b) ≡ true → is_some (inode_at w b) ≡ true
+pub there_is_inode : (w : World) (more b : ℕ) → is_there (node_at w more b) ≡ true → is_some (inode_at w b) ≡ true
 there_is_inode w zero b h = absurd (cc)
 there_is_inode w (suc more) b h = by_inode (inode_at w b) h
   where
@@ -88,7 +88,7 @@ module _ (c : Client) (v : View) (more : ℕ) (dir : Found) (stands : Stands c v
     further new found seen block is whole held =
         let level = a_level v.world more b child_there in
         let same : node_at v.world more b ≡ node_at new.world (suc level.0) found.block =
-            ap (λ k. node_at v.world k b) level.1 ∙ (ap (λ w. node_at w (suc level.0) b) (sym seen.world) ∙ ap (node_at new.world (suc level.0)) (sym block)) in
+        ap (λ k. node_at v.world k b) level.1 ∙ (ap (λ w. node_at w (suc level.0) b) (sym seen.world) ∙ ap (node_at new.world (suc level.0)) (sym block)) in
         record {
           less = level.0;
           deeper = level.1;
@@ -136,3 +136,12 @@ module _ (c : Client) (v new : View) (more : ℕ) (dir : Found) (stands : Stands
 pub only_faults : (result : Result Found FsRefusal) (P : FsRefusal → Type 0) → IfErr result (λ e. e ≡ no.Device) → IfErr result (λ e. e ≢ no.Device → P e)
 only_faults (Ok found) P h = tt
 only_faults (Err e) P h = λ ne. absurd (ne h)
+
+-- a name that leads nowhere is no fault
+pub no_fault : (n : Name) (i : Inode) (e : FsRefusal) → block_said n i ≡ Err e → e ≢ no.Device
+no_fault n (directory es) e h d = by_name (block_named n es) h d
+  where
+    by_name : (o : Option ℕ) → named_block o ≡ Err e → e ≢ no.Device
+    by_name None h d = let is : no.NoEntry ≡ e = cc in cc
+    by_name (Some b) h d = absurd (cc)
+no_fault n (regular size blocks) e h d = let is : no.NotDir ≡ e = cc in cc

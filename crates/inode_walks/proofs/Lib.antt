@@ -3,3 +3,7 @@ pub mod ReadLaws
 pub mod FurtherLaws
 pub mod WalkingLaws
 pub mod RefusalLaws
+pub mod PartLaws
+pub mod FileLaws
+pub mod FoundLaws
+pub mod TellLaws

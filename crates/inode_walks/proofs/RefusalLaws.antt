@@ -1,16 +1,14 @@
 -- The refusals of asks that read, by what a walk finds.
-use Rattle.std.proofs.Common.{◌≡◌, ℕ, Bool, true, false, not, List, [], ◌∷◌, refl, sym, ◌∙◌, ap, Option, Some, None}
-use Rattle.std.specs.Prelude.{⊤}
+use Rattle.std.proofs.Common.{◌≡◌, ℕ, true, List, [], ◌∷◌, refl, ◌∙◌, ap, Option, Some, None}
 use Rattle.tsd_model.specs.declared.geometry.Geometry.{Geometry}
-use Rattle.fs_trees.specs.Names.{Name, Path}
-use Rattle.fs_trees.specs.Tree.{Tree, Entries, nothing, a_file, a_dir, entry, at, is_there, bytes_in, names_in}
+use Rattle.fs_trees.specs.Names.{Path}
+use Rattle.fs_trees.specs.Tree.{Tree, nothing, a_file, a_dir, entry, at, is_there, bytes_in, names_in}
 use Rattle.fs_trees.specs.Answer.{bytes, listed, refused}
-use Rattle.fs_trees.specs.Refusals.{Need, when, first_of, not_mounted, lost_on_the_way, missing, no_file, no_dir, refusal}
-use Rattle.fs_trees.specs.Step.{Outcome, outcome, judged, tree_step}
+use Rattle.fs_trees.specs.Refusals.{Need, first_of, not_mounted, lost_on_the_way, missing, no_file, no_dir, refusal}
+use Rattle.fs_trees.specs.Step.{outcome, judged, tree_step}
 use Rattle.fs_trees.specs.declared.ask.ShellAsk.TheVariants as ask
 use Rattle.fs_trees.specs.declared.ask.ShellKind.TheVariants.{Inode}
 use Rattle.fs_trees.specs.declared.refusal.FsRefusal.{FsRefusal}
-use Rattle.fs_trees.specs.declared.refusal.FsRefusal.TheVariants as no
 use Rattle.inode_walks.specs.Finding.{not_found, no_file_found, no_directory_found}
 
 -- what isn't found is refused so, whatever else would be

@@ -1,21 +1,21 @@
 -- What stands under a root, and one name further.
-use Rattle.std.proofs.Common.{◌≡◌, ℕ, zero, suc, ◌+◌, ◌<◌, ◌≤◌, Bool, true, false, cond, ◌&&◌, ◌||◌, ◌==◌, List, [], ◌∷◌, ◌++◌, refl, sym, ◌∙◌, ap, subst, inl, inr, arith, Option, Some, None}
-use Rattle.std.proofs.lemmas.Bool.{and_parts, and_from, or_cases, or_left, or_right, eq-eqb}
+use Rattle.std.proofs.Common.{◌≡◌, ℕ, zero, suc, true, false, cond, ◌==◌, List, [], ◌∷◌, ◌++◌, refl, sym, ◌∙◌, ap, subst, Option, Some, None}
+use Rattle.std.proofs.lemmas.Bool.{and_parts, and_from, or_left, or_right, eq-eqb}
 use Rattle.std.specs.Prelude.{map, ⊤}
 use Rattle.std.specs.List.{list_all}
-use Rattle.tsd_model.specs.World.{World, contents}
+use Rattle.tsd_model.specs.World.{World}
 use Rattle.tsd_model.specs.Pairs.{holds, is_pair}
 use Rattle.tsd_model.proofs.PairLaws.{all_of_held}
 use Rattle.fs_trees.specs.Names.{Name, Path, path_max, name_lt}
-use Rattle.fs_trees.specs.Tree.{Tree, Entries, none, file, dir, nothing, a_file, a_dir, entry, child, at, is_there}
+use Rattle.fs_trees.specs.Tree.{Entries, none, file, dir, nothing, a_file, a_dir, entry, child, is_there}
 use Rattle.fs_trees.specs.Fields.{Entry}
 use Rattle.fs_trees.specs.Inode.{Inode, directory, regular, are_apart, block_named}
-use Rattle.fs_trees.specs.InodeTree.{InodeNode, InodeEntries, FileInode, inode_at, with_first, entries_by, as_dir, node_by, node_at, inode_blocks, data_blocks, named_pairs, are_right, inodes_under, tree_of, inode_tree}
+use Rattle.fs_trees.specs.InodeTree.{InodeNode, InodeEntries, FileInode, inode_at, with_first, entries_by, as_dir, node_by, node_at, inode_blocks, named_pairs, inodes_under, tree_of, inode_tree}
 use Rattle.fs_trees.specs.declared.refusal.FsRefusal.{FsRefusal}
 use Rattle.fs_trees.specs.declared.refusal.FsRefusal.TheVariants as no
 use Rattle.fs_laws.proofs.DirectoryLaws.{read_named, entry_is_read}
-use Rattle.fs_laws.proofs.InodeLaws.{HasRoot, found, under_is}
-use Rattle.fs_laws.proofs.ListLaws.{held_left, held_right, number_left}
+use Rattle.fs_laws.proofs.InodeLaws.{found, under_is}
+use Rattle.fs_laws.proofs.ListLaws.{held_left, held_right}
 use Rattle.fs_laws.proofs.MapLaws.{tree-at}
 use Rattle.inode_walks.specs.Finding.{node_pairs, not_found}
 
@@ -25,7 +25,7 @@ use Rattle.inode_walks.specs.Finding.{node_pairs, not_found}
 pub entry_pairs : (d : ℕ) (n : Name) (es : InodeEntries) (a b : ℕ) → holds (node_pairs (entry n es)) a b ≡ true → holds (named_pairs d es) a b ≡ true
 entry_pairs d n none a b h = absurd (cc)
 entry_pairs d n (file m f rest) a b h =
-    let own = map (λ c. (f.block, c)) f.blocks in
+    let own : List (ℕ × ℕ) = map (λ c. (f.block, c)) f.blocks in
     elim (name_lt n m) as (λ t. holds (node_pairs (cond t nothing (cond (name_lt m n) (entry n rest) (a_file f)))) a b ≡ true → holds ((d, f.block) ∷ (own ++ named_pairs d rest)) a b ≡ true) [
       | true ↦ λ g. absurd (cc)
       | false ↦ elim (name_lt m n) as (λ t. holds (node_pairs (cond t (entry n rest) (a_file f))) a b ≡ true → holds ((d, f.block) ∷ (own ++ named_pairs d rest)) a b ≡ true) [
@@ -55,7 +55,7 @@ pair_here d c b es e = or_left (is_pair d c (d, b)) _ (and_from (d == d) (b == c
 pub entry_pair : (d : ℕ) (n : Name) (es : InodeEntries) (c : ℕ) → block_is (entry n es) c → holds (named_pairs d es) d c ≡ true
 entry_pair d n none c h = absurd h
 entry_pair d n (file m f rest) c h =
-    let own = map (λ k. (f.block, k)) f.blocks in
+    let own : List (ℕ × ℕ) = map (λ k. (f.block, k)) f.blocks in
     elim (name_lt n m) as (λ t. block_is (cond t nothing (cond (name_lt m n) (entry n rest) (a_file f))) c → holds ((d, f.block) ∷ (own ++ named_pairs d rest)) d c ≡ true) [
       | true ↦ λ g. absurd g
       | false ↦ elim (name_lt m n) as (λ t. block_is (cond t (entry n rest) (a_file f)) c → holds ((d, f.block) ∷ (own ++ named_pairs d rest)) d c ≡ true) [
@@ -94,7 +94,7 @@ module _ (w : World) (more b : ℕ) (there : is_there (node_at w (suc more) b) �
 
   pub dir_node : (es : List Entry) → inode_at w b ≡ Some (directory es) → (xs : InodeEntries) × (entries_by (λ c. node_at w more c) es ≡ Some xs) × (node_at w (suc more) b ≡ a_dir b xs)
   dir_node es e =
-      let read = λ c. node_at w more c in
+      let read : ℕ → InodeNode = λ c. node_at w more c in
       let is : node_at w (suc more) b ≡ as_dir b (entries_by read es) = ap (node_by read b) e in
       let d = dir_there read b es (entries_by read es) refl (ap is_there (sym is) ∙ there) in
       (d.0, d.1, is ∙ d.2)
@@ -132,7 +132,7 @@ named_is_there read n c (f ∷ fs) xs e k =
     elim (name_lt n f.name) as (λ t. cond t None (cond (name_lt f.name n) (block_named n fs) (Some f.block)) ≡ Some c → is_there (read c) ≡ true) [
       | true ↦ λ g. absurd (cc)
       | false ↦ elim (name_lt f.name n) as (λ t. cond t (block_named n fs) (Some f.block) ≡ Some c → is_there (read c) ≡ true) [
-        | true ↦ λ g. named_is_there read n c fs parts.1.0 parts.1.1 g
+        | true ↦ λ g. named_is_there read n c fs parts.1 parts.2 g
         | false ↦ λ g. let same : f.block ≡ c = cc in ap (λ k. is_there (read k)) (sym same) ∙ parts.0
       ]
     ] k
@@ -146,9 +146,11 @@ root_stands w root there =
     let r = found w root there in
     let es = r.0 in
     let h = r.1 in
-    let held = (and_parts (list_all (λ e. holds w.pairs e.0 e.1) (named_pairs root es)) (are_apart (root ∷ inode_blocks es)) (and_parts _ _ h.right).0).0 in
-    (under_is w root es h ∙ sym h.node, ap is_there h.node,
-    λ a b k. all_of_held (λ e. holds w.pairs e.0 e.1) (named_pairs root es) a b held (ap (λ x. holds (node_pairs x) a b) (sym h.node) ∙ k))
+    let held = (and_parts (list_all (λ e. holds w.pairs e.0 e.1) (named_pairs root es)) (are_apart (root ∷ inode_blocks es)) (and_parts _ _ h.right).0).0 in (
+      under_is w root es h ∙ sym h.node,
+      ap is_there h.node,
+      λ a b k. all_of_held (λ e. holds w.pairs e.0 e.1) (named_pairs root es) a b held (ap (λ x. holds (node_pairs x) a b) (sym h.node) ∙ k),
+    )
 
 -- ---- what isn't found
 

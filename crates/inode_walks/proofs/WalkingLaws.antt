@@ -1,7 +1,7 @@
 -- A walk by names: what holds after so many of them.
-use Rattle.std.proofs.Common.{◌≡◌, ◌≢◌, ℕ, zero, suc, ◌+◌, ◌<◌, ◌≤◌, Bool, true, false, List, [], ◌∷◌, ◌++◌, length, refl, sym, ◌∙◌, ap, subst, inl, arith, Option, Some, None, Result, Ok, Err}
+use Rattle.std.proofs.Common.{◌≡◌, ℕ, zero, suc, ◌+◌, ◌<◌, ◌≤◌, true, List, [], ◌∷◌, ◌++◌, length, refl, sym, ◌∙◌, ap, subst, inl, arith, Option, Some, None, Ok}
 use Rattle.std.proofs.lemmas.Bool.{eq-eqb}
-use Rattle.std.specs.Prelude.{take, drop, slice_index_or, slice_get, cond}
+use Rattle.std.specs.Prelude.{is_some, take, drop, slice_index_or, slice_get, cond}
 use Rattle.tsd_model.specs.Geometry.{block_len}
 use Rattle.tsd_model.specs.Pairs.{holds}
 use Rattle.tsd_model.specs.Records.{kept_of}
@@ -15,11 +15,10 @@ use Rattle.fs_asks.specs.Client.{shown_at}
 use Rattle.inode_layout.specs.Block.{inode_of, block_len_of}
 use Rattle.tsd_model.specs.World.{World}
 use Rattle.fs_trees.specs.Names.{Name, Path, path_max}
-use Rattle.fs_trees.specs.Tree.{Tree, Node, nothing, a_file, a_dir, child, at, is_there}
+use Rattle.fs_trees.specs.Tree.{nothing, a_file, a_dir, child, at, is_there}
 use Rattle.fs_trees.specs.InodeTree.{InodeNode, inode_at, node_at, inodes_under, inode_tree}
 use Rattle.fs_trees.specs.InodeTree as inodes
 use Rattle.fs_trees.specs.declared.refusal.FsRefusal.{FsRefusal}
-use Rattle.fs_trees.specs.declared.refusal.FsRefusal.TheVariants as no
 use Rattle.fs_port.specs.View.{View, state_of, IsSound}
 use Rattle.fs_port.specs.Calls.{Stays}
 use Rattle.fs_asks.specs.declared.client.Client.{Client}
@@ -28,6 +27,7 @@ use Rattle.inode_walks.specs.declared.finding.Found.{Found}
 use Rattle.inode_walks.specs.Asking.{MayAsk, tree_of}
 use Rattle.inode_walks.specs.Finding.{Stands, IsFurther, IsOpenNow, IsAt, node_pairs, node_tree, not_found}
 use Rattle.inode_walks.proofs.WalkLaws.{tree_child, is_found, root_stands}
+use Rattle.inode_walks.proofs.FurtherLaws.{there_is_inode}
 
 -- ---- paths, name by name
 
@@ -146,7 +146,7 @@ pub walk_begins : (c : Client) (first now : View) (names : Path) (found : Found)
 walk_begins c first now names found there seen block says whole held =
     let root = root_stands first.world c.root there in
     let same : node_at first.world (suc path_max) c.root ≡ node_at now.world (suc path_max) found.block =
-        ap (λ w. node_at w (suc path_max) c.root) (sym seen.world) ∙ ap (node_at now.world (suc path_max)) (sym block) in
+    ap (λ w. node_at w (suc path_max) c.root) (sym seen.world) ∙ ap (node_at now.world (suc path_max)) (sym block) in
     record {
       more = path_max;
       stands = record {
@@ -159,3 +159,6 @@ walk_begins c first now names found there seen block says whole held =
       node = ap (λ w. inodes_under w c.root) seen.world ∙ (root.0 ∙ same);
       rest = ap (λ x. not_found x names) (ap (inodes.tree_of first.world) (root.0 ∙ same) ∙ ap (λ w. inodes.tree_of w (node_at now.world (suc path_max) found.block)) (sym seen.world));
     }
+
+pub root_inode : (w : World) (root : ℕ) → is_there (inode_tree w root) ≡ true → is_some (inode_at w root) ≡ true
+root_inode w root there = there_is_inode w (suc path_max) root (root_stands w root there).1

@@ -1,5 +1,5 @@
 -- A client of the file system of inodes, and what holds before each of its calls.
-use Rattle.std.specs.Prelude.{◌≡◌, true, IsTrue}
+use Rattle.std.specs.Prelude.{true, IsTrue}
 use Rattle.fs_trees.specs.Tree.{Tree, is_there}
 use Rattle.fs_trees.specs.InodeTree.{inode_tree}
 use Rattle.fs_trees.specs.declared.ask.ShellKind.TheVariants.{Inode}

@@ -1,18 +1,17 @@
 -- What stands at a path, as it was read from its block.
 use Rattle.std.specs.Prelude.{◌≡◌, ℕ, suc, ◌≤◌, List, [], ◌∷◌, ◌++◌, map, Option, Some, None, Result, Ok, Err, IsTrue}
 use Rattle.tsd_model.specs.Geometry.{block_len}
-use Rattle.tsd_model.specs.World.{World}
 use Rattle.tsd_model.specs.Pairs.{holds}
 use Rattle.tsd_model.specs.Sessions.{sessions_max, is_open}
 use Rattle.fs_trees.specs.Names.{Name, Path}
 use Rattle.fs_trees.specs.Tree.{Tree, nothing, a_file, a_dir, entry, child, at, is_there}
 use Rattle.fs_trees.specs.Inode.{Inode, directory, regular, block_named}
 use Rattle.fs_trees.specs.InodeTree.{InodeNode, inode_at, node_at, inodes_under, named_pairs, tree_of}
-use Rattle.fs_trees.specs.Refusals.{first_of, directory_of, lost_on_the_way, missing, no_file, no_dir}
+use Rattle.fs_trees.specs.Refusals.{first_of, directory_of, lost_on_the_way, no_file, no_dir}
 use Rattle.fs_trees.specs.declared.refusal.FsRefusal.{FsRefusal}
 use Rattle.fs_trees.specs.declared.refusal.FsRefusal.TheVariants as no
 use Rattle.inode_layout.specs.Block.{inode_of, block_len_of}
-use Rattle.inode_layout.specs.Said.{entries_said, is_directory}
+use Rattle.inode_layout.specs.Said.{entries_said}
 use Rattle.fs_laws.specs.Ways.{HoldsWrite}
 use Rattle.fs_port.specs.View.{View, state_of}
 use Rattle.fs_asks.specs.declared.client.Client.{Client}
@@ -48,7 +47,7 @@ pub record IsOpenNow (c : Client) (v : View) : Type 0 where
   pub number : c.session ≤ sessions_max
   pub begun : IsTrue (is_open v.sessions c.session)
 
-abbrev named_block : Option ℕ → Result ℕ FsRefusal
+abbrev pub named_block : Option ℕ → Result ℕ FsRefusal
 named_block None = Err no.NoEntry
 named_block (Some b) = Ok b
 
@@ -94,9 +93,8 @@ no_directory_found t path = first_of (not_found t path ∷ no_dir t path ∷ [])
 -- the entry that a path speaks of
 pub record IsPlace (c : Client) (v : View) (path : Path) (place : Place) : Type 0 where
   pub above : IsAt c v (directory_of path) place.directory
-  pub is_dir : IsTrue (is_directory (inode_of place.directory.inode))
-  pub name : path ≡ directory_of path ++ place.name ∷ []
-  pub old : place.old ≡ block_named place.name (entries_said (inode_of place.directory.inode))
+  pub name : path ≡ directory_of path ++ place.name.now ∷ []
+  pub old : place.old ≡ block_named place.name.now (entries_said (inode_of place.directory.inode))
 
 -- `/` is no entry
 abbrev pub no_place_found : Tree → Path → FsRefusal → Option FsRefusal

@@ -66,11 +66,7 @@ fn found_in(block: u32, bytes: Data) -> Result<Found, FsRefusal>
 }
 
 /// Reads the inode in a block. Only a fault refuses it.
-pub fn read_inode<K: Blocks>(
-    client: &Client,
-    disk: &mut K,
-    block: u32,
-) -> Result<Found, FsRefusal>
+pub fn read_inode<K: Blocks>(client: &Client, disk: &mut K, block: u32) -> Result<Found, FsRefusal>
     requires unspent { (K.view disk.old).spent ≡ false }
     requires valid { K.told → IsValidNow (K.view disk.old) }
     requires may { K.told → MayWrite client.now (K.view disk.old) block }
@@ -123,60 +119,72 @@ fn child<K: Blocks>(
 }
 
 /// The inode at the end of a way from the root, each block on it read once.
-pub fn walk<K: Blocks>(
-    client: &Client,
-    disk: &mut K,
-    names: &[Name],
-) -> Result<Found, FsRefusal>
+pub fn walk<K: Blocks>(client: &Client, disk: &mut K, names: &[Name]) -> Result<Found, FsRefusal>
     requires may { MayAsk K.told client.now (K.view disk.old) }
     ensures found { K.told → IfOk result (λ found. IsAt client.now (K.view disk.new) names.now found) }
     ensures none { K.told → OnOk result (not_found (tree_of client.now (K.view disk.old)) names.now ≡ None) }
     ensures refused { K.told → IfErr result (λ e. e ≢ no.Device → not_found (tree_of client.now (K.view disk.old)) names.now ≡ Some e) }
     ensures looks { Looks K.told (K.view disk.old) (K.view disk.new) result }
 {
-    let mut found = read_inode(client, disk, client.root)?;
+    let mut found = match read_inode(client, disk, client.root) {
+        Ok(root) => root,
+        Err(refusal) => return Err(refusal),
+    };
     for name in names {
-        found = child(client, disk, &found, name)?;
+        found = match child(client, disk, &found, name) {
+            Ok(further) => further,
+            Err(refusal) => return Err(refusal),
+        };
     }
     Ok(found)
 }
 
 /// The file at a path.
-pub fn find_file<K: Blocks>(
-    client: &Client,
-    disk: &mut K,
-    path: &Path,
-) -> Result<Found, FsRefusal>
+#[tactic(none)]
+pub fn find_file<K: Blocks>(client: &Client, disk: &mut K, path: &Path) -> Result<Found, FsRefusal>
     requires may { MayAsk K.told client.now (K.view disk.old) }
-    ensures found { K.told → IfOk result (λ found. IsAt client.now (K.view disk.new) path.now found × (is_directory (inode_of found.inode) ≡ false)) }
+    ensures found { K.told → IfOk result (IsAt client.now (K.view disk.new) path.now) }
+    ensures file { IfOk result (λ found. is_directory (inode_of found.inode) ≡ false) }
     ensures none { K.told → OnOk result (no_file_found (tree_of client.now (K.view disk.old)) path.now ≡ None) }
     ensures refused { K.told → IfErr result (λ e. e ≢ no.Device → no_file_found (tree_of client.now (K.view disk.old)) path.now ≡ Some e) }
     ensures looks { Looks K.told (K.view disk.old) (K.view disk.new) result }
 {
-    let found = walk(client, disk, path.as_slice())?;
-    if found.inode.is_directory() {
-        return Err(FsRefusal::IsDir);
+    match walk(client, disk, path.as_slice()) {
+        Ok(found) => {
+            if found.inode.is_directory() {
+                Err(FsRefusal::IsDir)
+            } else {
+                Ok(found)
+            }
+        }
+        Err(refusal) => Err(refusal),
     }
-    Ok(found)
 }
 
 /// The directory at a path.
+#[tactic(none)]
 pub fn find_directory<K: Blocks>(
     client: &Client,
     disk: &mut K,
     names: &[Name],
 ) -> Result<Found, FsRefusal>
     requires may { MayAsk K.told client.now (K.view disk.old) }
-    ensures found { K.told → IfOk result (λ found. IsAt client.now (K.view disk.new) names.now found × IsTrue (is_directory (inode_of found.inode))) }
+    ensures found { K.told → IfOk result (IsAt client.now (K.view disk.new) names.now) }
+    ensures dir { IfOk result (λ found. IsTrue (is_directory (inode_of found.inode))) }
     ensures none { K.told → OnOk result (no_directory_found (tree_of client.now (K.view disk.old)) names.now ≡ None) }
     ensures refused { K.told → IfErr result (λ e. e ≢ no.Device → no_directory_found (tree_of client.now (K.view disk.old)) names.now ≡ Some e) }
     ensures looks { Looks K.told (K.view disk.old) (K.view disk.new) result }
 {
-    let found = walk(client, disk, names)?;
-    if !found.inode.is_directory() {
-        return Err(FsRefusal::NotDir);
+    match walk(client, disk, names) {
+        Ok(found) => {
+            if found.inode.is_directory() {
+                Ok(found)
+            } else {
+                Err(FsRefusal::NotDir)
+            }
+        }
+        Err(refusal) => Err(refusal),
     }
-    Ok(found)
 }
 
 /// The entry of a path; `at_root` is answered of `/`, which is no entry.
@@ -187,6 +195,8 @@ pub fn find_place<'a, K: Blocks>(
     at_root: FsRefusal,
 ) -> Result<Place<'a>, FsRefusal>
     requires may { MayAsk K.told client.now (K.view disk.old) }
+    requires refusal { at_root ≢ no.Device }
+    ensures dir { IfOk result (λ place. IsTrue (is_directory (inode_of place.directory.inode))) }
     ensures found { K.told → IfOk result (λ place. IsPlace client.now (K.view disk.new) path.now place) }
     ensures none { K.told → OnOk result (no_place_found (tree_of client.now (K.view disk.old)) path.now at_root ≡ None) }
     ensures refused { K.told → IfErr result (λ e. e ≢ no.Device → no_place_found (tree_of client.now (K.view disk.old)) path.now at_root ≡ Some e) }
@@ -195,7 +205,10 @@ pub fn find_place<'a, K: Blocks>(
     match path.as_slice() {
         [] => Err(at_root),
         [way @ .., last] => {
-            let directory = find_directory(client, disk, way)?;
+            let directory = match find_directory(client, disk, way) {
+                Ok(directory) => directory,
+                Err(refusal) => return Err(refusal),
+            };
             let name = last.as_slice();
             let old = directory.inode.entry(name);
             Ok(Place {
