@@ -1,5 +1,5 @@
 -- One request that changes the world: what it leaves.
-use Rattle.std.proofs.Common.{◌≡◌, ◌≢◌, ℕ, Bool, true, false, List, refl, sym, ◌∙◌, ap, subst, inl, inr, ◌⊎◌, Option, Some, None, Result, Ok, Err}
+use Rattle.std.proofs.Common.{◌≡◌, ◌≢◌, ℕ, Bool, true, false, List, [], ◌∷◌, refl, sym, ◌∙◌, ap, subst, inl, inr, ◌⊎◌, Option, Some, None, Result, Ok, Err}
 use Rattle.std.specs.Prelude.{is_none}
 use Rattle.tsd_model.specs.World.{World, is_live}
 use Rattle.tsd_model.specs.Sessions.{Fits}
@@ -14,7 +14,12 @@ use Rattle.tsd_model.specs.declared.replies.Reply.{Reply}
 use Rattle.tsd_model.specs.declared.replies.Reply.TheVariants as reply
 use Rattle.tsd_model.specs.declared.replies.Rule.{Rule}
 use Rattle.disk_laws.proofs.AnswerLaws.{refused_answer}
-use Rattle.disk_laws.proofs.RunLaws.{answer_valid, answer_fits}
+use Rattle.disk_laws.proofs.RunLaws.{answer_valid, answer_fits, run_geometry}
+use Rattle.fs_trees.specs.Outside.{OthersStay}
+use Rattle.fs_laws.specs.Outside.{is_local}
+use Rattle.fs_laws.specs.Stays.{Keeps}
+use Rattle.fs_laws.proofs.OutsideLaws.{outside_stays}
+use Rattle.fs_laws.proofs.NamedLaws.{named_stays}
 use Rattle.fs_laws.specs.Ways.{HoldsWrite, is_steady, writes_through}
 use Rattle.fs_laws.proofs.WayLaws.{ways_stay, ways_are_gained}
 use Rattle.fs_port.specs.View.{View, state_of}
@@ -28,7 +33,7 @@ use Rattle.tsd_model.specs.declared.requests.Hint.TheVariants.{At}
 use Rattle.fs_asks.specs.Client.{alloc_by}
 use Rattle.fs_asks.specs.Asks.{AsksOnce, has_wanted_form}
 use Rattle.fs_asks.proofs.RefusedLaws.{is_of_files, same_answer}
-use Rattle.fs_steps.specs.Steps.{Went, Steps}
+use Rattle.fs_steps.specs.Steps.{Leads, Went, Steps}
 
 unformed : (q : Request) (k : Rule) → has_wanted_form q (reply.Refused k) ≡ true → ⊥
 unformed (ask.Read s b shown) k h = cc
@@ -49,65 +54,80 @@ granted_by_form old new q r done form = elim (verdict old.world old.sessions q) 
 ] refl
 
 module _ (c : Client) (old new : View) (q : Request) (a : ℕ) (after : World) (own : is_of_files q ≡ true) (is : (judged old.kind (state_of old) q None).state.world ≡ after) where
-  -- either side is the world before or the one after
-  pub either : (w : World) → IsEitherSide old q w → (w ≡ old.world) ⊎ (w ≡ after)
-  either w h = elim h [
-    | inl before ↦ inl before
-    | inr e ↦ by_verdict (verdict old.world old.sessions q) (e ∙ ap (λ o. o.state.world) (same_answer old.kind (state_of old) q false own))
-  ]
-    where
-      by_verdict : (o : Option Rule) → w ≡ (judged old.kind (state_of old) q o).state.world → (w ≡ old.world) ⊎ (w ≡ after)
-      by_verdict None e = inr (e ∙ is)
-      by_verdict (Some r) e = inl e
+  module _ (now : IsValidNow old) (local : is_local q ≡ true) where
+    -- what it leads to where it is granted
+    leads : ◌≡◌ {A = Option Rule} (verdict old.world old.sessions q) None → Leads old q after
+    leads granted =
+        let to : (answer old.kind (state_of old) q false).state.world ≡ after =
+            ap (λ o. o.state.world) (same_answer old.kind (state_of old) q false own) ∙ (ap (λ o. (judged old.kind (state_of old) q o).state.world) granted ∙ is) in
+        record {
+          valid = subst IsValid to (answer_valid old.kind (state_of old) q false now.valid);
+          geometry = ap (λ w. w.geometry) (sym to) ∙ run_geometry old.kind (state_of old) (false ∷ []) (q ∷ []);
+          others = λ root primary inside. subst (OthersStay root old.world) to (outside_stays old.kind (state_of old) q false root now.valid primary local inside);
+          keeps = λ root n under spared. subst (λ w. Keeps old.world w n) to (named_stays old.kind (state_of old) q false root n now.valid under spared);
+        }
 
-  -- ---- carried out
+    -- either side is the world before or the one after
+    pub either : (w : World) → IsEitherSide old q w → (w ≡ old.world) ⊎ ((w ≡ after) × Leads old q after)
+    either w h = elim h [
+      | inl before ↦ inl before
+      | inr e ↦ by_verdict (verdict old.world old.sessions q) refl (e ∙ ap (λ o. o.state.world) (same_answer old.kind (state_of old) q false own))
+    ]
+      where
+        by_verdict : (o : Option Rule) → verdict old.world old.sessions q ≡ o → w ≡ (judged old.kind (state_of old) q o).state.world → (w ≡ old.world) ⊎ ((w ≡ after) × Leads old q after)
+        by_verdict None k e = inr (e ∙ is, leads k)
+        by_verdict (Some r) k e = inl e
 
-  module _ (steady : is_steady q ≡ true) (mine : is_of_session q c.session ≡ true) (now : IsValidNow old) (through : writes_through (state_of old) q c.session a ≡ true) (r : Reply) (done : IsCarriedOut old new q r) (form : has_wanted_form q r ≡ true) where
-    granted : ◌≡◌ {A = Option Rule} (verdict old.world old.sessions q) None
-    granted = granted_by_form old new q r done form
+    -- ---- carried out
 
-    world_is : (answer old.kind (state_of old) q done.0).state.world ≡ after
-    world_is = ap (λ o. o.state.world) (same_answer old.kind (state_of old) q done.0 own) ∙ (ap (λ o. (judged old.kind (state_of old) q o).state.world) granted ∙ is)
+    module _ (steady : is_steady q ≡ true) (mine : is_of_session q c.session ≡ true) (through : writes_through (state_of old) q c.session a ≡ true) (r : Reply) (done : IsCarriedOut old new q r) (form : has_wanted_form q r ≡ true) where
+      granted : ◌≡◌ {A = Option Rule} (verdict old.world old.sessions q) None
+      granted = granted_by_form old new q r done form
 
-    pub went : Went c old new a after
-    went = record {
-      world = ap (λ st. st.world) (sym done.1) ∙ world_is;
-      valid = record {
-        valid = subst (λ st. IsValid st.world) done.1 (answer_valid old.kind (state_of old) q done.0 now.valid);
-        fits = subst (λ st. Fits st.world st.sessions) done.1 (answer_fits old.kind (state_of old) q done.0 now.valid now.fits);
-      };
-      ways = λ s b held live. subst (λ st. HoldsWrite st s b) done.1 (ways_stay old.kind (state_of old) q done.0 s b now.valid now.fits held steady (ap (λ w. is_live w b) world_is ∙ live));
-      held = λ live. subst (λ st. HoldsWrite st c.session a) done.1 (ways_are_gained old.kind (state_of old) q done.0 c.session a now.valid now.fits (ap is_none granted) mine through steady (ap (λ w. is_live w a) world_is ∙ live));
-    }
+      world_is : (answer old.kind (state_of old) q done.0).state.world ≡ after
+      world_is = ap (λ o. o.state.world) (same_answer old.kind (state_of old) q done.0 own) ∙ (ap (λ o. (judged old.kind (state_of old) q o).state.world) granted ∙ is)
+
+      pub went : Went c old new q a after
+      went = record {
+        world = ap (λ st. st.world) (sym done.1) ∙ world_is;
+        leads = leads granted;
+        valid = record {
+          valid = subst (λ st. IsValid st.world) done.1 (answer_valid old.kind (state_of old) q done.0 now.valid);
+          fits = subst (λ st. Fits st.world st.sessions) done.1 (answer_fits old.kind (state_of old) q done.0 now.valid now.fits);
+        };
+        ways = λ s b held live. subst (λ st. HoldsWrite st s b) done.1 (ways_stay old.kind (state_of old) q done.0 s b now.valid now.fits held steady (ap (λ w. is_live w b) world_is ∙ live));
+        held = λ live. subst (λ st. HoldsWrite st c.session a) done.1 (ways_are_gained old.kind (state_of old) q done.0 c.session a now.valid now.fits (ap is_none granted) mine through steady (ap (λ w. is_live w a) world_is ∙ live));
+      }
 
   -- ---- whatever came of it
 
-  crash_by : {X : Type 0} (told : Type 0) (result : Result X FsRefusal) → AsksOnce told old new q result → told → LeavesOnly old new (λ w. (w ≡ old.world) ⊎ (w ≡ after))
-  crash_by told result once t = leaves_more old new (IsEitherSide old q) (λ w. (w ≡ old.world) ⊎ (w ≡ after)) either (once.crash t)
+  module _ {X : Type 0} (told : Type 0) (now : told → IsValidNow old) (local : is_local q ≡ true) where
+    crash_by : (result : Result X FsRefusal) → AsksOnce told old new q result → told → LeavesOnly old new (λ w. (w ≡ old.world) ⊎ ((w ≡ after) × Leads old q after))
+    crash_by result once t = leaves_more old new (IsEitherSide old q) (λ w. (w ≡ old.world) ⊎ ((w ≡ after) × Leads old q after)) (either (now t) local) (once.crash t)
 
-  pub step_ok : {X : Type 0} (told : Type 0) (x : X) → (told → Went c old new a after) → AsksOnce told old new q (Ok x) → Steps told c old new a after (Ok x)
-  step_ok told x h once = record {
-    went = h;
-    same = λ t. tt;
-    crash = crash_by told (Ok x) once;
-    stays = once.stays;
-    counts = once.counts;
-    unspent = once.unspent;
-    faultless = once.faultless;
-    cause = once.cause;
-  }
+    pub step_ok : (x : X) → (told → Went c old new q a after) → AsksOnce told old new q (Ok x) → Steps told c old new q a after (Ok x)
+    step_ok x h once = record {
+      went = h;
+      same = λ t. tt;
+      crash = crash_by (Ok x) once;
+      stays = once.stays;
+      counts = once.counts;
+      unspent = once.unspent;
+      faultless = once.faultless;
+      cause = once.cause;
+    }
 
-  pub step_err : {X : Type 0} (told : Type 0) (e : FsRefusal) → AsksOnce {X = X} told old new q (Err e) → Steps {X = X} told c old new a after (Err e)
-  step_err {X} told e once = record {
-    went = λ t. tt;
-    same = λ t ne. (once.refused t ne).1;
-    crash = crash_by {X = X} told (Err e) once;
-    stays = once.stays;
-    counts = once.counts;
-    unspent = once.unspent;
-    faultless = once.faultless;
-    cause = once.cause;
-  }
+    pub step_err : (e : FsRefusal) → AsksOnce {X = X} told old new q (Err e) → Steps {X = X} told c old new q a after (Err e)
+    step_err e once = record {
+      went = λ t. tt;
+      same = λ t ne. (once.refused t ne).1;
+      crash = crash_by (Err e) once;
+      stays = once.stays;
+      counts = once.counts;
+      unspent = once.unspent;
+      faultless = once.faultless;
+      cause = once.cause;
+    }
 
 -- ---- the new blocks
 

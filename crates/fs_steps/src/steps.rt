@@ -12,6 +12,7 @@ ghost use Rattle.fs_trees.specs.declared.refusal.FsRefusal.TheVariants as no;
 ghost use Rattle.fs_laws.specs.Ways.{attains_write};
 ghost use Rattle.fs_port.specs.View.{state_of};
 ghost use Rattle.fs_port.specs.Calls.{IsValidNow};
+ghost use Rattle.fs_asks.specs.Client.{write_by, link_by, unlink_by, alloc_by};
 ghost use Rattle.fs_asks.specs.May.{MayWrite};
 ghost use Rattle.fs_steps.specs.Steps.{Steps, written, pointed, dropped, taken, no_room_in};
 
@@ -31,7 +32,7 @@ pub fn write_block<K: Blocks>(
     requires valid { K.told → IsValidNow (K.view disk.old) }
     requires may { K.told → MayWrite client.now (K.view disk.old) block }
     requires fits { K.told → length bytes ≤ block_len (K.view disk.old).world.geometry }
-    ensures steps { Steps K.told client.now (K.view disk.old) (K.view disk.new) block (written (K.view disk.old).world block bytes) result }
+    ensures steps { Steps K.told client.now (K.view disk.old) (K.view disk.new) (write_by client.now block bytes) block (written (K.view disk.old).world block bytes) result }
     ensures only { K.told → IfErr result (λ e. e ≡ no.Device) }
 {
     match client.write(disk, block, bytes) {
@@ -54,7 +55,7 @@ pub fn add_pointer<K: Blocks>(
     requires apart { K.told → (K.view disk.old).world.geometry.primaries ≤ target }
     requires way { K.told → IsTrue (attains_write (state_of (K.view disk.old)) client.now.session target Nothing) }
     requires new { K.told → holds (K.view disk.old).world.pairs source target ≡ false }
-    ensures steps { Steps K.told client.now (K.view disk.old) (K.view disk.new) source (pointed (K.view disk.old).world source target) result }
+    ensures steps { Steps K.told client.now (K.view disk.old) (K.view disk.new) (link_by client.now source target) source (pointed (K.view disk.old).world source target) result }
     ensures room { K.told → OnOk result (no_room_in (K.view disk.old).world 0 1 ≡ None) }
     ensures full { K.told → IfErr result (λ e. e ≢ no.Device → no_room_in (K.view disk.old).world 0 1 ≡ Some e) }
 {
@@ -75,7 +76,7 @@ pub fn drop_pointer<K: Blocks>(
     requires valid { K.told → IsValidNow (K.view disk.old) }
     requires may { K.told → MayWrite client.now (K.view disk.old) source }
     requires held { K.told → IsTrue (holds (K.view disk.old).world.pairs source target) }
-    ensures steps { Steps K.told client.now (K.view disk.old) (K.view disk.new) source (dropped (K.view disk.old).world source target) result }
+    ensures steps { Steps K.told client.now (K.view disk.old) (K.view disk.new) (unlink_by client.now source target) source (dropped (K.view disk.old).world source target) result }
     ensures only { K.told → IfErr result (λ e. e ≡ no.Device) }
 {
     match client.unlink(disk, source, target) {
@@ -96,7 +97,7 @@ pub fn take_blocks<K: Blocks>(
     requires may { K.told → MayWrite client.now (K.view disk.old) source }
     requires some { 1 ≤ count }
     requires few { count ≤ 32 }
-    ensures steps { Steps K.told client.now (K.view disk.old) (K.view disk.new) source (taken (K.view disk.old) source count) result }
+    ensures steps { Steps K.told client.now (K.view disk.old) (K.view disk.new) (alloc_by client.now source count) source (taken (K.view disk.old) source count) result }
     ensures blocks { K.told → IfOk result (λ blocks. blocks ≡ chosen (K.view disk.old).kind (K.view disk.old).world (At source) count) }
     ensures room { K.told → OnOk result (no_room_in (K.view disk.old).world count count ≡ None) }
     ensures full { K.told → IfErr result (λ e. e ≢ no.Device → no_room_in (K.view disk.old).world count count ≡ Some e) }

@@ -23,8 +23,8 @@ returns-in-Ok g c =
     let q = link_by me a b in
     let after = pointed old.world a b in
     record {
-      steps = step_ok me old new q a after refl refl told tt
-          (λ t. went me old new q a after refl refl refl (eq-eqb me.session me.session refl) (c.requires.valid t)
+      steps = step_ok me old new q a after refl refl told c.requires.valid refl tt
+          (λ t. went me old new q a after refl refl (c.requires.valid t) refl refl (eq-eqb me.session me.session refl)
           (or_left ((a == a) && attains_write (state_of old) me.session a (shown_at me a)) _ (and_from (a == a) _ (eq-eqb a a refl) (c.requires.may t).attains)) reply.Done (c.in-Ok.ensures.step t) refl)
           c.in-Ok.ensures.once;
       room = λ t. link_has_room me old (c.requires.valid t) a b (c.requires.may t) (c.requires.live t) (c.requires.apart t) (c.requires.way t) (c.requires.new t) (granted_by_form old new q reply.Done (c.in-Ok.ensures.step t) refl);
@@ -41,7 +41,7 @@ returns-in-Err g c =
     let b = c.args.target in
     let q = link_by me a b in
     record {
-      steps = step_err me old new q a (pointed old.world a b) refl refl told c.in-Err.refusal c.in-Err.ensures.once;
+      steps = step_err me old new q a (pointed old.world a b) refl refl told c.requires.valid refl c.in-Err.refusal c.in-Err.ensures.once;
       room = λ t. tt;
       full = λ t ne. link_has_none me old (c.requires.valid t) a b (c.requires.may t) (c.requires.live t) (c.requires.apart t) (c.requires.way t) (c.requires.new t) c.in-Err.refusal (c.in-Err.ensures.once.refused t ne).0;
     }

@@ -23,8 +23,8 @@ returns-in-Ok g c =
     let q = unlink_by me a c.args.target in
     let after = dropped old.world a c.args.target in
     record {
-      steps = step_ok me old new q a after refl refl told c.in-Ok.gone
-          (λ t. went me old new q a after refl refl refl (eq-eqb me.session me.session refl) (c.requires.valid t) (through_here a (attains_write (state_of old) me.session a (shown_at me a)) (c.requires.may t).attains) (reply.Gone c.in-Ok.gone) (c.in-Ok.ensures.step t) refl)
+      steps = step_ok me old new q a after refl refl told c.requires.valid refl c.in-Ok.gone
+          (λ t. went me old new q a after refl refl (c.requires.valid t) refl refl (eq-eqb me.session me.session refl) (through_here a (attains_write (state_of old) me.session a (shown_at me a)) (c.requires.may t).attains) (reply.Gone c.in-Ok.gone) (c.in-Ok.ensures.step t) refl)
           c.in-Ok.ensures.once;
       only = λ t. tt;
     }
@@ -38,6 +38,6 @@ returns-in-Err g c =
     let a = c.args.source in
     let q = unlink_by me a c.args.target in
     record {
-      steps = step_err me old new q a (dropped old.world a c.args.target) refl refl told c.in-Err.refusal c.in-Err.ensures.once;
+      steps = step_err me old new q a (dropped old.world a c.args.target) refl refl told c.requires.valid refl c.in-Err.refusal c.in-Err.ensures.once;
       only = λ t. is_a_fault told old new q c.in-Err.refusal (λ u. delete_granted me old a c.args.target (c.requires.valid u) (c.requires.may u) (c.requires.held u)) t c.in-Err.ensures.once;
     }

@@ -25,8 +25,8 @@ returns-in-Ok g c =
     let after = taken old a count in
     let r = reply.Blocks c.in-Ok.blocks in
     record {
-      steps = step_ok me old new q a after refl refl told c.in-Ok.blocks
-          (λ t. went me old new q a after refl refl refl (eq-eqb me.session me.session refl) (c.requires.valid t) (through_here a (attains_write (state_of old) me.session a (shown_at me a)) (c.requires.may t).attains) r (c.in-Ok.ensures.step t) refl)
+      steps = step_ok me old new q a after refl refl told c.requires.valid refl c.in-Ok.blocks
+          (λ t. went me old new q a after refl refl (c.requires.valid t) refl refl (eq-eqb me.session me.session refl) (through_here a (attains_write (state_of old) me.session a (shown_at me a)) (c.requires.may t).attains) r (c.in-Ok.ensures.step t) refl)
           c.in-Ok.ensures.once;
       blocks = λ t. blocks_are me old new a count c.in-Ok.blocks (c.in-Ok.ensures.step t);
       room = λ t. take_has_room me old (c.requires.valid t) a count (c.requires.may t) c.requires.some c.requires.few (granted_by_form old new q r (c.in-Ok.ensures.step t) refl);
@@ -43,7 +43,7 @@ returns-in-Err g c =
     let count = c.args.count in
     let q = alloc_by me a count in
     record {
-      steps = step_err me old new q a (taken old a count) refl refl told c.in-Err.refusal c.in-Err.ensures.once;
+      steps = step_err me old new q a (taken old a count) refl refl told c.requires.valid refl c.in-Err.refusal c.in-Err.ensures.once;
       blocks = λ t. tt;
       room = λ t. tt;
       full = λ t ne. take_has_none me old (c.requires.valid t) a count (c.requires.may t) c.requires.some c.requires.few c.in-Err.refusal (c.in-Err.ensures.once.refused t ne).0;

@@ -25,8 +25,8 @@ returns-in-Ok g c =
     let q = write_by me b c.args.bytes in
     let after = written old.world b c.args.bytes in
     record {
-      steps = step_ok me old new q b after refl refl told tt
-          (λ t. went me old new q b after refl refl refl (eq-eqb me.session me.session refl) (c.requires.valid t) (through_here b (attains_write (state_of old) me.session b (shown_at me b)) (c.requires.may t).attains) reply.Done (c.in-Ok.ensures.step t) refl)
+      steps = step_ok me old new q b after refl refl told c.requires.valid refl tt
+          (λ t. went me old new q b after refl refl (c.requires.valid t) refl refl (eq-eqb me.session me.session refl) (through_here b (attains_write (state_of old) me.session b (shown_at me b)) (c.requires.may t).attains) reply.Done (c.in-Ok.ensures.step t) refl)
           c.in-Ok.ensures.once;
       only = λ t. tt;
     }
@@ -40,6 +40,6 @@ returns-in-Err g c =
     let b = c.args.block in
     let q = write_by me b c.args.bytes in
     record {
-      steps = step_err me old new q b (written old.world b c.args.bytes) refl refl told c.in-Err.refusal c.in-Err.ensures.once;
+      steps = step_err me old new q b (written old.world b c.args.bytes) refl refl told c.requires.valid refl c.in-Err.refusal c.in-Err.ensures.once;
       only = λ t. is_a_fault told old new q c.in-Err.refusal (λ u. write_granted me old b c.args.bytes (c.requires.valid u) (c.requires.may u) (c.requires.fits u)) t c.in-Err.ensures.once;
     }
