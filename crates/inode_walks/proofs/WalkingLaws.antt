@@ -72,6 +72,7 @@ further_below w n ns (a_dir b es) h = ap (λ t. not_found t ns) (sym (tree_child
 -- after i names this was found, and what the others lead to is what all lead to
 pub record IsWalking (c : Client) (first now : View) (names : Path) (i : ℕ) (found : Found) : Type 0 where
   pub more : ℕ
+  pub levels : more + i ≡ path_max
   pub stands : Stands c now more found
   pub node : at (inodes_under now.world c.root) (take i names) ≡ node_at now.world (suc more) found.block
   pub rest : not_found (tree_of c first) names ≡ not_found (node_tree now more found) (drop i names)
@@ -84,6 +85,7 @@ pub walks_on : (c : Client) (first now new : View) (names : Path) (i : ℕ) (fou
     → (w : IsWalking c first now names i found) → IsFurther c now new w.more found n next → IsWalking c first new names (i + 1) next
 walks_on c first now new names i found next n h is seen w further = record {
   more = further.less;
+  levels = let one = further.deeper in let before = w.levels in omega (arith, one, before);
   stands = further.stands;
   node =
       ap (λ u. at (inodes_under u c.root) (take (i + 1) names)) seen.world
@@ -104,9 +106,10 @@ pub walk_ends : (c : Client) (first now : View) (names : Path) (i : ℕ) (found 
 walk_ends c first now names i found n e h is w lost = w.rest ∙ (ap (not_found (node_tree now w.more found)) (drop_first names i n h is) ∙ lost (drop (i + 1) names))
 
 -- all names were found
-pub walk_arrives : (c : Client) (first now : View) (names : Path) (i : ℕ) (found : Found) → length names ≤ i → (w : IsWalking c first now names i found) → IsAt c now names found
-walk_arrives c first now names i found h w = record {
+pub walk_arrives : (c : Client) (first now : View) (names : Path) (i : ℕ) (found : Found) → length names ≤ i → i ≤ length names → (w : IsWalking c first now names i found) → IsAt c now names found
+walk_arrives c first now names i found h k w = record {
   more = w.more;
+  levels = let before = w.levels in omega (arith, before, h, k);
   stands = w.stands;
   node = ap (at (inodes_under now.world c.root)) (sym (take_all names i h)) ∙ w.node;
 }
@@ -149,6 +152,7 @@ walk_begins c first now names found there seen block says whole held =
     ap (λ w. node_at w (suc path_max) c.root) (sym seen.world) ∙ ap (node_at now.world (suc path_max)) (sym block) in
     record {
       more = path_max;
+      levels = refl;
       stands = record {
         there = ap is_there (sym same) ∙ root.1;
         says = ap (inode_at now.world) block ∙ (ap (λ w. inode_at w c.root) seen.world ∙ says);

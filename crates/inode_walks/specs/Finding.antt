@@ -1,9 +1,9 @@
 -- What stands at a path, as it was read from its block.
-use Rattle.std.specs.Prelude.{◌≡◌, ℕ, suc, ◌≤◌, List, [], ◌∷◌, ◌++◌, map, Option, Some, None, Result, Ok, Err, IsTrue}
+use Rattle.std.specs.Prelude.{◌≡◌, ℕ, suc, ◌+◌, ◌≤◌, length, List, [], ◌∷◌, ◌++◌, map, Option, Some, None, Result, Ok, Err, IsTrue}
 use Rattle.tsd_model.specs.Geometry.{block_len}
 use Rattle.tsd_model.specs.Pairs.{holds}
 use Rattle.tsd_model.specs.Sessions.{sessions_max, is_open}
-use Rattle.fs_trees.specs.Names.{Name, Path}
+use Rattle.fs_trees.specs.Names.{Name, Path, path_max}
 use Rattle.fs_trees.specs.Tree.{Tree, nothing, a_file, a_dir, entry, child, at, is_there}
 use Rattle.fs_trees.specs.Inode.{Inode, directory, regular, block_named}
 use Rattle.fs_trees.specs.InodeTree.{InodeNode, inode_at, node_at, inodes_under, named_pairs, tree_of}
@@ -68,6 +68,8 @@ pub record IsFurther (c : Client) (old new : View) (more : ℕ) (dir : Found) (n
 -- it was read from the block of what stands at the path
 pub record IsAt (c : Client) (v : View) (path : Path) (found : Found) : Type 0 where
   pub more : ℕ
+  -- so many names may follow
+  pub levels : more + length path ≡ path_max
   pub stands : Stands c v more found
   pub node : at (inodes_under v.world c.root) path ≡ node_at v.world (suc more) found.block
 

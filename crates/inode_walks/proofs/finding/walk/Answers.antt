@@ -79,7 +79,7 @@ returns g c =
     let now = g.K.Blocks.view c.loop-name.disk in
     let inv = c.loop-name.invariant in
     record {
-      found = λ t. walk_arrives c.args.client.now first now c.args.names.now c.loop-name.name-index c.loop-name.found c.loop-name-test.false (inv.walking t);
+      found = λ t. walk_arrives c.args.client.now first now c.args.names.now c.loop-name.name-index c.loop-name.found c.loop-name-test.false c.loop-name.auto.name-index-end (inv.walking t);
       none = λ t. nothing_missing c.args.client.now first now c.args.names.now c.loop-name.name-index c.loop-name.found c.loop-name-test.false (inv.walking t);
       refused = λ t. tt;
       looks = looks_as told first now tt c.loop-name.found inv.looks;
