@@ -56,7 +56,7 @@ granted_by_form old new q r done form = elim (verdict old.world old.sessions q) 
 module _ (c : Client) (old new : View) (q : Request) (a : ℕ) (after : World) (own : is_of_files q ≡ true) (is : (judged old.kind (state_of old) q None).state.world ≡ after) where
   module _ (now : IsValidNow old) (local : is_local q ≡ true) where
     -- what it leads to where it is granted
-    leads : ◌≡◌ {A = Option Rule} (verdict old.world old.sessions q) None → Leads old q after
+    leads : ◌≡◌ {A = Option Rule} (verdict old.world old.sessions q) None → Leads old.world q after
     leads granted =
         let to : (answer old.kind (state_of old) q false).state.world ≡ after =
             ap (λ o. o.state.world) (same_answer old.kind (state_of old) q false own) ∙ (ap (λ o. (judged old.kind (state_of old) q o).state.world) granted ∙ is) in
@@ -68,13 +68,13 @@ module _ (c : Client) (old new : View) (q : Request) (a : ℕ) (after : World) (
         }
 
     -- either side is the world before or the one after
-    pub either : (w : World) → IsEitherSide old q w → (w ≡ old.world) ⊎ ((w ≡ after) × Leads old q after)
+    pub either : (w : World) → IsEitherSide old q w → (w ≡ old.world) ⊎ ((w ≡ after) × Leads old.world q after)
     either w h = elim h [
       | inl before ↦ inl before
       | inr e ↦ by_verdict (verdict old.world old.sessions q) refl (e ∙ ap (λ o. o.state.world) (same_answer old.kind (state_of old) q false own))
     ]
       where
-        by_verdict : (o : Option Rule) → verdict old.world old.sessions q ≡ o → w ≡ (judged old.kind (state_of old) q o).state.world → (w ≡ old.world) ⊎ ((w ≡ after) × Leads old q after)
+        by_verdict : (o : Option Rule) → verdict old.world old.sessions q ≡ o → w ≡ (judged old.kind (state_of old) q o).state.world → (w ≡ old.world) ⊎ ((w ≡ after) × Leads old.world q after)
         by_verdict None k e = inr (e ∙ is, leads k)
         by_verdict (Some r) k e = inl e
 
@@ -102,8 +102,8 @@ module _ (c : Client) (old new : View) (q : Request) (a : ℕ) (after : World) (
   -- ---- whatever came of it
 
   module _ {X : Type 0} (told : Type 0) (now : told → IsValidNow old) (local : is_local q ≡ true) where
-    crash_by : (result : Result X FsRefusal) → AsksOnce told old new q result → told → LeavesOnly old new (λ w. (w ≡ old.world) ⊎ ((w ≡ after) × Leads old q after))
-    crash_by result once t = leaves_more old new (IsEitherSide old q) (λ w. (w ≡ old.world) ⊎ ((w ≡ after) × Leads old q after)) (either (now t) local) (once.crash t)
+    crash_by : (result : Result X FsRefusal) → AsksOnce told old new q result → told → LeavesOnly old new (λ w. (w ≡ old.world) ⊎ ((w ≡ after) × Leads old.world q after))
+    crash_by result once t = leaves_more old new (IsEitherSide old q) (λ w. (w ≡ old.world) ⊎ ((w ≡ after) × Leads old.world q after)) (either (now t) local) (once.crash t)
 
     pub step_ok : (x : X) → (told → Went c old new q a after) → AsksOnce told old new q (Ok x) → Steps told c old new q a after (Ok x)
     step_ok x h once = record {
