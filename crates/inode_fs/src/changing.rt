@@ -6,7 +6,7 @@ ghost use Rattle.fs_trees.specs.Answer.{done};
 ghost use Rattle.fs_trees.specs.declared.ask.ShellAsk.TheVariants as ask;
 ghost use Rattle.fs_port.specs.Files.{Answers};
 ghost use Rattle.inode_walks.specs.Asking.{MayAsk, mounted_by};
-ghost use Rattle.inode_fs.specs.Changing.{Changes};
+ghost use Rattle.inode_changes.specs.Changing.{Changes};
 
 use crate::content::{Content, check_free, make_file, new_block};
 use inode_walks::{Found, Place, find_file, find_place, read_inode};

@@ -6,7 +6,7 @@ ghost use Rattle.fs_trees.specs.Answer.{done};
 ghost use Rattle.fs_trees.specs.declared.ask.ShellAsk.TheVariants as ask;
 ghost use Rattle.fs_port.specs.Files.{Answers};
 ghost use Rattle.inode_walks.specs.Asking.{MayAsk, mounted_by};
-ghost use Rattle.inode_fs.specs.Changing.{Changes};
+ghost use Rattle.inode_changes.specs.Changing.{Changes};
 
 use inode_walks::{find_place, read_inode};
 use crate::letting_go::delete_others;

@@ -33,7 +33,7 @@ there_is_inode w (suc more) b h = by_inode (inode_at w b) h
     by_inode None h = absurd (cc)
     by_inode (Some i) h = refl
 
-a_level : (w : World) (more b : ℕ) → is_there (node_at w more b) ≡ true → (less : ℕ) × (more ≡ suc less)
+pub a_level : (w : World) (more b : ℕ) → is_there (node_at w more b) ≡ true → (less : ℕ) × (more ≡ suc less)
 a_level w zero b h = absurd (cc)
 a_level w (suc more) b h = (more, refl)
 
