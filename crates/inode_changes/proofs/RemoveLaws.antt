@@ -1,9 +1,9 @@
 -- A removal, from the entry that was found to the last request.
-use Rattle.std.proofs.Common.{◌≡◌, ◌≢◌, ℕ, zero, suc, ◌+◌, ◌*◌, ◌<◌, ◌≤◌, Bool, true, false, not, cond, ◌&&◌, ◌==◌, nat_lt, List, [], ◌∷◌, ◌++◌, length, refl, sym, ◌∙◌, ap, subst, arith, inl, inr, ◌⊎◌, Option, Some, None, length-append}
+use Rattle.std.proofs.Common.{◌≡◌, ◌≢◌, ℕ, zero, suc, ◌+◌, ◌*◌, ◌<◌, ◌≤◌, Bool, true, false, not, cond, ◌&&◌, ◌==◌, nat_lt, nat_le, List, [], ◌∷◌, ◌++◌, length, refl, sym, ◌∙◌, ap, subst, arith, inl, inr, ◌⊎◌, Option, Some, None, length-append}
 use Rattle.std.proofs.lemmas.Bool.{and_from, and_parts, eq-eqb}
 use Rattle.std.proofs.lemmas.Bool.Decides.{nat_tests}
 use Rattle.std.specs.Prelude.{is_some, flat_map, slice_get}
-use Rattle.byteorder.specs.Endian.{little_bytes}
+use Rattle.std.specs.List.{list_all}
 use Rattle.tsd_model.specs.Geometry.{block_len}
 use Rattle.tsd_model.specs.World.{World, is_live, is_free, free_count, has_number}
 use Rattle.tsd_model.specs.Pairs.{holds}
@@ -19,7 +19,7 @@ use Rattle.fs_laws.specs.Outside.{is_inside}
 use Rattle.fs_laws.specs.Stays.{Keeps}
 use Rattle.disk_laws.proofs.AttainedLaws.{attained_where}
 use Rattle.disk_laws.proofs.ChangeLaws.{live-with_contents}
-use Rattle.fs_trees.specs.Names.{Name, Path, is_name}
+use Rattle.fs_trees.specs.Names.{Name, Path, name_max, is_name_byte, is_reserved, is_name}
 use Rattle.fs_trees.specs.Tree.{nothing, at, is_there, names_in, with_at}
 use Rattle.fs_trees.specs.Fields.{Entry, entry_bytes, entry_names, all_named}
 use Rattle.fs_trees.specs.Inode.{Inode, directory, entries_room, block_named, without_listed, inode_bytes}
@@ -58,7 +58,12 @@ use Rattle.inode_changes.proofs.AskLaws.{refused_on, after_is, rm_none, old_ther
 -- ---- how long a directory's bytes are
 
 name_fits : (n : Name) → is_name n ≡ true → length n ≤ 28
-name_fits n h = let parts = (and_parts _ _ (and_parts _ _ (and_parts _ _ h).0).0).1 in grind (arith, nat_tests)
+name_fits n h =
+    let a = nat_le 1 (length n) in
+    let b = nat_le (length n) name_max in
+    let front = (and_parts (a && b && list_all is_name_byte n) (not (is_reserved n)) h).0 in
+    let short : b ≡ true = (and_parts a b (and_parts (a && b) (list_all is_name_byte n) front).0).1 in
+    grind (arith, nat_tests)
 
 listed_length : (es : List Entry) → all_named es ≡ true → length (flat_map entry_bytes es) ≡ 32 * length es
 listed_length [] h = refl
@@ -70,7 +75,7 @@ listed_length (e ∷ es) h =
     omega (arith, here, later, both)
 
 pub directory_length : (es : List Entry) → all_named es ≡ true → length (inode_bytes (directory es)) ≡ 16 + 32 * length es
-directory_length es h = ap (λ n. 16 + n) (listed_length es h)
+directory_length es h = let list = listed_length es h in omega (arith, list)
 
 -- ---- what may be written after a step
 
