@@ -2,7 +2,7 @@
 
 ghost use Rattle.std.specs.Prelude.{◌≡◌, ◌≢◌, ◌≤◌, ℕ, ◌∷◌, length, false, None, Some, is_some, IsTrue, IfOk, IfErr, OnOk, OnErr};
 ghost use Rattle.tsd_model.specs.Geometry.{block_len};
-ghost use Rattle.fs_trees.specs.Names.{Path};
+ghost use Rattle.fs_trees.specs.Names.{Path, name_max};
 ghost use Rattle.fs_trees.specs.InodeTree.{inode_at};
 ghost use Rattle.fs_trees.specs.declared.refusal.FsRefusal.TheVariants as no;
 ghost use Rattle.fs_laws.specs.Ways.{HoldsWrite};
@@ -197,6 +197,7 @@ pub fn find_place<'a, K: Blocks>(
     requires may { MayAsk K.told client.now (K.view disk.old) }
     requires refusal { at_root ≢ no.Device }
     ensures dir { IfOk result (λ place. IsTrue (is_directory (inode_of place.directory.inode))) }
+    ensures short { IfOk result (λ place. length place.name.now ≤ name_max) }
     ensures found { K.told → IfOk result (λ place. IsPlace client.now (K.view disk.new) path.now place) }
     ensures none { K.told → OnOk result (no_place_found (tree_of client.now (K.view disk.old)) path.now at_root ≡ None) }
     ensures refused { K.told → IfErr result (λ e. e ≢ no.Device → no_place_found (tree_of client.now (K.view disk.old)) path.now at_root ≡ Some e) }

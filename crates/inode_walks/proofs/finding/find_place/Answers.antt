@@ -1,4 +1,4 @@
-use Rattle.std.proofs.Common.{◌≡◌, ◌∷◌, ◌++◌, [], ◌∙◌, sym, subst, length, take, ◌-◌, ◌<◌}
+use Rattle.std.proofs.Common.{◌≡◌, ◌∷◌, ◌++◌, [], ◌∙◌, sym, subst, length, take, ◌-◌, ◌<◌, ◌≤◌}
 use Rattle.fs_asks.proofs.LookLaws.{no_look, looks_as, looks_refused, looks_but_refuses}
 use Rattle.inode_walks.specs.Asking.{tree_of}
 use Rattle.inode_walks.proofs.FoundLaws.{last_of, no_name, place_lost, place_is}
@@ -13,6 +13,7 @@ returns-in-empty g c =
     let old = g.K.Blocks.view c.args.disk.now in
     record {
       dir = tt;
+      short = tt;
       found = λ t. tt;
       none = λ t. tt;
       refused = λ t ne. no_name (tree_of c.args.client.now old) c.args.path.now c.args.at_root (subst (λ p. length p < 1) c.as_slice.ensures.value c.in-empty.len_below);
@@ -29,6 +30,7 @@ returns-in-Err g c =
     let whole : c.args.path.now ≡ take (length xs - 1) xs ++ c.last-item.result ∷ [] = sym c.as_slice.ensures.value ∙ last_of xs c.last-item.result c.in-len1-up.len_at_least c.last-item.is in
     record {
       dir = tt;
+      short = tt;
       found = λ t. tt;
       none = λ t. tt;
       refused = λ t ne. place_lost (tree_of c.args.client.now old) c.args.path.now (take (length xs - 1) xs) c.last-item.result c.args.at_root whole ∙ c.in-Err.ensures.refused t ne;
@@ -45,6 +47,7 @@ returns-in-Ok g c =
     let e = c.in-Ok.ensures in
     record {
       dir = e.dir;
+      short = subst (λ n. length n ≤ 28) (sym c.as_slice-name.ensures.value) c.as_slice-name.ensures.fits;
       found = λ t. place_is c.args.client.now new c.args.path.now (take (length xs - 1) xs) c.last-item.result _ whole c.as_slice-name.ensures.value (e.found t) c.entry-old.ensures;
       none = λ t. place_lost (tree_of c.args.client.now old) c.args.path.now (take (length xs - 1) xs) c.last-item.result c.args.at_root whole ∙ e.none t;
       refused = λ t. tt;
