@@ -58,7 +58,7 @@ after_is c old a h answer =
     let is = ap (judged t (free_count old.world) a) h in
     ap (λ o. unless_refused o.answer o.tree t) is ∙ ap (λ r. unless_refused r (change t (free_count old.world) a).tree t) answer
 
-is_mounted : (t : Tree) (rest : List (Option FsRefusal)) → is_there t ≡ true → first_of (not_mounted t ∷ rest) ≡ first_of rest
+pub is_mounted : (t : Tree) (rest : List (Option FsRefusal)) → is_there t ≡ true → first_of (not_mounted t ∷ rest) ≡ first_of rest
 is_mounted nothing rest h = absurd (cc)
 is_mounted (a_file x) rest h = refl
 is_mounted (a_dir d es) rest h = refl

@@ -120,6 +120,10 @@ node_source d (a_dir c es) a b h = elim (or_cases (is_pair a b (d, c)) _ h) [
 ]
 
 -- the root stays a directory
+pub dir_stays_with : (p : Path) (n : Name) (y : InodeNode) (b : ℕ) (es : InodeEntries) → (new : InodeEntries) × (with_at (p ++ n ∷ []) y (a_dir b es) ≡ a_dir b new)
+dir_stays_with [] n y b es = (with_entry n y es, refl)
+dir_stays_with (m ∷ ms) n y b es = (with_entry m (with_at (ms ++ n ∷ []) y (entry m es)) es, refl)
+
 pub dir_stays : (p : Path) (n : Name) (b : ℕ) (es : InodeEntries) → (new : InodeEntries) × (with_at (p ++ n ∷ []) nothing (a_dir b es) ≡ a_dir b new)
 dir_stays [] n b es = (with_entry n nothing es, refl)
 dir_stays (m ∷ ms) n b es = (with_entry m (with_at (ms ++ n ∷ []) nothing (entry m es)) es, refl)
@@ -141,7 +145,7 @@ module _ (root d : ℕ) (p : Path) (n : Name) (xs old new : InodeEntries) (y : I
   as_put : a_dir root new ≡ with_at p (a_dir d (with_entry n y xs)) (a_dir root old)
   as_put = sym x.is ∙ (with_last p n y (a_dir root old) ∙ ap (λ v. with_at p (with_child n y v) (a_dir root old)) x.stands)
 
-  inodes_are : (b : ℕ) → times b (inode_blocks new) + times b (node_blocks (entry n xs)) ≡ times b (inode_blocks old) + times b (node_blocks y)
+  pub inodes_are : (b : ℕ) → times b (inode_blocks new) + times b (node_blocks (entry n xs)) ≡ times b (inode_blocks old) + times b (node_blocks y)
   inodes_are b =
       let law = times-with_at b p (a_dir d (with_entry n y xs)) (a_dir root old) (ap is_there x.stands) in
       let one = times-with_entry b n y xs in

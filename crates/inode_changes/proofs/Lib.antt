@@ -6,3 +6,5 @@ pub mod RemovalLaws
 pub mod RunLaws
 pub mod AskLaws
 pub mod RemoveLaws
+pub mod MakingLaws
+pub mod MakeLaws

@@ -50,7 +50,7 @@ pub record Spot (w : World) (root : ℕ) (p : Path) (d : ℕ) (es : List Entry) 
   pub says : inode_at w d ≡ Some (directory es)
   pub room : length es ≤ entries_room (block_len w.geometry)
 
-deeper_is : (p : Path) (k : ℕ) → deeper p k ≡ k + length p
+pub deeper_is : (p : Path) (k : ℕ) → deeper p k ≡ k + length p
 deeper_is [] k = sym (omega arith)
 deeper_is (n ∷ ns) k = let rest = deeper_is ns k in omega (arith, rest)
 

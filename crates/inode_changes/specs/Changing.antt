@@ -1,5 +1,5 @@
 -- What holds of each call that may change the tree, whatever it answers.
-use Rattle.std.specs.Prelude.{◌≡◌, ◌≢◌, false, Result, IfErr}
+use Rattle.std.specs.Prelude.{◌≡◌, ◌≢◌, ℕ, false, List, [], ◌∷◌, Option, Some, None, Result, IfErr}
 use Rattle.image_device.specs.Counts.{Rose}
 use Rattle.fs_trees.specs.declared.ask.ShellAsk.{ShellAsk}
 use Rattle.fs_trees.specs.declared.refusal.FsRefusal.{FsRefusal}
@@ -20,3 +20,9 @@ pub record Changes {X : Type 0} (told : Type 0) (c : Client) (old new : View) (a
   pub unspent : OnAnswer result (new.spent ≡ false)
   pub faultless : OnAnswer result (new.faults ≡ old.faults)
   pub cause : IfErr result (λ e. e ≡ no.Device → Rose old.faults new.faults)
+
+-- the block, where it is one
+abbrev pub the_block : List ℕ → Option ℕ
+the_block [] = None
+the_block (b ∷ []) = Some b
+the_block (b ∷ c ∷ bs) = None

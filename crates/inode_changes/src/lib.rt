@@ -9,6 +9,8 @@
 //! takes memory.
 #![tactic(auto)]
 
+mod making;
 mod removing;
 
+pub use making::make_dir;
 pub use removing::remove;
