@@ -123,14 +123,17 @@ module _ (c : Client) (v : View) (path : Path) (place : Place) (is_dir : is_dire
     pub old_at : at (tree_of c v) path ≡ inodes.tree_of v.world (node_at v.world i.above.more b)
     old_at = place_at ∙ ap (λ o. inodes.tree_of v.world (read_named (λ k. node_at v.world i.above.more k) o)) some
 
+    pub there_at : is_there (node_at v.world i.above.more b) ≡ true → is_there (at (tree_of c v) path) ≡ true
+    there_at there = ap is_there old_at ∙ tree_there (node_at v.world i.above.more b) there
+      where
+        tree_there : (x : InodeNode) → is_there x ≡ true → is_there (inodes.tree_of v.world x) ≡ true
+        tree_there nothing h = absurd (cc)
+        tree_there (a_file f) h = refl
+        tree_there (a_dir b es) h = refl
+
     module _ (there : is_there (node_at v.world i.above.more b) ≡ true) (k : Inode) (is : inode_at v.world b ≡ Some k) where
       pub old_there : is_there (at (tree_of c v) path) ≡ true
-      old_there = ap is_there old_at ∙ tree_there (node_at v.world i.above.more b) there
-        where
-          tree_there : (x : InodeNode) → is_there x ≡ true → is_there (inodes.tree_of v.world x) ≡ true
-          tree_there nothing h = absurd (cc)
-          tree_there (a_file f) h = refl
-          tree_there (a_dir b es) h = refl
+      old_there = there_at there
 
       pub entries_at : nat_lt 0 (length (names_in (at (tree_of c v) path))) ≡ (is_directory k && nat_lt 0 (length (blocks_said k)))
       entries_at =

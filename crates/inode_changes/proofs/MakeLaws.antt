@@ -43,6 +43,7 @@ use Rattle.fs_asks.specs.Client.{shown_at, write_by, alloc_by}
 use Rattle.fs_asks.specs.May.{MayWrite, Looked}
 use Rattle.fs_steps.specs.Steps as steps
 use Rattle.fs_steps.specs.Steps.{Leads, Went, written, no_room_in}
+use Rattle.inode_layout.specs.declared.inode.Inode as layout
 use Rattle.inode_layout.specs.Block.{inode_of, block_len_of}
 use Rattle.inode_layout.specs.Said.{is_directory, entries_said, blocks_said}
 use Rattle.inode_walks.specs.declared.finding.Place.{Place}
@@ -117,6 +118,20 @@ listed_length (e ∷ es) = ap suc (listed_length es)
 blocks_length : (es : List Entry) → length (map (λ e. e.block) es) ≡ length es
 blocks_length [] = refl
 blocks_length (e ∷ es) = ap suc (blocks_length es)
+
+-- the new list fits the block
+pub list_fits : (inode : layout.Inode) (n : Name) (b : ℕ) → is_directory (inode_of inode) ≡ true → nat_le (entries_room (block_len_of inode)) (length (blocks_said (inode_of inode))) ≡ false
+    → length (with_listed (record { name = n; block = b }) (entries_said (inode_of inode))) ≤ entries_room (block_len_of inode)
+list_fits inode n b is_dir roomy =
+    let es = entries_said (inode_of inode) in
+    let said : length (blocks_said (inode_of inode)) ≡ length es = ap (λ i. length (blocks_said i)) (dir_said (inode_of inode) is_dir) ∙ blocks_length es in
+    let most = length_with (record { name = n; block = b }) es in
+    let less : length (blocks_said (inode_of inode)) < entries_room (block_len_of inode) = grind (arith, nat_tests) in
+    fewer (entries_room (block_len_of inode)) said most less
+  where
+    fewer : (room : ℕ) → length (blocks_said (inode_of inode)) ≡ length (entries_said (inode_of inode)) → length (with_listed (record { name = n; block = b }) (entries_said (inode_of inode))) ≤ length (entries_said (inode_of inode)) + 1
+        → length (blocks_said (inode_of inode)) < room → length (with_listed (record { name = n; block = b }) (entries_said (inode_of inode))) ≤ room
+    fewer room e m l = omega (arith, e, m, l)
 
 module _ (c : Client) (first mid : View) (path : Path) (place : Place) (x : Placing c first mid path place) where
   abbrev es : List Entry

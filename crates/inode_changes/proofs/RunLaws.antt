@@ -140,3 +140,19 @@ looks_change {X} told c old new a result valid looks = changes_of told c old new
     left : (r : Result X FsRefusal) → OnAnswer r (Looked old new) → OnAnswer r (new.spent ≡ false) → OnAnswer r (LeavesWorld (mounted_by c) old new)
     left (Ok x) seen unspent = (leaves_same c old new seen.0.world unspent.0, tt)
     left (Err e) seen unspent = (tt, λ ne. leaves_same c old new (seen.1 ne).world (unspent.1 ne))
+
+-- a refusal of its own, not the disk's
+pub runs_but_refuses : {X Y : Type 0} (told : Type 0) (old new : View) (P : World → Type 0) (x : X) (e : FsRefusal) → e ≢ no.Device → Runs told old new P (Ok x) → Runs {X = Y} told old new P (Err e)
+runs_but_refuses told old new P x e ne h = record {
+  valid = λ t. (tt, λ _. (h.valid t).0);
+  crash = h.crash;
+  stays = (tt, λ _. h.stays.0);
+  counts = h.counts;
+  unspent = (tt, λ _. h.unspent.0);
+  faultless = (tt, λ _. h.faultless.0);
+  cause = λ d. absurd (ne d);
+}
+
+-- what is refused by the disk leaves the world
+pub leaves_refused : (c : Client) (first mid new : View) → mid.world ≡ first.world → new.spent ≡ false → state_of new ≡ state_of mid → LeavesWorld (mounted_by c) first new
+leaves_refused c first mid new e unspent same = leaves_same c first new (ap (λ st. st.world) same ∙ e) unspent
