@@ -1,11 +1,11 @@
 -- One request that changes the world: what it leaves.
-use Rattle.std.proofs.Common.{◌≡◌, ◌≢◌, ℕ, Bool, true, false, List, [], ◌∷◌, refl, sym, ◌∙◌, ap, subst, inl, inr, ◌⊎◌, Option, Some, None, Result, Ok, Err}
+use Rattle.std.proofs.Common.{◌≡◌, ℕ, true, false, List, [], ◌∷◌, refl, sym, ◌∙◌, ap, subst, inl, inr, ◌⊎◌, Option, Some, None, Result, Ok, Err}
 use Rattle.std.specs.Prelude.{is_none}
 use Rattle.tsd_model.specs.World.{World, is_live}
 use Rattle.tsd_model.specs.Sessions.{Fits}
 use Rattle.tsd_model.specs.Verdict.{verdict}
 use Rattle.tsd_model.specs.Valid.{IsValid}
-use Rattle.tsd_model.specs.Step.{State, judged}
+use Rattle.tsd_model.specs.Step.{judged}
 use Rattle.tsd_model.specs.Run.{answer}
 use Rattle.tsd_model.specs.History.{is_of_session}
 use Rattle.tsd_model.specs.declared.requests.Request.{Request}
@@ -26,7 +26,6 @@ use Rattle.fs_port.specs.View.{View, state_of}
 use Rattle.fs_port.specs.Calls.{IsCarriedOut, IsEitherSide, IsValidNow, LeavesOnly}
 use Rattle.fs_port.proofs.RunLaws.{leaves_more}
 use Rattle.fs_trees.specs.declared.refusal.FsRefusal.{FsRefusal}
-use Rattle.fs_trees.specs.declared.refusal.FsRefusal.TheVariants as no
 use Rattle.fs_asks.specs.declared.client.Client.{Client}
 use Rattle.tsd_model.specs.Placing.{chosen}
 use Rattle.tsd_model.specs.declared.requests.Hint.TheVariants.{At}
@@ -59,7 +58,7 @@ module _ (c : Client) (old new : View) (q : Request) (a : ℕ) (after : World) (
     leads : ◌≡◌ {A = Option Rule} (verdict old.world old.sessions q) None → Leads old.world q after
     leads granted =
         let to : (answer old.kind (state_of old) q false).state.world ≡ after =
-            ap (λ o. o.state.world) (same_answer old.kind (state_of old) q false own) ∙ (ap (λ o. (judged old.kind (state_of old) q o).state.world) granted ∙ is) in
+        ap (λ o. o.state.world) (same_answer old.kind (state_of old) q false own) ∙ (ap (λ o. (judged old.kind (state_of old) q o).state.world) granted ∙ is) in
         record {
           valid = subst IsValid to (answer_valid old.kind (state_of old) q false now.valid);
           geometry = ap (λ w. w.geometry) (sym to) ∙ run_geometry old.kind (state_of old) (false ∷ []) (q ∷ []);
@@ -135,7 +134,7 @@ pub blocks_are : (c : Client) (old new : View) (a count : ℕ) (bs : List ℕ) �
 blocks_are c old new a count bs done =
     let q = alloc_by c a count in
     let is : (answer old.kind (state_of old) q done.0).reply ≡ reply.Blocks (chosen old.kind old.world (At a) count) =
-        ap (λ o. o.reply) (same_answer old.kind (state_of old) q done.0 refl) ∙ ap (λ o. (judged old.kind (state_of old) q o).reply) (granted_by_form old new q (reply.Blocks bs) done refl) in
+    ap (λ o. o.reply) (same_answer old.kind (state_of old) q done.0 refl) ∙ ap (λ o. (judged old.kind (state_of old) q o).reply) (granted_by_form old new q (reply.Blocks bs) done refl) in
     same_blocks (sym done.2 ∙ is)
   where
     same_blocks : {x y : List ℕ} → reply.Blocks x ≡ reply.Blocks y → x ≡ y

@@ -1,18 +1,18 @@
 -- What an ask answers, by the refusal that applies first, and what stands at the place of a path.
-use Rattle.std.proofs.Common.{◌≡◌, ◌≢◌, ℕ, suc, ◌+◌, ◌<◌, Bool, true, false, not, cond, ◌&&◌, nat_lt, List, [], ◌∷◌, ◌++◌, length, refl, sym, ◌∙◌, ap, subst, Option, Some, None, Result, Ok, Err}
+use Rattle.std.proofs.Common.{◌≡◌, ◌≢◌, ℕ, suc, true, false, not, ◌&&◌, nat_lt, List, [], ◌∷◌, ◌++◌, length, refl, sym, ◌∙◌, ap, Option, Some, None, Ok, Err}
 use Rattle.std.specs.Prelude.{map}
-use Rattle.tsd_model.specs.World.{World, free_count}
+use Rattle.tsd_model.specs.World.{free_count}
 use Rattle.tsd_model.specs.declared.geometry.Geometry.{Geometry}
 use Rattle.fs_trees.specs.Names.{Name, Path}
-use Rattle.fs_trees.specs.Tree.{Tree, nothing, a_file, a_dir, child, at, is_there, names, names_in}
+use Rattle.fs_trees.specs.Tree.{Tree, nothing, a_file, a_dir, child, at, is_there, names_in}
 use Rattle.fs_trees.specs.Fields.{Entry, entry_names}
-use Rattle.fs_trees.specs.Inode.{Inode, directory, regular, block_named}
+use Rattle.fs_trees.specs.Inode.{Inode, directory, regular}
 use Rattle.fs_trees.specs.InodeTree.{InodeNode, inode_at, node_at, inodes_under, tree_entries, inode_tree}
 use Rattle.fs_trees.specs.InodeTree as inodes
-use Rattle.fs_trees.specs.Answer.{Answer, done, refused}
+use Rattle.fs_trees.specs.Answer.{Answer, done}
 use Rattle.fs_trees.specs.Needs.{need_of}
-use Rattle.fs_trees.specs.Refusals.{Need, when, first_of, not_mounted, directory_of, lost_on_the_way, missing, is_root, has_entries, refusals, refusal}
-use Rattle.fs_trees.specs.Step.{change, judged, tree_step}
+use Rattle.fs_trees.specs.Refusals.{Need, when, first_of, not_mounted, directory_of, lost_on_the_way, missing, is_root, has_entries, refusal}
+use Rattle.fs_trees.specs.Step.{change, judged}
 use Rattle.fs_trees.specs.declared.ask.ShellAsk.{ShellAsk}
 use Rattle.fs_trees.specs.declared.ask.ShellAsk.TheVariants as ask
 use Rattle.fs_trees.specs.declared.ask.ShellKind.TheVariants as kind

@@ -1,14 +1,13 @@
 -- A directory's list with an entry set or taken out is in order, and fits its block.
-use Rattle.std.proofs.Common.{◌≡◌, ℕ, zero, suc, ◌+◌, ◌^◌, ◌<◌, ◌≤◌, Bool, true, false, cond, ◌&&◌, ◌||◌, ◌==◌, nat_lt, List, [], ◌∷◌, ◌++◌, length, refl, sym, ◌∙◌, ap, subst, arith, inl, inr, ◌⊎◌, Option, Some, None}
+use Rattle.std.proofs.Common.{◌≡◌, ℕ, suc, ◌+◌, ◌^◌, ◌≤◌, true, false, cond, ◌&&◌, ◌==◌, nat_lt, List, [], ◌∷◌, length, refl, sym, ◌∙◌, ap, arith, inl, inr, Option, Some, None}
 use Rattle.std.proofs.lemmas.Bool.{and_parts, and_from, or_cases, or_left, or_right, eq-eqb, eqb-true}
 use Rattle.std.proofs.lemmas.Bool.Decides.{nat_tests}
 use Rattle.std.specs.Prelude.{map}
-use Rattle.std.specs.List.{list_all}
 use Rattle.tsd_model.specs.Pairs.{holds, is_pair}
 use Rattle.fs_trees.specs.Names.{Name, name_lt, is_name, is_below_first_name, are_ascending}
 use Rattle.fs_trees.specs.Tree.{file, dir, nothing, a_file, a_dir, is_there}
 use Rattle.fs_trees.specs.Fields.{Entry, entry_names, all_named}
-use Rattle.fs_trees.specs.Inode.{block_named, with_listed, without_listed}
+use Rattle.fs_trees.specs.Inode.{with_listed, without_listed}
 use Rattle.fs_trees.specs.InodeTree.{InodeNode, InodeEntries, with_first, entries_by, named_pairs}
 use Rattle.fs_laws.proofs.ListLaws.{held_right}
 use Rattle.fs_laws.proofs.DirectoryLaws.{names_meet}
@@ -174,16 +173,20 @@ small_first d n b nothing None xs own e = absurd (cc)
 small_first d n b nothing (Some zs) xs own e = absurd (cc)
 small_first d n b (a_file f) None xs own e = absurd (cc)
 small_first d n b (a_file f) (Some zs) xs own e =
-    let same : file n f zs ≡ xs = cc in
-    (zs, refl,
-    ap (λ v. holds (named_pairs d v) d b) (sym same) ∙ or_left (is_pair d b (d, f.block)) _ (and_from (d == d) (f.block == b) (eq-eqb d d refl) (eq-eqb f.block b (own refl))),
-    λ c h. ap (λ v. holds (named_pairs d v) d c) (sym same) ∙ or_right (is_pair d c (d, f.block)) _ (held_right (map (λ k. (f.block, k)) f.blocks) (named_pairs d zs) d c h))
+    let same : file n f zs ≡ xs = cc in (
+      zs,
+      refl,
+      ap (λ v. holds (named_pairs d v) d b) (sym same) ∙ or_left (is_pair d b (d, f.block)) _ (and_from (d == d) (f.block == b) (eq-eqb d d refl) (eq-eqb f.block b (own refl))),
+      λ c h. ap (λ v. holds (named_pairs d v) d c) (sym same) ∙ or_right (is_pair d c (d, f.block)) _ (held_right (map (λ k. (f.block, k)) f.blocks) (named_pairs d zs) d c h),
+    )
 small_first d n b (a_dir k inside) None xs own e = absurd (cc)
 small_first d n b (a_dir k inside) (Some zs) xs own e =
-    let same : dir n k inside zs ≡ xs = cc in
-    (zs, refl,
-    ap (λ v. holds (named_pairs d v) d b) (sym same) ∙ or_left (is_pair d b (d, k)) _ (and_from (d == d) (k == b) (eq-eqb d d refl) (eq-eqb k b (own refl))),
-    λ c h. ap (λ v. holds (named_pairs d v) d c) (sym same) ∙ or_right (is_pair d c (d, k)) _ (held_right (named_pairs k inside) (named_pairs d zs) d c h))
+    let same : dir n k inside zs ≡ xs = cc in (
+      zs,
+      refl,
+      ap (λ v. holds (named_pairs d v) d b) (sym same) ∙ or_left (is_pair d b (d, k)) _ (and_from (d == d) (k == b) (eq-eqb d d refl) (eq-eqb k b (own refl))),
+      λ c h. ap (λ v. holds (named_pairs d v) d c) (sym same) ∙ or_right (is_pair d c (d, k)) _ (held_right (named_pairs k inside) (named_pairs d zs) d c h),
+    )
 
 pub small_listed : (read : ℕ → InodeNode) → ((c : ℕ) → is_there (read c) ≡ true → block_is (read c) c) → (d : ℕ) (es : List Entry) (xs : InodeEntries) → entries_by read es ≡ Some xs
     → ((b : ℕ) → holds (named_pairs d xs) d b ≡ true → nat_lt b (2 ^ 32) ≡ true) → are_small (map (λ e. e.block) es) ≡ true

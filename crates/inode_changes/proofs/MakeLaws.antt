@@ -1,6 +1,6 @@
 -- A directory that is made, from the place that was found to the last request.
-use Rattle.std.proofs.Common.{◌≡◌, ◌≢◌, ℕ, zero, suc, ◌+◌, ◌*◌, ◌<◌, ◌≤◌, Bool, true, false, not, cond, ◌&&◌, ◌||◌, ◌==◌, nat_lt, nat_le, List, [], ◌∷◌, ◌++◌, length, refl, sym, ◌∙◌, ap, subst, arith, inl, inr, ◌⊎◌, Option, Some, None, Result, Ok, Err, length-append}
-use Rattle.std.proofs.lemmas.Bool.{and_from, and_parts, eq-eqb, ltb-true}
+use Rattle.std.proofs.Common.{◌≡◌, ℕ, zero, suc, ◌+◌, ◌<◌, ◌≤◌, Bool, true, false, not, ◌&&◌, nat_lt, nat_le, List, [], ◌∷◌, ◌++◌, length, refl, sym, ◌∙◌, ap, subst, arith, inl, inr, ◌⊎◌, Option, Some, None, length-append}
+use Rattle.std.proofs.lemmas.Bool.{and_from, and_parts, ltb-true}
 use Rattle.std.proofs.lemmas.Bool.Decides.{nat_tests}
 use Rattle.std.specs.Prelude.{is_some, is_none, map}
 use Rattle.std.specs.List.{list_all}
@@ -18,15 +18,15 @@ use Rattle.tsd_model.specs.declared.requests.Level.TheVariants as level
 use Rattle.tsd_model.specs.declared.requests.Hint.TheVariants.{At}
 use Rattle.disk_laws.proofs.ChangeLaws.{AllFree, chosen_are_free, free_may, contents-same, live-with_contents, old_pair, new_pair}
 use Rattle.fs_trees.specs.Names.{Name, Path, path_max, is_name, is_path}
-use Rattle.fs_trees.specs.Tree.{Tree, nothing, a_file, a_dir, at, is_there, names_in, with_at}
+use Rattle.fs_trees.specs.Tree.{Tree, at, is_there, names_in, with_at}
 use Rattle.fs_trees.specs.Step.{empty_tree}
 use Rattle.fs_trees.specs.Fields.{Entry, entry_names}
 use Rattle.fs_trees.specs.Inode.{directory, entries_room, block_named, with_listed, inode_bytes}
 use Rattle.fs_trees.specs.InodeTree.{inode_tree}
-use Rattle.fs_trees.specs.Layouts.{tree_at, named_at, IsTidy}
-use Rattle.fs_trees.specs.Needs.{need, need_of}
+use Rattle.fs_trees.specs.Layouts.{named_at, IsTidy}
+use Rattle.fs_trees.specs.Needs.{need}
 use Rattle.fs_trees.specs.Outside.{is_under, OthersStay}
-use Rattle.fs_trees.specs.Refusals.{Need, when, first_of, not_mounted, directory_of, lost_on_the_way, taken, dir_full, no_room, refusal}
+use Rattle.fs_trees.specs.Refusals.{Need, when, first_of, directory_of, lost_on_the_way, taken, dir_full, no_room, refusal}
 use Rattle.fs_trees.specs.declared.ask.ShellAsk.TheVariants as ask
 use Rattle.fs_trees.specs.declared.ask.ShellKind.TheVariants as kind
 use Rattle.fs_trees.specs.declared.refusal.FsRefusal.{FsRefusal}
@@ -56,7 +56,6 @@ use Rattle.inode_changes.proofs.SpotLaws.{Spot, spot_of, deeper_is, live, order}
 use Rattle.inode_changes.proofs.ListingLaws.{named_with, length_with}
 use Rattle.inode_changes.proofs.MakingLaws as making
 use Rattle.inode_changes.proofs.MakingLaws.{one_chosen}
-use Rattle.inode_changes.proofs.TidyLaws.{named_under}
 use Rattle.inode_changes.proofs.RunLaws.{as_before}
 use Rattle.inode_changes.proofs.RemoveLaws.{directory_length, may_still}
 use Rattle.inode_changes.proofs.AskLaws.{refused_on, after_is, is_mounted, none_at}
@@ -214,11 +213,14 @@ module _ (c : Client) (first mid : View) (path : Path) (place : Place) (x : Plac
     -- ---- stops before the deciding write
 
     same_tree : (u : World) (q : Request) → inode_tree u c.root ≡ tree_of c first → OthersStay c.root mid.world u → IsValid u → u.geometry ≡ mid.world.geometry → IsEitherTree (mounted_by c) first (ask.MakeDir path) u
-    same_tree u q tree others valid size = (inl tree, record {
-      valid = valid;
-      geometry = size ∙ ap (λ v. v.geometry) x.seen.world;
-      others = subst (λ v. OthersStay c.root v u) x.seen.world others;
-    })
+    same_tree u q tree others valid size = (
+      inl tree,
+      record {
+        valid = valid;
+        geometry = size ∙ ap (λ v. v.geometry) x.seen.world;
+        others = subst (λ v. OthersStay c.root v u) x.seen.world others;
+      },
+    )
 
     under_mid : is_under w c.root d ≡ true
     under_mid = making.dir_under_first c w c.root p d es spot valid_mid primary_mid
@@ -397,11 +399,14 @@ module _ (c : Client) (first mid : View) (path : Path) (place : Place) (x : Plac
           entered_is = ap (λ v. written v d bytes) wi_is
 
           at_three : Leads v2 q3 v3 → IsEitherTree (mounted_by c) first (ask.MakeDir path) v3
-          at_three leads = (inr (tree_three ∙ sym (after_is c first (ask.MakeDir path) none_refuses refl)), record {
-            valid = leads.valid;
-            geometry = leads.geometry ∙ (leads_two.geometry ∙ (leads_one.geometry ∙ ap (λ v. v.geometry) x.seen.world));
-            others = subst (λ v. OthersStay c.root v v3) x.seen.world (making.others_three c w c.root p d es spot valid_mid primary_mid n name_is unlisted listed_room deep.0 deep.1 i is_new leads_one leads_two leads);
-          })
+          at_three leads = (
+            inr (tree_three ∙ sym (after_is c first (ask.MakeDir path) none_refuses refl)),
+            record {
+              valid = leads.valid;
+              geometry = leads.geometry ∙ (leads_two.geometry ∙ (leads_one.geometry ∙ ap (λ v. v.geometry) x.seen.world));
+              others = subst (λ v. OthersStay c.root v v3) x.seen.world (making.others_three c w c.root p d es spot valid_mid primary_mid n name_is unlisted listed_room deep.0 deep.1 i is_new leads_one leads_two leads);
+            },
+          )
 
           pub stop_at_enter : (u : World) → (u ≡ wi.world) ⊎ ((u ≡ written wi.world d bytes) × Leads wi.world (write_by c d bytes) (written wi.world d bytes)) → IsEitherTree (mounted_by c) first (ask.MakeDir path) u
           stop_at_enter u (inl before) = subst (IsEitherTree (mounted_by c) first (ask.MakeDir path)) (sym (before ∙ wi_is)) (at_two leads_two)

@@ -1,10 +1,10 @@
 -- A directory is made, and entered in the one above.
-use Rattle.std.proofs.Common.{◌≡◌, ℕ, zero, suc, ◌+◌, ◌*◌, ◌-◌, ◌^◌, ◌<◌, ◌≤◌, Bool, true, false, not, cond, ◌&&◌, ◌||◌, ◌==◌, nat_lt, List, [], ◌∷◌, ◌++◌, length, min, refl, sym, ◌∙◌, ap, subst, arith, inl, inr, ◌⊎◌, Option, Some, None, length-append}
+use Rattle.std.proofs.Common.{◌≡◌, ℕ, suc, ◌+◌, ◌-◌, ◌^◌, ◌<◌, ◌≤◌, Bool, true, false, not, cond, ◌&&◌, ◌||◌, ◌==◌, nat_lt, List, [], ◌∷◌, ◌++◌, length, refl, sym, ◌∙◌, ap, subst, arith, inl, inr, ◌⊎◌, Option, Some, None}
 use Rattle.std.proofs.lemmas.Bool.{and_parts, and_from, or_cases, or_left, or_right, eq-eqb, eqb-true, ltb-true, lt-ltb}
 use Rattle.std.proofs.lemmas.Bool.Decides.{nat_tests}
 use Rattle.std.proofs.lemmas.List.{length-take, length-set}
-use Rattle.std.specs.Prelude.{is_some, is_none, count_by, slice_index_or, take, filter, map, replicate}
-use Rattle.std.specs.List.{list_all, range_with_len}
+use Rattle.std.specs.Prelude.{is_some, is_none, count_by, slice_index_or, replicate}
+use Rattle.std.specs.List.{list_all}
 use Rattle.std.specs.Option.{option_and_then}
 use Rattle.tsd_model.specs.Geometry.{block_len}
 use Rattle.tsd_model.specs.World.{World, contents, is_live, is_free, free_count, all_blocks, has_number}
@@ -17,26 +17,26 @@ use Rattle.tsd_model.specs.declared.requests.Request.{Request}
 use Rattle.tsd_model.specs.declared.requests.Hint.{Hint}
 use Rattle.tsd_model.specs.declared.requests.PlaceKind.{PlaceKind}
 use Rattle.disk_laws.proofs.GraphLaws.{has_number-filter}
-use Rattle.disk_laws.proofs.DoomLaws.{in_all, live_below}
-use Rattle.disk_laws.proofs.ChangeLaws.{contents-other, contents-same, either_pair, new_pair, live-with_contents}
+use Rattle.disk_laws.proofs.DoomLaws.{in_all}
+use Rattle.disk_laws.proofs.ChangeLaws.{contents-other, contents-same, either_pair, new_pair}
 use Rattle.fs_trees.specs.Names.{Name, Path, path_max, is_name}
-use Rattle.fs_trees.specs.Tree.{Tree, none, nothing, a_file, a_dir, entry, child, at, is_there, with_entry, with_child, with_at}
+use Rattle.fs_trees.specs.Tree.{none, nothing, a_file, a_dir, entry, at, is_there, with_entry, with_child, with_at}
 use Rattle.fs_trees.specs.Step.{empty_tree}
 use Rattle.fs_trees.specs.Fields.{Entry}
-use Rattle.fs_trees.specs.Inode.{Inode, directory, entries_room, are_apart, block_named, inode_in, inode_bytes, with_listed}
-use Rattle.fs_trees.specs.InodeTree.{InodeNode, InodeEntries, tree_of, inode_at, entries_by, node_by, as_dir, node_at, inode_blocks, data_blocks, named_pairs, are_right, inode_tree}
+use Rattle.fs_trees.specs.Inode.{directory, entries_room, are_apart, block_named, inode_in, inode_bytes, with_listed}
+use Rattle.fs_trees.specs.InodeTree.{InodeNode, InodeEntries, tree_of, inode_at, entries_by, node_by, as_dir, node_at, inode_blocks, data_blocks, named_pairs, inode_tree}
 use Rattle.fs_trees.specs.Layouts.{named_at, IsTidy}
 use Rattle.fs_trees.specs.Outside.{is_under, OthersStay}
 use Rattle.fs_trees.specs.declared.ask.ShellKind.TheVariants as kind
 use Rattle.fs_laws.specs.Outside.{is_inside}
-use Rattle.fs_laws.specs.Stays.{IsUnder, Keeps}
+use Rattle.fs_laws.specs.Stays.{Keeps}
 use Rattle.fs_laws.specs.Reading.{SameTree}
 use Rattle.fs_laws.proofs.TreeLaws.{read_from_named}
 use Rattle.fs_laws.proofs.OutsideLaws.{outside_twice}
 use Rattle.fs_laws.proofs.ListLaws.{number_left, number_right}
 use Rattle.fs_laws.proofs.InodeLaws.{node_blocks, node_same, HasRoot, found, under_is, inodes_under_root}
 use Rattle.fs_laws.proofs.DirectoryLaws.{read_named, entry_is_read, entry_is_put, node_away, with_last, block_at, nowhere, entry_blocks_in}
-use Rattle.fs_laws.proofs.CountLaws.{times, times_none, none_times, apart_times}
+use Rattle.fs_laws.proofs.CountLaws.{times, times_none, apart_times}
 use Rattle.fs_laws.proofs.EntryLaws.{FitsIn}
 use Rattle.fs_laws.proofs.EntryLaws as deciding
 use Rattle.fs_laws.proofs.UnderLaws.{each_under, root_under, target_under}
@@ -46,7 +46,7 @@ use Rattle.fs_steps.specs.Steps.{Leads, written}
 use Rattle.inode_layout.proofs.BackLaws.{reads_back}
 use Rattle.inode_walks.proofs.WalkLaws.{dir_node}
 use Rattle.inode_walks.proofs.ReadLaws.{block_long}
-use Rattle.inode_changes.proofs.ExchangeLaws.{Exchange, block_is_at, dir_stays_with, still_named, named_before, all_off, some_times, inodes_are}
+use Rattle.inode_changes.proofs.ExchangeLaws.{Exchange, block_is_at, dir_stays_with, still_named, named_before, inodes_are}
 use Rattle.inode_changes.proofs.TidyLaws.{named_of, named_under, tidy_by_pairs}
 use Rattle.inode_changes.proofs.ListingLaws.{ascending_with, named_with, small_with, length_with}
 use Rattle.inode_changes.proofs.SpotLaws.{Spot, live, within, order, small, small_block, reads_as}
@@ -77,7 +77,7 @@ pub one_chosen : (kind : PlaceKind) (w : World) (h : Hint) → 1 ≤ free_count 
 one_chosen kind w h some =
     let free = some_none w.blocks some in
     let listed : has_number (free_blocks w) free.0 ≡ true = has_number-filter (is_free w) (all_blocks w) free.0
-        ∙ and_from (has_number (all_blocks w) free.0) (is_free w free.0) (in_all w free.0 free.1) (and_from (nat_lt free.0 (length w.blocks)) _ (lt-ltb free.0 (length w.blocks) free.1) free.2) in
+    ∙ and_from (has_number (all_blocks w) free.0) (is_free w free.0) (in_all w free.0 free.1) (and_from (nat_lt free.0 (length w.blocks)) _ (lt-ltb free.0 (length w.blocks) free.1) free.2) in
     let long = some_listed (free_blocks w) free.0 listed in
     let rank = rank_of kind (hint_block h) in
     let sorted = length-sorted rank (free_blocks w) in
@@ -349,7 +349,7 @@ module _ (c : Client) (w : World) (root : ℕ) (p : Path) (d : ℕ) (es : List E
           let at_path = deciding.at_path w2 root d p s.more s.xs s.old has_two s.levels s.stands in
           let whole = deciding.whole w2 root d p s.more s.xs s.old has_two s.levels s.stands in
           let changed = entry_is_put w2 w3 refl d elsewhere p s.more root es s.xs (record { name = n; block = i }) (a_dir i none) at_path
-              (deciding.once_whole w2 root d p s.more s.xs s.old has_two s.levels s.stands) listed_two (deciding.away w2 root d p s.more s.xs s.old has_two s.levels s.stands) put_back made_three refl in
+          (deciding.once_whole w2 root d p s.more s.xs s.old has_two s.levels s.stands) listed_two (deciding.away w2 root d p s.more s.xs s.old has_two s.levels s.stands) put_back made_three refl in
           ap (λ m. node_at w3 m root) (sym s.levels)
           ∙ (changed ∙ (ap (with_at p (a_dir d (with_entry n (a_dir i none) s.xs))) whole
           ∙ (sym (with_last p n (a_dir i none) (a_dir root s.old) ∙ ap (λ v. with_at p (with_child n (a_dir i none) v) (a_dir root s.old)) s.stands) ∙ (dir_stays_with p n (a_dir i none) root s.old).1)))

@@ -1,6 +1,6 @@
 -- A directory's entry is taken out, and what it named let go of.
-use Rattle.std.proofs.Common.{◌≡◌, ℕ, zero, suc, ◌+◌, ◌<◌, ◌≤◌, Bool, true, false, not, cond, ◌&&◌, ◌||◌, ◌==◌, nat_lt, List, [], ◌∷◌, ◌++◌, length, refl, sym, ◌∙◌, ap, subst, arith, inl, inr, ◌⊎◌, Option, Some, None}
-use Rattle.std.proofs.lemmas.Bool.{and_parts, and_from, or_left, or_right, eq-eqb, eqb-true, not-true}
+use Rattle.std.proofs.Common.{◌≡◌, ℕ, suc, ◌<◌, Bool, true, false, not, ◌&&◌, ◌==◌, nat_lt, List, [], ◌∷◌, ◌++◌, length, refl, sym, ◌∙◌, ap, subst, arith, inl, inr, ◌⊎◌, Option, Some, None}
+use Rattle.std.proofs.lemmas.Bool.{and_parts, and_from, or_left, eq-eqb, eqb-true, not-true}
 use Rattle.std.specs.Prelude.{is_some, is_none}
 use Rattle.std.specs.List.{list_all}
 use Rattle.std.specs.Option.{option_and_then}
@@ -8,16 +8,16 @@ use Rattle.tsd_model.specs.Geometry.{block_len}
 use Rattle.tsd_model.specs.World.{World, contents, is_live, is_free, has_number}
 use Rattle.tsd_model.specs.Pairs.{holds, is_pair}
 use Rattle.tsd_model.specs.Valid.{IsValid}
-use Rattle.tsd_model.specs.Step.{filled, with_contents, without_pointer}
+use Rattle.tsd_model.specs.Step.{filled, without_pointer}
 use Rattle.tsd_model.proofs.PairLaws.{holds-filter}
 use Rattle.disk_laws.proofs.ChangeLaws.{contents-other, contents-same}
 use Rattle.graph_laws.specs.Counts.{stays}
 use Rattle.graph_laws.proofs.SettleLaws.{live-settle, holds-settle}
 use Rattle.fs_trees.specs.Names.{Name, Path, path_max}
-use Rattle.fs_trees.specs.Tree.{Tree, nothing, a_file, a_dir, entry, at, is_there, with_entry, with_child, with_at}
+use Rattle.fs_trees.specs.Tree.{Tree, nothing, a_file, a_dir, entry, is_there, with_entry, with_child, with_at}
 use Rattle.fs_trees.specs.Fields.{Entry}
-use Rattle.fs_trees.specs.Inode.{directory, entries_room, are_apart, block_named, inode_in, inode_bytes, without_listed}
-use Rattle.fs_trees.specs.InodeTree.{InodeNode, InodeEntries, tree_of, inode_at, node_at, inode_blocks, data_blocks, named_pairs, are_right, inode_tree}
+use Rattle.fs_trees.specs.Inode.{directory, are_apart, block_named, inode_in, inode_bytes, without_listed}
+use Rattle.fs_trees.specs.InodeTree.{InodeNode, InodeEntries, tree_of, inode_at, node_at, inode_blocks, data_blocks, named_pairs, inode_tree}
 use Rattle.fs_trees.specs.Layouts.{named_at, IsTidy}
 use Rattle.fs_trees.specs.Outside.{is_under}
 use Rattle.fs_trees.specs.declared.ask.ShellKind.TheVariants as kind
@@ -27,7 +27,7 @@ use Rattle.fs_laws.proofs.TreeLaws.{read_from_named}
 use Rattle.fs_laws.proofs.ListLaws.{number_left}
 use Rattle.fs_laws.proofs.InodeLaws.{node_blocks, HasRoot, found, under_is}
 use Rattle.fs_laws.proofs.DirectoryLaws.{read_named, entry_is_read, entry_is_dropped, with_last, block_at}
-use Rattle.fs_laws.proofs.CountLaws.{times, apart_times}
+use Rattle.fs_laws.proofs.CountLaws.{apart_times}
 use Rattle.fs_laws.proofs.EntryLaws as deciding
 use Rattle.fs_laws.proofs.UnderLaws.{each_under, root_under, target_under}
 use Rattle.fs_steps.specs.Steps.{written, dropped}
@@ -186,10 +186,10 @@ module _ (w : World) (root : ℕ) (p : Path) (d : ℕ) (es : List Entry) (s : Sp
             let was = was_held a b h in
             let before = of_old a (named_before root d p n s.xs s.old new nothing exchange a from) in
             let named : holds (named_pairs root s.old) a b ≡ true =
-                ap (λ m. holds m.pairs a b) (sym (named_of w root s.old s.has)) ∙ (sym (tidy.pairs a b (ap (λ m. has_number m.blocks a) (named_of w root s.old s.has) ∙ before)) ∙ was.0) in
+            ap (λ m. holds m.pairs a b) (sym (named_of w root s.old s.has)) ∙ (sym (tidy.pairs a b (ap (λ m. has_number m.blocks a) (named_of w root s.old s.has) ∙ before)) ∙ was.0) in
             still_named root d p n s.xs s.old new nothing exchange a b from (inl named) (λ own.
-                let same = own_pair d a b c (entry n s.xs) own old_block in
-                clash (is_pair d c (a, b)) (and_from (a == d) (b == c) (eq-eqb a d (sym same.0)) (eq-eqb b c (sym same.1))) was.1))
+            let same = own_pair d a b c (entry n s.xs) own old_block in
+            clash (is_pair d c (a, b)) (and_from (a == d) (b == c) (eq-eqb a d (sym same.0)) (eq-eqb b c (sym same.1))) was.1))
           where
             of_old : (a : ℕ) → (has_number (root ∷ (inode_blocks s.old ++ data_blocks s.old)) a ≡ true) ⊎ ((false ≡ true) ⊎ (false ≡ true)) → has_number (root ∷ (inode_blocks s.old ++ data_blocks s.old)) a ≡ true
             of_old a (inl was) = was
@@ -207,4 +207,3 @@ module _ (w : World) (root : ℕ) (p : Path) (d : ℕ) (es : List Entry) (s : Sp
               | true ↦ λ e. clash_free_live w d (subst (λ x. is_free w x ≡ true) (eqb-true b d e) free) (live w root p d es s valid)
               | false ↦ λ e. clash_free_live w b free (ap is_some (sym (elsewhere b e)) ∙ lives)
             ] refl
-

@@ -1,11 +1,11 @@
 -- A removal, from the entry that was found to the last request.
-use Rattle.std.proofs.Common.{◌≡◌, ◌≢◌, ℕ, zero, suc, ◌+◌, ◌*◌, ◌<◌, ◌≤◌, Bool, true, false, not, cond, ◌&&◌, ◌==◌, nat_lt, nat_le, List, [], ◌∷◌, ◌++◌, length, refl, sym, ◌∙◌, ap, subst, arith, inl, inr, ◌⊎◌, Option, Some, None, length-append}
-use Rattle.std.proofs.lemmas.Bool.{and_from, and_parts, eq-eqb}
+use Rattle.std.proofs.Common.{◌≡◌, ℕ, ◌+◌, ◌*◌, ◌<◌, ◌≤◌, true, false, not, ◌&&◌, nat_lt, nat_le, List, [], ◌∷◌, length, refl, sym, ◌∙◌, ap, subst, arith, inl, inr, ◌⊎◌, Option, Some, None, length-append}
+use Rattle.std.proofs.lemmas.Bool.{and_from, and_parts}
 use Rattle.std.proofs.lemmas.Bool.Decides.{nat_tests}
-use Rattle.std.specs.Prelude.{is_some, flat_map, slice_get}
+use Rattle.std.specs.Prelude.{flat_map, slice_get}
 use Rattle.std.specs.List.{list_all}
 use Rattle.tsd_model.specs.Geometry.{block_len}
-use Rattle.tsd_model.specs.World.{World, is_live, is_free, free_count, has_number}
+use Rattle.tsd_model.specs.World.{World, is_live, is_free, free_count}
 use Rattle.tsd_model.specs.Pairs.{holds}
 use Rattle.tsd_model.specs.Sessions.{level_le, level_from}
 use Rattle.tsd_model.specs.Valid.{IsValid}
@@ -21,8 +21,8 @@ use Rattle.disk_laws.proofs.AttainedLaws.{attained_where}
 use Rattle.disk_laws.proofs.ChangeLaws.{live-with_contents}
 use Rattle.fs_trees.specs.Names.{Name, Path, name_max, is_name_byte, is_reserved, is_name}
 use Rattle.fs_trees.specs.Tree.{nothing, at, is_there, names_in, with_at}
-use Rattle.fs_trees.specs.Fields.{Entry, entry_bytes, entry_names, all_named}
-use Rattle.fs_trees.specs.Inode.{Inode, directory, entries_room, block_named, without_listed, inode_bytes}
+use Rattle.fs_trees.specs.Fields.{Entry, entry_bytes, all_named}
+use Rattle.fs_trees.specs.Inode.{Inode, directory, block_named, without_listed, inode_bytes}
 use Rattle.fs_trees.specs.InodeTree.{inode_at, node_at, inode_tree}
 use Rattle.fs_trees.specs.Layouts.{named_at, IsTidy}
 use Rattle.fs_trees.specs.Needs.{need_of}
@@ -36,7 +36,7 @@ use Rattle.fs_laws.specs.Ways.{HoldsWrite}
 use Rattle.fs_laws.proofs.InodeLaws.{inodes_under_root}
 use Rattle.fs_laws.proofs.OutsideLaws.{outside_twice}
 use Rattle.fs_port.specs.View.{View, state_of}
-use Rattle.fs_port.specs.Calls.{IsValidNow, Stays}
+use Rattle.fs_port.specs.Calls.{Stays}
 use Rattle.fs_port.specs.Files.{IsEitherTree, LeavesWorld}
 use Rattle.fs_asks.specs.declared.client.Client.{Client}
 use Rattle.fs_asks.specs.Client.{shown_at, write_by, unlink_by}
@@ -179,11 +179,14 @@ module _ (c : Client) (first mid rd : View) (path : Path) (place : Place) (b : �
         (ap (λ w. nat_lt 0 (length (names_in (at (inode_tree w c.root) path)))) (sym x.seen.world) ∙ (entries_at c mid path place x.is_dir x.place_is b x.some there k is ∙ empty))
 
     after : (w : World) → inode_tree w c.root ≡ with_at path nothing (tree_of c first) → IsValid w → w.geometry ≡ rd.world.geometry → OthersStay c.root rd.world w → IsEitherTree (mounted_by c) first (ask.Rm path) w
-    after w tree valid size others = (inr (tree ∙ sym (after_is c first (ask.Rm path) none_refuses refl)), record {
-      valid = valid;
-      geometry = size ∙ ap (λ v. v.geometry) same;
-      others = subst (λ v. OthersStay c.root v w) same others;
-    })
+    after w tree valid size others = (
+      inr (tree ∙ sym (after_is c first (ask.Rm path) none_refuses refl)),
+      record {
+        valid = valid;
+        geometry = size ∙ ap (λ v. v.geometry) same;
+        others = subst (λ v. OthersStay c.root v w) same others;
+      },
+    )
 
     pub stop_at_write : (w : World) → (w ≡ rd.world) ⊎ ((w ≡ written rd.world d bytes) × Leads rd.world (write_by c d bytes) (written rd.world d bytes)) → IsEitherTree (mounted_by c) first (ask.Rm path) w
     stop_at_write w (inl before) = as_before c first (ask.Rm path) w x.valid (before ∙ same)

@@ -1,11 +1,10 @@
 -- Calls one after the other, whatever they answer.
-use Rattle.std.proofs.Common.{◌≡◌, ◌≢◌, ℕ, ◌≤◌, Bool, true, false, refl, sym, ◌∙◌, ap, subst, arith, inl, inr, ◌⊎◌, Result, Ok, Err}
+use Rattle.std.proofs.Common.{◌≡◌, ◌≢◌, ℕ, false, refl, sym, ◌∙◌, ap, subst, arith, inl, ◌⊎◌, Result, Ok, Err}
 use Rattle.std.specs.Prelude.{IfErr, OnOk}
 use Rattle.image_device.specs.Counts.{Rose}
-use Rattle.tsd_model.specs.World.{World, is_live, is_free}
-use Rattle.tsd_model.specs.Sessions.{is_open, Fits}
+use Rattle.tsd_model.specs.World.{World, is_live}
+use Rattle.tsd_model.specs.Sessions.{Fits}
 use Rattle.tsd_model.specs.Valid.{IsValid}
-use Rattle.tsd_model.specs.Step.{State}
 use Rattle.tsd_model.specs.declared.requests.Request.{Request}
 use Rattle.fs_trees.specs.Layouts.{IsTidy}
 use Rattle.fs_trees.specs.Outside.{OthersStay}
@@ -80,10 +79,13 @@ runs_step {X} told c old new q a after P result now on steps = record {
   where
     stays_valid : (r : Result X FsRefusal) → OnOk r (Went c old new q a after) → IfErr r (λ e. e ≢ no.Device → state_of new ≡ state_of old) → IsValidNow old → OnAnswer r (IsValidNow new)
     stays_valid (Ok x) went same now = (went.valid, tt)
-    stays_valid (Err e) went same now = (tt, λ ne. record {
-      valid = subst (λ st. IsValid st.world) (sym (same ne)) now.valid;
-      fits = subst (λ st. Fits st.world st.sessions) (sym (same ne)) now.fits;
-    })
+    stays_valid (Err e) went same now = (
+      tt,
+      λ ne. record {
+        valid = subst (λ st. IsValid st.world) (sym (same ne)) now.valid;
+        fits = subst (λ st. Fits st.world st.sessions) (sym (same ne)) now.fits;
+      },
+    )
 
 pub then_runs : {X Y : Type 0} (told : Type 0) (old mid new : View) (P : World → Type 0) (x : X) (result : Result Y FsRefusal) → Runs told old mid P (Ok x) → Runs told mid new P result → Runs told old new P result
 then_runs told old mid new P x result first second = record {
@@ -118,11 +120,14 @@ changes_of told c old new a result world h = record {
 -- ---- where nothing has changed
 
 pub as_before : (c : Client) (old : View) (a : ShellAsk) (w : World) → IsValid old.world → w ≡ old.world → IsEitherTree (mounted_by c) old a w
-as_before c old a w valid e = subst (IsEitherTree (mounted_by c) old a) (sym e) (inl refl, record {
-  valid = valid;
-  geometry = refl;
-  others = record { records = refl; bytes = λ b live away. refl; pairs = λ x y live away. refl; apart = λ b live away. away };
-})
+as_before c old a w valid e = subst (IsEitherTree (mounted_by c) old a) (sym e) (
+  inl refl,
+  record {
+    valid = valid;
+    geometry = refl;
+    others = record { records = refl; bytes = λ b live away. refl; pairs = λ x y live away. refl; apart = λ b live away. away };
+  },
+)
 
 pub leaves_same : (c : Client) (old new : View) → new.world ≡ old.world → new.spent ≡ false → LeavesWorld (mounted_by c) old new
 leaves_same c old new e unspent = record {

@@ -1,22 +1,22 @@
 -- The entry of a path in a world: its directory, as laws on deciding writes take it.
-use Rattle.std.proofs.Common.{◌≡◌, ℕ, zero, suc, ◌+◌, ◌*◌, ◌-◌, ◌/◌, ◌^◌, ◌<◌, ◌≤◌, Bool, true, false, cond, ◌&&◌, ◌==◌, nat_lt, nat_le, List, [], ◌∷◌, ◌++◌, length, refl, sym, ◌∙◌, ap, subst, arith, inl, inr, ◌⊎◌, Option, Some, None}
+use Rattle.std.proofs.Common.{◌≡◌, ℕ, zero, suc, ◌+◌, ◌*◌, ◌-◌, ◌^◌, ◌<◌, ◌≤◌, Bool, true, false, nat_lt, List, [], ◌∷◌, length, refl, sym, ◌∙◌, ap, subst, arith, inl, inr, ◌⊎◌, Option, Some, None}
 use Rattle.std.proofs.lemmas.Bool.{and_parts, and_from}
 use Rattle.std.proofs.lemmas.Bool.Decides.{nat_tests}
 use Rattle.std.specs.Prelude.{is_some, map, drop, replicate}
 use Rattle.std.specs.Option.{option_and_then}
 use Rattle.std.specs.List.{list_all}
 use Rattle.tsd_model.specs.Geometry.{block_len}
-use Rattle.tsd_model.specs.World.{World, contents, is_live, has_number}
+use Rattle.tsd_model.specs.World.{World, contents, is_live}
 use Rattle.tsd_model.specs.Pairs.{holds}
 use Rattle.tsd_model.specs.Valid.{IsValid}
 use Rattle.tsd_model.specs.Step.{filled}
 use Rattle.tsd_model.proofs.PairLaws.{all_of_held}
 use Rattle.disk_laws.proofs.DoomLaws.{live_below}
-use Rattle.fs_trees.specs.Names.{Name, Path, path_max, are_ascending}
+use Rattle.fs_trees.specs.Names.{Path, path_max, are_ascending}
 use Rattle.fs_trees.specs.Tree.{nothing, a_file, a_dir, entry, at, is_there}
 use Rattle.fs_trees.specs.Fields.{only_if, Entry, entries, entry_names, all_named}
 use Rattle.fs_trees.specs.Inode.{Inode, directory, entries_room, are_apart, inode_in, inode_bytes}
-use Rattle.fs_trees.specs.InodeTree.{InodeNode, InodeEntries, inode_at, entries_by, node_at, inode_blocks, named_pairs, are_right, inodes_under, inode_tree}
+use Rattle.fs_trees.specs.InodeTree.{InodeNode, InodeEntries, inode_at, entries_by, node_at, inode_blocks, named_pairs}
 use Rattle.fs_trees.specs.Refusals.{directory_of}
 use Rattle.fs_laws.proofs.InodeLaws.{HasRoot, found, under_is}
 use Rattle.fs_laws.proofs.DirectoryLaws.{deeper, nowhere}
@@ -122,7 +122,6 @@ spot_of c v path place there is_dir i =
       says = says;
       room = subst (λ n. length es ≤ entries_room n) i.above.stands.whole (dir_fits place.directory.inode is_dir);
     }
-
 
 -- ---- what is written in its place
 

@@ -1,5 +1,5 @@
 -- When a world is tidy: where the pairs out of named blocks are those that are named.
-use Rattle.std.proofs.Common.{◌≡◌, ℕ, ◌<◌, Bool, true, false, ◌||◌, ◌==◌, List, [], ◌∷◌, ◌++◌, refl, sym, ◌∙◌, ap, subst, inl, inr, ◌⊎◌}
+use Rattle.std.proofs.Common.{◌≡◌, ℕ, ◌<◌, Bool, true, false, ◌==◌, [], ◌∷◌, ◌++◌, refl, sym, ◌∙◌, ap, inl, inr}
 use Rattle.std.proofs.lemmas.Bool.{eq-eqb, or_left, or_right}
 use Rattle.tsd_model.specs.World.{World, has_number}
 use Rattle.tsd_model.specs.Pairs.{holds}
@@ -10,7 +10,6 @@ use Rattle.fs_trees.specs.InodeTree.{InodeEntries, inode_blocks, data_blocks, na
 use Rattle.fs_trees.specs.Layouts.{by_inodes, named_at, IsTidy}
 use Rattle.fs_trees.specs.Outside.{is_under}
 use Rattle.fs_trees.specs.declared.ask.ShellKind.TheVariants as kind
-use Rattle.fs_laws.specs.Stays.{IsUnder}
 use Rattle.fs_laws.proofs.ListLaws.{number_left, number_right}
 use Rattle.fs_laws.proofs.UnderLaws.{each_under, root_under, target_under}
 use Rattle.fs_laws.proofs.NamedLaws.{each_named}

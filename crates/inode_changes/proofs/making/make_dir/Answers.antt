@@ -1,14 +1,12 @@
-use Rattle.std.proofs.Common.{◌≡◌, ◌≢◌, ℕ, ◌+◌, false, true, ◌&&◌, ◌<◌, ◌≤◌, nat_lt, nat_le, [], ◌∷◌, length, refl, sym, ◌∙◌, ap, subst, arith, Option, Some, None, Result, Ok, Err}
-use Rattle.std.proofs.lemmas.Bool.Decides.{nat_tests}
+use Rattle.std.proofs.Common.{◌≡◌, false, ◌<◌, ◌≤◌, nat_le, [], length, refl, sym, ◌∙◌, ap, subst, arith, Some, Ok, Err}
 use Rattle.tsd_model.specs.Geometry.{block_len}
 use Rattle.tsd_model.specs.World.{free_count}
 use Rattle.fs_trees.specs.Inode.{directory, entries_room, with_listed, inode_bytes}
 use Rattle.fs_trees.specs.InodeTree.{inode_tree}
 use Rattle.fs_trees.specs.Needs.{need}
 use Rattle.fs_trees.specs.Tree.{at, is_there}
-use Rattle.fs_trees.specs.Answer.{Answer, done}
+use Rattle.fs_trees.specs.Answer.{done}
 use Rattle.fs_trees.specs.declared.ask.ShellAsk.TheVariants as ask
-use Rattle.fs_trees.specs.declared.refusal.FsRefusal.{FsRefusal}
 use Rattle.fs_trees.specs.declared.refusal.FsRefusal.TheVariants as no
 use Rattle.fs_port.specs.Files.{IsEitherTree}
 use Rattle.fs_asks.specs.Client.{write_by, alloc_by}
@@ -176,7 +174,7 @@ returns-in-None-the_block g c =
     let h = c.in-Ok-take_blocks.ensures in
     let blocks = c.in-Ok-take_blocks.blocks in
     let took : Runs {X = Unit {0}} told mid tk P (Ok tt) = runs_as told mid tk P blocks tt (runs_step told me mid tk (alloc_by me d 1) d (steps.taken mid d 1) P (Ok blocks) (λ t. (e.looks.looked t).0.valid)
-        (λ t. stop_at_take me first mid path place (placing t) roomy) h.steps) in
+    (λ t. stop_at_take me first mid path place (placing t) roomy) h.steps) in
     let so_far : Runs {X = Unit {0}} told first tk P (Ok tt) = then_runs told first mid tk P tt (Ok tt) before took in
     let never : told → ⊥ = λ t. one_block me first mid path place (placing t) roomy tk blocks (h.steps.went t) h.steps.stays.0 (h.blocks t) (h.room t) (sym c.the_block.ensures ∙ c.in-None-the_block.is) in
     record {
@@ -214,7 +212,7 @@ write_block-requires g c =
     let h = c.in-Ok-take_blocks.ensures in
     let blocks = c.in-Ok-take_blocks.blocks in
     let took : Runs {X = Unit {0}} told mid tk P (Ok tt) = runs_as told mid tk P blocks tt (runs_step told me mid tk (alloc_by me d 1) d (steps.taken mid d 1) P (Ok blocks) (λ t. (e.looks.looked t).0.valid)
-        (λ t. stop_at_take me first mid path place (placing t) roomy) h.steps) in
+    (λ t. stop_at_take me first mid path place (placing t) roomy) h.steps) in
     let so_far : Runs {X = Unit {0}} told first tk P (Ok tt) = then_runs told first mid tk P tt (Ok tt) before took in
     let i = c.in-Some-the_block.block in
     let it : the_block blocks ≡ Some i = sym c.the_block.ensures ∙ c.in-Some-the_block.is in
@@ -256,7 +254,7 @@ returns-in-Err-write_block g c =
     let h = c.in-Ok-take_blocks.ensures in
     let blocks = c.in-Ok-take_blocks.blocks in
     let took : Runs {X = Unit {0}} told mid tk P (Ok tt) = runs_as told mid tk P blocks tt (runs_step told me mid tk (alloc_by me d 1) d (steps.taken mid d 1) P (Ok blocks) (λ t. (e.looks.looked t).0.valid)
-        (λ t. stop_at_take me first mid path place (placing t) roomy) h.steps) in
+    (λ t. stop_at_take me first mid path place (placing t) roomy) h.steps) in
     let so_far : Runs {X = Unit {0}} told first tk P (Ok tt) = then_runs told first mid tk P tt (Ok tt) before took in
     let i = c.in-Some-the_block.block in
     let it : the_block blocks ≡ Some i = sym c.the_block.ensures ∙ c.in-Some-the_block.is in
@@ -310,7 +308,7 @@ write_block-requires-2 g c =
     let h = c.in-Ok-take_blocks.ensures in
     let blocks = c.in-Ok-take_blocks.blocks in
     let took : Runs {X = Unit {0}} told mid tk P (Ok tt) = runs_as told mid tk P blocks tt (runs_step told me mid tk (alloc_by me d 1) d (steps.taken mid d 1) P (Ok blocks) (λ t. (e.looks.looked t).0.valid)
-        (λ t. stop_at_take me first mid path place (placing t) roomy) h.steps) in
+    (λ t. stop_at_take me first mid path place (placing t) roomy) h.steps) in
     let so_far : Runs {X = Unit {0}} told first tk P (Ok tt) = then_runs told first mid tk P tt (Ok tt) before took in
     let i = c.in-Some-the_block.block in
     let it : the_block blocks ≡ Some i = sym c.the_block.ensures ∙ c.in-Some-the_block.is in
@@ -319,8 +317,8 @@ write_block-requires-2 g c =
     let j = c.in-Ok-write_block.ensures in
     let made = subst (λ x. Steps {X = Unit {0}} told me tk wi (write_by me i x) i (written tk.world i x) (Ok tt)) c.empty_directory.ensures j.steps in
     let so_far_too : Runs {X = Unit {0}} told first wi P (Ok tt) = then_runs told first tk wi P tt (Ok tt) so_far
-        (runs_step told me tk wi (write_by me i zero) i (written tk.world i zero) P (Ok tt) (λ t. (h.steps.went t).valid)
-        (λ t. stop_at_make me first mid path place (placing t) roomy tk blocks (h.steps.went t) h.steps.stays.0 (h.blocks t) (h.room t) i it) made) in
+    (runs_step told me tk wi (write_by me i zero) i (written tk.world i zero) P (Ok tt) (λ t. (h.steps.went t).valid)
+    (λ t. stop_at_make me first mid path place (placing t) roomy tk blocks (h.steps.went t) h.steps.stays.0 (h.blocks t) (h.room t) i it) made) in
     let bytes = inode_bytes (directory (with_listed (record { name = place.name.now; block = i }) (entries_said (inode_of place.directory.inode)))) in
     record {
       unspent = made.unspent.0;
@@ -359,7 +357,7 @@ returns-in-Ok-write_block-2 g c =
     let h = c.in-Ok-take_blocks.ensures in
     let blocks = c.in-Ok-take_blocks.blocks in
     let took : Runs {X = Unit {0}} told mid tk P (Ok tt) = runs_as told mid tk P blocks tt (runs_step told me mid tk (alloc_by me d 1) d (steps.taken mid d 1) P (Ok blocks) (λ t. (e.looks.looked t).0.valid)
-        (λ t. stop_at_take me first mid path place (placing t) roomy) h.steps) in
+    (λ t. stop_at_take me first mid path place (placing t) roomy) h.steps) in
     let so_far : Runs {X = Unit {0}} told first tk P (Ok tt) = then_runs told first mid tk P tt (Ok tt) before took in
     let i = c.in-Some-the_block.block in
     let it : the_block blocks ≡ Some i = sym c.the_block.ensures ∙ c.in-Some-the_block.is in
@@ -368,8 +366,8 @@ returns-in-Ok-write_block-2 g c =
     let j = c.in-Ok-write_block.ensures in
     let made = subst (λ x. Steps {X = Unit {0}} told me tk wi (write_by me i x) i (written tk.world i x) (Ok tt)) c.empty_directory.ensures j.steps in
     let so_far_too : Runs {X = Unit {0}} told first wi P (Ok tt) = then_runs told first tk wi P tt (Ok tt) so_far
-        (runs_step told me tk wi (write_by me i zero) i (written tk.world i zero) P (Ok tt) (λ t. (h.steps.went t).valid)
-        (λ t. stop_at_make me first mid path place (placing t) roomy tk blocks (h.steps.went t) h.steps.stays.0 (h.blocks t) (h.room t) i it) made) in
+    (runs_step told me tk wi (write_by me i zero) i (written tk.world i zero) P (Ok tt) (λ t. (h.steps.went t).valid)
+    (λ t. stop_at_make me first mid path place (placing t) roomy tk blocks (h.steps.went t) h.steps.stays.0 (h.blocks t) (h.room t) i it) made) in
     let bytes = inode_bytes (directory (with_listed (record { name = place.name.now; block = i }) (entries_said (inode_of place.directory.inode)))) in
     let fin = g.K.Blocks.view c.write_block-2.new.disk in
     let m = c.in-Ok-write_block-2.ensures in
@@ -413,7 +411,7 @@ returns-in-Err-write_block-2 g c =
     let h = c.in-Ok-take_blocks.ensures in
     let blocks = c.in-Ok-take_blocks.blocks in
     let took : Runs {X = Unit {0}} told mid tk P (Ok tt) = runs_as told mid tk P blocks tt (runs_step told me mid tk (alloc_by me d 1) d (steps.taken mid d 1) P (Ok blocks) (λ t. (e.looks.looked t).0.valid)
-        (λ t. stop_at_take me first mid path place (placing t) roomy) h.steps) in
+    (λ t. stop_at_take me first mid path place (placing t) roomy) h.steps) in
     let so_far : Runs {X = Unit {0}} told first tk P (Ok tt) = then_runs told first mid tk P tt (Ok tt) before took in
     let i = c.in-Some-the_block.block in
     let it : the_block blocks ≡ Some i = sym c.the_block.ensures ∙ c.in-Some-the_block.is in
@@ -422,8 +420,8 @@ returns-in-Err-write_block-2 g c =
     let j = c.in-Ok-write_block.ensures in
     let made = subst (λ x. Steps {X = Unit {0}} told me tk wi (write_by me i x) i (written tk.world i x) (Ok tt)) c.empty_directory.ensures j.steps in
     let so_far_too : Runs {X = Unit {0}} told first wi P (Ok tt) = then_runs told first tk wi P tt (Ok tt) so_far
-        (runs_step told me tk wi (write_by me i zero) i (written tk.world i zero) P (Ok tt) (λ t. (h.steps.went t).valid)
-        (λ t. stop_at_make me first mid path place (placing t) roomy tk blocks (h.steps.went t) h.steps.stays.0 (h.blocks t) (h.room t) i it) made) in
+    (runs_step told me tk wi (write_by me i zero) i (written tk.world i zero) P (Ok tt) (λ t. (h.steps.went t).valid)
+    (λ t. stop_at_make me first mid path place (placing t) roomy tk blocks (h.steps.went t) h.steps.stays.0 (h.blocks t) (h.room t) i it) made) in
     let bytes = inode_bytes (directory (with_listed (record { name = place.name.now; block = i }) (entries_said (inode_of place.directory.inode)))) in
     let fin = g.K.Blocks.view c.write_block-2.new.disk in
     let m = c.in-Err-write_block-2.ensures in

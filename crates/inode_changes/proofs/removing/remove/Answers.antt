@@ -1,12 +1,11 @@
-use Rattle.std.proofs.Common.{◌≡◌, ◌≢◌, false, true, ◌&&◌, ◌<◌, ◌≤◌, nat_lt, length, refl, sym, ◌∙◌, ap, subst, Option, Some, None, Result, Ok, Err}
+use Rattle.std.proofs.Common.{◌≡◌, false, ◌&&◌, ◌<◌, ◌≤◌, nat_lt, length, refl, sym, ◌∙◌, ap, subst, Ok, Err}
 use Rattle.tsd_model.specs.Geometry.{block_len}
 use Rattle.tsd_model.specs.World.{free_count}
-use Rattle.fs_trees.specs.Fields.{Entry}
 use Rattle.fs_trees.specs.Inode.{directory, without_listed, inode_bytes}
 use Rattle.fs_trees.specs.InodeTree.{inode_tree}
 use Rattle.fs_trees.specs.Needs.{need_of}
 use Rattle.fs_trees.specs.Tree.{at, is_there, names_in}
-use Rattle.fs_trees.specs.Answer.{Answer, done}
+use Rattle.fs_trees.specs.Answer.{done}
 use Rattle.fs_trees.specs.declared.ask.ShellAsk.TheVariants as ask
 use Rattle.fs_trees.specs.declared.ask.ShellKind.TheVariants as kind
 use Rattle.fs_trees.specs.declared.refusal.FsRefusal.TheVariants as no
@@ -14,11 +13,10 @@ use Rattle.fs_port.specs.Files.{IsEitherTree}
 use Rattle.fs_asks.specs.Client.{write_by, unlink_by}
 use Rattle.fs_asks.specs.May.{Looks}
 use Rattle.fs_asks.proofs.LookLaws.{looks_as, looks_refused, looks_but_refuses, then_looks}
-use Rattle.fs_steps.specs.Steps.{Steps, Went, written, dropped}
+use Rattle.fs_steps.specs.Steps.{Steps, written, dropped}
 use Rattle.inode_layout.specs.Block.{inode_of}
 use Rattle.inode_layout.specs.Said.{is_directory, blocks_said, entries_said}
 use Rattle.inode_walks.specs.Asking.{tree_of, mounted_by}
-use Rattle.inode_walks.specs.Finding.{IsOpenNow}
 use Rattle.inode_walks.proofs.FurtherLaws.{may_read, has_inode, child_there}
 use Rattle.inode_changes.proofs.RunLaws.{runs_look, runs_step, then_runs, runs_as, runs_refused, changes_of, looks_change, as_before}
 use Rattle.inode_changes.proofs.AskLaws.{ask_refuses, ask_done, rm_lost, rm_missing, rm_full, none_at, said_place, old_there, entries_at}
@@ -294,8 +292,8 @@ returns-in-Ok-drop_pointer g c =
     let h = c.in-Ok-write_block.ensures in
     let steps = subst (λ x. Steps {X = Unit {0}} told me rd wr (write_by me d x) d (written rd.world d x) (Ok tt)) c.directory_without-bytes.ensures h.steps in
     let written_so = runs_step told me rd wr (write_by me d bytes) d (written rd.world d bytes) P (Ok tt) (λ t. (f.looks.looked t).0.valid) (λ t.
-          let there = child_there me mid (e.found t).above.more place.directory (e.found t).above.stands place.name.now b (said_place me mid path place e.dir (e.found t) b c.in-Some.is) in
-          stop_at_write me first mid rd path place b (taking t) there k (f.says t) empty) steps in
+    let there = child_there me mid (e.found t).above.more place.directory (e.found t).above.stands place.name.now b (said_place me mid path place e.dir (e.found t) b c.in-Some.is) in
+    stop_at_write me first mid rd path place b (taking t) there k (f.says t) empty) steps in
     let so_far = then_runs told first rd wr P tt (Ok tt) before written_so in
     let j = c.in-Ok-drop_pointer.ensures in
     let gone = c.in-Ok-drop_pointer._gone in
@@ -350,8 +348,8 @@ returns-in-Err-drop_pointer g c =
     let h = c.in-Ok-write_block.ensures in
     let steps = subst (λ x. Steps {X = Unit {0}} told me rd wr (write_by me d x) d (written rd.world d x) (Ok tt)) c.directory_without-bytes.ensures h.steps in
     let written_so = runs_step told me rd wr (write_by me d bytes) d (written rd.world d bytes) P (Ok tt) (λ t. (f.looks.looked t).0.valid) (λ t.
-          let there = child_there me mid (e.found t).above.more place.directory (e.found t).above.stands place.name.now b (said_place me mid path place e.dir (e.found t) b c.in-Some.is) in
-          stop_at_write me first mid rd path place b (taking t) there k (f.says t) empty) steps in
+    let there = child_there me mid (e.found t).above.more place.directory (e.found t).above.stands place.name.now b (said_place me mid path place e.dir (e.found t) b c.in-Some.is) in
+    stop_at_write me first mid rd path place b (taking t) there k (f.says t) empty) steps in
     let so_far = then_runs told first rd wr P tt (Ok tt) before written_so in
     let j = c.in-Err-drop_pointer.ensures in
     let r = c.in-Err-drop_pointer.refusal in
