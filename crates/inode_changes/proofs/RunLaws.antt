@@ -21,17 +21,8 @@ use Rattle.fs_asks.specs.May.{Looked, Looks}
 use Rattle.fs_steps.specs.Steps.{Leads, Went, Steps}
 use Rattle.inode_walks.specs.Asking.{mounted_by}
 use Rattle.inode_changes.specs.Changing.{Changes}
+use Rattle.inode_changes.specs.Runs.{Runs}
 use Rattle.inode_changes.proofs.RemovalLaws.{clash_free_live}
-
--- what holds of calls so far, where a stop leaves P
-pub record Runs {X : Type 0} (told : Type 0) (old new : View) (P : World → Type 0) (result : Result X FsRefusal) : Type 0 where
-  pub valid : told → OnAnswer result (IsValidNow new)
-  pub crash : told → LeavesOnly old new P
-  pub stays : OnAnswer result (Stays old new)
-  pub counts : Counts old new
-  pub unspent : OnAnswer result (new.spent ≡ false)
-  pub faultless : OnAnswer result (new.faults ≡ old.faults)
-  pub cause : IfErr result (λ e. e ≡ no.Device → Rose old.faults new.faults)
 
 on_answer : {X : Type 0} (P Q : Type 0) (result : Result X FsRefusal) → (P → Q) → OnAnswer result P → OnAnswer result Q
 on_answer P Q (Ok x) f h = (f h.0, tt)

@@ -19,7 +19,8 @@ use Rattle.inode_layout.specs.Said.{blocks_said, entries_said}
 use Rattle.inode_walks.specs.Asking.{tree_of, mounted_by}
 use Rattle.inode_walks.proofs.FurtherLaws.{child_there}
 use Rattle.inode_changes.specs.Changing.{the_block}
-use Rattle.inode_changes.proofs.RunLaws.{Runs, runs_look, runs_step, then_runs, runs_as, runs_refused, runs_but_refuses, changes_of, looks_change, as_before, leaves_refused}
+use Rattle.inode_changes.specs.Runs.{Runs}
+use Rattle.inode_changes.proofs.RunLaws.{runs_look, runs_step, then_runs, runs_as, runs_refused, runs_but_refuses, changes_of, looks_change, as_before, leaves_refused}
 use Rattle.inode_changes.proofs.AskLaws.{ask_refuses, ask_done, said_place, there_at}
 use Rattle.inode_changes.proofs.MakeLaws.{Placing, dir_lost, dir_taken, full_refuses, room_refuses, stop_at_take, one_block, may_make, empty_fits, stop_at_make, may_enter, entry_fits, none_refuses, stop_at_enter, tree_fin, left_fin, list_fits}
 use Rattle.inode_changes.proofs.making.make_dir.Goals as goal
