@@ -1,0 +1,2 @@
+pub mod LettingLaws
+pub mod GoingLaws
