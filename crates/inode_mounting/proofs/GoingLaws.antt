@@ -61,6 +61,19 @@ none_again (x ∷ xs) (suc i) h k =
     let next : suc i + 1 ≡ suc (i + 1) = omega arith in
     ap (λ n. has_number (drop n (x ∷ xs)) (slice_index xs i)) next ∙ none_again xs i (and_parts (not (has_number xs x)) (are_apart xs) h).1 (omega arith)
 
+pub later_is_other : (xs : List ℕ) (i b : ℕ) → are_apart xs ≡ true → i < length xs → has_number (drop (i + 1) xs) b ≡ true → (slice_index xs i == b) ≡ false
+later_is_other xs i b h k m = elim (slice_index xs i == b) as (λ t. (slice_index xs i == b) ≡ t → t ≡ false) [
+  | true ↦ λ e. absurd (both (has_number (drop (i + 1) xs) (slice_index xs i)) (ap (has_number (drop (i + 1) xs)) (eqb-true (slice_index xs i) b e) ∙ m) (none_again xs i h k))
+  | false ↦ λ e. refl
+] refl
+  where
+    both : (t : Bool) → t ≡ true → t ≡ false → ⊥
+    both t p q = cc
+
+pub gone_still : (was is : Bool) → was ≡ false → (is ≡ true → was ≡ true) → is ≡ false
+gone_still was true h on = let e = on refl in cc
+gone_still was false h on = refl
+
 pub drop_whole : (xs : List ℕ) (i b : ℕ) → length xs ≤ i → has_number xs b ≡ true → has_number (take i xs) b ≡ true
 drop_whole xs i b h m = ap (λ ys. has_number ys b) (taken xs i h) ∙ m
   where

@@ -33,7 +33,10 @@ use Rattle.fs_port.specs.Calls.{Counts, IsValidNow, Stays}
 use Rattle.fs_port.specs.Files.{FilesView, IsReady, IsTreeAlone}
 use Rattle.fs_asks.specs.declared.client.Client.{Client}
 use Rattle.fs_asks.specs.Client.{shown_at, unlink_by}
-use Rattle.fs_asks.specs.May.{MayWrite}
+use Rattle.fs_asks.specs.May.{MayWrite, Looked}
+use Rattle.fs_port.proofs.RunLaws.{leaves_more}
+use Rattle.fs_trees.specs.declared.refusal.FsRefusal.{FsRefusal}
+use Rattle.inode_changes.specs.Runs.{Runs}
 use Rattle.fs_steps.specs.Steps.{Leads, Went, dropped}
 use Rattle.inode_walks.specs.Asking.{MayAsk, mounted_by, tree_of}
 use Rattle.inode_walks.proofs.WalkingLaws.{root_may}
@@ -211,3 +214,30 @@ alone_same c v w valid e = subst (IsTreeAlone (mounted_by c) v) (sym e) (refl, r
   geometry = refl;
   others = record { records = refl; bytes = λ b live away. refl; pairs = λ x y live away. refl; apart = λ b live away. away };
 })
+
+-- after a look
+pub letting_look : (c : Client) (first cur new : View) (a : ℕ) → Letting c first cur a → Looked cur new → Letting c first new a
+letting_look c first cur new a l seen = record {
+  valid = seen.valid;
+  tree = record { tree = ap (λ w. inode_tree w c.root) seen.world ∙ l.tree.tree; named = ap (λ w. named_at kind.Inode w c.root) seen.world ∙ l.tree.named };
+  others = subst (OthersStay c.root first.world) (sym seen.world) l.others;
+  geometry = ap (λ w. w.geometry) seen.world ∙ l.geometry;
+  pairs = λ x y h. l.pairs x y (ap (λ w. holds w.pairs x y) (sym seen.world) ∙ h);
+  live = λ b h. l.live b (ap (λ w. is_live w b) (sym seen.world) ∙ h);
+  way = on l.way;
+}
+  where
+    on : IsWay c cur a → IsWay c new a
+    on (inl e) = inl e
+    on (inr h) = inr (h.0, ap (λ w. holds (named_at kind.Inode w c.root).pairs h.0 a) seen.world ∙ h.1, seen.ways c.session h.0 h.2)
+
+pub runs_more : {X : Type 0} (told : Type 0) (old new : View) (P Q : World → Type 0) (result : Result X FsRefusal) → (told → (w : World) → P w → Q w) → Runs told old new P result → Runs told old new Q result
+runs_more told old new P Q result on h = record {
+  valid = h.valid;
+  crash = λ t. leaves_more old new P Q (on t) (h.crash t);
+  stays = h.stays;
+  counts = h.counts;
+  unspent = h.unspent;
+  faultless = h.faultless;
+  cause = h.cause;
+}
