@@ -1,2 +1,3 @@
 pub mod LettingLaws
 pub mod GoingLaws
+pub mod MakeLaws

@@ -2,14 +2,17 @@
 use Rattle.std.specs.Prelude.{◌≡◌, ℕ, ◌⊎◌, ◌==◌, false, List, IsTrue}
 use Rattle.tsd_model.specs.World.{is_live, has_number}
 use Rattle.tsd_model.specs.Pairs.{holds}
-use Rattle.fs_trees.specs.Layouts.{named_at}
+use Rattle.fs_trees.specs.Step.{empty_tree}
+use Rattle.fs_trees.specs.Layouts.{named_at, IsTidy}
 use Rattle.fs_trees.specs.Outside.{OthersStay}
 use Rattle.fs_trees.specs.declared.ask.ShellKind.TheVariants.{Inode}
 use Rattle.fs_laws.specs.Reading.{SameTree}
 use Rattle.fs_laws.specs.Ways.{HoldsWrite}
 use Rattle.fs_port.specs.View.{View, state_of}
 use Rattle.fs_port.specs.Calls.{IsValidNow}
+use Rattle.fs_port.specs.Files.{LeavesWorld}
 use Rattle.fs_asks.specs.declared.client.Client.{Client}
+use Rattle.inode_walks.specs.Asking.{tree_of, mounted_by}
 
 -- the way to a named block: it is the root, or what points to it may be written
 abbrev pub IsWay : Client → View → ℕ → Type 0
@@ -46,3 +49,11 @@ AreGone v a targets names = (b : ℕ) → IsTrue (has_number targets b) → has_
 -- pairs from the block lead to what it names alone
 abbrev pub OnlyNamed : View → ℕ → List ℕ → Type 0
 OnlyNamed v a names = (b : ℕ) → IsTrue (holds v.world.pairs a b) → IsTrue (has_number names b)
+
+-- ---- making
+
+-- the tree is empty and the world tidy, and what the root didn't reach is as it was
+pub record IsMade (c : Client) (old new : View) : Type 0 where
+  pub tree : tree_of c new ≡ empty_tree
+  pub tidy : IsTidy Inode new.world c.root
+  pub left : LeavesWorld (mounted_by c) old new

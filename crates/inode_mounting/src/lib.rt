@@ -8,5 +8,7 @@
 #![tactic(auto)]
 
 mod letting_go;
+mod making;
 
 pub use letting_go::delete_others;
+pub use making::make;
