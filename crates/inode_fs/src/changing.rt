@@ -8,13 +8,13 @@ ghost use Rattle.fs_port.specs.Files.{Answers};
 ghost use Rattle.inode_walks.specs.Asking.{MayAsk, mounted_by};
 ghost use Rattle.inode_changes.specs.Changing.{Changes};
 
-use crate::content::{Content, check_free, make_file, new_block};
+use crate::content::{Content, make_file};
 use inode_walks::{Found, Place, find_file, find_place, read_inode};
 use fs_asks::Client;
 use fs_fields::NUMBER_BYTES;
 use fs_port::Blocks;
 use fs_trees::{FsRefusal, Path};
-use inode_layout::{blocks_for, data_room, directory_with, empty_directory, entries_room};
+use inode_layout::{blocks_for, data_room, directory_with, entries_room};
 use tsd_model::Data;
 
 /// Refuses a new entry where its directory has no room for one.
@@ -83,28 +83,6 @@ pub fn put<K: Blocks>(
         block_len,
     };
     let inode = make_file(client, disk, place.directory.block, &content)?;
-    enter(client, disk, &place, inode)
-}
-
-/// Makes a directory without entries at a path.
-pub fn make_dir<K: Blocks>(
-    client: &Client,
-    disk: &mut K,
-    path: &Path,
-) -> Result<(), FsRefusal>
-    requires may { MayAsk K.told client.now (K.view disk.old) }
-    requires named { IsTrue (is_path path.now) }
-    ensures answer { K.told → Answers (mounted_by client.now) (K.view disk.old) (K.view disk.new) (ask.MakeDir path.now) result (λ _ answer. answer ≡ done) }
-    ensures changes { Changes K.told client.now (K.view disk.old) (K.view disk.new) (ask.MakeDir path.now) result }
-{
-    let place = find_place(client, disk, path, FsRefusal::Exists)?;
-    if place.old.is_some() {
-        return Err(FsRefusal::Exists);
-    }
-    check_entry(&place)?;
-    check_free(disk, 1)?;
-    let inode = new_block(client, disk, place.directory.block)?;
-    client.write(disk, inode, empty_directory())?;
     enter(client, disk, &place, inode)
 }
 

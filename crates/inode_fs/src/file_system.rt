@@ -10,8 +10,7 @@ ghost use Rattle.fs_port.specs.Calls.{Counts, IsValidNow, LeavesOnly, Stays};
 ghost use Rattle.fs_port.specs.Files.{Answers, HasTree, IsEitherTree, IsReady, LeavesWorld, OnAnswer};
 
 use crate::marks::Marks;
-use crate::{changing, mounting, removing};
-use inode_walks as reading;
+use crate::{changing, mounting};
 use fs_asks::Client;
 use fs_port::{Blocks, Files};
 use fs_trees::{FsRefusal, Name, Path};
@@ -106,7 +105,7 @@ impl Files for InodeFs {
     }
 
     fn make<K: Blocks>(&mut self, disk: &mut K) -> Result<(), FsRefusal> {
-        removing::make(&self.client, disk)?;
+        inode_mounting::make(&self.client, disk)?;
         self.mounted = true;
         Ok(())
     }
@@ -127,7 +126,7 @@ impl Files for InodeFs {
 
     fn make_dir<K: Blocks>(&mut self, disk: &mut K, path: &Path) -> Result<(), FsRefusal> {
         self.check_mounted()?;
-        changing::make_dir(&self.client, disk, path)
+        inode_changes::make_dir(&self.client, disk, path)
     }
 
     fn append<K: Blocks>(
@@ -142,12 +141,12 @@ impl Files for InodeFs {
 
     fn remove<K: Blocks>(&mut self, disk: &mut K, path: &Path) -> Result<(), FsRefusal> {
         self.check_mounted()?;
-        removing::remove(&self.client, disk, path)
+        inode_changes::remove(&self.client, disk, path)
     }
 
     fn size<K: Blocks>(&mut self, disk: &mut K, path: &Path) -> Result<u64, FsRefusal> {
         self.check_mounted()?;
-        reading::size(&self.client, disk, path)
+        inode_walks::size(&self.client, disk, path)
     }
 
     fn read_part<K: Blocks>(
@@ -158,7 +157,7 @@ impl Files for InodeFs {
         into: &mut Data,
     ) -> Result<(), FsRefusal> {
         self.check_mounted()?;
-        reading::read_part(&self.client, disk, path, start, into)
+        inode_walks::read_part(&self.client, disk, path, start, into)
     }
 
     fn name_after<K: Blocks>(
@@ -168,6 +167,6 @@ impl Files for InodeFs {
         after: &Name,
     ) -> Result<Option<Name>, FsRefusal> {
         self.check_mounted()?;
-        reading::name_after(&self.client, disk, path, after)
+        inode_walks::name_after(&self.client, disk, path, after)
     }
 }

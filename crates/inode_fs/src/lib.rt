@@ -1,7 +1,7 @@
 //! The file system of inodes: a tree of directories and files under one primary block of a disk.
 //!
 //! What it stands on: `fs_port` for the disk as one call and for what every file system promises, `fs_asks` for single
-//! requests, `inode_walks` for what stands at a path, `inode_layout` for the bytes of inodes, `fs_trees` for trees and refusals, `bit_array` for marks, `tsd_model`
+//! requests, `inode_walks` for what stands at a path, `inode_changes` for single changes, `inode_mounting` for what hangs from the root, `inode_layout` for the bytes of inodes, `fs_trees` for trees and refusals, `bit_array` for marks, `tsd_model`
 //! for want of memory.
 //!
 //! How it keeps the tree whole: each change has one deciding write. A directory's block is written last, after all that its new
@@ -15,9 +15,7 @@
 mod changing;
 mod content;
 mod file_system;
-mod letting_go;
 mod marks;
 mod mounting;
-mod removing;
 
 pub use file_system::InodeFs;

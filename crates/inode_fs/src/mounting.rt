@@ -2,12 +2,12 @@
 
 use inode_walks::Found;
 use crate::marks::Marks;
-use crate::letting_go::delete_others;
 use fs_asks::{Client, NoNames, count_pairs};
 use fs_port::Blocks;
 use fs_trees::FsRefusal;
 use fs_trees::name::PATH_MAX;
 use inode_layout::Inode;
+use inode_mounting::delete_others;
 
 /// Reads an inode and checks what its block says alone.
 fn right_inode<K: Blocks>(
