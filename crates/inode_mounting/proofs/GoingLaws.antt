@@ -1,14 +1,13 @@
 -- Pairs let go of one after the other: what holds so far.
-use Rattle.std.proofs.Common.{◌≡◌, ◌≢◌, ℕ, zero, suc, ◌+◌, ◌<◌, ◌≤◌, Bool, true, false, not, cond, ◌&&◌, ◌||◌, ◌==◌, nat_lt, nat_le, List, [], ◌∷◌, ◌++◌, length, refl, sym, ◌∙◌, ap, subst, arith, inl, inr, ◌⊎◌, Result, Ok, Err}
-use Rattle.std.proofs.lemmas.Bool.{and_parts, and_from, or_cases, or_left, or_right, eq-eqb, eqb-true, not-true, cases_lt}
+use Rattle.std.proofs.Common.{◌≡◌, ℕ, zero, suc, ◌+◌, ◌<◌, ◌≤◌, Bool, true, false, not, cond, ◌&&◌, ◌||◌, ◌==◌, nat_lt, nat_le, List, [], ◌∷◌, length, refl, sym, ◌∙◌, ap, arith, inl, inr, ◌⊎◌, Ok}
+use Rattle.std.proofs.lemmas.Bool.{and_parts, and_from, or_cases, or_left, or_right, eqb-true, not-true}
 use Rattle.std.proofs.lemmas.Bool.Decides.{nat_tests}
-use Rattle.std.specs.Prelude.{take, drop, filter, map, slice_index, slice_index_or}
-use Rattle.std.specs.List.{list_all, list_any}
-use Rattle.tsd_model.specs.World.{World, is_live, has_number}
-use Rattle.tsd_model.specs.Pairs.{holds, is_pair}
+use Rattle.std.specs.Prelude.{take, drop, filter, map, slice_index}
+use Rattle.std.specs.List.{list_all}
+use Rattle.tsd_model.specs.World.{World, has_number}
+use Rattle.tsd_model.specs.Pairs.{holds}
 use Rattle.tsd_model.specs.Valid.{IsValid}
 use Rattle.tsd_model.specs.Step.{targets_from}
-use Rattle.disk_laws.proofs.DoomLaws.{live_below}
 use Rattle.fs_trees.specs.Inode.{are_apart}
 use Rattle.fs_port.specs.View.{View}
 use Rattle.fs_port.specs.Files.{IsTreeAlone}

@@ -1,28 +1,25 @@
 -- One pair let go of, and what stays.
-use Rattle.std.proofs.Common.{◌≡◌, ◌≢◌, ℕ, zero, suc, ◌+◌, ◌<◌, ◌≤◌, Bool, true, false, not, cond, ◌&&◌, ◌||◌, ◌==◌, nat_lt, nat_le, List, [], ◌∷◌, length, refl, sym, ◌∙◌, ap, subst, arith, inl, inr, ◌⊎◌, Result, Ok, Err}
-use Rattle.std.proofs.lemmas.Bool.{and_parts, and_from, or_cases, or_left, or_right, eq-eqb, eqb-true}
+use Rattle.std.proofs.Common.{◌≡◌, ℕ, ◌<◌, Bool, true, false, not, ◌&&◌, ◌==◌, List, refl, sym, ◌∙◌, ap, subst, arith, inl, inr, ◌⊎◌, Result}
+use Rattle.std.proofs.lemmas.Bool.{and_parts, and_from, eq-eqb}
 use Rattle.std.proofs.lemmas.Bool.Decides.{nat_tests}
-use Rattle.std.specs.Prelude.{slice_get, take, drop, filter, map}
-use Rattle.std.specs.List.{list_all}
+use Rattle.std.specs.Prelude.{slice_get}
 use Rattle.tsd_model.specs.World.{World, is_live, has_number}
 use Rattle.tsd_model.specs.Pairs.{holds, is_pair}
 use Rattle.tsd_model.specs.Records.{kept_of}
 use Rattle.tsd_model.specs.Attained.{record_level}
 use Rattle.tsd_model.specs.Valid.{IsValid}
 use Rattle.tsd_model.specs.Step.{without_pointer}
-use Rattle.tsd_model.specs.declared.requests.Level.TheVariants as level
 use Rattle.tsd_model.proofs.PairLaws.{holds-filter}
 use Rattle.graph_laws.specs.Counts.{stays}
 use Rattle.graph_laws.proofs.SettleLaws.{live-settle, holds-settle}
 use Rattle.fs_trees.specs.Tree.{is_there}
 use Rattle.fs_trees.specs.InodeTree.{inode_tree}
-use Rattle.fs_trees.specs.Layouts.{tree_at, named_at}
+use Rattle.fs_trees.specs.Layouts.{named_at}
 use Rattle.fs_trees.specs.Outside.{is_under, OthersStay}
 use Rattle.fs_trees.specs.declared.ask.ShellKind.TheVariants as kind
 use Rattle.fs_laws.specs.Outside.{is_inside}
 use Rattle.fs_laws.specs.Stays.{Keeps}
 use Rattle.fs_laws.specs.Reading.{SameTree}
-use Rattle.fs_laws.specs.Ways.{HoldsWrite}
 use Rattle.fs_laws.proofs.WayLaws.{ways_lead_on}
 use Rattle.fs_laws.proofs.InodeLaws.{inodes_under_root}
 use Rattle.fs_laws.proofs.TreeLaws.{read_from_named}
@@ -146,8 +143,11 @@ module _ (c : Client) (first cur : View) (a t : ℕ) (names : List ℕ) (valid_f
         on (inl e) = inl e
         on (inr h) =
             let source = (inodes_under_root cur.world c.root primary there_cur).from h.0 a h.1 in
-            inr (h.0, ap (λ w. holds (named_at kind.Inode w c.root).pairs h.0 a) went.world ∙ (ap (λ m. holds m.pairs h.0 a) (same went.leads).named ∙ h.1),
-            went.ways c.session h.0 h.2 ((keeps went.leads).live h.0 source))
+            inr (
+              h.0,
+              ap (λ w. holds (named_at kind.Inode w c.root).pairs h.0 a) went.world ∙ (ap (λ m. holds m.pairs h.0 a) (same went.leads).named ∙ h.1),
+              went.ways c.session h.0 h.2 ((keeps went.leads).live h.0 source),
+            )
 
     -- other pairs from there are held
     pub still_held : (y : ℕ) → holds cur.world.pairs a y ≡ true → (t == y) ≡ false → holds new.world.pairs a y ≡ true
@@ -209,11 +209,14 @@ pub alone_on : (c : Client) (first mid : View) (a : ℕ) → Letting c first mid
 alone_on c first mid a l w h = (h.0 ∙ l.tree.tree, record { valid = h.1.valid; geometry = h.1.geometry ∙ l.geometry; others = outside_twice c.root first.world mid.world w l.others h.1.others })
 
 pub alone_same : (c : Client) (v : View) (w : World) → IsValid v.world → w ≡ v.world → IsTreeAlone (mounted_by c) v w
-alone_same c v w valid e = subst (IsTreeAlone (mounted_by c) v) (sym e) (refl, record {
-  valid = valid;
-  geometry = refl;
-  others = record { records = refl; bytes = λ b live away. refl; pairs = λ x y live away. refl; apart = λ b live away. away };
-})
+alone_same c v w valid e = subst (IsTreeAlone (mounted_by c) v) (sym e) (
+  refl,
+  record {
+    valid = valid;
+    geometry = refl;
+    others = record { records = refl; bytes = λ b live away. refl; pairs = λ x y live away. refl; apart = λ b live away. away };
+  },
+)
 
 -- after a look
 pub letting_look : (c : Client) (first cur new : View) (a : ℕ) → Letting c first cur a → Looked cur new → Letting c first new a

@@ -1,15 +1,14 @@
 -- A root that is written as an empty directory.
-use Rattle.std.proofs.Common.{◌≡◌, ◌≢◌, ℕ, zero, suc, ◌+◌, ◌-◌, ◌<◌, ◌≤◌, Bool, true, false, cond, ◌&&◌, ◌||◌, ◌==◌, List, [], ◌∷◌, length, refl, sym, ◌∙◌, ap, subst, arith, inl, inr, ◌⊎◌, Some, Result, Ok, Err}
+use Rattle.std.proofs.Common.{◌≡◌, ℕ, ◌-◌, ◌<◌, ◌≤◌, Bool, true, false, cond, ◌&&◌, ◌==◌, List, [], ◌∷◌, length, refl, sym, ◌∙◌, ap, subst, arith, inl, inr, ◌⊎◌, Some}
 use Rattle.std.proofs.lemmas.Bool.{and_from, or_cases, or_left, eq-eqb, eqb-true}
 use Rattle.std.specs.Prelude.{is_some, slice_get, replicate}
 use Rattle.std.specs.Option.{option_and_then}
 use Rattle.tsd_model.specs.Geometry.{block_len}
-use Rattle.tsd_model.specs.World.{World, contents, is_live, is_free, has_number}
+use Rattle.tsd_model.specs.World.{World, is_live, is_free, has_number}
 use Rattle.tsd_model.specs.Pairs.{holds}
 use Rattle.tsd_model.specs.Records.{kept_of}
 use Rattle.tsd_model.specs.Sessions.{level_le}
 use Rattle.tsd_model.specs.Attained.{record_level, shown_level}
-use Rattle.tsd_model.specs.Valid.{IsValid}
 use Rattle.tsd_model.specs.Step.{filled}
 use Rattle.tsd_model.specs.declared.caps.Shown.TheVariants.{Nothing, Key}
 use Rattle.tsd_model.specs.declared.requests.Level.TheVariants as level
@@ -17,7 +16,7 @@ use Rattle.disk_laws.proofs.AttainedLaws.{attained_where}
 use Rattle.disk_laws.proofs.ChangeLaws.{contents-other, contents-same}
 use Rattle.disk_laws.proofs.DoomLaws.{live_below}
 use Rattle.fs_trees.specs.Names.{path_max}
-use Rattle.fs_trees.specs.Tree.{none, nothing, a_file, a_dir, is_there}
+use Rattle.fs_trees.specs.Tree.{none, a_dir, is_there}
 use Rattle.fs_trees.specs.Step.{empty_tree}
 use Rattle.fs_trees.specs.Inode.{directory, inode_in, inode_bytes}
 use Rattle.fs_trees.specs.InodeTree.{inode_at, node_by, node_at, as_root, inodes_under, tree_of, inode_tree}
@@ -27,9 +26,9 @@ use Rattle.fs_trees.specs.declared.ask.ShellAsk.TheVariants as ask
 use Rattle.fs_trees.specs.declared.ask.ShellKind.TheVariants as kind
 use Rattle.fs_laws.proofs.OutsideLaws.{outside_twice}
 use Rattle.fs_laws.proofs.UnderLaws.{root_under}
-use Rattle.fs_port.specs.View.{View, state_of, IsSound}
+use Rattle.fs_port.specs.View.{View, IsSound}
 use Rattle.fs_port.specs.Calls.{IsValidNow}
-use Rattle.fs_port.specs.Files.{IsReady, IsEitherTree, IsTreeAlone, LeavesWorld}
+use Rattle.fs_port.specs.Files.{IsReady, IsEitherTree, IsTreeAlone}
 use Rattle.fs_asks.specs.declared.client.Client.{Client}
 use Rattle.fs_asks.specs.Client.{shown_at, write_by}
 use Rattle.fs_asks.specs.May.{MayWrite}
@@ -120,11 +119,14 @@ module _ (c : Client) (first : View) (now : IsValidNow first) (primary : c.root 
         no_pair h = cc
 
     pub stop_after : (u : World) → IsTreeAlone (mounted_by c) wr u → IsEitherTree (mounted_by c) first ask.Make u
-    stop_after u h = (inr (h.0 ∙ tree_wr), record {
-      valid = h.1.valid;
-      geometry = h.1.geometry ∙ (ap (λ v. v.geometry) went.world ∙ went.leads.geometry);
-      others = outside_twice c.root first.world wr.world u (subst (OthersStay c.root first.world) (sym went.world) (went.leads.others c.root primary inside)) h.1.others;
-    })
+    stop_after u h = (
+      inr (h.0 ∙ tree_wr),
+      record {
+        valid = h.1.valid;
+        geometry = h.1.geometry ∙ (ap (λ v. v.geometry) went.world ∙ went.leads.geometry);
+        others = outside_twice c.root first.world wr.world u (subst (OthersStay c.root first.world) (sym went.world) (went.leads.others c.root primary inside)) h.1.others;
+      },
+    )
 
     module _ (fin : View) (l : Letting c wr fin c.root) (only : OnlyNamed fin c.root []) (unspent : fin.spent ≡ false) where
       pub made : IsMade c first fin

@@ -1,4 +1,4 @@
-use Rattle.std.proofs.Common.{◌≡◌, ℕ, ◌+◌, ◌-◌, ◌<◌, ◌≤◌, ◌==◌, ◌||◌, Bool, true, false, List, length, refl, sym, ◌∙◌, ap, subst, arith, inl, inr, Result, Ok, Err}
+use Rattle.std.proofs.Common.{◌≡◌, ℕ, ◌<◌, Bool, true, false, refl, sym, ◌∙◌, ap, subst, arith, inl, inr, Ok, Err}
 use Rattle.std.proofs.lemmas.Bool.{cases_lt}
 use Rattle.tsd_model.specs.World.{has_number}
 use Rattle.tsd_model.specs.Pairs.{holds}
@@ -12,9 +12,8 @@ use Rattle.fs_asks.proofs.LookLaws.{no_look, looks_as, looks_refused}
 use Rattle.inode_walks.specs.Asking.{mounted_by}
 use Rattle.inode_changes.specs.Runs.{Runs}
 use Rattle.inode_changes.proofs.RunLaws.{runs_look, then_runs}
-use Rattle.inode_mounting.specs.Letting.{Letting}
 use Rattle.inode_mounting.proofs.LettingLaws.{ask_still, way_may, letting_none, letting_twice, letting_look, grounds_on, alone_on, alone_same, runs_more}
-use Rattle.inode_mounting.proofs.GoingLaws.{OthersGoing, page_held, on_page, page_apart}
+use Rattle.inode_mounting.proofs.GoingLaws.{page_held, on_page, page_apart}
 use Rattle.inode_mounting.proofs.letting_go.delete_others.Goals as goal
 
 pub loop-start-init : goal.loop-start-init
@@ -98,7 +97,7 @@ returns-in-Err-delete_page g c =
     let P = IsTreeAlone (mounted_by me) first in
     let looks : Looks {X = Unit {0}} told cur tg (Ok tt) = looks_as told cur tg c.in-Ok.targets tt e.looks in
     let seen : Runs {X = Unit {0}} told first tg P (Ok tt) = then_runs told first cur tg P tt (Ok tt) inv.runs
-        (runs_look told cur tg P (Ok tt) (λ t w is. alone_on me first cur a (inv.letting t) w (alone_same me cur w (inv.letting t).valid.valid is)) looks) in
+    (runs_look told cur tg P (Ok tt) (λ t w is. alone_on me first cur a (inv.letting t) w (alone_same me cur w (inv.letting t).valid.valid is)) looks) in
     record {
       letting = λ t. tt;
       named = λ t. tt;
@@ -132,7 +131,7 @@ loop-start-preserved g c =
     let P = IsTreeAlone (mounted_by me) first in
     let looks : Looks {X = Unit {0}} told cur tg (Ok tt) = looks_as told cur tg page tt e.looks in
     let seen : Runs {X = Unit {0}} told first tg P (Ok tt) = then_runs told first cur tg P tt (Ok tt) inv.runs
-        (runs_look told cur tg P (Ok tt) (λ t w is. alone_on me first cur a (inv.letting t) w (alone_same me cur w (inv.letting t).valid.valid is)) looks) in
+    (runs_look told cur tg P (Ok tt) (λ t w is. alone_on me first cur a (inv.letting t) w (alone_same me cur w (inv.letting t).valid.valid is)) looks) in
     let asked = ask_still told me cur tg e.looks.stays.0 e.looks.counts e.looks.unspent.0 (λ t. (e.looks.looked t).0.valid) (λ t. ap (λ w. is_there (inode_tree w me.root)) (e.looks.looked t).0.world ∙ inv.ask.tree t) inv.ask in
     let whole : told → end ≡ cur.world.geometry.blocks = λ t. ap (λ x. x.blocks) (c.geometry-end.ensures ∙ (sym (g.met.K.Blocks.sound c.args.disk.now t c.requires.may.ready.unspent).geometry ∙ sym (inv.letting t).geometry)) in
     record {

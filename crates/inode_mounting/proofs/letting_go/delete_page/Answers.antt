@@ -1,4 +1,4 @@
-use Rattle.std.proofs.Common.{◌≡◌, ℕ, ◌+◌, ◌<◌, ◌≤◌, ◌==◌, ◌||◌, Bool, true, false, List, length, take, drop, get_or, refl, sym, ◌∙◌, ap, subst, arith, inl, inr, Result, Ok, Err}
+use Rattle.std.proofs.Common.{◌==◌, length, take, get_or, refl, sym, ◌∙◌, ap, arith, inl, inr, Ok, Err}
 use Rattle.std.proofs.lemmas.Bool.{eq-eqb, or_cases, or_left, or_right, eqb-true}
 use Rattle.tsd_model.specs.World.{has_number}
 use Rattle.tsd_model.specs.Pairs.{holds}
@@ -7,10 +7,9 @@ use Rattle.fs_trees.specs.Tree.{is_there}
 use Rattle.fs_port.specs.Files.{IsTreeAlone}
 use Rattle.fs_asks.proofs.LookLaws.{no_look}
 use Rattle.inode_walks.specs.Asking.{mounted_by}
-use Rattle.inode_changes.specs.Runs.{Runs}
 use Rattle.inode_changes.proofs.RunLaws.{runs_look, then_runs}
 use Rattle.inode_mounting.proofs.LettingLaws.{ask_still, letting_none, letting_twice, grounds_on, alone_on, alone_same, runs_more}
-use Rattle.inode_mounting.proofs.GoingLaws.{PageGoing, here_or_later, before_or_here, later_is_other, gone_still, drop_whole}
+use Rattle.inode_mounting.proofs.GoingLaws.{here_or_later, before_or_here, later_is_other, gone_still, drop_whole}
 use Rattle.inode_mounting.proofs.letting_go.delete_page.Goals as goal
 
 pub loop-place-init : goal.loop-place-init

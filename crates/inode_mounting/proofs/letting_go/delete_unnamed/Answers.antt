@@ -1,11 +1,10 @@
-use Rattle.std.proofs.Common.{◌≡◌, ◌≢◌, ◌<◌, ◌==◌, Bool, true, false, refl, sym, ◌∙◌, ap, subst, Result, Ok, Err}
+use Rattle.std.proofs.Common.{◌≡◌, ◌<◌, Bool, true, false, sym, ◌∙◌, subst, Ok, Err}
 use Rattle.tsd_model.specs.World.{has_number}
 use Rattle.fs_port.specs.Files.{IsTreeAlone}
 use Rattle.fs_asks.specs.Client.{unlink_by}
 use Rattle.fs_asks.proofs.LookLaws.{no_look}
 use Rattle.fs_steps.specs.Steps.{dropped}
 use Rattle.inode_walks.specs.Asking.{mounted_by}
-use Rattle.inode_changes.specs.Runs.{Runs}
 use Rattle.inode_changes.proofs.RunLaws.{runs_look, runs_step, runs_as, runs_refused}
 use Rattle.inode_mounting.proofs.LettingLaws.{way_may, letting_none, letting, still_held, is_gone, stop_at_drop, alone_same}
 use Rattle.inode_mounting.proofs.letting_go.delete_unnamed.Goals as goal

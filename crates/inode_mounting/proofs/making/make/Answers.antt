@@ -1,4 +1,4 @@
-use Rattle.std.proofs.Common.{◌≡◌, ◌<◌, ◌≤◌, [], length, refl, sym, ◌∙◌, ap, subst, Result, Ok, Err}
+use Rattle.std.proofs.Common.{◌<◌, ◌≤◌, [], length, sym, ap, subst, Ok, Err}
 use Rattle.tsd_model.specs.Geometry.{block_len}
 use Rattle.fs_trees.specs.Inode.{directory, inode_bytes}
 use Rattle.fs_trees.specs.Tree.{is_there}
@@ -7,7 +7,6 @@ use Rattle.fs_port.specs.Files.{IsEitherTree, IsTreeAlone}
 use Rattle.fs_asks.specs.Client.{write_by}
 use Rattle.fs_steps.specs.Steps.{Steps, written}
 use Rattle.inode_walks.specs.Asking.{mounted_by}
-use Rattle.inode_changes.specs.Runs.{Runs}
 use Rattle.inode_changes.proofs.RunLaws.{runs_step, then_runs}
 use Rattle.inode_mounting.proofs.LettingLaws.{ready_still, runs_more}
 use Rattle.inode_mounting.proofs.MakeLaws.{root_ready, empty_fits, stop_at_write, tree_wr, grounds, stop_after, made}
