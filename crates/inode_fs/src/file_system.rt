@@ -50,23 +50,6 @@ impl InodeFs {
         })
     }
 
-    /// Refuses where nothing is mounted.
-    fn check_mounted(&self) -> Result<(), FsRefusal>
-        ensures mounted { OnOk result ((inode_view self.now).mounted ≡ true) }
-        ensures not_mounted { OnErr result ((inode_view self.now).mounted ≡ false) }
-        ensures refusal { IfErr result (λ e. e ≡ no.NotThisFs) }
-    {
-        if self.mounted {
-            Ok(())
-        } else {
-            Err(FsRefusal::NotThisFs)
-        }
-    }
-}
-
-impl InodeFs {
-    ghost use Rattle.inode_fs.specs.View.{inode_view};
-
     /// Makes a new file of the bytes of another, at a path where nothing stands. The two change apart afterwards.
     pub fn copy<K: Blocks>(
         &mut self,
@@ -90,8 +73,11 @@ impl InodeFs {
         ensures faultless { OnAnswer result ((K.view disk.new).faults ≡ (K.view disk.old).faults) }
         ensures cause { IfErr result (λ e. e ≡ no.Device → Rose (K.view disk.old).faults (K.view disk.new).faults) }
     {
-        self.check_mounted()?;
-        changing::copy(&self.client, disk, path, new)
+        if self.mounted {
+            changing::copy(&self.client, disk, path, new)
+        } else {
+            Err(FsRefusal::NotThisFs)
+        }
     }
 }
 
@@ -105,12 +91,17 @@ impl Files for InodeFs {
     }
 
     fn make<K: Blocks>(&mut self, disk: &mut K) -> Result<(), FsRefusal> {
-        inode_mounting::make(&self.client, disk)?;
-        self.mounted = true;
-        Ok(())
+        match inode_mounting::make(&self.client, disk) {
+            Ok(()) => {
+                self.mounted = true;
+                Ok(())
+            }
+            Err(refusal) => Err(refusal),
+        }
     }
 
     fn mount<K: Blocks>(&mut self, disk: &mut K) -> Result<(), FsRefusal> {
+        self.mounted = false;
         if !mounting::is_tree(&self.client, &mut self.marks, disk)? {
             return Err(FsRefusal::NotThisFs);
         }
@@ -120,13 +111,19 @@ impl Files for InodeFs {
     }
 
     fn put<K: Blocks>(&mut self, disk: &mut K, path: &Path, bytes: &Data) -> Result<(), FsRefusal> {
-        self.check_mounted()?;
-        changing::put(&self.client, disk, path, bytes)
+        if self.mounted {
+            changing::put(&self.client, disk, path, bytes)
+        } else {
+            Err(FsRefusal::NotThisFs)
+        }
     }
 
     fn make_dir<K: Blocks>(&mut self, disk: &mut K, path: &Path) -> Result<(), FsRefusal> {
-        self.check_mounted()?;
-        inode_changes::make_dir(&self.client, disk, path)
+        if self.mounted {
+            inode_changes::make_dir(&self.client, disk, path)
+        } else {
+            Err(FsRefusal::NotThisFs)
+        }
     }
 
     fn append<K: Blocks>(
@@ -135,18 +132,27 @@ impl Files for InodeFs {
         path: &Path,
         bytes: &Data,
     ) -> Result<(), FsRefusal> {
-        self.check_mounted()?;
-        changing::append(&self.client, disk, path, bytes)
+        if self.mounted {
+            changing::append(&self.client, disk, path, bytes)
+        } else {
+            Err(FsRefusal::NotThisFs)
+        }
     }
 
     fn remove<K: Blocks>(&mut self, disk: &mut K, path: &Path) -> Result<(), FsRefusal> {
-        self.check_mounted()?;
-        inode_changes::remove(&self.client, disk, path)
+        if self.mounted {
+            inode_changes::remove(&self.client, disk, path)
+        } else {
+            Err(FsRefusal::NotThisFs)
+        }
     }
 
     fn size<K: Blocks>(&mut self, disk: &mut K, path: &Path) -> Result<u64, FsRefusal> {
-        self.check_mounted()?;
-        inode_walks::size(&self.client, disk, path)
+        if self.mounted {
+            inode_walks::size(&self.client, disk, path)
+        } else {
+            Err(FsRefusal::NotThisFs)
+        }
     }
 
     fn read_part<K: Blocks>(
@@ -156,8 +162,11 @@ impl Files for InodeFs {
         start: u64,
         into: &mut Data,
     ) -> Result<(), FsRefusal> {
-        self.check_mounted()?;
-        inode_walks::read_part(&self.client, disk, path, start, into)
+        if self.mounted {
+            inode_walks::read_part(&self.client, disk, path, start, into)
+        } else {
+            Err(FsRefusal::NotThisFs)
+        }
     }
 
     fn name_after<K: Blocks>(
@@ -166,7 +175,10 @@ impl Files for InodeFs {
         path: &Path,
         after: &Name,
     ) -> Result<Option<Name>, FsRefusal> {
-        self.check_mounted()?;
-        inode_walks::name_after(&self.client, disk, path, after)
+        if self.mounted {
+            inode_walks::name_after(&self.client, disk, path, after)
+        } else {
+            Err(FsRefusal::NotThisFs)
+        }
     }
 }
