@@ -89,3 +89,81 @@ fn refusals(rt: HostRuntime) {
     ];
     shell.run(&rt, table.as_slice());
 }
+
+/// A directory takes fifteen entries, a new one only after another has gone; an old entry changes all the same.
+#[test]
+fn full_directory(rt: HostRuntime) {
+    let mut shell = on_fresh(&rt, rt.alloc(), 32, 64);
+    let table = [
+        ("mkfs", "ok\n"),
+        ("mkdir /d", "ok\n"),
+        ("put /o -", "ok\n"),
+        ("put /n -", "ok\n"),
+        ("put /m -", "ok\n"),
+        ("put /l -", "ok\n"),
+        ("put /k -", "ok\n"),
+        ("put /j -", "ok\n"),
+        ("put /i -", "ok\n"),
+        ("put /h -", "ok\n"),
+        ("put /g -", "ok\n"),
+        ("put /f -", "ok\n"),
+        ("put /e -", "ok\n"),
+        ("put /c -", "ok\n"),
+        ("put /b -", "ok\n"),
+        ("put /p -", "ok\n"),
+        ("ls /", "names b c d e f g h i j k l m n o p\n"),
+        ("df", "free 16\n"),
+        ("put /a -", "no dir-full\n"),
+        ("mkdir /a", "no dir-full\n"),
+        ("cp /b /a", "no dir-full\n"),
+        ("cp /a /q", "no no-entry\n"),
+        ("cp /b /c", "no exists\n"),
+        ("put /c 02", "ok\n"),
+        ("append /c 03", "ok\n"),
+        ("cat /c", "data 0203\n"),
+        ("cp /c /d/a", "ok\n"),
+        ("cat /d/a", "data 0203\n"),
+        ("rm /p", "ok\n"),
+        ("mkdir /a", "ok\n"),
+        ("ls /", "names a b c d e f g h i j k l m n o\n"),
+        ("df", "free 14\n"),
+    ];
+    shell.run(&rt, table.as_slice());
+}
+
+/// Sixteen names on the way to a file, which is the most that a path has.
+#[test]
+fn longest_path(rt: HostRuntime) {
+    let mut shell = on_fresh(&rt, rt.alloc(), 32, 64);
+    let table = [
+        ("mkfs", "ok\n"),
+        ("mkdir /a", "ok\n"),
+        ("mkdir /a/b", "ok\n"),
+        ("mkdir /a/b/c", "ok\n"),
+        ("mkdir /a/b/c/d", "ok\n"),
+        ("mkdir /a/b/c/d/e", "ok\n"),
+        ("mkdir /a/b/c/d/e/f", "ok\n"),
+        ("mkdir /a/b/c/d/e/f/g", "ok\n"),
+        ("mkdir /a/b/c/d/e/f/g/h", "ok\n"),
+        ("mkdir /a/b/c/d/e/f/g/h/i", "ok\n"),
+        ("mkdir /a/b/c/d/e/f/g/h/i/j", "ok\n"),
+        ("mkdir /a/b/c/d/e/f/g/h/i/j/k", "ok\n"),
+        ("mkdir /a/b/c/d/e/f/g/h/i/j/k/l", "ok\n"),
+        ("mkdir /a/b/c/d/e/f/g/h/i/j/k/l/m", "ok\n"),
+        ("mkdir /a/b/c/d/e/f/g/h/i/j/k/l/m/n", "ok\n"),
+        ("mkdir /a/b/c/d/e/f/g/h/i/j/k/l/m/n/o", "ok\n"),
+        ("put /a/b/c/d/e/f/g/h/i/j/k/l/m/n/o/p 07", "ok\n"),
+        ("cat /a/b/c/d/e/f/g/h/i/j/k/l/m/n/o/p", "data 07\n"),
+        ("append /a/b/c/d/e/f/g/h/i/j/k/l/m/n/o/p 08", "ok\n"),
+        ("cp /a/b/c/d/e/f/g/h/i/j/k/l/m/n/o/p /a/b/c/d/e/f/g/h/i/j/k/l/m/n/o/q", "ok\n"),
+        ("ls /a/b/c/d/e/f/g/h/i/j/k/l/m/n/o", "names p q\n"),
+        ("cat /a/b/c/d/e/f/g/h/i/j/k/l/m/n/o/p/q", "no bad-request\n"),
+        ("df", "free 13\n"),
+        ("rm /a/b/c/d/e/f/g/h/i/j/k/l/m/n/o/p", "ok\n"),
+        ("rm /a/b/c/d/e/f/g/h/i/j/k/l/m/n/o", "no not-empty\n"),
+        ("cat /a/b/c/d/e/f/g/h/i/j/k/l/m/n/o/q", "data 0708\n"),
+    ];
+    shell.run(&rt, table.as_slice());
+    shell.mounts(&rt, rt.alloc(), 32);
+    shell.answers(&rt, "cat /a/b/c/d/e/f/g/h/i/j/k/l/m/n/o/q", "data 0708\n");
+}

@@ -152,6 +152,12 @@ impl Shell {
         assert!(rt; !self.disk.is_spent(), "{line}");
     }
 
+    /// Asserts that a file system that knows nothing of the disk mounts what is there.
+    pub fn mounts(&mut self, rt: &impl Abort, alloc: Global, blocks: u32) {
+        self.fs = InodeFs::new(alloc, blocks, 0, &WRITE, 1).expect(rt, "ample memory");
+        assert!(rt; self.fs.mount(&mut self.disk).is_ok());
+    }
+
     /// Asserts that the file system answers each line so, one after the other.
     pub fn run(&mut self, rt: &impl Abort, rows: &[(&str, &str)]) {
         for (line, wanted) in rows {
