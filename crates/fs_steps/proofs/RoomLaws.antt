@@ -1,14 +1,15 @@
 -- Requests of a client that may write there are refused for want of room alone.
-use Rattle.std.proofs.Common.{◌≡◌, ℕ, zero, suc, ◌+◌, ◌≤◌, Bool, true, false, not, cond, ◌&&◌, nat_lt, nat_le, List, [], ◌∷◌, ◌++◌, length, refl, sym, ◌∙◌, ap, arith, Option, Some, None}
-use Rattle.std.proofs.lemmas.Bool.{and_parts, not-true}
+use Rattle.std.proofs.Common.{◌≡◌, ◌≢◌, ℕ, zero, suc, ◌+◌, ◌<◌, ◌≤◌, Bool, true, false, not, cond, ◌&&◌, ◌||◌, ◌==◌, nat_lt, nat_le, List, [], ◌∷◌, ◌++◌, length, refl, sym, ◌∙◌, ap, subst, arith, Option, Some, None}
+use Rattle.std.proofs.lemmas.Bool.{and_parts, and_from, not-true, eq-eqb, or_left}
 use Rattle.std.proofs.lemmas.Bool.Decides.{nat_tests}
+use Rattle.std.specs.Prelude.{is_none}
 use Rattle.std.specs.List.{list_all}
 use Rattle.tsd_model.specs.Geometry.{block_len}
 use Rattle.tsd_model.specs.World.{World, is_live, is_free, free_count}
 use Rattle.tsd_model.specs.Pairs.{holds}
 use Rattle.tsd_model.specs.Sessions.{Sessions, is_open, level_le}
 use Rattle.tsd_model.specs.Attained.{attained}
-use Rattle.tsd_model.specs.Verdict.{Check, first_rule, rules_before_room, room_rules, verdict}
+use Rattle.tsd_model.specs.Verdict.{Check, first_rule, rules, rules_before_room, room_rules, verdict}
 use Rattle.tsd_model.specs.Valid.{IsValid}
 use Rattle.tsd_model.specs.declared.caps.Shown.{Shown}
 use Rattle.tsd_model.specs.declared.caps.Shown.TheVariants.{Nothing}

@@ -1,11 +1,11 @@
 -- One request that changes the world: what it leaves.
-use Rattle.std.proofs.Common.{◌≡◌, ℕ, true, false, List, [], ◌∷◌, refl, sym, ◌∙◌, ap, subst, inl, inr, ◌⊎◌, Option, Some, None, Result, Ok, Err}
+use Rattle.std.proofs.Common.{◌≡◌, ◌≢◌, ℕ, Bool, true, false, List, [], ◌∷◌, refl, sym, ◌∙◌, ap, subst, inl, inr, ◌⊎◌, Option, Some, None, Result, Ok, Err}
 use Rattle.std.specs.Prelude.{is_none}
 use Rattle.tsd_model.specs.World.{World, is_live}
 use Rattle.tsd_model.specs.Sessions.{Fits}
 use Rattle.tsd_model.specs.Verdict.{verdict}
 use Rattle.tsd_model.specs.Valid.{IsValid}
-use Rattle.tsd_model.specs.Step.{judged}
+use Rattle.tsd_model.specs.Step.{State, judged}
 use Rattle.tsd_model.specs.Run.{answer}
 use Rattle.tsd_model.specs.History.{is_of_session}
 use Rattle.tsd_model.specs.declared.requests.Request.{Request}
@@ -26,6 +26,7 @@ use Rattle.fs_port.specs.View.{View, state_of}
 use Rattle.fs_port.specs.Calls.{IsCarriedOut, IsEitherSide, IsValidNow, LeavesOnly}
 use Rattle.fs_port.proofs.RunLaws.{leaves_more}
 use Rattle.fs_trees.specs.declared.refusal.FsRefusal.{FsRefusal}
+use Rattle.fs_trees.specs.declared.refusal.FsRefusal.TheVariants as no
 use Rattle.fs_asks.specs.declared.client.Client.{Client}
 use Rattle.tsd_model.specs.Placing.{chosen}
 use Rattle.tsd_model.specs.declared.requests.Hint.TheVariants.{At}
@@ -55,10 +56,10 @@ granted_by_form old new q r done form = elim (verdict old.world old.sessions q) 
 module _ (c : Client) (old new : View) (q : Request) (a : ℕ) (after : World) (own : is_of_files q ≡ true) (is : (judged old.kind (state_of old) q None).state.world ≡ after) where
   module _ (now : IsValidNow old) (local : is_local q ≡ true) where
     -- what it leads to where it is granted
-    leads : ◌≡◌ {A = Option Rule} (verdict old.world old.sessions q) None → Leads old q after
+    leads : ◌≡◌ {A = Option Rule} (verdict old.world old.sessions q) None → Leads old.world q after
     leads granted =
         let to : (answer old.kind (state_of old) q false).state.world ≡ after =
-        ap (λ o. o.state.world) (same_answer old.kind (state_of old) q false own) ∙ (ap (λ o. (judged old.kind (state_of old) q o).state.world) granted ∙ is) in
+            ap (λ o. o.state.world) (same_answer old.kind (state_of old) q false own) ∙ (ap (λ o. (judged old.kind (state_of old) q o).state.world) granted ∙ is) in
         record {
           valid = subst IsValid to (answer_valid old.kind (state_of old) q false now.valid);
           geometry = ap (λ w. w.geometry) (sym to) ∙ run_geometry old.kind (state_of old) (false ∷ []) (q ∷ []);
@@ -67,13 +68,13 @@ module _ (c : Client) (old new : View) (q : Request) (a : ℕ) (after : World) (
         }
 
     -- either side is the world before or the one after
-    pub either : (w : World) → IsEitherSide old q w → (w ≡ old.world) ⊎ ((w ≡ after) × Leads old q after)
+    pub either : (w : World) → IsEitherSide old q w → (w ≡ old.world) ⊎ ((w ≡ after) × Leads old.world q after)
     either w h = elim h [
       | inl before ↦ inl before
       | inr e ↦ by_verdict (verdict old.world old.sessions q) refl (e ∙ ap (λ o. o.state.world) (same_answer old.kind (state_of old) q false own))
     ]
       where
-        by_verdict : (o : Option Rule) → verdict old.world old.sessions q ≡ o → w ≡ (judged old.kind (state_of old) q o).state.world → (w ≡ old.world) ⊎ ((w ≡ after) × Leads old q after)
+        by_verdict : (o : Option Rule) → verdict old.world old.sessions q ≡ o → w ≡ (judged old.kind (state_of old) q o).state.world → (w ≡ old.world) ⊎ ((w ≡ after) × Leads old.world q after)
         by_verdict None k e = inr (e ∙ is, leads k)
         by_verdict (Some r) k e = inl e
 
@@ -101,8 +102,8 @@ module _ (c : Client) (old new : View) (q : Request) (a : ℕ) (after : World) (
   -- ---- whatever came of it
 
   module _ {X : Type 0} (told : Type 0) (now : told → IsValidNow old) (local : is_local q ≡ true) where
-    crash_by : (result : Result X FsRefusal) → AsksOnce told old new q result → told → LeavesOnly old new (λ w. (w ≡ old.world) ⊎ ((w ≡ after) × Leads old q after))
-    crash_by result once t = leaves_more old new (IsEitherSide old q) (λ w. (w ≡ old.world) ⊎ ((w ≡ after) × Leads old q after)) (either (now t) local) (once.crash t)
+    crash_by : (result : Result X FsRefusal) → AsksOnce told old new q result → told → LeavesOnly old new (λ w. (w ≡ old.world) ⊎ ((w ≡ after) × Leads old.world q after))
+    crash_by result once t = leaves_more old new (IsEitherSide old q) (λ w. (w ≡ old.world) ⊎ ((w ≡ after) × Leads old.world q after)) (either (now t) local) (once.crash t)
 
     pub step_ok : (x : X) → (told → Went c old new q a after) → AsksOnce told old new q (Ok x) → Steps told c old new q a after (Ok x)
     step_ok x h once = record {
@@ -134,7 +135,7 @@ pub blocks_are : (c : Client) (old new : View) (a count : ℕ) (bs : List ℕ) �
 blocks_are c old new a count bs done =
     let q = alloc_by c a count in
     let is : (answer old.kind (state_of old) q done.0).reply ≡ reply.Blocks (chosen old.kind old.world (At a) count) =
-    ap (λ o. o.reply) (same_answer old.kind (state_of old) q done.0 refl) ∙ ap (λ o. (judged old.kind (state_of old) q o).reply) (granted_by_form old new q (reply.Blocks bs) done refl) in
+        ap (λ o. o.reply) (same_answer old.kind (state_of old) q done.0 refl) ∙ ap (λ o. (judged old.kind (state_of old) q o).reply) (granted_by_form old new q (reply.Blocks bs) done refl) in
     same_blocks (sym done.2 ∙ is)
   where
     same_blocks : {x y : List ℕ} → reply.Blocks x ≡ reply.Blocks y → x ≡ y

@@ -48,16 +48,16 @@ no_room_in w blocks pairs = first_of (no_room w.geometry (free_count w) (length 
 
 -- What a request that is granted there leads to: a valid world of the same size. Inside a root it leaves what is outside, and what is
 -- named under a root stays where the request spares it.
-pub record Leads (old : View) (q : Request) (after : World) : Type 0 where
+pub record Leads (w : World) (q : Request) (after : World) : Type 0 where
   pub valid : IsValid after
-  pub geometry : after.geometry ≡ old.world.geometry
-  pub others : (root : ℕ) → root < old.world.geometry.primaries → IsTrue (is_inside old.world root q) → OthersStay root old.world after
-  pub keeps : (root : ℕ) (n : Named) → IsUnder old.world root n → IsTrue (spares n q) → Keeps old.world after n
+  pub geometry : after.geometry ≡ w.geometry
+  pub others : (root : ℕ) → root < w.geometry.primaries → IsTrue (is_inside w root q) → OthersStay root w after
+  pub keeps : (root : ℕ) (n : Named) → IsUnder w root n → IsTrue (spares n q) → Keeps w after n
 
 -- The world is the one after, and what was held for writing, or attained where it was asked, is held where the block is live.
 pub record Went (c : Client) (old new : View) (q : Request) (a : ℕ) (after : World) : Type 0 where
   pub world : new.world ≡ after
-  pub leads : Leads old q after
+  pub leads : Leads old.world q after
   pub valid : IsValidNow new
   pub ways : (s b : ℕ) → HoldsWrite (state_of old) s b → IsTrue (is_live after b) → HoldsWrite (state_of new) s b
   pub held : IsTrue (is_live after a) → HoldsWrite (state_of new) c.session a
@@ -68,7 +68,7 @@ pub record Steps {X : Type 0} (told : Type 0) (c : Client) (old new : View) (q :
   -- it was refused, and nothing has changed
   pub same : told → IfErr result (λ e. e ≢ no.Device → state_of new ≡ state_of old)
   -- a stop leaves the world before it or the one after it
-  pub crash : told → LeavesOnly old new (λ w. (w ≡ old.world) ⊎ ((w ≡ after) × Leads old q after))
+  pub crash : told → LeavesOnly old new (λ w. (w ≡ old.world) ⊎ ((w ≡ after) × Leads old.world q after))
   pub stays : OnAnswer result (Stays old new)
   pub counts : Counts old new
   pub unspent : OnAnswer result (new.spent ≡ false)

@@ -17,10 +17,11 @@ use Rattle.fs_trees.specs.InodeTree as inodes
 use Rattle.fs_laws.proofs.WayLaws.{ways_lead_on}
 use Rattle.fs_laws.proofs.MapLaws.{tree-at}
 use Rattle.fs_port.specs.View.{View, state_of}
-use Rattle.fs_port.specs.Calls.{IsValidNow}
+use Rattle.fs_port.specs.Calls.{IsValidNow, Stays}
 use Rattle.fs_asks.specs.declared.client.Client.{Client}
 use Rattle.fs_asks.specs.Client.{shown_at}
 use Rattle.fs_asks.specs.May.{MayWrite, Looked, Looks}
+use Rattle.fs_asks.proofs.LookLaws.{may_again}
 use Rattle.inode_layout.specs.declared.inode.Inode.{Inode}
 use Rattle.inode_layout.specs.declared.kind.InodeKind.{InodeKind}
 use Rattle.inode_layout.specs.declared.kind.InodeKind.TheVariants.{Directory, Regular}
@@ -133,12 +134,13 @@ pub found_long : (c : Client) (v : View) (more : ℕ) (found : Found) → Stands
 found_long c v more found stands now = let room = block_long v.world now.valid in let is = stands.whole in omega (arith, room, is)
 
 -- what stands there still does after a look
-pub stands_still : (c : Client) (old new : View) (more : ℕ) (found : Found) → Looked old new → Stands c old more found → Stands c new more found
-stands_still c old new more found seen stands = record {
+pub stands_still : (c : Client) (old new : View) (more : ℕ) (found : Found) → Looked old new → Stays old new → IsValidNow old → Stands c old more found → Stands c new more found
+stands_still c old new more found seen stays now stands = record {
   there = ap (λ w. is_there (node_at w (suc more) found.block)) seen.world ∙ stands.there;
   says = ap (λ w. inode_at w found.block) seen.world ∙ stands.says;
   pairs = λ a b h. ap (λ w. holds w.pairs a b) seen.world ∙ stands.pairs a b (ap (λ w. holds (node_pairs (node_at w (suc more) found.block)) a b) (sym seen.world) ∙ h);
   held = seen.ways c.session found.block stands.held;
+  may = may_again c old new found.block seen stays now stands.may;
   whole = stands.whole ∙ ap (λ w. block_len w.geometry) (sym seen.world);
 }
 

@@ -105,7 +105,7 @@ pub first_names : (read : ℕ → InodeNode) (es : List Entry) (xs : InodeEntrie
 first_names read [] xs h = let same : none ≡ xs = cc in ap names (sym same)
 first_names read (e ∷ es) xs h = by_first e.name (entry_names es) (read e.block) (entries_by read es) xs (λ zs k. first_names read es zs k) h
 
-tree_names : (w : World) (xs : InodeEntries) → names (tree_entries w xs) ≡ names xs
+pub tree_names : (w : World) (xs : InodeEntries) → names (tree_entries w xs) ≡ names xs
 tree_names w none = refl
 tree_names w (file n f rest) = ap (λ ns. n ∷ ns) (tree_names w rest)
 tree_names w (dir n b inside rest) = ap (λ ns. n ∷ ns) (tree_names w rest)

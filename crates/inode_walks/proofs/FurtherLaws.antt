@@ -33,7 +33,7 @@ there_is_inode w (suc more) b h = by_inode (inode_at w b) h
     by_inode None h = absurd (cc)
     by_inode (Some i) h = refl
 
-a_level : (w : World) (more b : ℕ) → is_there (node_at w more b) ≡ true → (less : ℕ) × (more ≡ suc less)
+pub a_level : (w : World) (more b : ℕ) → is_there (node_at w more b) ≡ true → (less : ℕ) × (more ≡ suc less)
 a_level w zero b h = absurd (cc)
 a_level w (suc more) b h = (more, refl)
 
@@ -84,8 +84,8 @@ module _ (c : Client) (v : View) (more : ℕ) (dir : Found) (stands : Stands c v
     }
 
     -- what was read there stands there
-    pub further : (new : View) (found : Found) → Looked v new → found.block ≡ b → inode_at v.world b ≡ Some (inode_of found.inode) → block_len_of found.inode ≡ block_len v.world.geometry → HoldsWrite (state_of new) c.session b → IsFurther c v new more dir n found
-    further new found seen block is whole held =
+    pub further : (new : View) (found : Found) → Looked v new → found.block ≡ b → inode_at v.world b ≡ Some (inode_of found.inode) → block_len_of found.inode ≡ block_len v.world.geometry → HoldsWrite (state_of new) c.session b → MayWrite c new b → IsFurther c v new more dir n found
+    further new found seen block is whole held may =
         let level = a_level v.world more b child_there in
         let same : node_at v.world more b ≡ node_at new.world (suc level.0) found.block =
         ap (λ k. node_at v.world k b) level.1 ∙ (ap (λ w. node_at w (suc level.0) b) (sym seen.world) ∙ ap (node_at new.world (suc level.0)) (sym block)) in
@@ -99,6 +99,7 @@ module _ (c : Client) (v : View) (more : ℕ) (dir : Found) (stands : Stands c v
             pairs = λ x y h. ap (λ w. holds w.pairs x y) seen.world
                 ∙ stands.pairs x y (child_pairs v.world more dir.block stands.there n list x y says (ap (λ z. holds (node_pairs z) x y) (child_is ∙ same) ∙ h));
             held = ap_held (sym block) held;
+            may = subst (MayWrite c new) (sym block) may;
             whole = whole ∙ ap (λ w. block_len w.geometry) (sym seen.world);
           };
         }
@@ -128,9 +129,9 @@ module _ (c : Client) (v : View) (more : ℕ) (dir : Found) (stands : Stands c v
 
 module _ (c : Client) (v new : View) (more : ℕ) (dir : Found) (stands : Stands c v more dir) (n : Name) (b : ℕ) (said : block_said n (inode_of dir.inode) ≡ Ok b) where
   pub further_read : (result : Result Found FsRefusal) → IfOk result (λ found. found.block ≡ b) → IfOk result (λ found. inode_at v.world b ≡ Some (inode_of found.inode)) → IfOk result (λ found. block_len_of found.inode ≡ block_len v.world.geometry)
-      → OnOk result (HoldsWrite (state_of new) c.session b) → OnOk result (Looked v new) → IfOk result (IsFurther c v new more dir n)
-  further_read (Ok found) block is whole held seen = further c v more dir stands n b said new found seen block is whole held
-  further_read (Err e) block is whole held seen = tt
+      → OnOk result (HoldsWrite (state_of new) c.session b) → OnOk result (MayWrite c new b) → OnOk result (Looked v new) → IfOk result (IsFurther c v new more dir n)
+  further_read (Ok found) block is whole held may seen = further c v more dir stands n b said new found seen block is whole held may
+  further_read (Err e) block is whole held may seen = tt
 
 -- a fault leads nowhere else
 pub only_faults : (result : Result Found FsRefusal) (P : FsRefusal → Type 0) → IfErr result (λ e. e ≡ no.Device) → IfErr result (λ e. e ≢ no.Device → P e)
@@ -145,3 +146,8 @@ no_fault n (directory es) e h d = by_name (block_named n es) h d
     by_name None h d = let is : no.NoEntry ≡ e = cc in cc
     by_name (Some b) h d = absurd (cc)
 no_fault n (regular size blocks) e h d = let is : no.NotDir ≡ e = cc in cc
+
+-- what follows from two facts of an answer
+pub on_both : {X : Type 0} (result : Result X FsRefusal) (P Q R : Type 0) → (P → Q → R) → OnOk result P → OnOk result Q → OnOk result R
+on_both (Ok x) P Q R f h k = f h k
+on_both (Err e) P Q R f h k = tt

@@ -145,8 +145,8 @@ root_may told c v t may sound = record {
 
 -- and it was read as what stands at no names
 pub walk_begins : (c : Client) (first now : View) (names : Path) (found : Found) → is_there (tree_of c first) ≡ true → Looked first now → found.block ≡ c.root → inode_at first.world c.root ≡ Some (inode_of found.inode)
-    → block_len_of found.inode ≡ block_len first.world.geometry → HoldsWrite (state_of now) c.session c.root → IsWalking c first now names 0 found
-walk_begins c first now names found there seen block says whole held =
+    → block_len_of found.inode ≡ block_len first.world.geometry → HoldsWrite (state_of now) c.session c.root → MayWrite c now c.root → IsWalking c first now names 0 found
+walk_begins c first now names found there seen block says whole held may =
     let root = root_stands first.world c.root there in
     let same : node_at first.world (suc path_max) c.root ≡ node_at now.world (suc path_max) found.block =
     ap (λ w. node_at w (suc path_max) c.root) (sym seen.world) ∙ ap (node_at now.world (suc path_max)) (sym block) in
@@ -158,6 +158,7 @@ walk_begins c first now names found there seen block says whole held =
         says = ap (inode_at now.world) block ∙ (ap (λ w. inode_at w c.root) seen.world ∙ says);
         pairs = λ a b h. ap (λ w. holds w.pairs a b) seen.world ∙ root.2 a b (ap (λ x. holds (node_pairs x) a b) same ∙ h);
         held = subst (HoldsWrite (state_of now) c.session) (sym block) held;
+        may = subst (MayWrite c now) (sym block) may;
         whole = whole ∙ ap (λ w. block_len w.geometry) (sym seen.world);
       };
       node = ap (λ w. inodes_under w c.root) seen.world ∙ (root.0 ∙ same);

@@ -15,6 +15,7 @@ use Rattle.inode_layout.specs.Said.{entries_said}
 use Rattle.fs_laws.specs.Ways.{HoldsWrite}
 use Rattle.fs_port.specs.View.{View, state_of}
 use Rattle.fs_asks.specs.declared.client.Client.{Client}
+use Rattle.fs_asks.specs.May.{MayWrite}
 use Rattle.inode_walks.specs.declared.finding.Found.{Found}
 use Rattle.inode_walks.specs.declared.finding.Place.{Place}
 
@@ -31,6 +32,7 @@ pub record Stands (c : Client) (v : View) (more : ℕ) (found : Found) : Type 0 
   pub says : inode_at v.world found.block ≡ Some (inode_of found.inode)
   pub pairs : (a b : ℕ) → IsTrue (holds (node_pairs (node_at v.world (suc more) found.block)) a b) → IsTrue (holds v.world.pairs a b)
   pub held : HoldsWrite (state_of v) c.session found.block
+  pub may : MayWrite c v found.block
   pub whole : block_len_of found.inode ≡ block_len v.world.geometry
 
 abbrev pub IsStanding : Client → View → Found → Type 0

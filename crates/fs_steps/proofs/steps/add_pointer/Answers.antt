@@ -1,4 +1,4 @@
-use Rattle.std.proofs.Common.{◌&&◌, ◌==◌, refl}
+use Rattle.std.proofs.Common.{◌≡◌, true, false, ◌&&◌, ◌||◌, ◌==◌, refl, Option, None}
 use Rattle.std.proofs.lemmas.Bool.{eq-eqb, and_from, or_left}
 use Rattle.tsd_model.specs.declared.replies.Reply.TheVariants as reply
 use Rattle.fs_laws.specs.Ways.{attains_write}

@@ -1,4 +1,4 @@
-use Rattle.std.proofs.Common.{refl}
+use Rattle.std.proofs.Common.{◌≡◌, true, refl, sym, ◌∙◌, ap, Option, None}
 use Rattle.std.proofs.lemmas.Bool.{eq-eqb}
 use Rattle.tsd_model.specs.declared.replies.Reply.TheVariants as reply
 use Rattle.fs_laws.specs.Ways.{attains_write}

@@ -1,6 +1,8 @@
-use Rattle.std.proofs.Common.{refl}
+use Rattle.std.proofs.Common.{◌≡◌, true, refl, Option, None}
 use Rattle.std.proofs.lemmas.Bool.{eq-eqb}
+use Rattle.tsd_model.specs.Verdict.{verdict}
 use Rattle.tsd_model.specs.declared.replies.Reply.TheVariants as reply
+use Rattle.tsd_model.specs.declared.replies.Rule.{Rule}
 use Rattle.fs_laws.specs.Ways.{attains_write}
 use Rattle.fs_port.specs.View.{state_of}
 use Rattle.fs_asks.specs.Client.{shown_at, write_by}

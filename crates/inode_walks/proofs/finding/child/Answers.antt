@@ -1,7 +1,9 @@
 use Rattle.std.proofs.Common.{sym}
-use Rattle.fs_asks.proofs.LookLaws.{no_look, looks_but_refuses}
+use Rattle.fs_asks.proofs.LookLaws.{may_again, no_look, looks_but_refuses}
+use Rattle.fs_port.specs.Calls.{Stays}
+use Rattle.fs_asks.specs.May.{MayWrite, Looked}
 use Rattle.inode_layout.specs.Block.{inode_of}
-use Rattle.inode_walks.proofs.FurtherLaws.{may_read, has_inode, further_read, lost, no_fault, only_faults}
+use Rattle.inode_walks.proofs.FurtherLaws.{may_read, on_both, has_inode, further_read, lost, no_fault, only_faults}
 use Rattle.inode_walks.proofs.finding.child.Goals as goal
 
 pub read_inode-requires-clause-may : goal.read_inode-requires-clause-may
@@ -19,7 +21,11 @@ returns-in-Ok g c =
     let result = c.read_inode.result in
     record {
       further = λ t more stands. further_read c.args.client.now old new more c.args.directory.now stands c.args.name.now c.in-Ok.block (sym c.in-Ok.ensures) result
-          c.read_inode.ensures.block (c.read_inode.ensures.says t) (c.read_inode.ensures.whole t) (c.read_inode.ensures.held t) (c.read_inode.ensures.looks.looked t).0;
+          c.read_inode.ensures.block (c.read_inode.ensures.says t) (c.read_inode.ensures.whole t) (c.read_inode.ensures.held t)
+          (on_both result (Looked old new) (Stays old new) (MayWrite c.args.client.now new c.in-Ok.block) (λ seen stays. may_again c.args.client.now old new c.in-Ok.block seen stays (c.requires.valid t)
+          (may_read c.args.client.now old more c.args.directory.now stands c.args.name.now c.in-Ok.block (sym c.in-Ok.ensures) (c.requires.valid t) (c.requires.session t)))
+          (c.read_inode.ensures.looks.looked t).0 c.read_inode.ensures.looks.stays.0)
+          (c.read_inode.ensures.looks.looked t).0;
       lost = λ t more ns stands. only_faults result _ (c.read_inode.ensures.only t);
       looks = c.read_inode.ensures.looks;
     }

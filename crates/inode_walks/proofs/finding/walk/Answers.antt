@@ -1,5 +1,5 @@
 use Rattle.std.proofs.Common.{Ok, Err}
-use Rattle.fs_asks.proofs.LookLaws.{looks_as, then_looks}
+use Rattle.fs_asks.proofs.LookLaws.{may_again, looks_as, then_looks}
 use Rattle.inode_walks.proofs.WalkingLaws.{root_may, root_inode, walk_begins, walks_on, walk_ends, walk_arrives, nothing_missing, still_open}
 use Rattle.inode_walks.proofs.finding.walk.Goals as goal
 
@@ -20,7 +20,9 @@ loop-name-init g c =
     let e = c.in-Ok.ensures in
     record {
       looks = looks_as told first now c.in-Ok.root tt e.looks;
-      walking = λ t. walk_begins c.args.client.now first now c.args.names.now c.in-Ok.root (c.requires.may.tree t) (e.looks.looked t).0 e.block (e.says t) (e.whole t) (e.held t);
+      walking = λ t. walk_begins c.args.client.now first now c.args.names.now c.in-Ok.root (c.requires.may.tree t) (e.looks.looked t).0 e.block (e.says t) (e.whole t) (e.held t)
+          (may_again c.args.client.now first now c.args.client.now.root (e.looks.looked t).0 e.looks.stays.0 (c.requires.may.valid t)
+          (root_may told c.args.client.now first t c.requires.may (g.met.K.Blocks.sound c.args.disk.now t c.requires.may.ready.unspent)));
     }
 
 pub returns-in-Err : goal.returns-in-Err

@@ -31,7 +31,7 @@ loop-at-preserved g c =
     let next = c.in-Ok.next in
     record {
       looks = then_looks told first cur new tt (Ok tt) inv.looks (looks_as told cur new next tt e.looks);
-      stands = λ t. let s = inv.stands t in (s.0, stands_still c.args.client.now cur new s.0 c.args.file.now (e.looks.looked t).0 s.1);
+      stands = λ t. let s = inv.stands t in (s.0, stands_still c.args.client.now cur new s.0 c.args.file.now (e.looks.looked t).0 e.looks.stays.0 (inv.looks.looked t).0.valid s.1);
       low = omega (arith, inv.low, e.next.0);
       high = e.next.1;
       came = λ t.

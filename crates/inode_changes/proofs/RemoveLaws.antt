@@ -1,0 +1,268 @@
+-- A removal, from the entry that was found to the last request.
+use Rattle.std.proofs.Common.{◌≡◌, ◌≢◌, ℕ, zero, suc, ◌+◌, ◌*◌, ◌<◌, ◌≤◌, Bool, true, false, not, cond, ◌&&◌, ◌==◌, nat_lt, nat_le, List, [], ◌∷◌, ◌++◌, length, refl, sym, ◌∙◌, ap, subst, arith, inl, inr, ◌⊎◌, Option, Some, None, length-append}
+use Rattle.std.proofs.lemmas.Bool.{and_from, and_parts, eq-eqb}
+use Rattle.std.proofs.lemmas.Bool.Decides.{nat_tests}
+use Rattle.std.specs.Prelude.{is_some, flat_map, slice_get}
+use Rattle.std.specs.List.{list_all}
+use Rattle.tsd_model.specs.Geometry.{block_len}
+use Rattle.tsd_model.specs.World.{World, is_live, is_free, free_count, has_number}
+use Rattle.tsd_model.specs.Pairs.{holds}
+use Rattle.tsd_model.specs.Sessions.{level_le, level_from}
+use Rattle.tsd_model.specs.Valid.{IsValid}
+use Rattle.tsd_model.specs.declared.requests.Level.TheVariants as level
+use Rattle.tsd_model.specs.declared.requests.Level.{Level}
+use Rattle.tsd_model.specs.Attained.{record_level, shown_level}
+use Rattle.tsd_model.specs.Records.{kept_of}
+use Rattle.tsd_model.specs.declared.caps.Shown.{Shown}
+use Rattle.tsd_model.specs.declared.caps.Shown.TheVariants.{Nothing, Key}
+use Rattle.fs_laws.specs.Outside.{is_inside}
+use Rattle.fs_laws.specs.Stays.{Keeps}
+use Rattle.disk_laws.proofs.AttainedLaws.{attained_where}
+use Rattle.disk_laws.proofs.ChangeLaws.{live-with_contents}
+use Rattle.fs_trees.specs.Names.{Name, Path, name_max, is_name_byte, is_reserved, is_name}
+use Rattle.fs_trees.specs.Tree.{nothing, at, is_there, names_in, with_at}
+use Rattle.fs_trees.specs.Fields.{Entry, entry_bytes, entry_names, all_named}
+use Rattle.fs_trees.specs.Inode.{Inode, directory, entries_room, block_named, without_listed, inode_bytes}
+use Rattle.fs_trees.specs.InodeTree.{inode_at, node_at, inode_tree}
+use Rattle.fs_trees.specs.Layouts.{named_at, IsTidy}
+use Rattle.fs_trees.specs.Needs.{need_of}
+use Rattle.fs_trees.specs.Outside.{is_under, OthersStay}
+use Rattle.fs_trees.specs.Refusals.{directory_of}
+use Rattle.fs_trees.specs.declared.ask.ShellAsk.TheVariants as ask
+use Rattle.fs_trees.specs.declared.ask.ShellKind.TheVariants as kind
+use Rattle.fs_trees.specs.declared.refusal.FsRefusal.{FsRefusal}
+use Rattle.fs_trees.specs.declared.refusal.FsRefusal.TheVariants as no
+use Rattle.fs_laws.specs.Ways.{HoldsWrite}
+use Rattle.fs_laws.proofs.InodeLaws.{inodes_under_root}
+use Rattle.fs_laws.proofs.OutsideLaws.{outside_twice}
+use Rattle.fs_port.specs.View.{View, state_of}
+use Rattle.fs_port.specs.Calls.{IsValidNow, Stays}
+use Rattle.fs_port.specs.Files.{IsEitherTree, LeavesWorld}
+use Rattle.fs_asks.specs.declared.client.Client.{Client}
+use Rattle.fs_asks.specs.Client.{shown_at, write_by, unlink_by}
+use Rattle.fs_asks.specs.May.{MayWrite, Looked}
+use Rattle.fs_asks.proofs.LookLaws.{may_again}
+use Rattle.fs_steps.specs.Steps.{Leads, Went, written, dropped}
+use Rattle.inode_layout.specs.Block.{inode_of}
+use Rattle.inode_layout.specs.Said.{is_directory, entries_said, blocks_said}
+use Rattle.inode_layout.proofs.ListedLaws.{entry_length}
+use Rattle.inode_walks.specs.declared.finding.Place.{Place}
+use Rattle.inode_walks.specs.Asking.{tree_of, mounted_by}
+use Rattle.inode_walks.specs.Finding.{IsPlace, no_place_found}
+use Rattle.inode_changes.proofs.SpotLaws.{Spot, spot_of, live, order}
+use Rattle.inode_changes.proofs.ListingLaws.{named_without, length_without}
+use Rattle.inode_changes.proofs.RemovalLaws as removal
+use Rattle.inode_changes.proofs.RunLaws.{as_before}
+use Rattle.inode_changes.proofs.AskLaws.{refused_on, after_is, rm_none, old_there, entries_at}
+
+-- ---- how long a directory's bytes are
+
+name_fits : (n : Name) → is_name n ≡ true → length n ≤ 28
+name_fits n h =
+    let a = nat_le 1 (length n) in
+    let b = nat_le (length n) name_max in
+    let front = (and_parts (a && b && list_all is_name_byte n) (not (is_reserved n)) h).0 in
+    let short : b ≡ true = (and_parts a b (and_parts (a && b) (list_all is_name_byte n) front).0).1 in
+    grind (arith, nat_tests)
+
+listed_length : (es : List Entry) → all_named es ≡ true → length (flat_map entry_bytes es) ≡ 32 * length es
+listed_length [] h = refl
+listed_length (e ∷ es) h =
+    let parts = and_parts (is_name e.name) (all_named es) h in
+    let here = entry_length e (name_fits e.name parts.0) in
+    let later = listed_length es parts.1 in
+    let both = length-append (entry_bytes e) (flat_map entry_bytes es) in
+    omega (arith, here, later, both)
+
+pub directory_length : (es : List Entry) → all_named es ≡ true → length (inode_bytes (directory es)) ≡ 16 + 32 * length es
+directory_length es h = let list = listed_length es h in omega (arith, list)
+
+-- ---- what may be written after a step
+
+-- a block that is live still, and the sources of its pairs
+pub may_still : (c : Client) (old new : View) (b : ℕ) → new.world.geometry ≡ old.world.geometry → new.world.version ≡ old.world.version → new.world.records ≡ old.world.records
+    → ((a : ℕ) → holds old.world.pairs a b ≡ true → holds new.world.pairs a b ≡ true) → ((s a : ℕ) → HoldsWrite (state_of old) s a → HoldsWrite (state_of new) s a) → is_live new.world b ≡ true → Stays old new → MayWrite c old b → MayWrite c new b
+may_still c old new b size version records pairs ways lives stays may = record {
+  number = may.number;
+  begun = stays.sessions c.session ∙ may.begun;
+  live = lives;
+  attains = (attained_where new.world new.sessions c.session b (shown_at c b) level.Write refl).1
+      (elim ((attained_where old.world old.sessions c.session b (shown_at c b) level.Write refl).0 may.attains) [
+        | inl shown ↦ inl (subst (λ g. b < g.primaries) (sym size) shown.0, ap (level_le level.Write) (shown_same (shown_at c b)) ∙ shown.1)
+        | inr held ↦ inr (
+            let way = ways c.session held.1.0 (held.1.1, held.1.3, held.1.4) in
+            (subst (λ g. g.primaries ≤ b) (sym size) held.0, (held.1.0, way.0, pairs held.1.0 held.1.2, way.1, way.2)))
+      ]);
+}
+  where
+    shown_same : (x : Shown) → shown_level new.world b x ≡ shown_level old.world b x
+    shown_same Nothing = refl
+    shown_same (Key k) = ap (λ rs. record_level (slice_get rs b) (kept_of new.world.version k)) records ∙ ap (λ n. record_level (slice_get old.world.records b) (kept_of n k)) version
+
+-- ---- an entry that is to be taken out
+
+-- it was found, and what it names was read
+pub record Taking (c : Client) (first mid rd : View) (path : Path) (place : Place) (b : ℕ) : Type 0 where
+  pub valid : IsValid first.world
+  pub tree : is_there (tree_of c first) ≡ true
+  pub primary : c.root < first.world.geometry.primaries
+  pub seen : Looked first mid
+  pub is_dir : is_directory (inode_of place.directory.inode) ≡ true
+  pub place_is : IsPlace c mid path place
+  pub some : place.old ≡ Some b
+  pub found : ◌≡◌ {A = Option FsRefusal} (no_place_found (tree_of c first) path no.IsDir) None
+  pub read : Looked mid rd
+  pub stays : Stays mid rd
+
+module _ (c : Client) (first mid rd : View) (path : Path) (place : Place) (b : ℕ) (x : Taking c first mid rd path place b) where
+  abbrev es : List Entry
+  es = entries_said (inode_of place.directory.inode)
+
+  abbrev n : Name
+  n = place.name.now
+
+  abbrev d : ℕ
+  d = place.directory.block
+
+  abbrev p : Path
+  p = directory_of path
+
+  pub same : rd.world ≡ first.world
+  same = x.read.world ∙ x.seen.world
+
+  spot : Spot rd.world c.root p d es
+  spot = subst (λ w. Spot w c.root p d es) (sym x.read.world) (spot_of c mid path place (ap (λ w. is_there (inode_tree w c.root)) x.seen.world ∙ x.tree) x.is_dir x.place_is)
+
+  listed : block_named n es ≡ Some b
+  listed = sym x.place_is.old ∙ x.some
+
+  primary_rd : c.root < rd.world.geometry.primaries
+  primary_rd = subst (λ w. c.root < w.geometry.primaries) (sym same) x.primary
+
+  valid_rd : IsValid rd.world
+  valid_rd = x.read.valid.valid
+
+  pub may_write : MayWrite c rd d
+  may_write = may_again c mid rd d x.read x.stays x.seen.valid x.place_is.above.stands.may
+
+  abbrev bytes : List ℕ
+  bytes = inode_bytes (directory (without_listed n es))
+
+  pub fits : length (inode_bytes (directory (without_listed place.name.now (entries_said (inode_of place.directory.inode))))) ≤ block_len rd.world.geometry
+  fits =
+      let long = directory_length (without_listed n es) (named_without n es (order rd.world c.root p d es spot valid_rd).0) in
+      let less = length_without n es in
+      let head = big rd.world.geometry.sectors valid_rd.raw.sized.lawful.sectors in
+      omega (arith, long, less, spot.room, head)
+    where
+      big : (k : ℕ) → (k ≡ 1) ⊎ (k ≡ 2) ⊎ (k ≡ 4) ⊎ (k ≡ 8) → 16 ≤ 512 * k
+      big k h = elim h [ inl one ↦ omega (arith, one) | inr more ↦ elim more [ inl two ↦ omega (arith, two) | inr most ↦ elim most [ inl four ↦ omega (arith, four) | inr eight ↦ omega (arith, eight) ] ] ]
+
+  -- ---- the deciding write
+
+  abbrev next : World
+  next = written rd.world d bytes
+
+  inside : is_inside rd.world c.root (write_by c d bytes) ≡ true
+  inside = and_from (is_under rd.world c.root d) true (removal.dir_under rd.world c.root p d es spot valid_rd primary_rd n) refl
+
+  -- the tree with it
+  tree_next : inode_tree next c.root ≡ with_at path nothing (tree_of c first)
+  tree_next = removal.tree_next rd.world c.root p d es spot valid_rd primary_rd n
+      ∙ (ap (λ q. with_at q nothing (inode_tree rd.world c.root)) (sym x.place_is.name) ∙ ap (λ w. with_at path nothing (inode_tree w c.root)) same)
+
+  module _ (there : is_there (node_at mid.world x.place_is.above.more b) ≡ true) (k : Inode) (is : inode_at mid.world b ≡ Some k) (empty : (is_directory k && nat_lt 0 (length (blocks_said k))) ≡ false) where
+    -- nothing refuses it
+    pub none_refuses : ◌≡◌ {A = Option FsRefusal} (refused_on c first (ask.Rm path)) None
+    none_refuses = rm_none first.world.geometry (tree_of c first) (free_count first.world) (length first.world.pairs) (need_of kind.Inode first.world c.root (tree_of c first) (ask.Rm path)) x.tree path x.found
+        (ap (λ w. is_there (at (inode_tree w c.root) path)) (sym x.seen.world) ∙ old_there c mid path place x.is_dir x.place_is b x.some there k is)
+        (ap (λ w. nat_lt 0 (length (names_in (at (inode_tree w c.root) path)))) (sym x.seen.world) ∙ (entries_at c mid path place x.is_dir x.place_is b x.some there k is ∙ empty))
+
+    after : (w : World) → inode_tree w c.root ≡ with_at path nothing (tree_of c first) → IsValid w → w.geometry ≡ rd.world.geometry → OthersStay c.root rd.world w → IsEitherTree (mounted_by c) first (ask.Rm path) w
+    after w tree valid size others = (inr (tree ∙ sym (after_is c first (ask.Rm path) none_refuses refl)), record {
+      valid = valid;
+      geometry = size ∙ ap (λ v. v.geometry) same;
+      others = subst (λ v. OthersStay c.root v w) same others;
+    })
+
+    pub stop_at_write : (w : World) → (w ≡ rd.world) ⊎ ((w ≡ written rd.world d bytes) × Leads rd.world (write_by c d bytes) (written rd.world d bytes)) → IsEitherTree (mounted_by c) first (ask.Rm path) w
+    stop_at_write w (inl before) = as_before c first (ask.Rm path) w x.valid (before ∙ same)
+    stop_at_write w (inr h) = subst (IsEitherTree (mounted_by c) first (ask.Rm path)) (sym h.0)
+        (after next tree_next h.1.valid h.1.geometry (h.1.others c.root primary_rd inside))
+
+    module _ (wr : View) (went : Went c rd wr (write_by c d bytes) d (written rd.world d bytes)) (stays_wr : Stays rd wr) where
+      live_next : (a : ℕ) → is_live rd.world a ≡ true → is_live next a ≡ true
+      live_next a h = live-with_contents rd.world d a _ h
+
+      pub may_drop : MayWrite c wr d
+      may_drop = may_still c rd wr d (ap (λ w. w.geometry) went.world) (ap (λ w. w.version) went.world) (ap (λ w. w.records) went.world) (λ a h. ap (λ w. holds w.pairs a d) went.world ∙ h)
+          (λ s a held. went.ways s a held (live_next a (held_live s a held)))
+          (ap (λ w. is_live w d) went.world ∙ live_next d (live rd.world c.root p d es spot valid_rd)) stays_wr may_write
+        where
+          held_live : (s a : ℕ) → HoldsWrite (state_of rd) s a → is_live rd.world a ≡ true
+          held_live s a held = elim (x.read.valid.fits.live s held.0 a) [
+            | inl bare ↦ absurd (no_write (level_from rd.sessions s held.0 a) bare held.2)
+            | inr lives ↦ lives
+          ]
+            where
+              no_write : (l : Level) → l ≡ level.Bare → level_le level.Write l ≡ true → ⊥
+              no_write level.Bare e h = cc
+              no_write level.Read e h = cc
+              no_write level.Write e h = cc
+
+      pub pair_held : holds wr.world.pairs d b ≡ true
+      pair_held = ap (λ w. holds w.pairs d b) went.world ∙ removal.old_held rd.world c.root p d es spot valid_rd primary_rd n went.leads.valid b listed
+
+      -- ---- letting go
+
+      abbrev last : World
+      last = dropped next d b
+
+      inside_next : is_inside next c.root (unlink_by c d b) ≡ true
+      inside_next = and_from (is_under next c.root d) _ (removal.dir_under_next rd.world c.root p d es spot valid_rd primary_rd n went.leads.valid)
+          (and_from (is_under next c.root b) true (removal.old_under rd.world c.root p d es spot valid_rd primary_rd n went.leads.valid b listed) refl)
+
+      module _ (leads : Leads next (unlink_by c d b) last) where
+        keeps : Keeps next last (named_at kind.Inode next c.root)
+        keeps = leads.keeps c.root (named_at kind.Inode next c.root) (inodes_under_root next c.root primary_rd (removal.there_next rd.world c.root p d es spot valid_rd primary_rd n))
+            (ap not (removal.old_spared rd.world c.root p d es spot valid_rd primary_rd n went.leads.valid b listed))
+
+        tree_last : inode_tree last c.root ≡ with_at path nothing (tree_of c first)
+        tree_last = (removal.same_last rd.world c.root p d es spot valid_rd primary_rd n went.leads.valid b listed keeps leads.valid).tree ∙ tree_next
+
+        others_last : OthersStay c.root rd.world last
+        others_last = outside_twice c.root rd.world next last (went.leads.others c.root primary_rd inside) (leads.others c.root primary_rd inside_next)
+
+        at_last_world : IsEitherTree (mounted_by c) first (ask.Rm path) last
+        at_last_world = after last tree_last leads.valid (leads.geometry ∙ went.leads.geometry) others_last
+
+      on_next : (w : World) → Leads wr.world (unlink_by c d b) w → w ≡ dropped wr.world d b → Leads next (unlink_by c d b) last
+      on_next w leads e = subst (λ v. Leads v (unlink_by c d b) (dropped v d b)) went.world (subst (Leads wr.world (unlink_by c d b)) e leads)
+
+      to_last : dropped wr.world d b ≡ last
+      to_last = ap (λ v. dropped v d b) went.world
+
+      pub stop_at_drop : (w : World) → (w ≡ wr.world) ⊎ ((w ≡ dropped wr.world d b) × Leads wr.world (unlink_by c d b) (dropped wr.world d b)) → IsEitherTree (mounted_by c) first (ask.Rm path) w
+      stop_at_drop w (inl before) = subst (IsEitherTree (mounted_by c) first (ask.Rm path)) (sym (before ∙ went.world))
+          (after next tree_next went.leads.valid went.leads.geometry (went.leads.others c.root primary_rd inside))
+      stop_at_drop w (inr h) = subst (IsEitherTree (mounted_by c) first (ask.Rm path)) (sym (h.0 ∙ to_last)) (at_last_world (on_next (dropped wr.world d b) h.1 refl))
+
+      module _ (fin : View) (gone : Went c wr fin (unlink_by c d b) d (dropped wr.world d b)) (unspent : fin.spent ≡ false) where
+        leads_last : Leads next (unlink_by c d b) last
+        leads_last = on_next (dropped wr.world d b) gone.leads refl
+
+        fin_is : fin.world ≡ last
+        fin_is = gone.world ∙ to_last
+
+        pub tree_fin : tree_of c fin ≡ with_at path nothing (tree_of c first)
+        tree_fin = ap (λ w. inode_tree w c.root) fin_is ∙ tree_last leads_last
+
+        pub left_fin : LeavesWorld (mounted_by c) first fin
+        left_fin = record {
+          unspent = unspent;
+          tidy = λ tidy. subst (λ w. IsTidy kind.Inode w c.root) (sym fin_is)
+              (removal.tidy_last rd.world c.root p d es spot valid_rd primary_rd n went.leads.valid b listed (keeps leads_last) leads_last.valid (subst (λ w. IsTidy kind.Inode w c.root) (sym same) tidy));
+          others = subst (OthersStay c.root first.world) (sym fin_is) (subst (λ v. OthersStay c.root v last) same (others_last leads_last));
+          taken = λ a free lives. absurd (removal.none_taken rd.world c.root p d es spot valid_rd primary_rd n went.leads.valid b listed (keeps leads_last) leads_last.valid a
+              (ap (λ w. is_free w a) same ∙ free) (ap (λ w. is_live w a) (sym fin_is) ∙ lives));
+        }
