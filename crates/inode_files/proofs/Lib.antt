@@ -1,2 +1,3 @@
 pub mod NewLaws
 pub mod MakingLaws
+pub mod BackLaws
