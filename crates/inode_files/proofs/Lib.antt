@@ -1,3 +1,4 @@
 pub mod NewLaws
 pub mod MakingLaws
 pub mod BackLaws
+pub mod DecideLaws
