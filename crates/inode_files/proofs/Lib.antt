@@ -2,3 +2,5 @@ pub mod NewLaws
 pub mod MakingLaws
 pub mod BackLaws
 pub mod DecideLaws
+pub mod FillLaws
+pub mod RoomLaws

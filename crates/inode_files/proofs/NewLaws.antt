@@ -1,7 +1,9 @@
 -- New blocks of a world: which are chosen, and the world with them.
-use Rattle.std.proofs.Common.{◌≡◌, ℕ, zero, suc, ◌+◌, ◌<◌, ◌≤◌, Bool, true, false, not, cond, ◌&&◌, ◌||◌, ◌==◌, nat_lt, List, [], ◌∷◌, length, min, refl, sym, ◌∙◌, ap, subst, arith, inl, inr, ◌⊎◌, Option, Some, None}
+use Rattle.std.proofs.Common.{◌≡◌, ℕ, zero, suc, ◌+◌, ◌<◌, ◌≤◌, Bool, true, false, not, cond, ◌&&◌, ◌||◌, ◌==◌, nat_lt, nat_le, List, [], ◌∷◌, length, min, refl, sym, ◌∙◌, ap, subst, arith, inl, inr, ◌⊎◌, Option, Some, None}
 use Rattle.std.proofs.lemmas.Bool.{and_parts, and_from, or_cases, or_left, or_right, eq-eqb, eqb-true, not-true, ltb-true, lt-ltb}
-use Rattle.std.proofs.lemmas.List.{length-take, length-set}
+use Rattle.std.proofs.lemmas.List.{length-take, length-set, ext_get_or}
+use Rattle.std.proofs.lemmas.List.FromFn.{length-map-range_with_len, get_or-map-range_with_len}
+use Rattle.std.proofs.lemmas.List.Sums.{sum_by-cons}
 use Rattle.std.specs.Prelude.{is_some, is_none, count_by, take, filter, map}
 use Rattle.std.specs.List.{list_all, list_any, range_with_len}
 use Rattle.tsd_model.specs.World.{World, contents, is_live, is_free, free_count, all_blocks, has_number}
@@ -15,7 +17,7 @@ use Rattle.tsd_model.specs.declared.requests.PlaceKind.{PlaceKind}
 use Rattle.tsd_model.proofs.PairLaws.{holds-with_pair, length-with_new_pair}
 use Rattle.disk_laws.proofs.ChangeLaws.{contents-other, contents-same, AllOf, AllFree, chosen_are_free}
 use Rattle.disk_laws.proofs.StayLaws.{live-new_blocks}
-use Rattle.disk_laws.proofs.GraphLaws.{has_number-filter}
+use Rattle.disk_laws.proofs.GraphLaws.{has_number-filter, has_number-range}
 use Rattle.fs_trees.specs.Inode.{are_apart}
 use Rattle.fs_laws.proofs.CountLaws.{times, apart_times, times_apart}
 
@@ -130,3 +132,55 @@ holds_new a (b ∷ bs) w x y =
     turned true false u = refl
     turned false true u = refl
     turned false false u = refl
+
+-- ---- what is chosen where enough is free
+
+length-in_order : (rank : ℕ → ℕ) (b : ℕ) (bs : List ℕ) → length (in_rank_order rank b bs) ≡ suc (length bs)
+length-in_order rank b [] = refl
+length-in_order rank b (c ∷ cs) = elim (nat_lt (rank b) (rank c)) as (λ t. length (cond t (b ∷ c ∷ cs) (c ∷ in_rank_order rank b cs)) ≡ suc (suc (length cs))) [
+  | true ↦ refl
+  | false ↦ ap suc (length-in_order rank b cs)
+]
+
+length-sorted : (rank : ℕ → ℕ) (bs : List ℕ) → length (sorted_by_rank rank bs) ≡ length bs
+length-sorted rank [] = refl
+length-sorted rank (b ∷ bs) = length-in_order rank b (sorted_by_rank rank bs) ∙ ap suc (length-sorted rank bs)
+
+free_listed : (w : World) → free_count w ≡ length (free_blocks w)
+free_listed w = ap (count_by is_none) all ∙ each (all_blocks w) (λ b h. h)
+  where
+    all : w.blocks ≡ map (contents w) (all_blocks w)
+    all = ext_get_or None w.blocks (map (contents w) (all_blocks w)) (sym (length-map-range_with_len (contents w) 0 (length w.blocks)))
+        (λ b h. sym (get_or-map-range_with_len (contents w) 0 (length w.blocks) b b None h (omega arith)))
+
+    inside : (b : ℕ) → has_number (all_blocks w) b ≡ true → nat_lt b (length w.blocks) ≡ true
+    inside b h = let e : 0 + length w.blocks ≡ length w.blocks = omega arith in sym (ap (nat_lt b) e) ∙ (and_parts (nat_le 0 b) (nat_lt b (0 + length w.blocks)) (sym (has_number-range 0 (length w.blocks) b) ∙ h)).1
+
+    each : (xs : List ℕ) → ((b : ℕ) → has_number xs b ≡ true → has_number (all_blocks w) b ≡ true) → count_by is_none (map (contents w) xs) ≡ length (filter (is_free w) xs)
+    each [] within = refl
+    each (x ∷ xs) within = sum_by-cons (λ o. cond (is_none o) 1 0) (contents w x) (map (contents w) xs)
+        ∙ (ap (λ n. cond (is_none (contents w x)) 1 0 + n) (each xs (λ b h. within b (or_right (x == b) _ h)))
+        ∙ (more (is_none (contents w x)) (filter (is_free w) xs)
+        ∙ ap (λ t. length (cond (t && is_none (contents w x)) (x ∷ filter (is_free w) xs) (filter (is_free w) xs))) (sym (inside x (within x (or_left (x == x) _ (eq-eqb x x refl)))))))
+      where
+        more : (t : Bool) (ys : List ℕ) → cond t 1 0 + length ys ≡ length (cond t (x ∷ ys) ys)
+        more true ys = omega arith
+        more false ys = omega arith
+
+pub chosen_enough : (kind : PlaceKind) (w : World) (h : Hint) (count : ℕ) → count ≤ free_count w → length (chosen kind w h count) ≡ count
+chosen_enough kind w h count enough =
+    let rank = rank_of kind (hint_block h) in
+    let sorted = length-sorted rank (free_blocks w) in
+    let all = free_listed w in
+    let taken = length-take count (sorted_by_rank rank (free_blocks w)) in
+    omega (arith, taken, sorted, all, enough)
+
+-- ---- what else new blocks leave
+
+pub version_new : (a : ℕ) (bs : List ℕ) (w : World) → (with_new_blocks w a bs).version ≡ w.version
+version_new a [] w = refl
+version_new a (b ∷ bs) w = version_new a bs (with_pointer (with_contents w b (zeros w)) a b)
+
+pub records_new : (a : ℕ) (bs : List ℕ) (w : World) → (with_new_blocks w a bs).records ≡ w.records
+records_new a [] w = refl
+records_new a (b ∷ bs) w = records_new a bs (with_pointer (with_contents w b (zeros w)) a b)
