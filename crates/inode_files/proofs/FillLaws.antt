@@ -238,17 +238,17 @@ pub record Writing (told : Type 0) (c : Client) (first now : View) (blocks bytes
   pub geometry : told → now.world.geometry ≡ first.world.geometry
   pub made : told → MadeWith c.root blocks first.world now.world
   pub may : told → (b : ℕ) → MayWrite c first b → MayWrite c now b
-  pub left : length rest ≤ len * (length blocks - place)
+  pub left : told → length rest ≤ len * (length blocks - place)
   pub last : told → (new : World) → WroteIn c.root now.world new (drop place blocks) rest → WroteIn c.root first.world new blocks bytes
 
-pub writing_begins : (told : Type 0) (c : Client) (first : View) (blocks bytes : List ℕ) (len : ℕ) → first.spent ≡ false → (told → IsSound first) → (told → IsValidNow first) → length bytes ≤ len * length blocks → Writing told c first first blocks bytes len 0 bytes
+pub writing_begins : (told : Type 0) (c : Client) (first : View) (blocks bytes : List ℕ) (len : ℕ) → first.spent ≡ false → (told → IsSound first) → (told → IsValidNow first) → (told → length bytes ≤ len * length blocks) → Writing told c first first blocks bytes len 0 bytes
 writing_begins told c first blocks bytes len unspent sound now enough = record {
   goes = goes_of told first first (AsideWith c.root blocks first.world) (Ok tt)
       (runs_look told first first (AsideWith c.root blocks first.world) (Ok tt) (λ t w e. aside_same c.root blocks first.world w e) (no_look told first unspent sound now));
   geometry = λ t. refl;
   made = λ t f d i shared fresh at m new. m;
   may = λ t b h. h;
-  left = subst (λ k. length bytes ≤ len * k) (whole (length blocks)) enough;
+  left = λ t. subst (λ k. length bytes ≤ len * k) (whole (length blocks)) (enough t);
   last = λ t new h. h;
 }
   where
@@ -286,7 +286,7 @@ module _ (told : Type 0) (c : Client) (first now new : View) (blocks bytes : Lis
       geometry = λ t. ap (λ v. v.geometry) (steps.went t).world ∙ w.geometry t;
       made = λ t. made_on t (steps.went t).world;
       may = λ t k m. may_mid c b (drop (place + 1) blocks) rest now new len (len_now t) (valid_now t) (may t).live (steps.went t) steps.stays.0 k (w.may t k m);
-      left = shorter (length rest) (length (drop len rest)) (length blocks) w.left (length-drop len rest);
+      left = λ t. shorter (length rest) (length (drop len rest)) (length blocks) (w.left t) (length-drop len rest);
       last = λ t fin h. w.last t fin (subst (λ xs. WroteIn c.root now.world fin xs rest) (sym parted)
           (wrote_more c b (drop (place + 1) blocks) rest now new len (len_now t) (valid_now t) (may t).live (steps.went t) steps.stays.0 fin
           (not-true (has_number (drop (place + 1) blocks) b) (and_parts (not (has_number (drop (place + 1) blocks) b)) (are_apart (drop (place + 1) blocks)) (ap are_apart (sym parted) ∙ apart_drop blocks place (apart t))).0) h));
@@ -306,6 +306,6 @@ module _ (told : Type 0) (c : Client) (first now new : View) (blocks bytes : Lis
 pub writing_ends : (told : Type 0) (c : Client) (first now : View) (blocks bytes : List ℕ) (len place : ℕ) (rest : List ℕ) → Writing told c first now blocks bytes len place rest → length blocks ≤ place → told → Wrote c first now blocks bytes
 writing_ends told c first now blocks bytes len place rest w ends t =
     let none : length blocks - place ≡ 0 = omega (arith, ends) in
-    let short : length rest ≤ len * 0 = subst (λ k. length rest ≤ len * k) none w.left in
+    let short : length rest ≤ len * 0 = subst (λ k. length rest ≤ len * k) none (w.left t) in
     let zeros : len * 0 ≡ 0 = omega arith in
     record { here = w.last t now.world (subst (λ xs. WroteIn c.root now.world now.world xs rest) (sym (drop_all blocks place ends)) (wrote_none c.root now.world rest (no_bytes rest (omega (arith, short, zeros))))); may = w.may t }

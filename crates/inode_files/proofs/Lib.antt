@@ -4,3 +4,4 @@ pub mod BackLaws
 pub mod DecideLaws
 pub mod FillLaws
 pub mod RoomLaws
+pub mod FileLaws

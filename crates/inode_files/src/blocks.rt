@@ -49,8 +49,8 @@ pub fn write_blocks<K: Blocks>(
     requires apart { K.told → IsTrue (are_apart blocks.now) }
     requires len { K.told → len ≡ block_len (K.view disk.old).world.geometry }
     requires few { len ≤ 4096 }
-    requires many { length blocks.now ≤ 32 }
-    requires enough { length bytes.now ≤ len * length blocks.now }
+    requires many { length blocks.now ≤ 64 }
+    requires enough { K.told → length bytes.now ≤ len * length blocks.now }
     ensures wrote { K.told → OnOk result (Wrote client.now (K.view disk.old) (K.view disk.new) blocks.now bytes.now) }
     ensures only { K.told → IfErr result (λ e. e ≡ no.Device) }
     ensures goes { Goes K.told (K.view disk.old) (K.view disk.new) (AsideWith client.now.root blocks.now (K.view disk.old).world) result }

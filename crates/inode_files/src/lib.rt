@@ -10,3 +10,4 @@
 #![tactic(auto)]
 
 mod blocks;
+mod making;

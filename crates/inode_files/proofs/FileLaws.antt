@@ -1,0 +1,162 @@
+-- A file whose blocks were written: its inode is written, and it is read back.
+use Rattle.std.proofs.Common.{◌≡◌, ◌≢◌, ℕ, zero, suc, ◌+◌, ◌-◌, ◌*◌, ◌/◌, ◌^◌, ◌<◌, ◌≤◌, Bool, true, false, not, ◌&&◌, ◌||◌, ◌==◌, nat_lt, List, [], ◌∷◌, ◌++◌, length, min, refl, sym, ◌∙◌, ap, subst, arith, inl, inr, ◌⊎◌, Option, Some, None, length-append}
+use Rattle.std.proofs.lemmas.Bool.{and_parts, and_from, or_cases, or_left, or_right, eq-eqb, eqb-true, not-true, cases_lt}
+use Rattle.std.proofs.lemmas.Bool.Decides.{nat_tests}
+use Rattle.std.proofs.lemmas.List.{length-take, length-drop, take_all, take-append-drop, append_assoc}
+use Rattle.std.proofs.Math.Seq.{take-append_seam}
+use Rattle.std.specs.Prelude.{take, drop, flat_map, replicate, unwrap_or}
+use Rattle.std.specs.Int.{div_ceil}
+use Rattle.std.specs.Option.{option_and_then}
+use Rattle.byteorder.specs.Endian.{little_bytes}
+use Rattle.tsd_model.specs.Geometry.{block_len}
+use Rattle.tsd_model.specs.World.{World, contents, is_live, has_number}
+use Rattle.tsd_model.specs.Valid.{IsValid}
+use Rattle.tsd_model.specs.Step.{filled}
+use Rattle.disk_laws.proofs.ChangeLaws.{contents-other, contents-same, live-with_contents}
+use Rattle.disk_laws.proofs.DoomLaws.{live_below}
+use Rattle.fs_trees.specs.Inode.{regular, are_apart, data_room, inode_in, inode_bytes}
+use Rattle.fs_trees.specs.InodeTree.{inode_at, file_bytes}
+use Rattle.fs_laws.proofs.ListLaws.{flat_map_same}
+use Rattle.fs_port.specs.View.{View, state_of}
+use Rattle.fs_port.specs.Calls.{IsValidNow, Stays}
+use Rattle.fs_asks.specs.declared.client.Client.{Client}
+use Rattle.fs_asks.specs.Client.{write_by}
+use Rattle.fs_asks.specs.May.{MayWrite}
+use Rattle.fs_steps.specs.Steps.{Leads, Went, written}
+use Rattle.inode_layout.specs.Said.{are_small}
+use Rattle.inode_layout.proofs.BackLaws.{reads_back}
+use Rattle.inode_files.specs.Making.{Making}
+use Rattle.inode_files.specs.Filling.{Stage, IsAside, Holds, AsideWith, WroteIn, Wrote, AsideOf, Took, new_file, IsFile, Filled}
+use Rattle.inode_files.proofs.FillLaws.{made_by_one, stop_at_one, may_after}
+
+-- ---- the bytes of its blocks
+
+-- more bytes behind are cut off
+cut_off : (n : ℕ) (xs ys : List ℕ) → length xs ≡ n → take n (xs ++ ys) ≡ xs
+cut_off n xs ys e = subst (λ k. take k (xs ++ ys) ≡ xs) e (take-append_seam xs ys)
+
+take_behind : (n m : ℕ) (xs ys : List ℕ) → length xs ≡ n → take (n + m) (xs ++ ys) ≡ xs ++ take m ys
+take_behind n m [] ys e = let none : n + m ≡ m = omega (arith, e) in ap (λ k. take k ys) none
+take_behind zero m (x ∷ xs) ys e = absurd (omega (arith, e))
+take_behind (suc n) m (x ∷ xs) ys e =
+    let next : suc n + m ≡ suc (n + m) = omega arith in
+    let less : length xs ≡ n = omega (arith, e) in
+    ap (λ k. take k (x ∷ (xs ++ ys))) next ∙ ap (λ zs. x ∷ zs) (take_behind n m xs ys less)
+
+pub holds_bytes : (len : ℕ) (w : World) (blocks bytes : List ℕ) → Holds len w blocks bytes → take (length bytes) (flat_map (λ b. unwrap_or (contents w b) []) blocks) ≡ bytes
+holds_bytes len w [] bytes e = ap (λ n. take (length n) []) e ∙ sym e
+holds_bytes len w (b ∷ bs) bytes h =
+    let later = holds_bytes len w bs (drop len bytes) h.1 in
+    let F = flat_map (λ b. unwrap_or (contents w b) []) bs in
+    let here : flat_map (λ b. unwrap_or (contents w b) []) (b ∷ bs) ≡ filled len (take len bytes) ++ F = ap (λ o. unwrap_or o [] ++ F) h.0 in
+    ap (take (length bytes)) here ∙ elim (cases_lt len (length bytes)) [
+      | inr short ↦
+          let whole : take len bytes ≡ bytes = take_all len bytes short in
+          ap (λ x. take (length bytes) ((x ++ replicate (len - length x) 0) ++ F)) whole
+          ∙ (ap (take (length bytes)) (append_assoc bytes (replicate (len - length bytes) 0) F) ∙ cut_off (length bytes) bytes (replicate (len - length bytes) 0 ++ F) refl)
+      | inl long ↦
+          let front : length (take len bytes) ≡ len = let is = length-take len bytes in omega (arith, is, long) in
+          let none : len - length (take len bytes) ≡ 0 = omega (arith, front) in
+          let parts : length bytes ≡ len + length (drop len bytes) = let is = length-drop len bytes in omega (arith, is, long) in
+          ap (λ k. take (length bytes) ((take len bytes ++ replicate k 0) ++ F)) none
+          ∙ (ap (λ x. take (length bytes) (x ++ F)) (append_none (take len bytes))
+          ∙ (ap (λ n. take n (take len bytes ++ F)) parts
+          ∙ (take_behind len (length (drop len bytes)) (take len bytes) F front
+          ∙ (ap (λ x. take len bytes ++ x) later ∙ take-append-drop len bytes))))
+    ]
+  where
+    append_none : (xs : List ℕ) → xs ++ [] ≡ xs
+    append_none [] = refl
+    append_none (x ∷ xs) = ap (λ ys. x ∷ ys) (append_none xs)
+
+-- ---- its inode
+
+small_live : (w : World) → IsValid w → (bs : List ℕ) → ((b : ℕ) → has_number bs b ≡ true → is_live w b ≡ true) → are_small bs ≡ true
+small_live w valid [] h = refl
+small_live w valid (b ∷ bs) h =
+    let below = live_below w.blocks b (h b (or_left (b == b) _ (eq-eqb b b refl))) in
+    let many = valid.raw.sized.each_block in
+    let most = valid.raw.sized.lawful.blocks.1 in
+    and_from (nat_lt b (2 ^ 32)) _ (grind (arith, nat_tests)) (small_live w valid bs (λ k m. h k (or_right (b == k) _ m)))
+
+length-numbers : (bs : List ℕ) → length (flat_map (little_bytes 4) bs) ≡ 4 * length bs
+length-numbers [] = refl
+length-numbers (b ∷ bs) = let later = length-numbers bs in let both = length-append (little_bytes 4 b) (flat_map (little_bytes 4) bs) in omega (arith, later, both)
+
+pub inode_length : (size : ℕ) (bs : List ℕ) → length (inode_bytes (regular size bs)) ≡ 16 + 4 * length bs
+inode_length size bs = let list = length-numbers bs in omega (arith, list)
+
+-- room for its blocks is room for its bytes
+pub inode_fits : (w : World) (size : ℕ) (bs : List ℕ) → IsValid w → length bs ≤ data_room (block_len w.geometry) → length (inode_bytes (regular size bs)) ≤ block_len w.geometry
+inode_fits w size bs valid room =
+    let long = inode_length size bs in
+    let head = big w.geometry.sectors valid.raw.sized.lawful.sectors in
+    omega (arith, long, room, head)
+  where
+    big : (k : ℕ) → (k ≡ 1) ⊎ (k ≡ 2) ⊎ (k ≡ 4) ⊎ (k ≡ 8) → 16 ≤ 512 * k
+    big k h = elim h [ inl one ↦ omega (arith, one) | inr more ↦ elim more [ inl two ↦ omega (arith, two) | inr most ↦ elim most [ inl four ↦ omega (arith, four) | inr eight ↦ omega (arith, eight) ] ] ]
+
+-- ---- from the blocks taken to the inode written
+
+module _ (c : Client) (old v1 v2 : View) (i : ℕ) (bytes blocks : List ℕ) (took : Took c old v1 i (length blocks) blocks) (wrote : Wrote c v1 v2 blocks bytes) where
+  abbrev size : ℕ
+  size = length bytes
+
+  abbrev x : List ℕ
+  x = inode_bytes (regular (length bytes) blocks)
+
+  among_inode : has_number (i ∷ []) i ≡ true
+  among_inode = or_left (i == i) _ (eq-eqb i i refl)
+
+  made_two : (first : World) (d : ℕ) → Stage c.root first d → Making c.root first d i [] [] old.world → Making c.root first d i [] blocks v2.world
+  made_two first d at m = wrote.here.making first d i [] blocks at (took.making first d [] at m) (λ b j. or_right (i == b) _ j)
+
+  inode_only : (b : ℕ) → has_number (i ∷ []) b ≡ true → has_number (i ∷ blocks) b ≡ true
+  inode_only b j = elim (or_cases (i == b) false j) [ inl here ↦ or_left (i == b) _ here | inr never ↦ absurd (cc) ]
+
+  pub stop_at_inode : (y : List ℕ) (v : World) → (v ≡ v2.world) ⊎ ((v ≡ written v2.world i y) × Leads v2.world (write_by c i y) (written v2.world i y)) → AsideOf c.root i old.world v
+  stop_at_inode y v h first d shared at m =
+      stop_at_one c (i ∷ []) i among_inode v2.world y v h first d i shared blocks at (wrote.here.making first d i shared blocks at (took.making first d shared at m) (λ b j. or_right (i == b) _ j)) inode_only
+
+  pub stop_at_blocks : (v : World) → AsideWith c.root blocks v1.world v → AsideOf c.root i old.world v
+  stop_at_blocks v h first d shared at m = h first d i shared blocks at (took.making first d shared at m) (λ b j. or_right (i == b) _ j)
+
+  module _ (v3 : View) (now : IsValidNow v2) (may : MayWrite c v2 i) (went : Went c v2 v3 (write_by c i (inode_bytes (regular (length bytes) blocks))) i (written v2.world i (inode_bytes (regular (length bytes) blocks)))) (stays : Stays v2 v3)
+      (enough : length blocks ≡ div_ceil (length bytes) (block_len old.world.geometry)) (room : div_ceil (length bytes) (block_len old.world.geometry) ≤ data_room (block_len old.world.geometry)) (few : length bytes ≤ 4096) where
+    same_size : v2.world.geometry ≡ old.world.geometry
+    same_size = wrote.here.geometry ∙ took.geometry
+
+    after : World
+    after = written v2.world i (inode_bytes (regular (length bytes) blocks))
+
+    the_file : (first : World) (d : ℕ) → Stage c.root first d → Making c.root first d i [] [] old.world → IsFile c.root first d i bytes (written v2.world i (inode_bytes (regular (length bytes) blocks)))
+    the_file first d at m =
+        let m2 = made_two first d at m in
+        let len = block_len v2.world.geometry in
+        let off : (b : ℕ) → has_number blocks b ≡ true → b ≡ i → ⊥ = λ b h e. never (has_number blocks i) (subst (λ k. has_number blocks k ≡ true) e h) (not-true (has_number blocks i) (and_parts (not (has_number blocks i)) (are_apart blocks) m2.once).0) in
+        let holds = wrote.here.holds in
+        record {
+          fresh = blocks;
+          making = made_by_one c (i ∷ []) i among_inode v2.world x went.leads first d i [] blocks at m2 inode_only;
+          says = ap (option_and_then (inode_in len)) (contents-same v2.world i (filled len x) (live_below v2.world.blocks i may.live))
+              ∙ reads_back len (regular (length bytes) blocks) (replicate (len - length x) 0)
+              (enough ∙ ap (λ g. div_ceil (length bytes) (block_len g)) (sym same_size),
+              subst (λ g. length blocks ≤ data_room (block_len g)) (sym same_size) (omega (arith, enough, room)),
+              omega (arith, few),
+              small_live v2.world now.valid blocks (λ b h. m2.lives b (or_right (i == b) _ h)))
+              (and_parts (not (has_number blocks i)) (are_apart blocks) m2.once).1;
+          bytes_are = ap (take (length bytes)) (flat_map_same (λ b. unwrap_or (contents (written v2.world i (inode_bytes (regular (length bytes) blocks))) b) []) (λ b. unwrap_or (contents v2.world b) []) blocks
+              (λ b h. ap (λ o. unwrap_or o []) (contents-other v2.world i b (filled len x) (off b h))))
+              ∙ holds_bytes (block_len v1.world.geometry) v2.world blocks bytes holds;
+        }
+      where
+        never : (t : Bool) → t ≡ true → t ≡ false → ⊥
+        never t p q = cc
+
+    pub filled_so : Filled c old v3 i bytes
+    filled_so = record {
+      geometry = ap (λ w. w.geometry) went.world ∙ same_size;
+      file = λ first d at m. subst (IsFile c.root first d i bytes) (sym went.world) (the_file first d at m);
+      may = λ b h. may_after c v2 v3 (write_by c i x) i (written v2.world i (inode_bytes (regular (length bytes) blocks))) went now refl refl (λ p q j. j)
+          (λ k j. live-with_contents v2.world i k (filled (block_len v2.world.geometry) x) j) stays b (wrote.may b (took.may b h));
+    }
