@@ -3,6 +3,8 @@ use Rattle.std.proofs.Common.{◌≡◌, ◌≢◌, ℕ, zero, suc, ◌+◌, ◌
 use Rattle.std.proofs.lemmas.Bool.{and_parts, and_from, or_cases, or_left, or_right, eq-eqb, eqb-true, not-true, cases_lt}
 use Rattle.std.proofs.lemmas.Bool.Decides.{nat_tests}
 use Rattle.std.proofs.lemmas.List.{length-take, length-drop, take_all, take-append-drop, append_assoc}
+use Rattle.std.proofs.lemmas.Grind.{div_ceil_times}
+use Rattle.std.proofs.Math.Nat.{mul-le-mul_right, mul_comm}
 use Rattle.std.proofs.Math.Seq.{take-append_seam}
 use Rattle.std.specs.Prelude.{take, drop, flat_map, replicate, unwrap_or}
 use Rattle.std.specs.Int.{div_ceil}
@@ -160,3 +162,21 @@ module _ (c : Client) (old v1 v2 : View) (i : ℕ) (bytes blocks : List ℕ) (to
       may = λ b h. may_after c v2 v3 (write_by c i x) i (written v2.world i (inode_bytes (regular (length bytes) blocks))) went now refl refl (λ p q j. j)
           (λ k j. live-with_contents v2.world i k (filled (block_len v2.world.geometry) x) j) stays b (wrote.may b (took.may b h));
     }
+
+-- ---- how many blocks so few bytes take
+
+pub few_blocks : (size len : ℕ) → size ≤ 4096 → 512 ≤ len → div_ceil size len ≤ 9
+few_blocks size len few some =
+    let bound = (div_ceil_times size len (omega (arith, some))).1 in
+    elim (cases_lt 9 (div_ceil size len)) [
+      | inl many ↦ absurd (never (div_ceil size len * len) (mul-le-mul_right {m = 10} {n = div_ceil size len} len (omega (arith, many))) bound)
+      | inr most ↦ most
+    ]
+  where
+    never : (p : ℕ) → 10 * len ≤ p → p < size + len → ⊥
+    never p h k = omega (arith, h, k, few, some)
+
+pub enough_blocks : (size len n : ℕ) → 512 ≤ len → n ≡ div_ceil size len → size ≤ len * n
+enough_blocks size len n some e =
+    let bound = (div_ceil_times size len (omega (arith, some))).0 in
+    subst (λ k. size ≤ k) (mul_comm (div_ceil size len) len ∙ ap (λ k. len * k) (sym e)) bound
