@@ -1,10 +1,10 @@
 -- A file in the making is given up: with the pointer to its inode all of it goes, and the world is as it was.
-use Rattle.std.proofs.Common.{◌≡◌, ℕ, ◌<◌, ◌≤◌, Bool, true, false, not, cond, ◌&&◌, ◌||◌, ◌==◌, nat_lt, List, [], ◌∷◌, ◌++◌, length, refl, sym, ◌∙◌, ap, subst, inl, inr, ◌⊎◌, Option, Some, None}
-use Rattle.std.proofs.lemmas.Bool.{and_parts, and_from, or_cases, or_left, or_right, eq-eqb, eqb-true, not-true, ltb-true, ltb-false, false_from_ne_true}
-use Rattle.std.specs.Prelude.{is_some, is_none, map}
+use Rattle.std.proofs.Common.{◌≡◌, ℕ, ◌≤◌, Bool, true, false, not, cond, ◌&&◌, ◌==◌, nat_lt, List, ◌∷◌, ◌++◌, length, refl, sym, ◌∙◌, ap, subst, inl, inr, ◌⊎◌, Option, Some, None}
+use Rattle.std.proofs.lemmas.Bool.{and_parts, and_from, or_cases, or_left, eq-eqb, eqb-true, not-true, ltb-false, false_from_ne_true}
+use Rattle.std.specs.Prelude.{is_some, is_none}
 use Rattle.tsd_model.specs.World.{World, contents, is_live, is_free, is_primary, has_number}
 use Rattle.tsd_model.specs.Pairs.{holds, is_pair}
-use Rattle.tsd_model.specs.Doomed.{doomed, settle}
+use Rattle.tsd_model.specs.Doomed.{doomed}
 use Rattle.tsd_model.specs.Valid.{IsValid}
 use Rattle.tsd_model.specs.Step.{without_pointer}
 use Rattle.tsd_model.proofs.PairLaws.{holds-filter, is_rising-filter}
@@ -18,7 +18,7 @@ use Rattle.fs_laws.proofs.ListLaws.{in_append}
 use Rattle.fs_steps.specs.Steps.{dropped}
 use Rattle.inode_changes.proofs.RemovalLaws.{clash_free_live}
 use Rattle.inode_changes.proofs.TidyLaws.{both_ways}
-use Rattle.inode_files.specs.Making.{new_pairs, Making}
+use Rattle.inode_files.specs.Making.{Making}
 use Rattle.inode_files.proofs.MakingLaws.{fan_is}
 
 clash : (t : Bool) → t ≡ true → t ≡ false → ⊥

@@ -1,8 +1,7 @@
 -- A file that was made is entered in its directory, in a new entry or in the place of an old one.
-use Rattle.std.proofs.Common.{◌≡◌, ℕ, zero, suc, ◌+◌, ◌-◌, ◌^◌, ◌<◌, ◌≤◌, Bool, true, false, not, cond, ◌&&◌, ◌||◌, ◌==◌, nat_lt, List, [], ◌∷◌, ◌++◌, length, refl, sym, ◌∙◌, ap, subst, arith, inl, inr, ◌⊎◌, Option, Some, None}
-use Rattle.std.proofs.lemmas.Bool.{and_parts, and_from, or_cases, or_left, or_right, eq-eqb, eqb-true, not-true, ltb-true, false_from_ne_true}
-use Rattle.std.proofs.lemmas.Bool.Decides.{nat_tests}
-use Rattle.std.specs.Prelude.{is_some, is_none, map, replicate}
+use Rattle.std.proofs.Common.{◌≡◌, ℕ, suc, ◌+◌, ◌^◌, ◌<◌, ◌≤◌, Bool, true, false, not, cond, ◌&&◌, ◌||◌, ◌==◌, nat_lt, List, [], ◌∷◌, ◌++◌, length, refl, sym, ◌∙◌, ap, subst, arith, inl, inr, ◌⊎◌, Some, None}
+use Rattle.std.proofs.lemmas.Bool.{and_parts, and_from, or_cases, or_left, or_right, eq-eqb, eqb-true, not-true, false_from_ne_true}
+use Rattle.std.specs.Prelude.{is_some}
 use Rattle.std.specs.List.{list_all}
 use Rattle.std.specs.Option.{option_and_then}
 use Rattle.tsd_model.specs.Geometry.{block_len}
@@ -11,14 +10,14 @@ use Rattle.tsd_model.specs.Pairs.{holds, is_pair}
 use Rattle.tsd_model.specs.Valid.{IsValid}
 use Rattle.tsd_model.specs.Step.{filled, without_pointer}
 use Rattle.tsd_model.proofs.PairLaws.{holds-filter}
-use Rattle.disk_laws.proofs.ChangeLaws.{contents-other, contents-same, live-with_contents}
+use Rattle.disk_laws.proofs.ChangeLaws.{contents-other, contents-same}
 use Rattle.graph_laws.specs.Counts.{stays}
 use Rattle.graph_laws.proofs.SettleLaws.{live-settle, holds-settle}
 use Rattle.fs_trees.specs.Names.{Name, Path, path_max, is_name}
-use Rattle.fs_trees.specs.Tree.{Tree, nothing, a_file, a_dir, entry, at, is_there, with_entry, with_child, with_at}
+use Rattle.fs_trees.specs.Tree.{nothing, a_file, a_dir, entry, at, is_there, with_entry, with_child, with_at}
 use Rattle.fs_trees.specs.Fields.{Entry}
-use Rattle.fs_trees.specs.Inode.{Inode, directory, regular, entries_room, are_apart, block_named, inode_in, inode_bytes, with_listed}
-use Rattle.fs_trees.specs.InodeTree.{FileInode, InodeNode, InodeEntries, tree_of, file_bytes, inode_at, entries_by, node_by, as_dir, node_at, inode_blocks, data_blocks, named_pairs, are_right, inode_tree}
+use Rattle.fs_trees.specs.Inode.{directory, regular, entries_room, are_apart, block_named, inode_in, inode_bytes, with_listed}
+use Rattle.fs_trees.specs.InodeTree.{FileInode, InodeNode, InodeEntries, tree_of, file_bytes, inode_at, entries_by, node_by, as_dir, node_at, inode_blocks, data_blocks, named_pairs, inode_tree}
 use Rattle.fs_trees.specs.Layouts.{named_at, IsTidy}
 use Rattle.fs_trees.specs.Outside.{is_under, OthersStay}
 use Rattle.fs_trees.specs.declared.ask.ShellKind.TheVariants as kind
@@ -30,7 +29,7 @@ use Rattle.fs_laws.proofs.OutsideLaws.{outside_twice}
 use Rattle.fs_laws.proofs.ListLaws.{number_left, number_right, in_append}
 use Rattle.fs_laws.proofs.InodeLaws.{node_blocks, node_same, HasRoot, found, under_is, inodes_under_root}
 use Rattle.fs_laws.proofs.DirectoryLaws.{read_named, entry_is_read, entry_is_put, node_away, with_last, block_at, nowhere, entry_blocks_in}
-use Rattle.fs_laws.proofs.CountLaws.{times, times_none, none_times, apart_times, times-with_at}
+use Rattle.fs_laws.proofs.CountLaws.{times, times_none, apart_times, times-with_at}
 use Rattle.fs_laws.proofs.EntryLaws.{FitsIn}
 use Rattle.fs_laws.proofs.EntryLaws as deciding
 use Rattle.fs_laws.proofs.UnderLaws.{each_under, root_under, target_under}
@@ -44,7 +43,7 @@ use Rattle.inode_changes.proofs.ListingLaws.{ascending_with, named_with, small_w
 use Rattle.inode_changes.proofs.SpotLaws.{Spot, live, within, order, small, small_block, reads_as, child_held}
 use Rattle.inode_changes.proofs.RemovalLaws.{there_with, clash_free_live}
 use Rattle.inode_files.specs.Making.{new_pairs, Making}
-use Rattle.inode_files.proofs.MakingLaws.{fan_is, fan_has, tree_same, named_live, new_unnamed, primary_now, under_still, dir_now}
+use Rattle.inode_files.proofs.MakingLaws.{fan_has, tree_same, new_unnamed, primary_now, dir_now}
 
 clash : (t : Bool) → t ≡ true → t ≡ false → ⊥
 clash t p q = cc
@@ -271,7 +270,7 @@ module _ (first : World) (root : ℕ) (p : Path) (d : ℕ) (es : List Entry) (s 
       let at_path = deciding.at_path w root d p s.more s.xs s.old has_w s.levels s.stands in
       let whole = deciding.whole w root d p s.more s.xs s.old has_w s.levels s.stands in
       let changed = entry_is_put w next refl d elsewhere p s.more root es s.xs (record { name = n; block = i }) (a_file file) at_path
-          (deciding.once_whole w root d p s.more s.xs s.old has_w s.levels s.stands) listed_w (deciding.away w root d p s.more s.xs s.old has_w s.levels s.stands) put_back file_next refl in
+      (deciding.once_whole w root d p s.more s.xs s.old has_w s.levels s.stands) listed_w (deciding.away w root d p s.more s.xs s.old has_w s.levels s.stands) put_back file_next refl in
       ap (λ k. node_at next k root) (sym s.levels)
       ∙ (changed ∙ (ap (with_at p (a_dir d (with_entry n (a_file file) s.xs))) whole ∙ sym as_put))
 
@@ -444,8 +443,8 @@ module _ (first : World) (root : ℕ) (p : Path) (d : ℕ) (es : List Entry) (s 
       tidy_last tidy = tidy_by_pairs (dropped next d c) root leads.valid primary_next new (same_last.named ∙ named_next) (ap is_there same_last.tree ∙ there_next) (λ a b from h.
           let was = was_held a b h in
           still_named root d p n s.xs s.old new (a_file file) exchange a b from (either_way tidy a b from was.0) (λ own.
-              let same = own_pair d a b c (entry n s.xs) own old_block in
-              clash (is_pair d c (a, b)) (and_from (a == d) (b == c) (eq-eqb a d (sym same.0)) (eq-eqb b c (sym same.1))) was.1))
+          let same = own_pair d a b c (entry n s.xs) own old_block in
+          clash (is_pair d c (a, b)) (and_from (a == d) (b == c) (eq-eqb a d (sym same.0)) (eq-eqb b c (sym same.1))) was.1))
 
       pub taken_last : (b : ℕ) → is_free first b ≡ true → is_live (dropped next d c) b ≡ true → has_number (named_at kind.Inode (dropped next d c) root).blocks b ≡ true
       taken_last b was lives =

@@ -1,6 +1,6 @@
 -- A file whose blocks were written: its inode is written, and it is read back.
-use Rattle.std.proofs.Common.{◌≡◌, ◌≢◌, ℕ, zero, suc, ◌+◌, ◌-◌, ◌*◌, ◌/◌, ◌^◌, ◌<◌, ◌≤◌, Bool, true, false, not, ◌&&◌, ◌||◌, ◌==◌, nat_lt, List, [], ◌∷◌, ◌++◌, length, min, refl, sym, ◌∙◌, ap, subst, arith, inl, inr, ◌⊎◌, Option, Some, None, length-append}
-use Rattle.std.proofs.lemmas.Bool.{and_parts, and_from, or_cases, or_left, or_right, eq-eqb, eqb-true, not-true, cases_lt}
+use Rattle.std.proofs.Common.{◌≡◌, ℕ, zero, suc, ◌+◌, ◌-◌, ◌*◌, ◌^◌, ◌<◌, ◌≤◌, Bool, true, false, not, ◌==◌, nat_lt, List, [], ◌∷◌, ◌++◌, length, refl, sym, ◌∙◌, ap, subst, arith, inl, inr, ◌⊎◌, length-append}
+use Rattle.std.proofs.lemmas.Bool.{and_parts, and_from, or_cases, or_left, or_right, eq-eqb, not-true, cases_lt}
 use Rattle.std.proofs.lemmas.Bool.Decides.{nat_tests}
 use Rattle.std.proofs.lemmas.List.{length-take, length-drop, take_all, take-append-drop, append_assoc}
 use Rattle.std.proofs.lemmas.Grind.{div_ceil_times}
@@ -17,9 +17,8 @@ use Rattle.tsd_model.specs.Step.{filled}
 use Rattle.disk_laws.proofs.ChangeLaws.{contents-other, contents-same, live-with_contents}
 use Rattle.disk_laws.proofs.DoomLaws.{live_below}
 use Rattle.fs_trees.specs.Inode.{regular, are_apart, data_room, inode_in, inode_bytes}
-use Rattle.fs_trees.specs.InodeTree.{inode_at, file_bytes}
 use Rattle.fs_laws.proofs.ListLaws.{flat_map_same}
-use Rattle.fs_port.specs.View.{View, state_of}
+use Rattle.fs_port.specs.View.{View}
 use Rattle.fs_port.specs.Calls.{IsValidNow, Stays}
 use Rattle.fs_asks.specs.declared.client.Client.{Client}
 use Rattle.fs_asks.specs.Client.{write_by}
@@ -28,7 +27,7 @@ use Rattle.fs_steps.specs.Steps.{Leads, Went, written}
 use Rattle.inode_layout.specs.Said.{are_small}
 use Rattle.inode_layout.proofs.BackLaws.{reads_back}
 use Rattle.inode_files.specs.Making.{Making}
-use Rattle.inode_files.specs.Filling.{Stage, IsAside, Holds, AsideWith, WroteIn, Wrote, AsideOf, Took, new_file, IsFile, Filled}
+use Rattle.inode_files.specs.Filling.{Stage, Holds, AsideWith, Wrote, AsideOf, Took, IsFile, Filled}
 use Rattle.inode_files.proofs.FillLaws.{made_by_one, stop_at_one, may_after}
 
 -- ---- the bytes of its blocks
@@ -141,11 +140,12 @@ module _ (c : Client) (old v1 v2 : View) (i : ℕ) (bytes blocks : List ℕ) (to
           fresh = blocks;
           making = made_by_one c (i ∷ []) i among_inode v2.world x went.leads first d i [] blocks at m2 inode_only;
           says = ap (option_and_then (inode_in len)) (contents-same v2.world i (filled len x) (live_below v2.world.blocks i may.live))
-              ∙ reads_back len (regular (length bytes) blocks) (replicate (len - length x) 0)
-              (enough ∙ ap (λ g. div_ceil (length bytes) (block_len g)) (sym same_size),
-              subst (λ g. length blocks ≤ data_room (block_len g)) (sym same_size) (omega (arith, enough, room)),
-              omega (arith, few),
-              small_live v2.world now.valid blocks (λ b h. m2.lives b (or_right (i == b) _ h)))
+              ∙ reads_back len (regular (length bytes) blocks) (replicate (len - length x) 0) (
+                enough ∙ ap (λ g. div_ceil (length bytes) (block_len g)) (sym same_size),
+                subst (λ g. length blocks ≤ data_room (block_len g)) (sym same_size) (omega (arith, enough, room)),
+                omega (arith, few),
+                small_live v2.world now.valid blocks (λ b h. m2.lives b (or_right (i == b) _ h)),
+              )
               (and_parts (not (has_number blocks i)) (are_apart blocks) m2.once).1;
           bytes_are = ap (take (length bytes)) (flat_map_same (λ b. unwrap_or (contents (written v2.world i (inode_bytes (regular (length bytes) blocks))) b) []) (λ b. unwrap_or (contents v2.world b) []) blocks
               (λ b h. ap (λ o. unwrap_or o []) (contents-other v2.world i b (filled len x) (off b h))))

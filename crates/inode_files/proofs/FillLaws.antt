@@ -1,14 +1,14 @@
 -- The functions that make a file, a request at a time.
-use Rattle.std.proofs.Common.{◌≡◌, ◌≢◌, ℕ, zero, suc, ◌+◌, ◌-◌, ◌*◌, arith, ◌<◌, ◌≤◌, Bool, true, false, not, ◌&&◌, ◌||◌, ◌==◌, List, [], ◌∷◌, ◌++◌, length, refl, sym, ◌∙◌, ap, subst, inl, inr, ◌⊎◌, Option, Some, None, Result, Ok, Err}
-use Rattle.std.proofs.lemmas.Bool.{and_parts, and_from, or_left, or_right, eq-eqb, eqb-true, not-true}
+use Rattle.std.proofs.Common.{◌≡◌, ℕ, zero, suc, ◌+◌, ◌-◌, ◌*◌, arith, ◌<◌, ◌≤◌, Bool, true, false, not, ◌||◌, ◌==◌, List, [], ◌∷◌, length, refl, sym, ◌∙◌, ap, subst, inl, inr, ◌⊎◌, Some, Result, Ok}
+use Rattle.std.proofs.lemmas.Bool.{and_parts, or_left, or_right, eq-eqb, not-true}
 use Rattle.std.specs.Prelude.{take, drop, slice_index_or}
 use Rattle.std.proofs.lemmas.List.{length-drop}
 use Rattle.tsd_model.specs.Geometry.{block_len}
-use Rattle.tsd_model.specs.World.{World, contents, is_live, is_free, free_count, has_number}
+use Rattle.tsd_model.specs.World.{World, contents, is_live, free_count, has_number}
 use Rattle.tsd_model.specs.Pairs.{holds}
 use Rattle.tsd_model.specs.Sessions.{level_le, level_from}
 use Rattle.tsd_model.specs.Placing.{chosen}
-use Rattle.tsd_model.specs.Step.{filled, with_new_blocks}
+use Rattle.tsd_model.specs.Step.{filled}
 use Rattle.tsd_model.specs.declared.requests.Hint.TheVariants.{At}
 use Rattle.tsd_model.specs.declared.requests.Level.{Level}
 use Rattle.tsd_model.specs.declared.requests.Level.TheVariants as level
@@ -31,8 +31,8 @@ use Rattle.fs_steps.specs.Steps.{Leads, Went, Steps, written, taken}
 use Rattle.inode_changes.proofs.RunLaws.{Runs, runs_look, runs_step, then_runs}
 use Rattle.inode_changes.proofs.RemoveLaws.{may_still}
 use Rattle.inode_files.specs.Making.{Making}
-use Rattle.inode_files.specs.Filling.{Stage, IsAside, Goes, Holds, AreNew, AsideWith, MadeWith, WroteIn, Wrote, AsideOf, Took}
-use Rattle.inode_files.proofs.NewLaws.{chosen_apart, chosen_free, chosen_enough, contents_off, lives_new, holds_new, version_new, records_new}
+use Rattle.inode_files.specs.Filling.{Stage, IsAside, Goes, Holds, AsideWith, MadeWith, WroteIn, Wrote, AsideOf, Took}
+use Rattle.inode_files.proofs.NewLaws.{chosen_apart, chosen_free, chosen_enough, lives_new, holds_new, version_new, records_new}
 use Rattle.inode_files.proofs.MakingLaws.{fan_has, tree_same, making_written, making_taken}
 
 clash : (t : Bool) → t ≡ true → t ≡ false → ⊥

@@ -1,42 +1,35 @@
 -- A file in the making goes on, a request at a time; where it is given up, the world is as it was.
-use Rattle.std.proofs.Common.{◌≡◌, ℕ, ◌<◌, ◌≤◌, Bool, true, false, not, cond, ◌&&◌, ◌||◌, ◌==◌, nat_lt, List, [], ◌∷◌, ◌++◌, length, refl, sym, ◌∙◌, ap, subst, inl, inr, ◌⊎◌, Option, Some, None}
-use Rattle.std.proofs.lemmas.Bool.{and_parts, and_from, or_cases, or_left, or_right, eq-eqb, eqb-true, not-true, ltb-true, false_from_ne_true}
-use Rattle.std.proofs.lemmas.List.{length-set}
+use Rattle.std.proofs.Common.{◌≡◌, ℕ, ◌<◌, Bool, true, false, not, ◌||◌, ◌==◌, nat_lt, List, [], ◌∷◌, ◌++◌, length, refl, sym, ◌∙◌, ap, subst, inl, inr, ◌⊎◌}
+use Rattle.std.proofs.lemmas.Bool.{and_parts, and_from, or_cases, or_left, or_right, eq-eqb, eqb-true, false_from_ne_true}
 use Rattle.std.specs.Prelude.{is_some, is_none, map}
 use Rattle.tsd_model.specs.Geometry.{block_len}
-use Rattle.tsd_model.specs.World.{World, contents, is_live, is_free, is_primary, has_number}
+use Rattle.tsd_model.specs.World.{World, contents, is_live, is_free, has_number}
 use Rattle.tsd_model.specs.Pairs.{holds, is_pair}
-use Rattle.tsd_model.specs.Doomed.{doomed, settle}
 use Rattle.tsd_model.specs.Valid.{IsValid}
-use Rattle.tsd_model.specs.Step.{filled, zeros, with_contents, with_pointer, without_pointer, with_new_blocks}
-use Rattle.tsd_model.specs.declared.requests.Request.{Request}
-use Rattle.tsd_model.proofs.PairLaws.{holds-filter, holds-with_pair, is_rising-filter}
-use Rattle.disk_laws.proofs.ChangeLaws.{contents-other, contents-same, live-with_contents, free_may}
+use Rattle.tsd_model.specs.Step.{filled, zeros, with_contents, with_pointer, with_new_blocks}
+use Rattle.tsd_model.proofs.PairLaws.{holds-with_pair}
+use Rattle.disk_laws.proofs.ChangeLaws.{contents-other, live-with_contents, free_may}
 use Rattle.disk_laws.proofs.StayLaws.{live-new_blocks}
-use Rattle.disk_laws.proofs.DoomLaws.{not_primary}
-use Rattle.graph_laws.specs.Counts.{stays}
-use Rattle.graph_laws.proofs.DoomedLaws.{doomed_least, doomed_from}
-use Rattle.graph_laws.proofs.SettleLaws.{settle_same, valid_is_settled, none_doomed}
 use Rattle.fs_trees.specs.Tree.{is_there}
 use Rattle.fs_trees.specs.Inode.{are_apart}
 use Rattle.fs_trees.specs.InodeTree.{inode_tree}
 use Rattle.fs_trees.specs.Layouts.{Named, named_at}
-use Rattle.fs_trees.specs.Outside.{is_under, OthersStay}
+use Rattle.fs_trees.specs.Outside.{is_under}
 use Rattle.fs_trees.specs.declared.ask.ShellKind.TheVariants as kind
 use Rattle.fs_laws.specs.Outside.{is_inside}
-use Rattle.fs_laws.specs.Stays.{IsUnder, Keeps, spares}
+use Rattle.fs_laws.specs.Stays.{IsUnder, Keeps}
 use Rattle.fs_laws.specs.Reading.{SameTree}
 use Rattle.fs_laws.proofs.TreeLaws.{read_from_named}
 use Rattle.fs_laws.proofs.InodeLaws.{inodes_under_root}
 use Rattle.fs_laws.proofs.OutsideLaws.{outside_twice}
 use Rattle.fs_laws.proofs.UnderLaws.{each_under, root_under, target_under}
-use Rattle.fs_laws.proofs.ListLaws.{number_left, number_right}
+use Rattle.fs_laws.proofs.ListLaws.{number_right}
 use Rattle.fs_asks.specs.declared.client.Client.{Client}
 use Rattle.fs_asks.specs.Client.{write_by, alloc_by, link_by}
-use Rattle.fs_steps.specs.Steps.{Leads, written, pointed, dropped}
+use Rattle.fs_steps.specs.Steps.{Leads, written, pointed}
 use Rattle.inode_changes.proofs.RemovalLaws.{clash_free_live}
 use Rattle.inode_changes.proofs.TidyLaws.{named_under}
-use Rattle.inode_files.specs.Making.{new_pairs, Making}
+use Rattle.inode_files.specs.Making.{Making}
 use Rattle.inode_files.proofs.NewLaws.{contents_off, lives_new, holds_new}
 
 clash : (t : Bool) → t ≡ true → t ≡ false → ⊥

@@ -1,5 +1,5 @@
 -- The functions that make a file, one after the other.
-use Rattle.std.specs.Prelude.{◌≡◌, ◌≢◌, ◌<◌, ℕ, false, List, [], ◌∷◌, length, take, drop, Option, Some, Result, IfErr, IsTrue}
+use Rattle.std.specs.Prelude.{◌≡◌, ◌<◌, ℕ, false, List, [], ◌∷◌, length, take, drop, Some, Result, IfErr, IsTrue}
 use Rattle.image_device.specs.Counts.{Rose}
 use Rattle.tsd_model.specs.Geometry.{block_len}
 use Rattle.tsd_model.specs.World.{World, contents, has_number}

@@ -1,5 +1,5 @@
 -- A file in the making: new blocks that a directory leads to and that no inode of the tree names.
-use Rattle.std.specs.Prelude.{◌≡◌, ℕ, false, ◌||◌, List, [], ◌∷◌, ◌++◌, map, IsTrue}
+use Rattle.std.specs.Prelude.{◌≡◌, ℕ, false, ◌||◌, List, ◌∷◌, ◌++◌, map, IsTrue}
 use Rattle.tsd_model.specs.World.{World, contents, is_live, is_free, has_number}
 use Rattle.tsd_model.specs.Pairs.{holds}
 use Rattle.tsd_model.specs.Valid.{IsValid}

@@ -1,10 +1,7 @@
-use Rattle.std.proofs.Common.{◌≡◌, ◌≢◌, ◌≤◌, ◌+◌, ℕ, zero, suc, [], length, refl, sym, ◌∙◌, ap, subst, arith, None, Ok, Err}
-use Rattle.tsd_model.specs.World.{free_count}
-use Rattle.tsd_model.specs.Placing.{chosen}
-use Rattle.tsd_model.specs.declared.requests.Hint.TheVariants.{At}
+use Rattle.std.proofs.Common.{◌≡◌, ◌≢◌, ◌≤◌, ℕ, zero, suc, [], refl, sym, subst, arith, Ok, Err}
 use Rattle.fs_asks.specs.Client.{alloc_by}
 use Rattle.fs_asks.proofs.LookLaws.{no_look}
-use Rattle.fs_steps.specs.Steps.{no_room_in, taken}
+use Rattle.fs_steps.specs.Steps.{taken}
 use Rattle.inode_changes.proofs.RunLaws.{runs_look, runs_step, runs_as}
 use Rattle.inode_files.specs.Filling.{AsideOf, Took}
 use Rattle.inode_files.proofs.FillLaws.{goes_of, aside_of_same, took_none, stop_at_take, took_some}

@@ -1,10 +1,9 @@
-use Rattle.std.proofs.Common.{◌≡◌, ◌≢◌, ◌≤◌, ◌*◌, ◌+◌, ℕ, length, refl, sym, ◌∙◌, ap, subst, arith, Ok, Err}
-use Rattle.std.specs.Prelude.{slice_index_or, take, drop}
+use Rattle.std.proofs.Common.{◌+◌, length, refl, sym, ap, subst, arith, Ok, Err}
+use Rattle.std.specs.Prelude.{slice_index_or}
 use Rattle.std.proofs.lemmas.List.{length-take}
-use Rattle.tsd_model.specs.Geometry.{block_len}
 use Rattle.fs_asks.specs.Client.{write_by}
 use Rattle.fs_steps.specs.Steps.{Steps, written}
-use Rattle.inode_files.proofs.FillLaws.{Writing, writing_begins, writing_ends, writes_on, goes_on, may_now, len_now, valid_now}
+use Rattle.inode_files.proofs.FillLaws.{Writing, writing_begins, writing_ends, writes_on, goes_on, may_now, len_now}
 use Rattle.inode_files.proofs.blocks.write_blocks.Goals as goal
 
 pub loop-block-init : goal.loop-block-init

@@ -1,19 +1,18 @@
-use Rattle.std.proofs.Common.{◌≡◌, ◌≢◌, ◌≤◌, ◌*◌, ◌+◌, ◌==◌, ℕ, [], length, refl, sym, ◌∙◌, ap, subst, arith, None, Some, Ok, Err}
+use Rattle.std.proofs.Common.{◌≡◌, ◌≤◌, ◌*◌, ◌==◌, length, refl, sym, ◌∙◌, ap, subst, arith, None, Some, Ok, Err}
 use Rattle.std.proofs.lemmas.Bool.{or_right}
 use Rattle.tsd_model.specs.World.{has_number}
 use Rattle.fs_trees.specs.Inode.{are_apart}
 use Rattle.std.specs.Int.{div_ceil}
 use Rattle.tsd_model.specs.Geometry.{block_len}
 use Rattle.fs_trees.specs.Inode.{regular, data_room, inode_bytes}
-use Rattle.fs_trees.specs.Refusals.{first_of}
 use Rattle.fs_port.specs.Calls.{IsValidNow}
 use Rattle.fs_asks.specs.May.{MayWrite}
 use Rattle.fs_asks.specs.Client.{write_by}
 use Rattle.fs_steps.specs.Steps.{Steps, written, no_room_in}
-use Rattle.inode_changes.proofs.RunLaws.{Runs, runs_step, then_runs, runs_as, runs_refused}
+use Rattle.inode_changes.proofs.RunLaws.{runs_step, then_runs, runs_refused}
 use Rattle.inode_files.specs.Filling.{Goes, AsideWith, AsideOf, Wrote, Took}
 use Rattle.inode_files.proofs.FillLaws.{goes_of, runs_of, runs_more}
-use Rattle.inode_files.proofs.FileLaws.{inode_length, inode_fits, stop_at_inode, stop_at_blocks, filled_so, few_blocks, enough_blocks}
+use Rattle.inode_files.proofs.FileLaws.{inode_fits, stop_at_inode, stop_at_blocks, filled_so, few_blocks, enough_blocks}
 use Rattle.inode_files.proofs.making.fill.Goals as goal
 
 pub blocks_for-count-requires : goal.blocks_for-count-requires
@@ -120,7 +119,7 @@ write_block-requires g c =
     let h = c.in-Ok-write_blocks.ensures in
     let count : c.blocks_for-count.result ≡ div_ceil (length c.args.bytes.now) c.args.len = c.blocks_for-count.ensures ∙ ap (λ n. div_ceil n c.args.len) c.len.ensures.value in
     let head : c.file_inode-head.result ≡ inode_bytes (regular (length c.args.bytes.now) c.in-Ok.blocks) =
-        c.file_inode-head.ensures ∙ (ap (λ n. inode_bytes (regular n c.as_slice-3.result.now)) c.len-2.ensures.value ∙ ap (λ xs. inode_bytes (regular (length c.args.bytes.now) xs)) c.as_slice-3.ensures.value) in
+    c.file_inode-head.ensures ∙ (ap (λ n. inode_bytes (regular n c.as_slice-3.result.now)) c.len-2.ensures.value ∙ ap (λ xs. inode_bytes (regular (length c.args.bytes.now) xs)) c.as_slice-3.ensures.value) in
     let wrote : told → Wrote me v1 v2 blocks bytes = λ t. subst (λ xs. Wrote me v1 v2 blocks xs) c.as_slice-2.ensures.value (subst (λ xs. Wrote me v1 v2 xs c.as_slice-2.result.now) c.as_slice.ensures.value (h.wrote t)) in
     let took : told → Took me old v1 i (length blocks) blocks = λ t. subst (λ n. Took me old v1 i n blocks) (sym (e.took t).many) (e.took t) in
     let same_size : told → v2.world.geometry ≡ old.world.geometry = λ t. (wrote t).here.geometry ∙ (took t).geometry in
@@ -130,9 +129,9 @@ write_block-requires g c =
     let now : told → IsValidNow v2 = λ t. (h.goes.valid t).0 in
     let goes = subst (λ xs. Goes {X = Unit {0}} told v1 v2 (AsideWith me.root xs v1.world) (Ok tt)) c.as_slice.ensures.value h.goes in
     let so_far = then_runs told old v1 v2 (AsideOf me.root i old.world) blocks (Ok tt) (runs_of told old v1 (AsideOf me.root i old.world) (Ok blocks) e.goes)
-          (runs_more told v1 v2 (AsideWith me.root blocks v1.world) (AsideOf me.root i old.world) (Ok tt)
-          (λ t w k. stop_at_blocks me old v1 v2 i bytes blocks (took t) (wrote t) w k)
-          (runs_of told v1 v2 (AsideWith me.root blocks v1.world) (Ok tt) goes)) in
+    (runs_more told v1 v2 (AsideWith me.root blocks v1.world) (AsideOf me.root i old.world) (Ok tt)
+    (λ t w k. stop_at_blocks me old v1 v2 i bytes blocks (took t) (wrote t) w k)
+    (runs_of told v1 v2 (AsideWith me.root blocks v1.world) (Ok tt) goes)) in
     record {
       unspent = h.goes.unspent.0;
       valid = now;
@@ -155,7 +154,7 @@ returns-in-Ok-write_block g c =
     let h = c.in-Ok-write_blocks.ensures in
     let count : c.blocks_for-count.result ≡ div_ceil (length c.args.bytes.now) c.args.len = c.blocks_for-count.ensures ∙ ap (λ n. div_ceil n c.args.len) c.len.ensures.value in
     let head : c.file_inode-head.result ≡ inode_bytes (regular (length c.args.bytes.now) c.in-Ok.blocks) =
-        c.file_inode-head.ensures ∙ (ap (λ n. inode_bytes (regular n c.as_slice-3.result.now)) c.len-2.ensures.value ∙ ap (λ xs. inode_bytes (regular (length c.args.bytes.now) xs)) c.as_slice-3.ensures.value) in
+    c.file_inode-head.ensures ∙ (ap (λ n. inode_bytes (regular n c.as_slice-3.result.now)) c.len-2.ensures.value ∙ ap (λ xs. inode_bytes (regular (length c.args.bytes.now) xs)) c.as_slice-3.ensures.value) in
     let wrote : told → Wrote me v1 v2 blocks bytes = λ t. subst (λ xs. Wrote me v1 v2 blocks xs) c.as_slice-2.ensures.value (subst (λ xs. Wrote me v1 v2 xs c.as_slice-2.result.now) c.as_slice.ensures.value (h.wrote t)) in
     let took : told → Took me old v1 i (length blocks) blocks = λ t. subst (λ n. Took me old v1 i n blocks) (sym (e.took t).many) (e.took t) in
     let same_size : told → v2.world.geometry ≡ old.world.geometry = λ t. (wrote t).here.geometry ∙ (took t).geometry in
@@ -165,9 +164,9 @@ returns-in-Ok-write_block g c =
     let now : told → IsValidNow v2 = λ t. (h.goes.valid t).0 in
     let goes = subst (λ xs. Goes {X = Unit {0}} told v1 v2 (AsideWith me.root xs v1.world) (Ok tt)) c.as_slice.ensures.value h.goes in
     let so_far = then_runs told old v1 v2 (AsideOf me.root i old.world) blocks (Ok tt) (runs_of told old v1 (AsideOf me.root i old.world) (Ok blocks) e.goes)
-          (runs_more told v1 v2 (AsideWith me.root blocks v1.world) (AsideOf me.root i old.world) (Ok tt)
-          (λ t w k. stop_at_blocks me old v1 v2 i bytes blocks (took t) (wrote t) w k)
-          (runs_of told v1 v2 (AsideWith me.root blocks v1.world) (Ok tt) goes)) in
+    (runs_more told v1 v2 (AsideWith me.root blocks v1.world) (AsideOf me.root i old.world) (Ok tt)
+    (λ t w k. stop_at_blocks me old v1 v2 i bytes blocks (took t) (wrote t) w k)
+    (runs_of told v1 v2 (AsideWith me.root blocks v1.world) (Ok tt) goes)) in
     let v3 = g.K.Blocks.view c.write_block.new.disk in
     let x = inode_bytes (regular (length bytes) blocks) in
     let steps = subst (λ y. Steps {X = Unit {0}} told me v2 v3 (write_by me i y) i (written v2.world i y) (Ok tt)) head c.in-Ok-write_block.ensures.steps in
@@ -195,7 +194,7 @@ returns-in-Err-write_block g c =
     let h = c.in-Ok-write_blocks.ensures in
     let count : c.blocks_for-count.result ≡ div_ceil (length c.args.bytes.now) c.args.len = c.blocks_for-count.ensures ∙ ap (λ n. div_ceil n c.args.len) c.len.ensures.value in
     let head : c.file_inode-head.result ≡ inode_bytes (regular (length c.args.bytes.now) c.in-Ok.blocks) =
-        c.file_inode-head.ensures ∙ (ap (λ n. inode_bytes (regular n c.as_slice-3.result.now)) c.len-2.ensures.value ∙ ap (λ xs. inode_bytes (regular (length c.args.bytes.now) xs)) c.as_slice-3.ensures.value) in
+    c.file_inode-head.ensures ∙ (ap (λ n. inode_bytes (regular n c.as_slice-3.result.now)) c.len-2.ensures.value ∙ ap (λ xs. inode_bytes (regular (length c.args.bytes.now) xs)) c.as_slice-3.ensures.value) in
     let wrote : told → Wrote me v1 v2 blocks bytes = λ t. subst (λ xs. Wrote me v1 v2 blocks xs) c.as_slice-2.ensures.value (subst (λ xs. Wrote me v1 v2 xs c.as_slice-2.result.now) c.as_slice.ensures.value (h.wrote t)) in
     let took : told → Took me old v1 i (length blocks) blocks = λ t. subst (λ n. Took me old v1 i n blocks) (sym (e.took t).many) (e.took t) in
     let same_size : told → v2.world.geometry ≡ old.world.geometry = λ t. (wrote t).here.geometry ∙ (took t).geometry in
@@ -205,9 +204,9 @@ returns-in-Err-write_block g c =
     let now : told → IsValidNow v2 = λ t. (h.goes.valid t).0 in
     let goes = subst (λ xs. Goes {X = Unit {0}} told v1 v2 (AsideWith me.root xs v1.world) (Ok tt)) c.as_slice.ensures.value h.goes in
     let so_far = then_runs told old v1 v2 (AsideOf me.root i old.world) blocks (Ok tt) (runs_of told old v1 (AsideOf me.root i old.world) (Ok blocks) e.goes)
-          (runs_more told v1 v2 (AsideWith me.root blocks v1.world) (AsideOf me.root i old.world) (Ok tt)
-          (λ t w k. stop_at_blocks me old v1 v2 i bytes blocks (took t) (wrote t) w k)
-          (runs_of told v1 v2 (AsideWith me.root blocks v1.world) (Ok tt) goes)) in
+    (runs_more told v1 v2 (AsideWith me.root blocks v1.world) (AsideOf me.root i old.world) (Ok tt)
+    (λ t w k. stop_at_blocks me old v1 v2 i bytes blocks (took t) (wrote t) w k)
+    (runs_of told v1 v2 (AsideWith me.root blocks v1.world) (Ok tt) goes)) in
     let v3 = g.K.Blocks.view c.write_block.new.disk in
     let x = inode_bytes (regular (length bytes) blocks) in
     let r = c.in-Err-write_block.refusal in
