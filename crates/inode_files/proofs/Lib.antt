@@ -5,3 +5,4 @@ pub mod DecideLaws
 pub mod FillLaws
 pub mod RoomLaws
 pub mod FileLaws
+pub mod NeedLaws
