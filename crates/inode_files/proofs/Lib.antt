@@ -6,3 +6,4 @@ pub mod FillLaws
 pub mod RoomLaws
 pub mod FileLaws
 pub mod NeedLaws
+pub mod BeginLaws

@@ -1,8 +1,8 @@
 -- The functions that make a file, one after the other.
-use Rattle.std.specs.Prelude.{◌≡◌, ◌<◌, ℕ, false, List, [], ◌∷◌, length, take, drop, Some, Result, IfErr, IsTrue}
+use Rattle.std.specs.Prelude.{◌≡◌, ◌+◌, ◌<◌, ℕ, false, List, [], ◌∷◌, length, take, drop, Some, Result, IfErr, IsTrue}
 use Rattle.image_device.specs.Counts.{Rose}
 use Rattle.tsd_model.specs.Geometry.{block_len}
-use Rattle.tsd_model.specs.World.{World, contents, has_number}
+use Rattle.tsd_model.specs.World.{World, contents, free_count, has_number}
 use Rattle.tsd_model.specs.Valid.{IsValid}
 use Rattle.tsd_model.specs.Step.{filled}
 use Rattle.fs_trees.specs.Tree.{is_there}
@@ -105,3 +105,14 @@ pub record Filled (c : Client) (old new : View) (i : ℕ) (bytes : List ℕ) : T
   pub geometry : new.world.geometry ≡ old.world.geometry
   pub file : (first : World) (d : ℕ) → Stage c.root first d → Making c.root first d i [] [] old.world → IsFile c.root first d i bytes new.world
   pub may : (b : ℕ) → MayWrite c old b → MayWrite c new b
+
+-- ---- its inode
+
+-- a block was taken for a new inode of the directory in block d
+pub record Began (c : Client) (old new : View) (d i : ℕ) : Type 0 where
+  pub making : Making c.root old.world d i [] [] new.world
+  pub geometry : new.world.geometry ≡ old.world.geometry
+  pub pairs : length new.world.pairs ≡ length old.world.pairs + 1
+  pub blocks : free_count new.world + 1 ≡ free_count old.world
+  pub may : (b : ℕ) → MayWrite c old b → MayWrite c new b
+  pub inode : MayWrite c new i
