@@ -1,7 +1,7 @@
 -- A block is taken for a new inode.
-use Rattle.std.proofs.Common.{◌≡◌, ℕ, suc, ◌+◌, ◌≤◌, Bool, true, false, ◌||◌, ◌==◌, List, [], ◌∷◌, length, refl, sym, ◌∙◌, ap, subst, arith}
+use Rattle.std.proofs.Common.{◌≡◌, ℕ, suc, ◌+◌, ◌≤◌, true, false, ◌==◌, [], ◌∷◌, length, refl, sym, ◌∙◌, ap, subst, arith}
 use Rattle.std.proofs.lemmas.Bool.{or_left, eq-eqb, false_from_ne_true}
-use Rattle.tsd_model.specs.World.{World, free_count, has_number}
+use Rattle.tsd_model.specs.World.{free_count, has_number}
 use Rattle.tsd_model.specs.Pairs.{holds}
 use Rattle.tsd_model.specs.Placing.{chosen}
 use Rattle.tsd_model.specs.Step.{zeros, with_new_blocks}
