@@ -1,0 +1,4 @@
+pub mod Client
+pub mod Asks
+pub mod May
+pub mod Leftovers

@@ -1,0 +1,4 @@
+pub mod SaidLaws
+pub mod HeadLaws
+pub mod ListedLaws
+pub mod BackLaws
