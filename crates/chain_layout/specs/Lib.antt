@@ -1,0 +1,4 @@
+pub mod Listed
+pub mod Block
+pub mod Held
+pub mod ReadsBack

@@ -1,0 +1,163 @@
+//! Clusters of the directory.
+
+ghost use Rattle.std.specs.Prelude.{◌≡◌, ◌≤◌, ◌<◌, ◌*◌, ◌+◌, length};
+ghost use Rattle.std.specs.List.{position_from};
+ghost use Rattle.fs_trees.specs.Fields.{entries, entry_names, all_named};
+ghost use Rattle.fs_trees.specs.Cluster.{entries_room};
+ghost use Rattle.chain_layout.specs.Listed.{has_name, name_in, least_above};
+ghost use Rattle.chain_layout.specs.Block.{cluster_of, block_len_of};
+
+use crate::cluster::Cluster;
+use crate::names::lesser;
+use crate::room::entries_room;
+use fs_fields::{ENTRY_BYTES, is_name, next_name, number_at, trimmed};
+use fs_trees::Name;
+
+/// A cluster of the directory: there is room for its entries, and each has a name.
+#[derive(Drop)]
+pub struct DirectoryCluster {
+    cluster: Cluster,
+    count: usize,
+    ghost counted: { count ≡ (cluster_of cluster).used },
+    ghost fits: { count ≤ entries_room (block_len_of cluster) },
+}
+
+/// The name of one of so many entries.
+fn name_at(list: &[u8], place: usize) -> &[u8]
+    requires { 32 * place + 32 ≤ length list.now }
+    ensures value { result.now ≡ name_in list.now place }
+    ensures fits { length result.now ≤ 28 }
+{
+    let entry = &list[32 * place..32 * place + 32];
+    trimmed(&entry[4..])
+}
+
+/// Whether each of so many entries has a name.
+fn are_named(list: &[u8], count: usize) -> bool
+    requires { 32 * count ≤ length list.now }
+    ensures { result ≡ all_named (entries count list.now) }
+{
+    for place in 0..count {
+        if !is_name(name_at(list, place)) {
+            return false;
+        }
+    }
+    true
+}
+
+/// The place of the first of so many entries that has this name.
+fn place_of(list: &[u8], count: usize, name: &[u8]) -> Option<usize>
+    requires { 32 * count ≤ length list.now }
+    ensures { result ≡ position_from (has_name name.now) 0 (entries count list.now) }
+{
+    for place in 0..count {
+        if name_at(list, place) == name {
+            return Some(place);
+        }
+    }
+    None
+}
+
+/// The least of the names of so many entries that stand above another.
+fn least_of(list: &[u8], count: usize, after: &[u8]) -> Option<Name>
+    requires { 32 * count ≤ length list.now }
+    ensures { result ≡ least_above after.now (entry_names (entries count list.now)) }
+{
+    let mut least = None;
+    for place in 0..count {
+        let entry = &list[32 * place..32 * place + 32];
+        least = lesser(least, next_name(entry, 1, after));
+    }
+    least
+}
+
+impl DirectoryCluster {
+    ghost use Rattle.std.specs.Prelude.{option_map, None, IfSome, slice_index, nat_lt, slice_get, Some};
+    ghost use Rattle.tsd_model.specs.World.{has_number};
+    ghost use Rattle.fs_trees.specs.Cluster.{entries_of};
+    ghost use Rattle.chain_layout.specs.Listed.{entry_blocks};
+    ghost use Rattle.chain_layout.specs.Held.{cluster_in, entries_in, blocks_in};
+
+    /// The cluster as one of the directory, where it is one.
+    pub fn of(cluster: Cluster) -> Option<DirectoryCluster>
+        ensures value { option_map entries_in result ≡ entries_of (block_len_of cluster) (cluster_of cluster) }
+        ensures kept { IfSome result (λ d. cluster_in d ≡ cluster) }
+    {
+        let count = cluster.used() as usize;
+        if count > entries_room(cluster.block_len()) || !are_named(cluster.body(), count) {
+            return None;
+        }
+        Some(DirectoryCluster { cluster, count })
+    }
+
+    /// What it says as any cluster does.
+    pub fn cluster(&self) -> &Cluster
+        ensures { result.now ≡ cluster_in self.now }
+    {
+        &self.cluster
+    }
+
+    /// How many entries it has.
+    pub fn count(&self) -> usize
+        ensures value { result ≡ length (entries_in self.now) }
+        ensures fits { result ≤ entries_room (block_len_of (cluster_in self.now)) }
+    {
+        self.count
+    }
+
+    /// Whether it has room for one entry more.
+    pub fn has_room(&self) -> bool
+        ensures { result ≡ nat_lt (cluster_of (cluster_in self.now)).used (entries_room (block_len_of (cluster_in self.now))) }
+    {
+        self.count < entries_room(self.cluster.block_len())
+    }
+
+    /// The place of the entry of a name, where there is one.
+    pub fn place(&self, name: &[u8]) -> Option<usize>
+        ensures { result ≡ position_from (has_name name.now) 0 (entries_in self.now) }
+    {
+        place_of(self.cluster.body(), self.count, name)
+    }
+
+    /// The block that the entry at a place names.
+    pub fn block(&self, place: usize) -> u32
+        requires { place < length (entries_in self.now) }
+        ensures { result ≡ slice_index (entry_blocks (entries_in self.now)) place }
+    {
+        number_at(self.cluster.body(), ENTRY_BYTES * place)
+    }
+
+    /// The name of the entry at a place.
+    pub fn name(&self, place: usize) -> &[u8]
+        requires { place < length (entries_in self.now) }
+        ensures { slice_get (entry_names (entries_in self.now)) place ≡ Some (result.now) }
+    {
+        name_at(self.cluster.body(), place)
+    }
+
+    /// The least of its names that stand above another.
+    pub fn least_above(&self, after: &[u8]) -> Option<Name>
+        ensures { result ≡ least_above after.now (entry_names (entries_in self.now)) }
+    {
+        least_of(self.cluster.body(), self.count, after)
+    }
+
+    /// Whether one of its entries names a block.
+    fn enters(&self, block: u32) -> bool
+        ensures { result ≡ has_number (entry_blocks (entries_in self.now)) block }
+    {
+        for place in 0..self.count() {
+            if self.block(place) == block {
+                return true;
+            }
+        }
+        false
+    }
+
+    /// Whether it names a block, as the next one or by an entry.
+    pub fn names(&self, block: u32) -> bool
+        ensures { result ≡ has_number (blocks_in self.now) block }
+    {
+        self.cluster.leads_to(block) || self.enters(block)
+    }
+}
