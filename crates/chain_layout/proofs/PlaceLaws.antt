@@ -1,18 +1,18 @@
 -- A cluster's entries, from one of them on.
 use Rattle.std.proofs.Common.{◌≡◌, ℕ, zero, suc, ◌+◌, ◌*◌, ◌-◌, ◌<◌, ◌≤◌, Bool, true, false, cond, ◌&&◌, ◌||◌, ◌==◌, List, [], ◌∷◌, length, refl, sym, ◌∙◌, ap, arith, Option, Some, None}
-use Rattle.std.proofs.Common.{nat_lt, inl, inr}
+use Rattle.std.proofs.Common.{nat_lt, inl, inr, not}
 use Rattle.std.proofs.lemmas.Bool.{and_parts, and_from, or_cases, or_left, or_right, eqb-true, eq-eqb}
 use Rattle.std.proofs.lemmas.Bool.Decides.{nat_tests}
-use Rattle.std.proofs.lemmas.List.{drop-take, take-take}
-use Rattle.std.specs.Prelude.{take, drop, slice_index, slice_get}
-use Rattle.std.specs.List.{position_from}
+use Rattle.std.proofs.lemmas.List.{drop-take, take-take, take_rest}
+use Rattle.std.specs.Prelude.{take, drop, slice_index, slice_get, bytes_eq}
+use Rattle.std.specs.List.{position_from, list_any}
 use Rattle.byteorder.specs.Endian.{little_number}
 use Rattle.tsd_model.specs.World.{has_number}
-use Rattle.fs_trees.specs.Names.{Name, name_lt, is_name}
+use Rattle.fs_trees.specs.Names.{Name, name_lt, is_name, are_distinct}
 use Rattle.fs_trees.specs.Fields.{unpadded, Entry, entry_in, entries, entry_names, all_named}
 use Rattle.fs_laws.proofs.DirectoryLaws.{names_meet}
 use Rattle.fs_fields.proofs.PadLaws.{drop-drop, entries_from}
-use Rattle.chain_layout.specs.Listed.{name_in, lesser, if_above, least_above, entry_blocks}
+use Rattle.chain_layout.specs.Listed.{is_among, name_in, lesser, if_above, least_above, entry_blocks}
 
 -- by what the entry there is
 module _ (xs : List ℕ) (amount i : ℕ) (h : i < amount) where
@@ -42,9 +42,46 @@ module _ (xs : List ℕ) (amount i : ℕ) (h : i < amount) where
   unfolding here rest
   place_goes_on test p = ap (position_from test i) split ∙ ap (λ t. cond t (Some i) (position_from test (i + 1) rest)) p
 
+  pub among_stops : (n : Name) → bytes_eq n (name_in xs i) ≡ true → is_among (entry_names (entries (amount - i) (drop (32 * i) xs))) n ≡ true
+  unfolding here rest
+  among_stops n p = ap (λ es. is_among (entry_names es) n) split ∙ ap (λ t. t || is_among (entry_names rest) n) p
+
+  pub among_goes_on : (n : Name) → bytes_eq n (name_in xs i) ≡ false → is_among (entry_names (entries (amount - i) (drop (32 * i) xs))) n ≡ is_among (entry_names (entries (amount - (i + 1)) (drop (32 * (i + 1)) xs))) n
+  unfolding here rest
+  among_goes_on n p = ap (λ es. is_among (entry_names es) n) split ∙ ap (λ t. t || is_among (entry_names rest) n) p
+
+  pub distinct_stops : is_among (entry_names (entries (amount - (i + 1)) (drop (32 * (i + 1)) xs))) (name_in xs i) ≡ true → are_distinct (entry_names (entries (amount - i) (drop (32 * i) xs))) ≡ false
+  unfolding here rest
+  distinct_stops p = ap (λ es. are_distinct (entry_names es)) split ∙ ap (λ t. not t && are_distinct (entry_names rest)) p
+
+  pub distinct_goes_on : is_among (entry_names (entries (amount - (i + 1)) (drop (32 * (i + 1)) xs))) (name_in xs i) ≡ false
+      → are_distinct (entry_names (entries (amount - i) (drop (32 * i) xs))) ≡ are_distinct (entry_names (entries (amount - (i + 1)) (drop (32 * (i + 1)) xs)))
+  unfolding here rest
+  distinct_goes_on p = ap (λ es. are_distinct (entry_names es)) split ∙ ap (λ t. not t && are_distinct (entry_names rest)) p
+
+  pub any_stops : (test : Name → Bool) → test (name_in xs i) ≡ true → list_any test (entry_names (entries (amount - i) (drop (32 * i) xs))) ≡ true
+  unfolding here rest
+  any_stops test p = ap (λ es. list_any test (entry_names es)) split ∙ ap (λ t. t || list_any test (entry_names rest)) p
+
+  pub any_goes_on : (test : Name → Bool) → test (name_in xs i) ≡ false → list_any test (entry_names (entries (amount - i) (drop (32 * i) xs))) ≡ list_any test (entry_names (entries (amount - (i + 1)) (drop (32 * (i + 1)) xs)))
+  unfolding here rest
+  any_goes_on test p = ap (λ es. list_any test (entry_names es)) split ∙ ap (λ t. t || list_any test (entry_names rest)) p
+
   pub least_goes_on : (n : Name) → least_above n (entry_names (entries (amount - i) (drop (32 * i) xs))) ≡ lesser (if_above n (name_in xs i)) (least_above n (entry_names (entries (amount - (i + 1)) (drop (32 * (i + 1)) xs))))
   unfolding here rest
   least_goes_on n = ap (λ es. least_above n (entry_names es)) split
+
+-- whether a name is among those behind its entry, as they are cut out
+pub among_rest : (xs : List ℕ) (amount i : ℕ) → i < amount → (n : Name) (found : Bool) → n ≡ name_in xs i
+    → found ≡ is_among (entry_names (entries (amount - i - 1) (take (length xs - (32 * i + 32)) (drop (32 * i + 32) xs)))) n
+    → is_among (entry_names (entries (amount - (i + 1)) (drop (32 * (i + 1)) xs))) (name_in xs i) ≡ found
+among_rest xs amount i h n found is tells =
+    let next : 32 * i + 32 ≡ 32 * (i + 1) = omega arith in
+    let less : amount - i - 1 ≡ amount - (i + 1) = omega arith in
+    let whole = take_rest xs (32 * i + 32) ∙ ap (λ k. drop k xs) next in
+    sym (tells ∙ (ap (λ ys. is_among (entry_names (entries (amount - i - 1) ys)) n) whole
+    ∙ (ap (λ k. is_among (entry_names (entries k (drop (32 * (i + 1)) xs))) n) less
+    ∙ ap (is_among (entry_names (entries (amount - (i + 1)) (drop (32 * (i + 1)) xs)))) is)))
 
 -- ---- what stands at one place
 

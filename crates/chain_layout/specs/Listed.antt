@@ -1,11 +1,16 @@
 -- Entries of a cluster, in whatever order.
 use Rattle.std.specs.Prelude.{ℕ, ◌+◌, ◌*◌, Bool, cond, List, [], ◌∷◌, ◌++◌, map, take, drop, Option, Some, None, bytes_eq}
+use Rattle.std.specs.List.{list_any}
 use Rattle.fs_trees.specs.Names.{Name, name_lt}
 use Rattle.fs_trees.specs.Fields.{Entry, entry_in}
 
 -- it is the entry of this name
 abbrev pub has_name : Name → Entry → Bool
 has_name n e = bytes_eq e.name n
+
+-- the name is one of these
+abbrev pub is_among : List Name → Name → Bool
+is_among ns n = list_any (bytes_eq n) ns
 
 -- the name of the entry at a place of a list of bytes
 abbrev pub name_in : List ℕ → ℕ → Name

@@ -8,6 +8,7 @@ ghost use Rattle.chain_layout.specs.Listed.{has_name, name_in, least_above};
 ghost use Rattle.chain_layout.specs.Block.{cluster_of, block_len_of};
 
 use crate::cluster::Cluster;
+use crate::distinct::{are_distinct, are_shared};
 use crate::names::lesser;
 use crate::room::entries_room;
 use fs_fields::{ENTRY_BYTES, is_name, next_name, number_at, trimmed};
@@ -23,7 +24,7 @@ pub struct DirectoryCluster {
 }
 
 /// The name of one of so many entries.
-fn name_at(list: &[u8], place: usize) -> &[u8]
+pub fn name_at(list: &[u8], place: usize) -> &[u8]
     requires { 32 * place + 32 ≤ length list.now }
     ensures value { result.now ≡ name_in list.now place }
     ensures fits { length result.now ≤ 28 }
@@ -75,7 +76,9 @@ impl DirectoryCluster {
     ghost use Rattle.std.specs.Prelude.{option_map, None, IfSome, slice_index, nat_lt, slice_get, Some};
     ghost use Rattle.tsd_model.specs.World.{has_number};
     ghost use Rattle.fs_trees.specs.Cluster.{entries_of};
-    ghost use Rattle.chain_layout.specs.Listed.{entry_blocks};
+    ghost use Rattle.std.specs.List.{list_any};
+    ghost use Rattle.fs_trees.specs.Names.{are_distinct};
+    ghost use Rattle.chain_layout.specs.Listed.{entry_blocks, is_among};
     ghost use Rattle.chain_layout.specs.Held.{cluster_in, entries_in, blocks_in};
 
     /// The cluster as one of the directory, where it is one.
@@ -133,6 +136,25 @@ impl DirectoryCluster {
         ensures { slice_get (entry_names (entries_in self.now)) place ≡ Some (result.now) }
     {
         name_at(self.cluster.body(), place)
+    }
+
+    /// Whether each of its names stands once.
+    pub fn has_distinct_names(&self) -> bool
+        ensures { result ≡ are_distinct (entry_names (entries_in self.now)) }
+    {
+        are_distinct(self.cluster.body(), self.count)
+    }
+
+    /// Whether one of its names stands in another cluster, too.
+    pub fn shares_a_name(&self, other: &DirectoryCluster) -> bool
+        ensures { result ≡ list_any (is_among (entry_names (entries_in other.now))) (entry_names (entries_in self.now)) }
+    {
+        are_shared(
+            self.cluster.body(),
+            self.count,
+            other.cluster.body(),
+            other.count,
+        )
     }
 
     /// The least of its names that stand above another.

@@ -14,6 +14,7 @@
 
 mod cluster;
 mod directory;
+mod distinct;
 mod file;
 mod laws;
 mod names;
