@@ -1,0 +1,104 @@
+//! What files and the directory hold.
+
+use crate::finding::{find_directory, find_file};
+use crate::walking::{read_page, read_part};
+use chain_layout::lesser;
+use fs_asks::Client;
+use fs_port::Blocks;
+use fs_trees::{FsRefusal, Name, Path};
+use tsd_model::Data;
+use tsd_model::lists::DATA_MAX;
+
+/// How many bytes a chain has that begins at a block.
+fn chain_size<K: Blocks>(client: &Client, disk: &mut K, first: u32) -> Result<u64, FsRefusal> {
+    let mut size = 0;
+    let mut block = first;
+    for _ in 0..disk.geometry().blocks {
+        let part = read_part(client, disk, block)?;
+        size += part.cluster.bytes().len() as u64;
+        match part.cluster.cluster().next() {
+            Some(next) => block = next,
+            None => return Ok(size),
+        }
+    }
+    Err(FsRefusal::NotThisFs)
+}
+
+/// How many bytes a file has.
+pub fn size<K: Blocks>(client: &Client, disk: &mut K, path: &Path) -> Result<u64, FsRefusal> {
+    let first = find_file(client, disk, path)?;
+    chain_size(client, disk, first)
+}
+
+/// Adds the bytes from a place on, as far as there is room for them. So many stand before these.
+fn add_part(into: &mut Data, bytes: &[u8], before: u64, start: u64) {
+    let skipped = start.saturating_sub(before).min(bytes.len() as u64) as usize;
+    let rest = &bytes[skipped..];
+    let count = rest.len().min(DATA_MAX - into.len());
+    let _ = into.extend_from_slice(&rest[..count]);
+}
+
+/// The bytes of a chain from a place on: all that are left, or the first 4,096.
+fn read_chain<K: Blocks>(
+    client: &Client,
+    disk: &mut K,
+    first: u32,
+    start: u64,
+    into: &mut Data,
+) -> Result<(), FsRefusal> {
+    let mut before = 0;
+    let mut block = first;
+    for _ in 0..disk.geometry().blocks {
+        let part = read_part(client, disk, block)?;
+        add_part(into, part.cluster.bytes(), before, start);
+        before += part.cluster.bytes().len() as u64;
+        match part.cluster.cluster().next() {
+            Some(next) if into.len() < DATA_MAX => block = next,
+            _ => return Ok(()),
+        }
+    }
+    Err(FsRefusal::NotThisFs)
+}
+
+/// The bytes of a file from a place on: all that are left, or the first 4,096.
+pub fn read_file<K: Blocks>(
+    client: &Client,
+    disk: &mut K,
+    path: &Path,
+    start: u64,
+    into: &mut Data,
+) -> Result<(), FsRefusal> {
+    *into = Data::new();
+    let first = find_file(client, disk, path)?;
+    read_chain(client, disk, first, start, into)
+}
+
+/// The least name of the directory above another, each cluster read once.
+fn least_above<K: Blocks>(
+    client: &Client,
+    disk: &mut K,
+    after: &Name,
+) -> Result<Option<Name>, FsRefusal> {
+    let mut least = None;
+    let mut block = client.root;
+    for _ in 0..disk.geometry().blocks {
+        let page = read_page(client, disk, block)?;
+        least = lesser(least, page.cluster.least_above(after.as_slice()));
+        match page.cluster.cluster().next() {
+            Some(next) => block = next,
+            None => return Ok(least),
+        }
+    }
+    Err(FsRefusal::NotThisFs)
+}
+
+/// The least name in a directory above another.
+pub fn name_after<K: Blocks>(
+    client: &Client,
+    disk: &mut K,
+    path: &Path,
+    after: &Name,
+) -> Result<Option<Name>, FsRefusal> {
+    find_directory(client, disk, path)?;
+    least_above(client, disk, after)
+}
