@@ -1,1 +1,4 @@
 pub mod View
+pub mod Standing
+pub mod Ahead
+pub mod Asking

@@ -1,5 +1,18 @@
 //! What files and the directory hold.
 
+ghost use Rattle.std.specs.Prelude.{◌≡◌, ◌<◌, ◌*◌, ◌^◌, ℕ, List, [], false, length, take, drop, map, IfOk, IfErr, OnOk, IsTrue};
+ghost use Rattle.fs_trees.specs.Names.{is_path};
+ghost use Rattle.fs_trees.specs.ChainTree.{Link, chain_bytes};
+ghost use Rattle.fs_trees.specs.declared.ask.ShellAsk.TheVariants as ask;
+ghost use Rattle.fs_trees.specs.declared.refusal.FsRefusal.TheVariants as no;
+ghost use Rattle.fs_port.specs.Calls.{IsValidNow};
+ghost use Rattle.fs_port.specs.Files.{Answers, TellsSize, TellsPart, TellsNext};
+ghost use Rattle.fs_asks.specs.May.{Looks};
+ghost use Rattle.chain_layout.specs.Listed.{least_above};
+ghost use Rattle.chain_laws.specs.Chained.{Placed};
+ghost use Rattle.chain_fs.specs.Ahead.{IsFileAhead, HasFile, IsDirectoryAhead, HasDirectory};
+ghost use Rattle.chain_fs.specs.Asking.{MayAsk, mounted_by};
+
 use crate::finding::{find_directory, find_file};
 use crate::walking::{read_page, read_part};
 use chain_layout::lesser;
@@ -10,11 +23,21 @@ use tsd_model::Data;
 use tsd_model::lists::DATA_MAX;
 
 /// How many bytes a chain has that begins at a block.
-fn chain_size<K: Blocks>(client: &Client, disk: &mut K, first: u32) -> Result<u64, FsRefusal> {
+fn chain_size<K: Blocks>(client: &Client, disk: &mut K, first: u32) -> Result<u64, FsRefusal>
+    requires unspent { (K.view disk.old).spent ≡ false }
+    requires valid { K.told → IsValidNow (K.view disk.old) }
+    requires file { K.told → HasFile client.now (K.view disk.old) first }
+    ensures size { K.told → (ls : List Link) → IsFileAhead client.now (K.view disk.old) first ls → IfOk result (λ size. size ≡ length (chain_bytes ls)) }
+    ensures only { K.told → IfErr result (λ e. e ≡ no.Device) }
+    ensures looks { Looks K.told (K.view disk.old) (K.view disk.new) result }
+{
     let mut size = 0;
     let mut block = first;
-    for _ in 0..disk.geometry().blocks {
-        let part = read_part(client, disk, block)?;
+    for place in 0..disk.geometry().blocks {
+        let part = match read_part(client, disk, block) {
+            Ok(part) => part,
+            Err(refusal) => return Err(refusal),
+        };
         size += part.cluster.bytes().len() as u64;
         match part.cluster.cluster().next() {
             Some(next) => block = next,
@@ -45,11 +68,22 @@ fn read_chain<K: Blocks>(
     first: u32,
     start: u64,
     into: &mut Data,
-) -> Result<(), FsRefusal> {
+) -> Result<(), FsRefusal>
+    requires unspent { (K.view disk.old).spent ≡ false }
+    requires valid { K.told → IsValidNow (K.view disk.old) }
+    requires file { K.told → HasFile client.now (K.view disk.old) first }
+    requires empty { into.old ≡ [] }
+    ensures bytes { K.told → (ls : List Link) → IsFileAhead client.now (K.view disk.old) first ls → OnOk result (into.new ≡ take 4096 (drop start (chain_bytes ls))) }
+    ensures only { K.told → IfErr result (λ e. e ≡ no.Device) }
+    ensures looks { Looks K.told (K.view disk.old) (K.view disk.new) result }
+{
     let mut before = 0;
     let mut block = first;
-    for _ in 0..disk.geometry().blocks {
-        let part = read_part(client, disk, block)?;
+    for place in 0..disk.geometry().blocks {
+        let part = match read_part(client, disk, block) {
+            Ok(part) => part,
+            Err(refusal) => return Err(refusal),
+        };
         add_part(into, part.cluster.bytes(), before, start);
         before += part.cluster.bytes().len() as u64;
         match part.cluster.cluster().next() {
@@ -78,11 +112,21 @@ fn least_above<K: Blocks>(
     client: &Client,
     disk: &mut K,
     after: &Name,
-) -> Result<Option<Name>, FsRefusal> {
+) -> Result<Option<Name>, FsRefusal>
+    requires unspent { (K.view disk.old).spent ≡ false }
+    requires valid { K.told → IsValidNow (K.view disk.old) }
+    requires directory { K.told → HasDirectory client.now (K.view disk.old) }
+    ensures least { K.told → (ls : List Link) (ps : List Placed) → IsDirectoryAhead client.now (K.view disk.old) ls ps → IfOk result (λ name. name ≡ least_above after.now (map (λ p. p.1.name) ps)) }
+    ensures only { K.told → IfErr result (λ e. e ≡ no.Device) }
+    ensures looks { Looks K.told (K.view disk.old) (K.view disk.new) result }
+{
     let mut least = None;
     let mut block = client.root;
-    for _ in 0..disk.geometry().blocks {
-        let page = read_page(client, disk, block)?;
+    for place in 0..disk.geometry().blocks {
+        let page = match read_page(client, disk, block) {
+            Ok(page) => page,
+            Err(refusal) => return Err(refusal),
+        };
         least = lesser(least, page.cluster.least_above(after.as_slice()));
         match page.cluster.cluster().next() {
             Some(next) => block = next,

@@ -44,6 +44,7 @@ impl FileCluster {
         ensures value { result.now ≡ part_in self.now }
         ensures sized { length result.now ≡ (cluster_of (part_cluster self.now)).used }
         ensures fits { length result.now ≤ bytes_room (block_len_of (part_cluster self.now)) }
+        ensures small { length result.now ≤ 4080 }
     {
         &self.cluster.body()[..self.count]
     }
