@@ -32,7 +32,7 @@ more_bytes before b cl = flat_map-append (λ l. take l.cluster.used l.cluster.bo
 pub count_starts : (c : Client) (v : View) (start : ℕ) (ls : List Link) → IsFileAhead c v start ls → IsCounted c v ls 0 start 0
 count_starts c v start ls file = record { before = []; walked = walk_starts c v start ls file.ahead; count = refl; bytes = refl }
 
-pub count_on : (c : Client) (now new : View) (ls : List Link) (i b d size more : ℕ) (cl : Cluster) → IsCounted c now ls i b size → cluster_at now.world b ≡ Some cl → cl.next ≡ Some d → more ≡ length (take cl.used cl.body)
+unfoldable pub count_on : (c : Client) (now new : View) (ls : List Link) (i b d size more : ℕ) (cl : Cluster) → IsCounted c now ls i b size → cluster_at now.world b ≡ Some cl → cl.next ≡ Some d → more ≡ length (take cl.used cl.body)
     → Looked now new → Stays now new → HoldsWrite (state_of new) c.session b → IsCounted c new ls (i + 1) d (size + more)
 count_on c now new ls i b d size more cl counted at next part seen stays held = record {
   before = counted.before ++ link_of b cl ∷ [];

@@ -1,6 +1,6 @@
 //! What files and the directory hold.
 
-ghost use Rattle.std.specs.Prelude.{◌≡◌, ◌<◌, ◌*◌, ◌^◌, ℕ, List, [], false, length, take, drop, map, IfOk, IfErr, OnOk, IsTrue};
+ghost use Rattle.std.specs.Prelude.{◌≡◌, ◌++◌, ◌-◌, ℕ, List, [], false, length, take, drop, map, IfOk, IfErr, OnOk, IsTrue};
 ghost use Rattle.fs_trees.specs.Names.{is_path};
 ghost use Rattle.fs_trees.specs.ChainTree.{Link, chain_bytes};
 ghost use Rattle.fs_trees.specs.declared.ask.ShellAsk.TheVariants as ask;
@@ -54,7 +54,9 @@ pub fn size<K: Blocks>(client: &Client, disk: &mut K, path: &Path) -> Result<u64
 }
 
 /// Adds the bytes from a place on, as far as there is room for them. So many stand before these.
-fn add_part(into: &mut Data, bytes: &[u8], before: u64, start: u64) {
+fn add_part(into: &mut Data, bytes: &[u8], before: u64, start: u64)
+    ensures { into.new ≡ into.old ++ take (4096 - length into.old) (drop (start - before) bytes.now) }
+{
     let skipped = start.saturating_sub(before).min(bytes.len() as u64) as usize;
     let rest = &bytes[skipped..];
     let count = rest.len().min(DATA_MAX - into.len());
@@ -86,9 +88,12 @@ fn read_chain<K: Blocks>(
         };
         add_part(into, part.cluster.bytes(), before, start);
         before += part.cluster.bytes().len() as u64;
+        if into.len() == DATA_MAX {
+            return Ok(());
+        }
         match part.cluster.cluster().next() {
-            Some(next) if into.len() < DATA_MAX => block = next,
-            _ => return Ok(()),
+            Some(next) => block = next,
+            None => return Ok(()),
         }
     }
     Err(FsRefusal::NotThisFs)
