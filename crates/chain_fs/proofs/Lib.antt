@@ -2,3 +2,4 @@ pub mod ReadLaws
 pub mod WalkLaws
 pub mod SizeLaws
 pub mod CopyLaws
+pub mod ListLaws

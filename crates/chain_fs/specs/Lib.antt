@@ -2,3 +2,4 @@ pub mod View
 pub mod Standing
 pub mod Ahead
 pub mod Asking
+pub mod Finding

@@ -1,5 +1,15 @@
 //! The way to a file.
 
+ghost use Rattle.std.specs.Prelude.{◌≡◌, ◌≢◌, ◌<◌, ◌*◌, ◌+◌, ◌^◌, ℕ, List, false, None, Some, is_some, IsTrue, IfOk, IfErr, OnOk, OnErr, length};
+ghost use Rattle.fs_trees.specs.ChainTree.{Link};
+ghost use Rattle.fs_trees.specs.declared.refusal.FsRefusal.TheVariants as no;
+ghost use Rattle.fs_port.specs.Calls.{IsValidNow};
+ghost use Rattle.fs_asks.specs.May.{Looks};
+ghost use Rattle.chain_laws.specs.Chained.{Placed};
+ghost use Rattle.chain_fs.specs.Ahead.{IsDirectoryAhead, HasDirectory};
+ghost use Rattle.chain_fs.specs.Asking.{MayAsk, tree_of};
+ghost use Rattle.chain_fs.specs.Finding.{IsFound, IsFileOf, no_file_found, no_directory_found};
+
 use crate::walking::{Page, read_page};
 use fs_asks::Client;
 use fs_port::Blocks;
@@ -28,12 +38,22 @@ fn better(page: Option<Page>, other: Page) -> Page {
 }
 
 /// Looks a name up in the directory, each cluster read once.
-fn search<K: Blocks>(client: &Client, disk: &mut K, name: &Name) -> Result<Place, FsRefusal> {
+fn search<K: Blocks>(client: &Client, disk: &mut K, name: &Name) -> Result<Place, FsRefusal>
+    requires unspent { (K.view disk.old).spent ≡ false }
+    requires valid { K.told → IsValidNow (K.view disk.old) }
+    requires directory { K.told → HasDirectory client.now (K.view disk.old) }
+    ensures found { K.told → (ls : List Link) (ps : List Placed) → IsDirectoryAhead client.now (K.view disk.old) ls ps → IfOk result (IsFound client.now (K.view disk.new) name.now ls ps) }
+    ensures only { K.told → IfErr result (λ e. e ≡ no.Device) }
+    ensures looks { Looks K.told (K.view disk.old) (K.view disk.new) result }
+{
     let mut best = None;
     let mut count = 0;
     let mut block = client.root;
-    for _ in 0..disk.geometry().blocks {
-        let page = read_page(client, disk, block)?;
+    for turn in 0..disk.geometry().blocks {
+        let page = match read_page(client, disk, block) {
+            Ok(page) => page,
+            Err(refusal) => return Err(refusal),
+        };
         if let Some(place) = page.cluster.place(name.as_slice()) {
             let first = page.cluster.block(place);
             return Ok(Place::Taken { page, place, first });
@@ -69,11 +89,33 @@ pub fn find_place<'a, K: Blocks>(
     }
 }
 
+/// Why no way leads on from what stands at a name.
+fn no_way(place: Place) -> FsRefusal {
+    match place {
+        Place::Taken { .. } => FsRefusal::NotDir,
+        Place::Free { .. } => FsRefusal::NoEntry,
+    }
+}
+
 /// The first block of the file at a path.
-pub fn find_file<K: Blocks>(client: &Client, disk: &mut K, path: &Path) -> Result<u32, FsRefusal> {
-    match find_place(client, disk, path, FsRefusal::IsDir)? {
-        (Place::Taken { first, .. }, _) => Ok(first),
-        (Place::Free { .. }, _) => Err(FsRefusal::NoEntry),
+pub fn find_file<K: Blocks>(client: &Client, disk: &mut K, path: &Path) -> Result<u32, FsRefusal>
+    requires may { MayAsk K.told client.now (K.view disk.old) }
+    ensures found { K.told → IfOk result (λ first. IsFileOf client.now (K.view disk.new) path.now first) }
+    ensures none { K.told → OnOk result (no_file_found (tree_of client.now (K.view disk.old)) path.now ≡ None) }
+    ensures refused { K.told → IfErr result (λ e. e ≢ no.Device → no_file_found (tree_of client.now (K.view disk.old)) path.now ≡ Some e) }
+    ensures looks { Looks K.told (K.view disk.old) (K.view disk.new) result }
+{
+    match path.as_slice() {
+        [] => Err(FsRefusal::IsDir),
+        [name] => match search(client, disk, name) {
+            Ok(Place::Taken { first, .. }) => Ok(first),
+            Ok(Place::Free { .. }) => Err(FsRefusal::NoEntry),
+            Err(refusal) => Err(refusal),
+        },
+        [name, ..] => match search(client, disk, name) {
+            Ok(place) => Err(no_way(place)),
+            Err(refusal) => Err(refusal),
+        },
     }
 }
 
