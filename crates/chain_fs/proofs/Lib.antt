@@ -3,3 +3,4 @@ pub mod WalkLaws
 pub mod SizeLaws
 pub mod CopyLaws
 pub mod ListLaws
+pub mod SearchLaws

@@ -21,6 +21,7 @@ pub struct DirectoryCluster {
     count: usize,
     ghost counted: { count ≡ (cluster_of cluster).used },
     ghost fits: { count ≤ entries_room (block_len_of cluster) },
+    ghost few: { count ≤ 127 },
 }
 
 /// The name of one of so many entries.
@@ -104,6 +105,7 @@ impl DirectoryCluster {
     pub fn count(&self) -> usize
         ensures value { result ≡ length (entries_in self.now) }
         ensures fits { result ≤ entries_room (block_len_of (cluster_in self.now)) }
+        ensures few { result ≤ 127 }
     {
         self.count
     }
