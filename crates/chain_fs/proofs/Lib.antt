@@ -4,3 +4,4 @@ pub mod SizeLaws
 pub mod CopyLaws
 pub mod ListLaws
 pub mod SearchLaws
+pub mod KnownLaws

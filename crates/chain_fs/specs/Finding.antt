@@ -7,6 +7,7 @@ use Rattle.fs_trees.specs.Fields.{Entry, entry_names}
 use Rattle.fs_trees.specs.ChainTree.{Link, ChainFile, chain_bytes}
 use Rattle.fs_trees.specs.Refusals.{first_of, lost_on_the_way, missing, no_file, no_dir}
 use Rattle.fs_trees.specs.declared.refusal.FsRefusal.{FsRefusal}
+use Rattle.fs_trees.specs.declared.refusal.FsRefusal.TheVariants as no
 use Rattle.std.specs.Prelude.{Option}
 use Rattle.fs_laws.specs.Ways.{HoldsWrite}
 use Rattle.fs_port.specs.View.{View, state_of}
@@ -50,6 +51,11 @@ pub record IsTaken (c : Client) (v : View) (n : Name) (ls : List Link) (page : P
 abbrev pub IsFound : Client → View → Name → List Link → List Placed → Place → Type 0
 IsFound c v n ls ps (Taken page place first) = IsTaken c v n ls page place first
 IsFound c v n ls ps (Free page count) = AreOthers n (placed_names ps) × (count ≡ length ps)
+
+-- why no way leads on from what stands at a name
+abbrev pub no_way : Place → FsRefusal
+no_way (Taken page place first) = no.NotDir
+no_way (Free page count) = no.NoEntry
 
 -- ---- at a path
 

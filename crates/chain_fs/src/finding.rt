@@ -1,6 +1,6 @@
 //! The way to a file.
 
-ghost use Rattle.std.specs.Prelude.{◌≡◌, ◌≢◌, ◌<◌, ◌*◌, ◌+◌, ◌^◌, ℕ, List, false, None, Some, is_some, IsTrue, IfOk, IfErr, OnOk, OnErr, length};
+ghost use Rattle.std.specs.Prelude.{◌≡◌, ◌≢◌, ◌<◌, ◌*◌, ◌+◌, ◌^◌, ℕ, List, false, None, Some, is_some, IsTrue, IfOk, IfErr, OnOk, OnErr, length, []};
 ghost use Rattle.fs_trees.specs.ChainTree.{Link};
 ghost use Rattle.fs_trees.specs.declared.refusal.FsRefusal.TheVariants as no;
 ghost use Rattle.fs_port.specs.Calls.{IsValidNow};
@@ -8,7 +8,7 @@ ghost use Rattle.fs_asks.specs.May.{Looks};
 ghost use Rattle.chain_laws.specs.Chained.{Placed};
 ghost use Rattle.chain_fs.specs.Ahead.{IsDirectoryAhead, HasDirectory};
 ghost use Rattle.chain_fs.specs.Asking.{MayAsk, tree_of};
-ghost use Rattle.chain_fs.specs.Finding.{IsFound, IsFileOf, no_file_found, no_directory_found};
+ghost use Rattle.chain_fs.specs.Finding.{no_way, IsFound, IsFileOf, no_file_found, no_directory_found};
 
 use crate::walking::{Page, read_page};
 use fs_asks::Client;
@@ -90,7 +90,9 @@ pub fn find_place<'a, K: Blocks>(
 }
 
 /// Why no way leads on from what stands at a name.
-fn no_way(place: Place) -> FsRefusal {
+fn no_way(place: Place) -> FsRefusal
+    ensures { result ≡ no_way place }
+{
     match place {
         Place::Taken { .. } => FsRefusal::NotDir,
         Place::Free { .. } => FsRefusal::NoEntry,
@@ -112,7 +114,7 @@ pub fn find_file<K: Blocks>(client: &Client, disk: &mut K, path: &Path) -> Resul
             Ok(Place::Free { .. }) => Err(FsRefusal::NoEntry),
             Err(refusal) => Err(refusal),
         },
-        [name, ..] => match search(client, disk, name) {
+        [name, _, ..] => match search(client, disk, name) {
             Ok(place) => Err(no_way(place)),
             Err(refusal) => Err(refusal),
         },
@@ -124,12 +126,18 @@ pub fn find_directory<K: Blocks>(
     client: &Client,
     disk: &mut K,
     path: &Path,
-) -> Result<(), FsRefusal> {
+) -> Result<(), FsRefusal>
+    requires may { MayAsk K.told client.now (K.view disk.old) }
+    ensures found { K.told → OnOk result (path.now ≡ []) }
+    ensures none { K.told → OnOk result (no_directory_found (tree_of client.now (K.view disk.old)) path.now ≡ None) }
+    ensures refused { K.told → IfErr result (λ e. e ≢ no.Device → no_directory_found (tree_of client.now (K.view disk.old)) path.now ≡ Some e) }
+    ensures looks { Looks K.told (K.view disk.old) (K.view disk.new) result }
+{
     match path.as_slice() {
         [] => Ok(()),
-        [first, ..] => match search(client, disk, first)? {
-            Place::Taken { .. } => Err(FsRefusal::NotDir),
-            Place::Free { .. } => Err(FsRefusal::NoEntry),
+        [name, ..] => match search(client, disk, name) {
+            Ok(place) => Err(no_way(place)),
+            Err(refusal) => Err(refusal),
         },
     }
 }
