@@ -100,7 +100,7 @@ tree_known c v known = ap as_tree known.under
 
 -- ---- the files of entries
 
-names_of_files : (w : World) (ps : List Placed) (fs : List ChainFile) → AreFiles w ps fs → file_names fs ≡ placed_names ps
+pub names_of_files : (w : World) (ps : List Placed) (fs : List ChainFile) → AreFiles w ps fs → file_names fs ≡ placed_names ps
 names_of_files w [] [] are = refl
 names_of_files w [] (f ∷ fs) are = absurd are
 names_of_files w (p ∷ ps) [] are = absurd are

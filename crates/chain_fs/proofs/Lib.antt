@@ -5,3 +5,6 @@ pub mod CopyLaws
 pub mod ListLaws
 pub mod SearchLaws
 pub mod KnownLaws
+pub mod RefusalLaws
+pub mod NextLaws
+pub mod ToldLaws

@@ -48,9 +48,15 @@ fn chain_size<K: Blocks>(client: &Client, disk: &mut K, first: u32) -> Result<u6
 }
 
 /// How many bytes a file has.
-pub fn size<K: Blocks>(client: &Client, disk: &mut K, path: &Path) -> Result<u64, FsRefusal> {
-    let first = find_file(client, disk, path)?;
-    chain_size(client, disk, first)
+pub fn size<K: Blocks>(client: &Client, disk: &mut K, path: &Path) -> Result<u64, FsRefusal>
+    requires { MayAsk K.told client.now (K.view disk.old) }
+    ensures answer { K.told → Answers (mounted_by client.now) (K.view disk.old) (K.view disk.new) (ask.Cat path.now) result TellsSize }
+    ensures looks { Looks K.told (K.view disk.old) (K.view disk.new) result }
+{
+    match find_file(client, disk, path) {
+        Ok(first) => chain_size(client, disk, first),
+        Err(refusal) => Err(refusal),
+    }
 }
 
 /// Adds the bytes from a place on, as far as there is room for them. So many stand before these.
@@ -106,10 +112,16 @@ pub fn read_file<K: Blocks>(
     path: &Path,
     start: u64,
     into: &mut Data,
-) -> Result<(), FsRefusal> {
+) -> Result<(), FsRefusal>
+    requires { MayAsk K.told client.now (K.view disk.old) }
+    ensures answer { K.told → Answers (mounted_by client.now) (K.view disk.old) (K.view disk.new) (ask.Cat path.now) result (λ _. TellsPart start into.new) }
+    ensures looks { Looks K.told (K.view disk.old) (K.view disk.new) result }
+{
     *into = Data::new();
-    let first = find_file(client, disk, path)?;
-    read_chain(client, disk, first, start, into)
+    match find_file(client, disk, path) {
+        Ok(first) => read_chain(client, disk, first, start, into),
+        Err(refusal) => Err(refusal),
+    }
 }
 
 /// The least name of the directory above another, each cluster read once.
@@ -147,7 +159,13 @@ pub fn name_after<K: Blocks>(
     disk: &mut K,
     path: &Path,
     after: &Name,
-) -> Result<Option<Name>, FsRefusal> {
-    find_directory(client, disk, path)?;
-    least_above(client, disk, after)
+) -> Result<Option<Name>, FsRefusal>
+    requires { MayAsk K.told client.now (K.view disk.old) }
+    ensures answer { K.told → Answers (mounted_by client.now) (K.view disk.old) (K.view disk.new) (ask.Ls path.now) result (TellsNext after.now) }
+    ensures looks { Looks K.told (K.view disk.old) (K.view disk.new) result }
+{
+    match find_directory(client, disk, path) {
+        Ok(()) => least_above(client, disk, after),
+        Err(refusal) => Err(refusal),
+    }
 }
