@@ -1,5 +1,5 @@
 -- What reading calls tell.
-use Rattle.std.proofs.Common.{◌≡◌, ◌≢◌, ℕ, true, List, [], ◌∷◌, length, refl, sym, ◌∙◌, ap, subst, Option, Some, None, Result, Ok, Err}
+use Rattle.std.proofs.Common.{◌≡◌, ◌≢◌, ◌≤◌, ℕ, true, List, [], ◌∷◌, length, refl, sym, ◌∙◌, ap, subst, Option, Some, None, Result, Ok, Err}
 use Rattle.std.specs.Prelude.{take, drop, map, find, IfOk, IfErr, OnOk}
 use Rattle.fs_trees.specs.Names.{Name, Path, name_lt}
 use Rattle.fs_trees.specs.Tree.{a_file, a_dir, at, is_there, bytes_in, names_in, names}
@@ -8,12 +8,16 @@ use Rattle.fs_trees.specs.ChainTree.{Link, chain_bytes, chain_tree, tree_of_file
 use Rattle.fs_trees.specs.declared.ask.ShellAsk.TheVariants as ask
 use Rattle.fs_trees.specs.declared.refusal.FsRefusal.{FsRefusal}
 use Rattle.fs_trees.specs.declared.refusal.FsRefusal.TheVariants as no
+use Rattle.tsd_model.specs.Geometry.{block_len}
+use Rattle.tsd_model.specs.Pairs.{holds}
+use Rattle.fs_port.specs.Calls.{IsValidNow, Stays}
+use Rattle.fs_asks.proofs.LookLaws.{may_again}
 use Rattle.fs_port.specs.View.{View, IsSound}
 use Rattle.fs_port.specs.Files.{Answers, TellsPart, TellsNext}
 use Rattle.fs_asks.specs.declared.client.Client.{Client}
 use Rattle.fs_asks.specs.May.{Looked, Looks}
 use Rattle.chain_layout.specs.Listed.{least_above}
-use Rattle.chain_laws.specs.Chained.{Placed}
+use Rattle.chain_laws.specs.Chained.{IsFrom, Placed, AreEntries}
 use Rattle.chain_laws.specs.Changed.{file_names}
 use Rattle.chain_laws.proofs.ChangeLaws.{right_is}
 use Rattle.chain_fs.specs.Ahead.{IsFileAhead, IsDirectoryAhead}
@@ -50,3 +54,15 @@ next_told told c old new after (Ok name) t may sound gives only looks =
       ap (λ w. chain_tree w c.root) (looks.looked t).0.world ∙ sym (ls_stays c old [] there));
       err = tt;
     }
+
+-- after looking, the directory is still ahead
+pub ahead_again : (c : Client) (old mid : View) (ls : List Link) (ps : List Placed) → Looked old mid → Stays old mid → IsValidNow old → IsDirectoryAhead c old ls ps → IsDirectoryAhead c mid ls ps
+ahead_again c old mid ls ps seen stays valid ahead = record {
+  ahead = record {
+    rest = subst (λ w. IsFrom w (Some c.root) ls) (sym seen.world) ahead.ahead.rest;
+    held = λ x y h. ap (λ w. holds w.pairs x y) seen.world ∙ ahead.ahead.held x y h;
+    may = may_again c old mid c.root seen stays valid ahead.ahead.may;
+  };
+  entries = subst (λ w. AreEntries (block_len w.geometry) ls ps) (sym seen.world) ahead.entries;
+  short = subst (λ w. length ls ≤ w.geometry.blocks) (sym seen.world) ahead.short;
+}
