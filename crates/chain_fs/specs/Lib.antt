@@ -1,5 +1,1 @@
 pub mod View
-pub mod Standing
-pub mod Ahead
-pub mod Asking
-pub mod Finding

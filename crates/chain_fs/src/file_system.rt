@@ -1,7 +1,7 @@
 //! The file system as one value.
 
 use crate::ends::Ends;
-use crate::{changing, mounting, reading};
+use crate::{changing, mounting};
 use fs_asks::Client;
 use fs_port::{Blocks, Files};
 use fs_trees::{FsRefusal, Name, Path};
@@ -107,8 +107,10 @@ impl Files for ChainFs {
     }
 
     fn size<K: Blocks>(&mut self, disk: &mut K, path: &Path) -> Result<u64, FsRefusal> {
-        self.check_mounted()?;
-        reading::size(&self.client, disk, path)
+        match self.check_mounted() {
+            Ok(()) => chain_reading::size(&self.client, disk, path),
+            Err(refusal) => Err(refusal),
+        }
     }
 
     fn read_part<K: Blocks>(
@@ -118,8 +120,10 @@ impl Files for ChainFs {
         start: u64,
         into: &mut Data,
     ) -> Result<(), FsRefusal> {
-        self.check_mounted()?;
-        reading::read_file(&self.client, disk, path, start, into)
+        match self.check_mounted() {
+            Ok(()) => chain_reading::read_file(&self.client, disk, path, start, into),
+            Err(refusal) => Err(refusal),
+        }
     }
 
     fn name_after<K: Blocks>(
@@ -128,7 +132,9 @@ impl Files for ChainFs {
         path: &Path,
         after: &Name,
     ) -> Result<Option<Name>, FsRefusal> {
-        self.check_mounted()?;
-        reading::name_after(&self.client, disk, path, after)
+        match self.check_mounted() {
+            Ok(()) => chain_reading::name_after(&self.client, disk, path, after),
+            Err(refusal) => Err(refusal),
+        }
     }
 }

@@ -1,7 +1,7 @@
 //! The file system of chains: one directory and its files, each a chain of clusters, under one primary block of a disk.
 //!
 //! What it stands on: `fs_port` for the disk as one call and for what every file system promises, `fs_asks` for single
-//! requests, `chain_layout` for the bytes of clusters, `chain_laws` for what the deciding writes leave, `fs_trees` for trees and
+//! requests, `chain_reading` for what is read, `chain_layout` for the bytes of clusters, `chain_laws` for what the deciding writes leave, `fs_trees` for trees and
 //! refusals, `tsd_model` for want of memory.
 //!
 //! How it keeps the tree whole: each change has one deciding write, that of the cluster of an entry, of the directory's last
@@ -16,11 +16,9 @@
 mod changing;
 mod ends;
 mod file_system;
-mod finding;
 mod letting_go;
 mod making;
 mod mounting;
-mod reading;
-mod walking;
+mod places;
 
 pub use file_system::ChainFs;

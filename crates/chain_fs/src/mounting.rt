@@ -2,7 +2,7 @@
 
 use crate::ends::Ends;
 use crate::letting_go::delete_others;
-use crate::walking::{Page, Part, page_at, part_at, read_page, read_part};
+use chain_reading::{Page, Part, page_at, part_at, read_page, read_part};
 use fs_asks::{Client, count_pairs};
 use fs_port::Blocks;
 use fs_trees::FsRefusal;

@@ -1,0 +1,10 @@
+pub mod ReadLaws
+pub mod WalkLaws
+pub mod SizeLaws
+pub mod CopyLaws
+pub mod ListLaws
+pub mod SearchLaws
+pub mod KnownLaws
+pub mod RefusalLaws
+pub mod NextLaws
+pub mod ToldLaws

@@ -1,0 +1,89 @@
+use Rattle.std.proofs.Common.{◌≡◌, ◌≤◌, ◌+◌, ◌++◌, ℕ, List, [], refl, sym, ◌∙◌, ap, subst, arith, Ok, Err, Some, None}
+use Rattle.tsd_model.specs.Geometry.{block_len}
+use Rattle.fs_trees.specs.Cluster.{entries_of}
+use Rattle.fs_trees.specs.ChainTree.{cluster_at}
+use Rattle.std.specs.Option.{option_and_then}
+use Rattle.chain_layout.specs.Block.{cluster_of}
+use Rattle.chain_layout.specs.Held.{cluster_in, entries_in}
+use Rattle.chain_laws.specs.Chained.{placed}
+use Rattle.chain_layout.specs.Listed.{least_above}
+use Rattle.fs_trees.specs.Fields.{entry_names}
+use Rattle.fs_asks.proofs.LookLaws.{no_look, then_looks, looks_as, looks_refused}
+use Rattle.chain_reading.proofs.ListLaws.{look_starts, look_on, look_ends, page_there, least_more, own_entries, least_of}
+use Rattle.chain_reading.proofs.reading.least_above.Goals as goal
+
+pub loop-place-init : goal.loop-place-init
+loop-place-init g c =
+    let first = g.K.Blocks.view c.args.disk.now in
+    record {
+      looks = no_look g.K.Blocks.told first c.requires.unspent (λ t. g.met.K.Blocks.sound c.args.disk.now t c.requires.unspent) c.requires.valid;
+      seen = λ t ls ps ahead. record { qs = []; looking = look_starts c.args.client.now first (block_len first.world.geometry) ls ps refl ahead; is = refl };
+    }
+
+pub read_page-requires-clause-there : goal.read_page-requires-clause-there
+read_page-requires-clause-there g c = λ t.
+    let first = g.K.Blocks.view c.args.disk.now in
+    let cur = g.K.Blocks.view c.loop-place.disk in
+    let inv = c.loop-place.invariant in
+    let all = c.requires.directory t in
+    let seen = inv.seen t all.0 all.1 all.2 in
+    page_there c.args.client.now cur (block_len first.world.geometry) all.0 all.1 seen.qs c.loop-place.place c.loop-place.block seen.looking (ap (λ w. block_len w.geometry) (sym (inv.looks.looked t).0.world))
+
+pub returns-in-Err-clause-looks : goal.returns-in-Err-clause-looks
+returns-in-Err-clause-looks g c =
+    let told = g.K.Blocks.told in
+    let first = g.K.Blocks.view c.args.disk.now in
+    let cur = g.K.Blocks.view c.loop-place.disk in
+    let new = g.K.Blocks.view c.read_page.new.disk in
+    then_looks told first cur new tt (Err c.in-Err.refusal) c.loop-place.invariant.looks (looks_refused told cur new c.in-Err.refusal c.in-Err.ensures.looks)
+
+pub returns-in-None-clause-least : goal.returns-in-None-clause-least
+returns-in-None-clause-least g c = λ t ls ps ahead.
+    let first = g.K.Blocks.view c.args.disk.now in
+    let cur = g.K.Blocks.view c.loop-place.disk in
+    let inv = c.loop-place.invariant in
+    let page = c.in-Ok.page in
+    let read = c.in-Ok.ensures.page t in
+    let cl = cluster_of (cluster_in page.cluster) in
+    let es = entries_in page.cluster in
+    let seen = inv.seen t ls ps ahead in
+    let len = block_len first.world.geometry in
+    let same = ap (λ w. block_len w.geometry) (sym (inv.looks.looked t).0.world) in
+    let own = own_entries cur.world c.loop-place.block len cl es same read.read.says read.entries in
+    least_more c.args.after.now seen.qs c.loop-place.block es c.loop-place.least c.least_above.result c.lesser-least.result seen.is (c.least_above.ensures ∙ ap (λ n. least_above n (entry_names es)) c.as_slice.ensures.value) c.lesser-least.ensures
+    ∙ ap (λ xs. least_of c.args.after.now xs) (sym (look_ends c.args.client.now cur len ls ps seen.qs c.loop-place.place c.loop-place.block seen.looking cl es read.read.says own (sym (c.next.ensures.value ∙ ap (λ k. (cluster_of k).next) c.cluster.ensures) ∙ c.in-None.is)))
+
+pub returns-in-None-clause-looks : goal.returns-in-None-clause-looks
+returns-in-None-clause-looks g c =
+    let told = g.K.Blocks.told in
+    let first = g.K.Blocks.view c.args.disk.now in
+    let cur = g.K.Blocks.view c.loop-place.disk in
+    let new = g.K.Blocks.view c.read_page.new.disk in
+    then_looks told first cur new tt (Ok c.lesser-least.result) c.loop-place.invariant.looks (looks_as told cur new c.in-Ok.page c.lesser-least.result c.in-Ok.ensures.looks)
+
+pub loop-place-preserved : goal.loop-place-preserved
+loop-place-preserved g c =
+    let told = g.K.Blocks.told in
+    let first = g.K.Blocks.view c.args.disk.now in
+    let cur = g.K.Blocks.view c.loop-place.disk in
+    let new = g.K.Blocks.view c.read_page.new.disk in
+    let inv = c.loop-place.invariant in
+    let page = c.in-Ok.page in
+    let cl = cluster_of (cluster_in page.cluster) in
+    let es = entries_in page.cluster in
+    let b = c.loop-place.block in
+    let len = block_len first.world.geometry in
+    record {
+      looks = then_looks told first cur new tt (Ok tt) inv.looks (looks_as told cur new page tt c.in-Ok.ensures.looks);
+      seen = λ t ls ps ahead.
+          let read = c.in-Ok.ensures.page t in
+          let seen = inv.seen t ls ps ahead in
+          let same = ap (λ w. block_len w.geometry) (sym (inv.looks.looked t).0.world) in
+          let own = own_entries cur.world b len cl es same read.read.says read.entries in
+          record {
+            qs = seen.qs ++ placed b es;
+            looking = look_on c.args.client.now cur len ls ps seen.qs c.loop-place.place b seen.looking cl es read.read.says own new c.in-Some.next (sym (c.next.ensures.value ∙ ap (λ k. (cluster_of k).next) c.cluster.ensures) ∙ c.in-Some.is)
+                (c.in-Ok.ensures.looks.looked t).0 c.in-Ok.ensures.looks.stays.0 (c.in-Ok.ensures.held t);
+            is = least_more c.args.after.now seen.qs b es c.loop-place.least c.least_above.result c.lesser-least.result seen.is (c.least_above.ensures ∙ ap (λ n. least_above n (entry_names es)) c.as_slice.ensures.value) c.lesser-least.ensures;
+          };
+    }

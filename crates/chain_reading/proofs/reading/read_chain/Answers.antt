@@ -1,0 +1,84 @@
+use Rattle.std.proofs.Common.{◌≡◌, ◌≤◌, ◌+◌, ◌-◌, ◌*◌, ◌++◌, ℕ, length, refl, sym, ◌∙◌, ap, subst, arith, Ok, Err, Some, None}
+use Rattle.std.specs.Prelude.{take, drop}
+use Rattle.fs_trees.specs.ChainTree.{Link}
+use Rattle.chain_layout.specs.Block.{cluster_of}
+use Rattle.chain_layout.specs.Held.{part_cluster}
+use Rattle.fs_asks.proofs.LookLaws.{no_look, then_looks, looks_as, looks_refused}
+use Rattle.chain_reading.proofs.SizeLaws.{count_part}
+use Rattle.chain_reading.proofs.CopyLaws.{copy_starts, copy_on, copy_ends, copy_full}
+use Rattle.chain_reading.proofs.reading.read_chain.Goals as goal
+
+pub loop-place-init : goal.loop-place-init
+loop-place-init g c =
+    let first = g.K.Blocks.view c.args.disk.now in
+    record {
+      looks = no_look g.K.Blocks.told first c.requires.unspent (λ t. g.met.K.Blocks.sound c.args.disk.now t c.requires.unspent) c.requires.valid;
+      copied = λ t ls file. copy_starts c.args.client.now first c.args.first c.args.start c.args.into.now ls c.requires.empty file;
+      few = omega arith;
+    }
+
+pub read_part-requires-clause-there : goal.read_part-requires-clause-there
+read_part-requires-clause-there g c = λ t.
+    let inv = c.loop-place.invariant in
+    let file = c.requires.file t in
+    count_part c.args.client.now (g.K.Blocks.view c.args.disk.now) (g.K.Blocks.view c.loop-place.disk) c.args.first c.loop-place.place c.loop-place.block c.loop-place.before file.0 (inv.looks.looked t).0 file.1 (inv.copied t file.0 file.1).counted
+
+pub returns-in-Err-clause-looks : goal.returns-in-Err-clause-looks
+returns-in-Err-clause-looks g c =
+    let told = g.K.Blocks.told in
+    let first = g.K.Blocks.view c.args.disk.now in
+    let cur = g.K.Blocks.view c.loop-place.disk in
+    let new = g.K.Blocks.view c.read_part.new.disk in
+    then_looks told first cur new tt (Err c.in-Err.refusal) c.loop-place.invariant.looks (looks_refused told cur new c.in-Err.refusal c.in-Err.ensures.looks)
+
+pub returns-then-len-eq-DATA_MAX-clause-bytes : goal.returns-then-len-eq-DATA_MAX-clause-bytes
+returns-then-len-eq-DATA_MAX-clause-bytes g c = λ t ls file.
+    let cur = g.K.Blocks.view c.loop-place.disk in
+    let into = c.loop-place.into in
+    let cl = cluster_of (part_cluster c.in-Ok.part.cluster) in
+    copy_full c.args.client.now cur ls c.loop-place.place c.loop-place.block c.loop-place.before c.args.start (length c.bytes-in-loop-place.result.now) into c.add_part.new.into cl (c.loop-place.invariant.copied t ls file) (c.in-Ok.ensures.part t).read.says
+    (ap length c.bytes-in-loop-place.ensures.value) (c.add_part.ensures ∙ ap (λ xs. into ++ take (4096 - length into) (drop (c.args.start - c.loop-place.before) xs)) c.bytes.ensures.value)
+    (sym c.len.ensures.value ∙ c.if-len-eq-DATA_MAX.true)
+
+pub returns-then-len-eq-DATA_MAX-clause-looks : goal.returns-then-len-eq-DATA_MAX-clause-looks
+returns-then-len-eq-DATA_MAX-clause-looks g c =
+    let told = g.K.Blocks.told in
+    let first = g.K.Blocks.view c.args.disk.now in
+    let cur = g.K.Blocks.view c.loop-place.disk in
+    let new = g.K.Blocks.view c.read_part.new.disk in
+    then_looks told first cur new tt (Ok tt) c.loop-place.invariant.looks (looks_as told cur new c.in-Ok.part tt c.in-Ok.ensures.looks)
+
+pub returns-in-None-clause-bytes : goal.returns-in-None-clause-bytes
+returns-in-None-clause-bytes g c = λ t ls file.
+    let cur = g.K.Blocks.view c.loop-place.disk in
+    let into = c.loop-place.into in
+    let cl = cluster_of (part_cluster c.in-Ok.part.cluster) in
+    copy_ends c.args.client.now cur ls c.loop-place.place c.loop-place.block c.loop-place.before c.args.start (length c.bytes-in-loop-place.result.now) into c.add_part.new.into cl (c.loop-place.invariant.copied t ls file) (c.in-Ok.ensures.part t).read.says
+    (ap length c.bytes-in-loop-place.ensures.value) (c.add_part.ensures ∙ ap (λ xs. into ++ take (4096 - length into) (drop (c.args.start - c.loop-place.before) xs)) c.bytes.ensures.value)
+    (sym (c.next.ensures.value ∙ ap (λ k. (cluster_of k).next) c.cluster.ensures) ∙ c.in-None.is)
+
+pub returns-in-None-clause-looks : goal.returns-in-None-clause-looks
+returns-in-None-clause-looks g c =
+    let told = g.K.Blocks.told in
+    let first = g.K.Blocks.view c.args.disk.now in
+    let cur = g.K.Blocks.view c.loop-place.disk in
+    let new = g.K.Blocks.view c.read_part.new.disk in
+    then_looks told first cur new tt (Ok tt) c.loop-place.invariant.looks (looks_as told cur new c.in-Ok.part tt c.in-Ok.ensures.looks)
+
+pub loop-place-preserved : goal.loop-place-preserved
+loop-place-preserved g c =
+    let told = g.K.Blocks.told in
+    let first = g.K.Blocks.view c.args.disk.now in
+    let cur = g.K.Blocks.view c.loop-place.disk in
+    let new = g.K.Blocks.view c.read_part.new.disk in
+    let part = c.in-Ok.part in
+    let into = c.loop-place.into in
+    let cl = cluster_of (part_cluster part.cluster) in
+    let inv = c.loop-place.invariant in
+    record {
+      looks = then_looks told first cur new tt (Ok tt) inv.looks (looks_as told cur new part tt c.in-Ok.ensures.looks);
+      copied = λ t ls file. copy_on c.args.client.now cur ls c.loop-place.place c.loop-place.block c.loop-place.before c.args.start (length c.bytes-in-loop-place.result.now) into c.add_part.new.into cl (inv.copied t ls file) (c.in-Ok.ensures.part t).read.says
+          (ap length c.bytes-in-loop-place.ensures.value) (c.add_part.ensures ∙ ap (λ xs. into ++ take (4096 - length into) (drop (c.args.start - c.loop-place.before) xs)) c.bytes.ensures.value)
+          new c.in-Some.next (sym (c.next.ensures.value ∙ ap (λ k. (cluster_of k).next) c.cluster.ensures) ∙ c.in-Some.is) (c.in-Ok.ensures.looks.looked t).0 c.in-Ok.ensures.looks.stays.0 (c.in-Ok.ensures.held t);
+      few = omega (arith, inv.few, c.bytes-in-loop-place.ensures.small);
+    }

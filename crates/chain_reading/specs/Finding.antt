@@ -1,0 +1,73 @@
+-- What a name is looked up as.
+use Rattle.std.specs.Prelude.{◌≡◌, ℕ, List, [], ◌∷◌, ◌++◌, length, map}
+use Rattle.tsd_model.specs.Geometry.{block_len}
+use Rattle.fs_trees.specs.Names.{Name, Path}
+use Rattle.fs_trees.specs.Tree.{Tree, a_file, at}
+use Rattle.fs_trees.specs.Fields.{Entry, entry_names}
+use Rattle.fs_trees.specs.ChainTree.{Link, ChainFile, chain_bytes}
+use Rattle.fs_trees.specs.Refusals.{first_of, lost_on_the_way, missing, no_file, no_dir}
+use Rattle.fs_trees.specs.declared.refusal.FsRefusal.{FsRefusal}
+use Rattle.fs_trees.specs.declared.refusal.FsRefusal.TheVariants as no
+use Rattle.std.specs.Prelude.{Option}
+use Rattle.fs_laws.specs.Ways.{HoldsWrite}
+use Rattle.fs_port.specs.View.{View, state_of}
+use Rattle.fs_asks.specs.declared.client.Client.{Client}
+use Rattle.chain_layout.specs.Block.{cluster_of}
+use Rattle.chain_layout.specs.Held.{cluster_in, entries_in}
+use Rattle.chain_laws.specs.Chained.{Placed, AreEntries, AreOthers}
+use Rattle.chain_reading.specs.Standing.{IsPage}
+use Rattle.chain_reading.specs.Ahead.{IsFileAhead}
+use Rattle.chain_reading.specs.Asking.{tree_of}
+use Rattle.chain_reading.specs.declared.walking.Page.{Page}
+use Rattle.chain_reading.specs.declared.finding.Place.{Place}
+use Rattle.chain_reading.specs.declared.finding.Place.TheVariants.{Taken, Free}
+
+abbrev pub placed_names : List Placed → List Name
+placed_names ps = map (λ p. p.1.name) ps
+
+-- the first entry of a name stands at this place, and names this block
+pub record IsEntry (n : Name) (es : List Entry) (place first : ℕ) : Type 0 where
+  pub front : List Entry
+  pub entry : Entry
+  pub back : List Entry
+  pub parts : es ≡ front ++ (entry ∷ back)
+  pub count : length front ≡ place
+  pub name : entry.name ≡ n
+  pub block : entry.block ≡ first
+  pub others : AreOthers n (entry_names front)
+
+-- it stands in a cluster of the directory, which the session may write, and in none before that
+pub record IsTaken (c : Client) (v : View) (n : Name) (ls : List Link) (page : Page) (place first : ℕ) : Type 0 where
+  pub before : List Link
+  pub behind : List Link
+  pub parts : ls ≡ before ++ (record { block = page.block; cluster = cluster_of (cluster_in page.cluster) } ∷ behind)
+  pub read : IsPage v.world page.block page
+  pub entry : IsEntry n (entries_in page.cluster) place first
+  pub earlier : List Placed
+  pub entries : AreEntries (block_len v.world.geometry) before earlier
+  pub others : AreOthers n (placed_names earlier)
+  pub held : HoldsWrite (state_of v) c.session page.block
+
+abbrev pub IsFound : Client → View → Name → List Link → List Placed → Place → Type 0
+IsFound c v n ls ps (Taken page place first) = IsTaken c v n ls page place first
+IsFound c v n ls ps (Free page count) = AreOthers n (placed_names ps) × (count ≡ length ps)
+
+-- why no way leads on from what stands at a name
+abbrev pub no_way : Place → FsRefusal
+no_way (Taken page place first) = no.NotDir
+no_way (Free page count) = no.NoEntry
+
+-- ---- at a path
+
+-- the file at a path begins at this block
+pub record IsFileOf (c : Client) (v : View) (path : Path) (first : ℕ) : Type 0 where
+  pub file : ChainFile
+  pub ahead : IsFileAhead c v first file.chain
+  pub there : at (tree_of c v) path ≡ a_file (chain_bytes file.chain)
+
+-- the refusals of what reads a file, and of what lists the directory
+abbrev pub no_file_found : Tree → Path → Option FsRefusal
+no_file_found t path = first_of (lost_on_the_way t path ∷ missing t path ∷ no_file t path ∷ [])
+
+abbrev pub no_directory_found : Tree → Path → Option FsRefusal
+no_directory_found t path = first_of (lost_on_the_way t path ∷ missing t path ∷ no_dir t path ∷ [])

@@ -1,0 +1,4 @@
+pub mod Standing
+pub mod Ahead
+pub mod Asking
+pub mod Finding
