@@ -1,20 +1,18 @@
 -- Bytes of a file from a place on, part by part.
-use Rattle.std.proofs.Common.{◌≡◌, ℕ, zero, suc, ◌+◌, ◌-◌, ◌*◌, ◌≤◌, ◌<◌, true, List, [], ◌∷◌, ◌++◌, length, refl, sym, ◌∙◌, ap, subst, arith, append-nil, append_assoc, length-append, Option, Some, None, Result, Ok, Err}
+use Rattle.std.proofs.Common.{◌≡◌, ℕ, zero, suc, ◌+◌, ◌-◌, ◌*◌, ◌≤◌, List, [], ◌∷◌, ◌++◌, length, refl, sym, ◌∙◌, ap, arith, append-nil, append_assoc, Some, None, Ok}
 use Rattle.std.specs.Prelude.{take, drop}
-use Rattle.tsd_model.specs.Geometry.{block_len}
-use Rattle.fs_trees.specs.Cluster.{Cluster, bytes_room}
-use Rattle.fs_trees.specs.ChainTree.{Link, chain_bytes, cluster_at, is_filled}
+use Rattle.fs_trees.specs.Cluster.{Cluster}
+use Rattle.fs_trees.specs.ChainTree.{Link, chain_bytes, cluster_at}
 use Rattle.std.proofs.lemmas.Grind.{flat_map-append}
 use Rattle.fs_port.specs.View.{View, state_of}
 use Rattle.fs_port.specs.Calls.{Stays}
 use Rattle.fs_laws.specs.Ways.{HoldsWrite}
 use Rattle.fs_asks.specs.declared.client.Client.{Client}
 use Rattle.fs_asks.specs.May.{Looked, Looks}
-use Rattle.chain_reading.specs.Standing.{has_part}
 use Rattle.chain_reading.specs.Ahead.{IsFileAhead}
 use Rattle.chain_reading.proofs.WalkLaws.{link_of}
-use Rattle.chain_reading.proofs.SizeLaws.{IsCounted, count_starts, count_on, count_ends, more_bytes}
-use Rattle.chain_reading.proofs.WalkLaws.{IsWalked, walk_starts, walk_ends, first_link}
+use Rattle.chain_reading.proofs.SizeLaws.{IsCounted, count_on, more_bytes}
+use Rattle.chain_reading.proofs.WalkLaws.{walk_starts, walk_ends, first_link}
 
 -- what is cut out of two lists is cut out of each
 pub cut_both : (n k : ℕ) (xs ys : List ℕ) → take n (drop k (xs ++ ys)) ≡ take n (drop k xs) ++ take (n - length (take n (drop k xs))) (drop (k - length xs) ys)

@@ -1,11 +1,11 @@
 -- The tree under a mounted root, as it is read.
-use Rattle.std.proofs.Common.{◌≡◌, ◌≢◌, ℕ, suc, ◌+◌, ◌≤◌, ◌<◌, Bool, true, false, cond, ◌&&◌, ◌==◌, List, [], ◌∷◌, ◌++◌, length, refl, sym, ◌∙◌, ap, subst, arith, inl, inr, append_assoc, Option, Some, None, Result, Ok, Err}
+use Rattle.std.proofs.Common.{◌≡◌, ℕ, ◌≤◌, ◌<◌, true, cond, ◌==◌, List, [], ◌∷◌, ◌++◌, length, refl, sym, ◌∙◌, ap, subst, arith, inl, append_assoc, Option, Some, None}
 use Rattle.std.proofs.lemmas.Bool.{and_from, or_left, or_right, eq-eqb}
 use Rattle.std.proofs.Common.{get_or, not}
 use Rattle.fs_trees.specs.Refusals.{when, first_of, lost_on_the_way, missing, no_file, no_dir}
 use Rattle.chain_reading.specs.declared.finding.Place.{Place}
 use Rattle.chain_reading.specs.declared.finding.Place.TheVariants.{Taken, Free}
-use Rattle.std.specs.Prelude.{map, slice_get}
+use Rattle.std.specs.Prelude.{slice_get}
 use Rattle.tsd_model.specs.Geometry.{block_len}
 use Rattle.tsd_model.specs.World.{World}
 use Rattle.tsd_model.specs.Pairs.{holds, is_pair}
@@ -16,18 +16,17 @@ use Rattle.tsd_model.specs.declared.caps.Shown.TheVariants.{Nothing, Key}
 use Rattle.tsd_model.specs.declared.requests.Level.TheVariants as level
 use Rattle.disk_laws.proofs.AttainedLaws.{attained_where}
 use Rattle.fs_trees.specs.Names.{Name, Path}
-use Rattle.fs_trees.specs.Tree.{Tree, Entries, nothing, a_file, a_dir, entry, at, is_there, is_file, is_dir}
+use Rattle.fs_trees.specs.Tree.{Entries, nothing, a_file, a_dir, entry, at, is_there, is_file, is_dir}
 use Rattle.fs_trees.specs.Fields.{Entry, entry_names}
 use Rattle.fs_trees.specs.ChainTree.{Link, ChainFile, blocks_of, links, is_filled, chain_bytes, Chains, chains_under, as_tree, tree_of_files, chain_tree}
 use Rattle.fs_trees.specs.Cluster.{bytes_room}
 use Rattle.fs_trees.specs.declared.refusal.FsRefusal.{FsRefusal}
 use Rattle.fs_trees.specs.declared.refusal.FsRefusal.TheVariants as no
-use Rattle.fs_laws.specs.Ways.{HoldsWrite}
 use Rattle.fs_laws.proofs.WayLaws.{ways_lead_on}
 use Rattle.fs_laws.proofs.ChainLaws.{found}
 use Rattle.fs_laws.proofs.ListLaws.{held_left, held_right}
 use Rattle.fs_port.specs.View.{View, state_of, IsSound}
-use Rattle.fs_port.specs.Calls.{IsValidNow, Stays}
+use Rattle.fs_port.specs.Calls.{Stays}
 use Rattle.fs_asks.specs.declared.client.Client.{Client}
 use Rattle.fs_asks.specs.Client.{shown_at}
 use Rattle.fs_asks.specs.May.{MayWrite, Looked}
@@ -35,14 +34,13 @@ use Rattle.chain_layout.specs.Block.{cluster_of}
 use Rattle.chain_layout.specs.Held.{cluster_in, entries_in}
 use Rattle.chain_laws.specs.Chained.{IsFrom, IsFile, Placed, AreFiles, placed, AreEntries, AreOthers}
 use Rattle.chain_laws.specs.Changed.{file_names, file_pairs}
-use Rattle.chain_laws.proofs.ChainedLaws.{files_split, entries_split, entries-append}
+use Rattle.chain_laws.proofs.ChainedLaws.{files_split, entries_split}
 use Rattle.chain_laws.proofs.ChangeLaws.{HasChains, has_chains, right_is, placed-append, file_pairs-append}
 use Rattle.chain_laws.proofs.FileLaws.{tree_has, tree_lacks, others-append}
 use Rattle.chain_reading.specs.declared.walking.Page.{Page}
-use Rattle.chain_reading.specs.Standing.{entries_at, IsPage, IsAhead}
 use Rattle.chain_reading.specs.Ahead.{IsFileAhead, IsDirectoryAhead, HasDirectory}
 use Rattle.chain_reading.specs.Asking.{MayAsk, tree_of}
-use Rattle.chain_reading.specs.Finding.{placed_names, no_way, IsEntry, IsTaken, IsFound, IsFileOf, no_file_found, no_directory_found}
+use Rattle.chain_reading.specs.Finding.{placed_names, no_way, IsTaken, IsFound, IsFileOf, no_file_found, no_directory_found}
 use Rattle.chain_reading.proofs.WalkLaws.{link_of}
 use Rattle.chain_reading.proofs.ListLaws.{names_placed, names-append, own_entries, entries_unique}
 
@@ -129,13 +127,11 @@ some_same : {X : Type 0} {x y : X} → Some x ≡ Some y → x ≡ y
 some_same e = cc
 
 module _ (c : Client) (old new : View) (known : IsKnown c old) (seen : Looked old new) (n : Name) where
-
   -- no file has the name
   pub free_name : AreOthers n (placed_names known.has.listing.entries) → entry n (tree_of_files known.chains.files) ≡ nothing
   free_name others = tree_lacks n known.chains.files (subst (AreOthers n) (sym (names_of_files old.world known.has.listing.entries known.chains.files known.has.listing.files)) others)
 
   module _ (page : Page) (place first : ℕ) (taken : IsTaken c new n known.chains.directory page place first) where
-
     -- all entries, by the one that was found
     in_parts : (later : List Placed) → known.has.listing.entries ≡ taken.earlier ++ (placed page.block (entries_in page.cluster) ++ later)
         → known.has.listing.entries ≡ (taken.earlier ++ placed page.block taken.entry.front) ++ ((page.block, taken.entry.entry) ∷ (placed page.block taken.entry.back ++ later))
@@ -161,7 +157,7 @@ module _ (c : Client) (old new : View) (known : IsKnown c old) (seen : Looked ol
         let whole : known.has.listing.entries ≡ taken.earlier ++ (placed page.block (entries_in page.cluster) ++ split.4.1) =
         split.2 ∙ (ap (λ xs. xs ++ split.1) earlier ∙ (ap (λ xs. taken.earlier ++ xs) split.4.3 ∙ ap (λ xs. taken.earlier ++ (placed page.block xs ++ split.4.1)) here)) in
         let among = file_among old.world (taken.earlier ++ placed page.block taken.entry.front) (placed page.block taken.entry.back ++ split.4.1) page.block taken.entry.entry n known.chains.files
-            (subst (λ ps. AreFiles old.world ps known.chains.files) (in_parts split.4.1 whole) known.has.listing.files) others_before in
+        (subst (λ ps. AreFiles old.world ps known.chains.files) (in_parts split.4.1 whole) known.has.listing.files) others_before in
         (among.file, among.front, among.back, among.parts, among.is, among.others)
 
     -- the name stands for the file
@@ -196,7 +192,7 @@ module _ (c : Client) (old new : View) (known : IsKnown c old) (seen : Looked ol
             let is : IsFrom old.world (Some taken.entry.entry.block) (l ∷ ls) = subst (IsFrom old.world (Some taken.entry.entry.block)) e entry_file.4.chain.links in
             let here : l.block ≡ first = sym (some_same is.0) ∙ taken.entry.block in
             let pair : holds old.world.pairs page.block first ≡ true = file_held page.block first
-                (ap (λ xs. holds (links (page.block ∷ blocks_of xs)) page.block first) e ∙ or_left (is_pair page.block first (page.block, l.block)) _ (and_from (page.block == page.block) (l.block == first) (eq-eqb page.block page.block refl) (eq-eqb l.block first here))) in
+            (ap (λ xs. holds (links (page.block ∷ blocks_of xs)) page.block first) e ∙ or_left (is_pair page.block first (page.block, l.block)) _ (and_from (page.block == page.block) (l.block == first) (eq-eqb page.block page.block refl) (eq-eqb l.block first here))) in
             let new_pair : holds new.world.pairs page.block first ≡ true = ap (λ w. holds w.pairs page.block first) seen.world ∙ pair in
             record {
               ahead = record {
@@ -215,6 +211,7 @@ module _ (c : Client) (old new : View) (known : IsKnown c old) (seen : Looked ol
           where
             later_held : (x y : ℕ) → entry_file.0.chain ≡ l ∷ ls → holds (links (blocks_of entry_file.0.chain)) x y ≡ true → holds (links (page.block ∷ blocks_of entry_file.0.chain)) x y ≡ true
             later_held x y e h = ap (λ xs. holds (links (page.block ∷ blocks_of xs)) x y) e ∙ or_right (is_pair x y (page.block, l.block)) _ (ap (λ xs. holds (links (blocks_of xs)) x y) (sym e) ∙ h)
+
             filled_in : entry_file.0.chain ≡ l ∷ ls → is_filled (bytes_room (block_len new.world.geometry)) entry_file.0.chain ≡ true
             filled_in e = ap (λ w. is_filled (bytes_room (block_len w.geometry)) entry_file.0.chain) seen.world ∙ entry_file.4.filled
 

@@ -1,4 +1,3 @@
-pub mod ReadLaws
 pub mod WalkLaws
 pub mod SizeLaws
 pub mod CopyLaws

@@ -1,5 +1,5 @@
 -- The directory, read cluster by cluster.
-use Rattle.std.proofs.Common.{◌≡◌, ℕ, suc, ◌+◌, ◌≤◌, ◌<◌, Bool, true, List, [], ◌∷◌, ◌++◌, length, refl, sym, ◌∙◌, ap, subst, arith, append-nil, append_assoc, length-append, Option, Some, None, Result, Ok, Err}
+use Rattle.std.proofs.Common.{◌≡◌, ℕ, ◌+◌, true, List, [], ◌∷◌, ◌++◌, length, refl, sym, ◌∙◌, ap, subst, arith, append-nil, length-append, Option, Some, None, Ok}
 use Rattle.std.specs.Prelude.{map, is_some}
 use Rattle.std.specs.Option.{option_and_then}
 use Rattle.tsd_model.specs.Geometry.{block_len}
@@ -14,12 +14,12 @@ use Rattle.fs_laws.specs.Ways.{HoldsWrite}
 use Rattle.fs_asks.specs.declared.client.Client.{Client}
 use Rattle.fs_asks.specs.May.{Looked, Looks}
 use Rattle.chain_layout.specs.Listed.{lesser, if_above, least_above}
-use Rattle.chain_layout.proofs.PlaceLaws.{lesser-assoc, lesser-none}
+use Rattle.chain_layout.proofs.PlaceLaws.{lesser-assoc}
 use Rattle.chain_laws.specs.Chained.{IsFrom, Placed, placed, AreEntries}
 use Rattle.chain_laws.proofs.ChainedLaws.{entries-append, entries_split}
 use Rattle.chain_reading.specs.Standing.{entries_at}
 use Rattle.chain_reading.specs.Ahead.{IsDirectoryAhead}
-use Rattle.chain_reading.proofs.WalkLaws.{link_of, IsWalked, walk_starts, walk_on, walk_ends, one_more}
+use Rattle.chain_reading.proofs.WalkLaws.{link_of, IsWalked, walk_starts, walk_on, walk_ends}
 
 abbrev pub placed_names : List Placed → List Name
 placed_names ps = map (λ p. p.1.name) ps

@@ -1,11 +1,10 @@
 -- The least name above another is the next in the tree's order.
-use Rattle.std.proofs.Common.{◌≡◌, ℕ, Bool, true, false, not, cond, ◌&&◌, List, [], ◌∷◌, refl, sym, ◌∙◌, ap, Option, Some, None}
+use Rattle.std.proofs.Common.{◌≡◌, ℕ, true, false, not, cond, List, [], ◌∷◌, refl, sym, ◌∙◌, ap, Option, Some, None}
 use Rattle.std.proofs.lemmas.Bool.{and_parts, not-true}
 use Rattle.std.specs.Prelude.{find}
 use Rattle.fs_trees.specs.Names.{Name, name_lt, are_distinct}
 use Rattle.fs_trees.specs.Tree.{Entries, none, file, dir, Node, nothing, a_file, a_dir, entry, before, with_entry, names, is_there}
 use Rattle.fs_trees.specs.ChainTree.{ChainFile, chain_bytes, tree_of_files}
-use Rattle.fs_laws.proofs.DirectoryLaws.{names_meet}
 use Rattle.chain_layout.specs.Listed.{is_among, lesser, if_above, least_above}
 use Rattle.chain_layout.proofs.PlaceLaws.{lesser-none}
 use Rattle.chain_laws.specs.Changed.{file_names}

@@ -1,20 +1,15 @@
 -- The answers of asks that read, by what was found.
-use Rattle.std.proofs.Common.{◌≡◌, ◌≢◌, ℕ, Bool, true, false, not, List, [], ◌∷◌, length, take, drop, refl, sym, ◌∙◌, ap, subst, Option, Some, None, Result, Ok, Err}
-use Rattle.std.specs.Prelude.{IfOk, IfErr}
-use Rattle.tsd_model.specs.World.{World}
-use Rattle.tsd_model.specs.declared.geometry.Geometry.{Geometry}
-use Rattle.fs_trees.specs.Names.{Name, Path}
+use Rattle.std.proofs.Common.{◌≡◌, true, List, [], ◌∷◌, refl, ◌∙◌, ap, Option, Some, None}
+use Rattle.fs_trees.specs.Names.{Path}
 use Rattle.fs_trees.specs.Tree.{Tree, nothing, a_file, a_dir, at, is_there, bytes_in, names_in}
-use Rattle.fs_trees.specs.Answer.{Answer, bytes, listed, refused}
-use Rattle.fs_trees.specs.Refusals.{Need, when, first_of, not_mounted, lost_on_the_way, missing, no_file, no_dir, refusal}
-use Rattle.fs_trees.specs.Step.{Outcome, outcome, judged, tree_step}
+use Rattle.fs_trees.specs.Answer.{bytes, listed, refused}
+use Rattle.fs_trees.specs.Refusals.{first_of, not_mounted, lost_on_the_way, missing, no_file, no_dir, refusal}
+use Rattle.fs_trees.specs.Step.{judged}
 use Rattle.fs_trees.specs.declared.ask.ShellAsk.TheVariants as ask
 use Rattle.fs_trees.specs.declared.ask.ShellKind.TheVariants.{Chain}
 use Rattle.fs_trees.specs.declared.refusal.FsRefusal.{FsRefusal}
-use Rattle.fs_trees.specs.declared.refusal.FsRefusal.TheVariants as no
 use Rattle.fs_port.specs.View.{View}
-use Rattle.fs_port.specs.Files.{Answers, TellsSize, TellsPart, TellsNext, above, step_on}
-use Rattle.fs_trees.specs.ChainTree.{chain_tree}
+use Rattle.fs_port.specs.Files.{step_on}
 use Rattle.fs_asks.specs.declared.client.Client.{Client}
 use Rattle.chain_reading.specs.Asking.{mounted_by, tree_of}
 use Rattle.chain_reading.specs.Finding.{no_file_found, no_directory_found}
@@ -25,7 +20,6 @@ is_mounted (a_file x) rest h = refl
 is_mounted (a_dir d es) rest h = refl
 
 module _ (c : Client) (v : View) (p : Path) (there : is_there (tree_of c v) ≡ true) where
-
   pub cat_refused : (e : FsRefusal) → no_file_found (tree_of c v) p ≡ Some e → (step_on (mounted_by c) v (ask.Cat p)).answer ≡ refused e
   cat_refused e h = ap (λ o. (judged (tree_of c v) 0 (ask.Cat p) o).answer) (is_mounted (tree_of c v) (lost_on_the_way (tree_of c v) p ∷ missing (tree_of c v) p ∷ no_file (tree_of c v) p ∷ []) there ∙ h)
 

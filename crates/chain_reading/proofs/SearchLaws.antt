@@ -1,7 +1,7 @@
 -- A name, looked up in the directory.
-use Rattle.std.proofs.Common.{◌≡◌, ℕ, zero, suc, ◌+◌, ◌*◌, ◌≤◌, ◌<◌, Bool, true, false, cond, List, [], ◌∷◌, ◌++◌, length, refl, sym, ◌∙◌, ap, subst, arith, append_assoc, length-append, Option, Some, None, Result, Ok, Err}
+use Rattle.std.proofs.Common.{◌≡◌, ℕ, suc, ◌+◌, ◌*◌, ◌≤◌, ◌<◌, Bool, true, false, cond, List, [], ◌∷◌, ◌++◌, length, refl, sym, ◌∙◌, ap, subst, arith, length-append, Some, None, Ok}
 use Rattle.std.proofs.lemmas.Slice.Eq.{bytes_eq-Decides}
-use Rattle.std.specs.Prelude.{bytes_eq, map, slice_index}
+use Rattle.std.specs.Prelude.{bytes_eq, slice_index}
 use Rattle.std.specs.List.{position_from}
 use Rattle.tsd_model.specs.Geometry.{block_len}
 use Rattle.fs_trees.specs.Names.{Name}
@@ -19,11 +19,11 @@ use Rattle.chain_layout.specs.Held.{cluster_in, entries_in}
 use Rattle.chain_laws.specs.Chained.{Placed, placed, AreEntries, AreOthers}
 use Rattle.chain_laws.proofs.FileLaws.{others-append}
 use Rattle.chain_reading.specs.declared.walking.Page.{Page}
-use Rattle.chain_reading.specs.Standing.{entries_at, IsPage}
+use Rattle.chain_reading.specs.Standing.{IsPage}
 use Rattle.chain_reading.specs.Ahead.{IsDirectoryAhead}
 use Rattle.chain_reading.specs.Finding.{placed_names, IsEntry, IsTaken}
 use Rattle.chain_reading.proofs.WalkLaws.{link_of, first_link}
-use Rattle.chain_reading.proofs.ListLaws.{IsLooking, look_starts, look_on, look_ends, own_entries, names_placed, names-append}
+use Rattle.chain_reading.proofs.ListLaws.{IsLooking, look_starts, look_on, look_ends, names_placed, names-append}
 
 -- ---- in one cluster
 

@@ -1,8 +1,8 @@
 -- What reading calls tell.
-use Rattle.std.proofs.Common.{◌≡◌, ◌≢◌, ◌≤◌, ℕ, true, List, [], ◌∷◌, length, refl, sym, ◌∙◌, ap, subst, Option, Some, None, Result, Ok, Err}
-use Rattle.std.specs.Prelude.{take, drop, map, find, IfOk, IfErr, OnOk}
-use Rattle.fs_trees.specs.Names.{Name, Path, name_lt}
-use Rattle.fs_trees.specs.Tree.{a_file, a_dir, at, is_there, bytes_in, names_in, names}
+use Rattle.std.proofs.Common.{◌≡◌, ◌≤◌, ℕ, true, List, [], length, sym, ◌∙◌, ap, subst, Option, Some, None, Result, Ok, Err}
+use Rattle.std.specs.Prelude.{take, drop, map, IfOk, IfErr, OnOk}
+use Rattle.fs_trees.specs.Names.{Name, Path}
+use Rattle.fs_trees.specs.Tree.{at, is_there, bytes_in, names_in, names}
 use Rattle.fs_trees.specs.Answer.{bytes, listed}
 use Rattle.fs_trees.specs.ChainTree.{Link, chain_bytes, chain_tree, tree_of_files}
 use Rattle.fs_trees.specs.declared.ask.ShellAsk.TheVariants as ask
@@ -18,13 +18,12 @@ use Rattle.fs_asks.specs.declared.client.Client.{Client}
 use Rattle.fs_asks.specs.May.{Looked, Looks}
 use Rattle.chain_layout.specs.Listed.{least_above}
 use Rattle.chain_laws.specs.Chained.{IsFrom, Placed, AreEntries}
-use Rattle.chain_laws.specs.Changed.{file_names}
 use Rattle.chain_laws.proofs.ChangeLaws.{right_is}
 use Rattle.chain_reading.specs.Ahead.{IsFileAhead, IsDirectoryAhead}
 use Rattle.chain_reading.specs.Asking.{MayAsk, mounted_by, tree_of}
-use Rattle.chain_reading.specs.Finding.{placed_names, IsFileOf, no_file_found, no_directory_found}
+use Rattle.chain_reading.specs.Finding.{IsFileOf, no_file_found}
 use Rattle.chain_reading.proofs.RefusalLaws.{cat_answered, cat_stays, ls_answered, ls_stays}
-use Rattle.chain_reading.proofs.KnownLaws.{IsKnown, is_known, tree_known, root_is_listed, names_of_files}
+use Rattle.chain_reading.proofs.KnownLaws.{is_known, tree_known, root_is_listed, names_of_files}
 use Rattle.chain_reading.proofs.NextLaws.{next_name}
 
 -- the bytes of a file from a place on
@@ -32,8 +31,10 @@ pub part_told : (told : Type 0) (c : Client) (old mid new : View) (p : Path) (fi
     → ((ls : List Link) → IsFileAhead c mid first ls → OnOk result (part ≡ take 4096 (drop start (chain_bytes ls)))) → IfErr result (λ e. e ≡ no.Device) → Looks told mid new result → Answers (mounted_by c) old new (ask.Cat p) result (λ _. TellsPart start part)
 part_told told c old mid new p first start part (Err e) t there seen none file gives only looks = record { ok = tt; err = λ ne. absurd (ne only) }
 part_told told c old mid new p first start part (Ok x) t there seen none file gives only looks = record {
-  ok = ((chain_bytes file.file.chain, cat_answered c old p there none ∙ ap (λ y. bytes (bytes_in y)) (ap (λ w. at (chain_tree w c.root) p) (sym seen.world) ∙ file.there), gives file.file.chain file.ahead),
-  ap (λ w. chain_tree w c.root) ((looks.looked t).0.world ∙ seen.world) ∙ sym (cat_stays c old p there));
+  ok = (
+    (chain_bytes file.file.chain, cat_answered c old p there none ∙ ap (λ y. bytes (bytes_in y)) (ap (λ w. at (chain_tree w c.root) p) (sym seen.world) ∙ file.there), gives file.file.chain file.ahead),
+    ap (λ w. chain_tree w c.root) ((looks.looked t).0.world ∙ seen.world) ∙ sym (cat_stays c old p there),
+  );
   err = tt;
 }
 
@@ -50,8 +51,10 @@ next_told told c old new after (Ok name) t may sound gives only looks =
     let distinct = (right_is old.world known.chains known.has.right).names in
     let names_there = sym (ap (least_above after) (names_of_files old.world known.has.listing.entries fs known.has.listing.files)) in
     record {
-      ok = ((names (tree_of_files fs), listed_now, gives known.chains.directory known.has.listing.entries known.ahead ∙ (names_there ∙ sym (next_name after fs distinct))),
-      ap (λ w. chain_tree w c.root) (looks.looked t).0.world ∙ sym (ls_stays c old [] there));
+      ok = (
+        (names (tree_of_files fs), listed_now, gives known.chains.directory known.has.listing.entries known.ahead ∙ (names_there ∙ sym (next_name after fs distinct))),
+        ap (λ w. chain_tree w c.root) (looks.looked t).0.world ∙ sym (ls_stays c old [] there),
+      );
       err = tt;
     }
 

@@ -1,23 +1,21 @@
 -- A chain that is read cluster by cluster.
-use Rattle.std.proofs.Common.{◌≡◌, ℕ, zero, suc, ◌+◌, ◌*◌, ◌≤◌, ◌<◌, Bool, true, false, cond, ◌&&◌, ◌||◌, ◌==◌, nat_lt, nat_le, List, [], ◌∷◌, ◌++◌, length, refl, sym, ◌∙◌, ap, subst, arith, append_assoc, length-append, Option, Some, None, Result, Ok, Err}
+use Rattle.std.proofs.Common.{◌≡◌, ℕ, ◌≤◌, ◌<◌, true, false, ◌&&◌, ◌==◌, nat_lt, nat_le, List, [], ◌∷◌, ◌++◌, length, refl, sym, ◌∙◌, ap, subst, arith, append_assoc, length-append, Option, Some, None}
 use Rattle.std.proofs.lemmas.Bool.{and_parts, and_from, or_left, or_right, eq-eqb, eqb-true, le-leb}
-use Rattle.std.specs.Prelude.{is_some}
-use Rattle.std.specs.Option.{option_and_then, option_map_or}
+use Rattle.std.specs.Option.{option_map_or}
 use Rattle.tsd_model.specs.Geometry.{block_len}
 use Rattle.tsd_model.specs.World.{World}
 use Rattle.tsd_model.specs.Pairs.{holds, is_pair}
-use Rattle.fs_trees.specs.Fields.{Entry}
-use Rattle.fs_trees.specs.Cluster.{Cluster, entries_of, bytes_room}
+use Rattle.fs_trees.specs.Cluster.{Cluster, bytes_room}
 use Rattle.fs_trees.specs.ChainTree.{Link, cluster_at, blocks_of, links, is_filled}
 use Rattle.fs_laws.specs.Ways.{HoldsWrite}
 use Rattle.fs_laws.proofs.WayLaws.{ways_lead_on}
 use Rattle.fs_port.specs.View.{View, state_of}
-use Rattle.fs_port.specs.Calls.{IsValidNow, Stays}
+use Rattle.fs_port.specs.Calls.{Stays}
 use Rattle.fs_asks.specs.declared.client.Client.{Client}
 use Rattle.fs_asks.specs.Client.{shown_at}
-use Rattle.fs_asks.specs.May.{MayWrite, Looked}
-use Rattle.chain_laws.specs.Chained.{IsFrom, Placed, placed, AreEntries}
-use Rattle.chain_reading.specs.Standing.{entries_at, has_part, IsAhead}
+use Rattle.fs_asks.specs.May.{Looked}
+use Rattle.chain_laws.specs.Chained.{IsFrom}
+use Rattle.chain_reading.specs.Standing.{has_part, IsAhead}
 
 abbrev pub link_of : ℕ → Cluster → Link
 link_of b cl = record { block = b; cluster = cl }
@@ -42,6 +40,7 @@ first_link w b (l ∷ ls) cl is at =
   where
     some_same : {x y : Cluster} → Some x ≡ Some y → x ≡ y
     some_same e = cc
+
     ap_from : {x y : Cluster} → x ≡ y → IsFrom w y.next ls → IsFrom w x.next ls
     ap_from e h = subst (λ z. IsFrom w z.next ls) (sym e) h
 

@@ -26,7 +26,10 @@ pub enum Place {
     },
 
     /// No entry has the name: the first cluster that has room, or the last one where none has, and how many entries there are.
-    Free { page: Page, count: usize },
+    Free {
+        page: Page,
+        count: usize,
+    },
 }
 
 /// The cluster to put a new entry in: the first one that has room, or the last.

@@ -12,7 +12,6 @@ ghost use Rattle.fs_asks.specs.May.{MayWrite, Looks};
 ghost use Rattle.chain_layout.specs.Listed.{next_blocks};
 ghost use Rattle.chain_layout.specs.Block.{cluster_of, block_len_of};
 ghost use Rattle.chain_layout.specs.Held.{blocks_in, cluster_in, entries_in, part_cluster};
-
 ghost use Rattle.chain_reading.specs.Standing.{entries_at, has_part, IsRead, IsPage, IsPart};
 
 use chain_layout::{Cluster, DirectoryCluster, FileCluster};

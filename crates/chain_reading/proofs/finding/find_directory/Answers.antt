@@ -1,4 +1,4 @@
-use Rattle.std.proofs.Common.{◌≡◌, List, [], ◌∷◌, sym, ◌∙◌, ap, arith, length, ◌≤◌, Some, None, Option}
+use Rattle.std.proofs.Common.{◌≡◌, ◌∷◌, sym, ◌∙◌, ap, Some}
 use Rattle.chain_reading.specs.Asking.{tree_of}
 use Rattle.chain_reading.specs.Finding.{no_directory_found}
 use Rattle.chain_reading.proofs.KnownLaws.{is_known, has_directory, path_of_more, place_no_dir}

@@ -1,12 +1,6 @@
-use Rattle.std.proofs.Common.{◌≡◌, List, [], ◌∷◌, sym, ◌∙◌, ap, subst, arith, length, ◌≤◌, ◌<◌, get_or, Some, None, Option}
-use Rattle.fs_trees.specs.Names.{Name, Path}
-use Rattle.fs_trees.specs.ChainTree.{Link}
-use Rattle.fs_trees.specs.declared.refusal.FsRefusal.{FsRefusal}
-use Rattle.chain_laws.specs.Chained.{Placed}
-use Rattle.chain_reading.specs.Ahead.{IsDirectoryAhead}
+use Rattle.std.proofs.Common.{◌≡◌, [], ◌∷◌, sym, ◌∙◌, ap, subst, Some}
 use Rattle.chain_reading.specs.Asking.{tree_of}
 use Rattle.chain_reading.specs.Finding.{IsFound, IsFileOf, no_file_found}
-use Rattle.chain_reading.specs.declared.finding.Place.TheVariants.{Taken, Free}
 use Rattle.chain_reading.proofs.KnownLaws.{is_known, has_directory, path_of_one, path_of_two, a_file_there, a_name, no_name, place_lost}
 use Rattle.chain_reading.proofs.finding.find_file.Goals as goal
 

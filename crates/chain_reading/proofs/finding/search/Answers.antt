@@ -1,4 +1,4 @@
-use Rattle.std.proofs.Common.{◌≡◌, ◌≤◌, ◌<◌, ◌+◌, ◌*◌, ℕ, List, length, refl, sym, ◌∙◌, ap, subst, arith, Ok, Err, Option, Some, None}
+use Rattle.std.proofs.Common.{◌≡◌, ◌+◌, ℕ, refl, sym, ◌∙◌, ap, arith, Ok, Err, Option, Some, None}
 use Rattle.std.specs.List.{position_from}
 use Rattle.tsd_model.specs.Geometry.{block_len}
 use Rattle.chain_layout.specs.Listed.{has_name}

@@ -1,10 +1,8 @@
-use Rattle.std.proofs.Common.{◌≡◌, ◌≤◌, ◌+◌, ◌*◌, ℕ, length, take, refl, sym, ◌∙◌, ap, subst, arith, Ok, Err, Some, None}
-use Rattle.fs_trees.specs.Cluster.{bytes_room}
-use Rattle.fs_trees.specs.ChainTree.{Link}
+use Rattle.std.proofs.Common.{◌+◌, length, sym, ◌∙◌, ap, arith, Ok, Err}
 use Rattle.chain_layout.specs.Block.{cluster_of}
 use Rattle.chain_layout.specs.Held.{part_cluster}
 use Rattle.fs_asks.proofs.LookLaws.{no_look, then_looks, looks_as, looks_refused}
-use Rattle.chain_reading.proofs.SizeLaws.{count_starts, count_on, count_ends, count_part, count_below}
+use Rattle.chain_reading.proofs.SizeLaws.{count_starts, count_on, count_ends, count_part}
 use Rattle.chain_reading.proofs.reading.chain_size.Goals as goal
 
 pub loop-place-init : goal.loop-place-init

@@ -1,8 +1,5 @@
-use Rattle.std.proofs.Common.{◌≡◌, ◌≤◌, ◌+◌, ◌++◌, ℕ, List, [], refl, sym, ◌∙◌, ap, subst, arith, Ok, Err, Some, None}
+use Rattle.std.proofs.Common.{◌++◌, [], refl, sym, ◌∙◌, ap, Ok, Err}
 use Rattle.tsd_model.specs.Geometry.{block_len}
-use Rattle.fs_trees.specs.Cluster.{entries_of}
-use Rattle.fs_trees.specs.ChainTree.{cluster_at}
-use Rattle.std.specs.Option.{option_and_then}
 use Rattle.chain_layout.specs.Block.{cluster_of}
 use Rattle.chain_layout.specs.Held.{cluster_in, entries_in}
 use Rattle.chain_laws.specs.Chained.{placed}

@@ -1,4 +1,4 @@
-use Rattle.std.proofs.Common.{◌≡◌, [], sym, subst}
+use Rattle.std.proofs.Common.{sym, subst}
 use Rattle.fs_trees.specs.declared.ask.ShellAsk.TheVariants as ask
 use Rattle.fs_port.specs.Files.{Answers, TellsNext}
 use Rattle.fs_asks.proofs.LookLaws.{then_looks}

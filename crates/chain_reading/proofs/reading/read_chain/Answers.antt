@@ -1,6 +1,5 @@
-use Rattle.std.proofs.Common.{◌≡◌, ◌≤◌, ◌+◌, ◌-◌, ◌*◌, ◌++◌, ℕ, length, refl, sym, ◌∙◌, ap, subst, arith, Ok, Err, Some, None}
+use Rattle.std.proofs.Common.{◌-◌, ◌++◌, length, sym, ◌∙◌, ap, arith, Ok, Err}
 use Rattle.std.specs.Prelude.{take, drop}
-use Rattle.fs_trees.specs.ChainTree.{Link}
 use Rattle.chain_layout.specs.Block.{cluster_of}
 use Rattle.chain_layout.specs.Held.{part_cluster}
 use Rattle.fs_asks.proofs.LookLaws.{no_look, then_looks, looks_as, looks_refused}
