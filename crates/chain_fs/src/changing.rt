@@ -4,8 +4,8 @@ use crate::letting_go::delete_others;
 use crate::making::{new_chain, write_chain};
 use crate::places::find_place;
 use chain_layout::{
-    bytes_room, clusters_for, directory_linked, directory_of_one, directory_with, directory_without,
-    empty_directory, file_part,
+    bytes_room, clusters_for, directory_linked, directory_of_one, directory_with,
+    directory_without, empty_directory, file_part,
 };
 use chain_reading::{Page, Part, Place, read_part};
 use fs_asks::{Client, NoNames};

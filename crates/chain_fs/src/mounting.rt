@@ -10,7 +10,11 @@ use fs_trees::FsRefusal;
 /// Whether a cluster of a file points to the next one.
 fn is_part_held<K: Blocks>(client: &Client, disk: &mut K, part: &Part) -> Result<bool, FsRefusal> {
     let pairs = count_pairs(client, disk, part.block, part)?;
-    let wanted = if part.cluster.cluster().next().is_some() { 1 } else { 0 };
+    let wanted = if part.cluster.cluster().next().is_some() {
+        1
+    } else {
+        0
+    };
     Ok(pairs.named == wanted)
 }
 
@@ -60,12 +64,20 @@ fn are_files_right<K: Blocks>(
 /// Whether a cluster of the directory points to each block that it names, and names none twice.
 fn is_page_held<K: Blocks>(client: &Client, disk: &mut K, page: &Page) -> Result<bool, FsRefusal> {
     let pairs = count_pairs(client, disk, page.block, page)?;
-    let next = if page.cluster.cluster().next().is_some() { 1 } else { 0 };
+    let next = if page.cluster.cluster().next().is_some() {
+        1
+    } else {
+        0
+    };
     Ok(pairs.named == page.cluster.count() + next)
 }
 
 /// Whether no name of a cluster stands in a later one, or twice in itself.
-fn are_names_apart<K: Blocks>(client: &Client, disk: &mut K, page: &Page) -> Result<bool, FsRefusal> {
+fn are_names_apart<K: Blocks>(
+    client: &Client,
+    disk: &mut K,
+    page: &Page,
+) -> Result<bool, FsRefusal> {
     if !page.cluster.has_distinct_names() {
         return Ok(false);
     }
@@ -134,7 +146,11 @@ fn are_all_names_apart<K: Blocks>(client: &Client, disk: &mut K) -> Result<bool,
 }
 
 /// Whether a tree is under the root.
-pub fn is_tree<K: Blocks>(client: &Client, ends: &mut Ends, disk: &mut K) -> Result<bool, FsRefusal> {
+pub fn is_tree<K: Blocks>(
+    client: &Client,
+    ends: &mut Ends,
+    disk: &mut K,
+) -> Result<bool, FsRefusal> {
     ends.clear();
     Ok(is_directory_right(client, ends, disk)? && are_all_names_apart(client, disk)?)
 }

@@ -5,6 +5,7 @@ use std::alloc::{AllocError, Global};
 
 /// How many bytes of a file, and how many entries, a cluster of the tests has room for.
 pub const ROOM: usize = 496;
+
 pub const ENTRIES: usize = 15;
 
 /// A file with its bytes.
@@ -108,7 +109,12 @@ impl Tree {
 
     /// Whether no cluster of the directory has room.
     fn is_full(&self) -> bool {
-        !self.pages.is_empty() && self.pages.as_slice().iter().all(|page| page.len() >= ENTRIES)
+        !self.pages.is_empty()
+            && self
+                .pages
+                .as_slice()
+                .iter()
+                .all(|page| page.len() >= ENTRIES)
     }
 
     pub fn check_put(&self, room: Room, path: &[u8], len: usize) -> Result<(), FsRefusal> {
@@ -116,7 +122,11 @@ impl Tree {
         if path.is_empty() {
             return Err(FsRefusal::IsDir);
         }
-        let more = if self.bytes(path).is_none() && self.is_full() { 1 } else { 0 };
+        let more = if self.bytes(path).is_none() && self.is_full() {
+            1
+        } else {
+            0
+        };
         check_room(self, room, clusters(len) + more)
     }
 

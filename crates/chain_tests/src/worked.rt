@@ -80,7 +80,11 @@ fn targets(rt: &impl Abort, disk: &mut PlainBlocks, source: u32) -> BlockList {
 /// The bytes of a cluster, written by hand: its next block plus 1, how many it has, and what it holds.
 fn cluster(rt: &impl Abort, next: u8, used: u8, body: &[u8]) -> Data {
     let mut bytes = data_of(rt, b"TSDCHAN1");
-    assert!(rt; bytes.extend_from_slice(&[next, 0, 0, 0, used, 0, 0, 0]).is_ok());
+    assert!(rt;
+        bytes
+            .extend_from_slice(&[next, 0, 0, 0, used, 0, 0, 0])
+            .is_ok()
+    );
     assert!(rt; bytes.extend_from_slice(body).is_ok());
     bytes
 }
@@ -126,7 +130,11 @@ fn appends_beside_the_end(rt: HostRuntime) -> Result<(), Fail> {
         let mut files = file_system(&rt, rt.alloc(), 16);
         let path = path_of(&rt, b"f");
         assert!(rt; files.make(&mut disk).is_ok());
-        assert!(rt; files.put(&mut disk, &path, &data_of(&rt, &[1; 300])).is_ok());
+        assert!(rt;
+            files
+                .put(&mut disk, &path, &data_of(&rt, &[1; 300]))
+                .is_ok()
+        );
         let more = data_of(&rt, &[2; 993][..len - 300]);
         assert!(rt; files.append(&mut disk, &path, &more).is_ok(), "{len}");
         assert_eq!(rt; free_blocks(&mut disk), Ok(15 - clusters), "{len}");
@@ -173,7 +181,12 @@ fn a_wide_directory(rt: HostRuntime) -> Result<(), Fail> {
         assert!(rt; files.remove(&mut disk, &wide_path(&rt, number)).is_ok());
     }
     assert_eq!(rt; free_blocks(&mut disk), Ok(63 - 2));
-    assert_eq!(rt; files.name_after(&mut disk, &Path::new(), &Name::new()).map(|name| name.is_none()), Ok(true));
+    assert_eq!(rt;
+        files
+            .name_after(&mut disk, &Path::new(), &Name::new())
+            .map(|name| name.is_none()),
+        Ok(true)
+    );
     let mut again = file_system(&rt, rt.alloc(), 64);
     assert!(rt; again.mount(&mut disk).is_ok());
     for number in 0..45 {
@@ -215,7 +228,10 @@ fn mount_deletes_leftovers(rt: HostRuntime) -> Result<(), Fail> {
     let mut again = file_system(&rt, rt.alloc(), 20);
     assert!(rt; again.mount(&mut disk).is_ok());
     assert_eq!(rt; targets(&rt, &mut disk, 0).as_slice(), [first].as_slice());
-    assert_eq!(rt; targets(&rt, &mut disk, first).as_slice(), [last].as_slice());
+    assert_eq!(rt;
+        targets(&rt, &mut disk, first).as_slice(),
+        [last].as_slice()
+    );
     assert!(rt; targets(&rt, &mut disk, last).is_empty());
     assert_eq!(rt; free_blocks(&mut disk), Ok(20 - 3));
     assert_eq!(rt; again.size(&mut disk, &path_of(&rt, b"f")), Ok(600));
@@ -244,7 +260,12 @@ fn worlds_that_are_no_tree(rt: HostRuntime) -> Result<(), Fail> {
         Err(FsRefusal::NotThisFs)
     );
     let one = entry(&rt, 1, b'a');
-    write(&rt, &mut disk, 0, cluster(&rt, 0, 1, one.as_slice()).as_slice());
+    write(
+        &rt,
+        &mut disk,
+        0,
+        cluster(&rt, 0, 1, one.as_slice()).as_slice(),
+    );
     mounts(&rt, &mut files, &mut disk, false, "no block there");
     assert_eq!(rt; take(&rt, &mut disk, 0), 1);
     mounts(&rt, &mut files, &mut disk, false, "no file there");
@@ -269,28 +290,80 @@ fn worlds_that_are_no_tree(rt: HostRuntime) -> Result<(), Fail> {
     mounts(&rt, &mut files, &mut disk, false, "it never ends");
     write(&rt, &mut disk, 2, cluster(&rt, 0, 1, b"x").as_slice());
     let mut two = entry(&rt, 1, b'a');
-    assert!(rt; two.extend_from_slice(entry(&rt, 2, b'b').as_slice()).is_ok());
-    write(&rt, &mut disk, 0, cluster(&rt, 0, 2, two.as_slice()).as_slice());
+    assert!(rt;
+        two.extend_from_slice(entry(&rt, 2, b'b').as_slice())
+            .is_ok()
+    );
+    write(
+        &rt,
+        &mut disk,
+        0,
+        cluster(&rt, 0, 2, two.as_slice()).as_slice(),
+    );
     link(&rt, &mut disk, 0, 2);
     mounts(&rt, &mut files, &mut disk, false, "a cluster in two files");
     assert_eq!(rt; take(&rt, &mut disk, 0), 3);
     let mut twice = entry(&rt, 1, b'a');
-    assert!(rt; twice.extend_from_slice(entry(&rt, 3, b'a').as_slice()).is_ok());
+    assert!(rt;
+        twice
+            .extend_from_slice(entry(&rt, 3, b'a').as_slice())
+            .is_ok()
+    );
     write(&rt, &mut disk, 3, cluster(&rt, 0, 0, b"").as_slice());
-    write(&rt, &mut disk, 0, cluster(&rt, 0, 2, twice.as_slice()).as_slice());
+    write(
+        &rt,
+        &mut disk,
+        0,
+        cluster(&rt, 0, 2, twice.as_slice()).as_slice(),
+    );
     mounts(&rt, &mut files, &mut disk, false, "a name twice");
     let mut apart = entry(&rt, 1, b'z');
-    assert!(rt; apart.extend_from_slice(entry(&rt, 3, b'a').as_slice()).is_ok());
-    write(&rt, &mut disk, 0, cluster(&rt, 0, 2, apart.as_slice()).as_slice());
+    assert!(rt;
+        apart
+            .extend_from_slice(entry(&rt, 3, b'a').as_slice())
+            .is_ok()
+    );
+    write(
+        &rt,
+        &mut disk,
+        0,
+        cluster(&rt, 0, 2, apart.as_slice()).as_slice(),
+    );
     mounts(&rt, &mut files, &mut disk, true, "two names in no order");
-    write(&rt, &mut disk, 0, cluster(&rt, 4, 1, entry(&rt, 1, b'a').as_slice()).as_slice());
-    write(&rt, &mut disk, 3, cluster(&rt, 0, 1, entry(&rt, 4, b'a').as_slice()).as_slice());
+    write(
+        &rt,
+        &mut disk,
+        0,
+        cluster(&rt, 4, 1, entry(&rt, 1, b'a').as_slice()).as_slice(),
+    );
+    write(
+        &rt,
+        &mut disk,
+        3,
+        cluster(&rt, 0, 1, entry(&rt, 4, b'a').as_slice()).as_slice(),
+    );
     assert_eq!(rt; take(&rt, &mut disk, 3), 4);
     write(&rt, &mut disk, 4, cluster(&rt, 0, 0, b"").as_slice());
     mounts(&rt, &mut files, &mut disk, false, "a name in two clusters");
-    write(&rt, &mut disk, 3, cluster(&rt, 0, 1, entry(&rt, 4, b'b').as_slice()).as_slice());
-    mounts(&rt, &mut files, &mut disk, true, "a directory of two clusters");
-    write(&rt, &mut disk, 3, cluster(&rt, 0, 1, entry(&rt, 0, b'b').as_slice()).as_slice());
+    write(
+        &rt,
+        &mut disk,
+        3,
+        cluster(&rt, 0, 1, entry(&rt, 4, b'b').as_slice()).as_slice(),
+    );
+    mounts(
+        &rt,
+        &mut files,
+        &mut disk,
+        true,
+        "a directory of two clusters",
+    );
+    write(
+        &rt,
+        &mut disk,
+        3,
+        cluster(&rt, 0, 1, entry(&rt, 0, b'b').as_slice()).as_slice(),
+    );
     mounts(&rt, &mut files, &mut disk, false, "the root as a file");
     Ok(())
 }
