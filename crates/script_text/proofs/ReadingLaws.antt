@@ -16,7 +16,7 @@ some_is : {A : Type 0} {x y : A} → Some x ≡ Some y → x ≡ y
 some_is e = cc
 
 -- a word was read
-pub read_word : {A B : Type 0} (f : List ℕ → Option A) (k : A × Words → Option B) (ws : Words) (y : B) → (reads f ws >>= k) ≡ Some y → (w : List ℕ) × (rest : Words) × (x : A) × (ws ≡ w ∷ rest) × (f w ≡ Some x) × (k (x, rest) ≡ Some y)
+read_word : {A B : Type 0} (f : List ℕ → Option A) (k : A × Words → Option B) (ws : Words) (y : B) → (reads f ws >>= k) ≡ Some y → (w : List ℕ) × (rest : Words) × (x : A) × (ws ≡ w ∷ rest) × (f w ≡ Some x) × (k (x, rest) ≡ Some y)
 read_word f k [] y e = absurd (cc)
 read_word {A} {B} f k (w ∷ ws) y e =
     elim (f w) as (λ o. f w ≡ o → (option_map (λ x. (x, ws)) o >>= k) ≡ Some y → (v : List ℕ) × (rest : Words) × (x : A) × (w ∷ ws ≡ v ∷ rest) × (f v ≡ Some x) × (k (x, rest) ≡ Some y)) [
@@ -24,7 +24,7 @@ read_word {A} {B} f k (w ∷ ws) y e =
       | Some x ↦ λ p q. (w, ws, x, refl, p, q)
     ] refl e
 
-pub no_more : {A : Type 0} (ws : Words) (x y : A) → ends ws x ≡ Some y → (ws ≡ []) × (x ≡ y)
+no_more : {A : Type 0} (ws : Words) (x y : A) → ends ws x ≡ Some y → (ws ≡ []) × (x ≡ y)
 no_more [] x y e = (refl, cc)
 no_more (w ∷ ws) x y e = absurd (cc)
 

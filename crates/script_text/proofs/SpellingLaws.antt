@@ -20,12 +20,12 @@ use Rattle.tsd_model.specs.declared.requests.Request.TheVariants as ask
 use Rattle.script_text.specs.declared.words.Place.{Place}
 use Rattle.script_text.specs.Pieces.{pieces}
 use Rattle.script_text.specs.Reading.{num_of, new_of, shown_of, hint_of, data_of, reads, ends, Words, ◌>>=◌, place_of, begin_of, end_of, read_of, write_of, alloc_of, contig_of, free_of, create_of, delete_of, set_cap_of, sweep_of, list_of, chosen, forms, named, asked, request_of}
-use Rattle.script_text.specs.Grammar.{Field, Name, Number, Show, New, Near, Bytes, fields, IsNumber, IsNew, IsData, IsField, AreFields, IsLine}
+use Rattle.script_text.specs.Grammar.{Field, Name, Number, Show, New, Near, Bytes, fields, IsNumber, IsNew, IsField, AreFields, IsLine}
 use Rattle.script_text.proofs.PiecesLaws.{take_all, join-pieces, pieces-join, lacks, some_pieces}
 use Rattle.script_text.proofs.WordLaws.{are_digits, num_back, new_back, shown_back, hint_back, data_back}
 use Rattle.script_text.proofs.ReadingLaws.{at_place, asked_is}
 
-pub bind_some : {A B : Type 0} (o : Option A) (k : A → Option B) (x : A) (y : Option B) → o ≡ Some x → k x ≡ y → (o >>= k) ≡ y
+bind_some : {A B : Type 0} (o : Option A) (k : A → Option B) (x : A) (y : Option B) → o ≡ Some x → k x ≡ y → (o >>= k) ≡ y
 bind_some o k x y e f = ap (λ v. v >>= k) e ∙ f
 
 -- the reader reads the value, and the words that it leaves spell the other fields
@@ -47,7 +47,7 @@ place_back p fs ws h =
     let c = word_back shown_of p.shown (Show p.shown) fs b.0 (λ w g. shown_back w p.shown g) b.2 in
     (c.0, bind_some _ _ _ _ s.1 (bind_some _ _ _ _ b.1 (bind_some _ _ _ _ c.1 refl)), c.2)
 
-pub ends_back : {A : Type 0} (ws : Words) (x : A) → AreFields [] ws → ends ws x ≡ Some x
+ends_back : {A : Type 0} (ws : Words) (x : A) → AreFields [] ws → ends ws x ≡ Some x
 ends_back [] x h = refl
 ends_back (w ∷ ws) x h = absurd h
 
@@ -154,8 +154,7 @@ asked_back ask.Bad (v ∷ ws) some h = absurd h
 
 -- ---- no word has a space in it
 
--- what each passes, each passes that asks less
-pub weaker : {A : Type 0} (p q : A → Bool) → ((x : A) → p x ≡ true → q x ≡ true) → (xs : List A) → list_all p xs ≡ true → list_all q xs ≡ true
+weaker : (p q : ℕ → Bool) → ((x : ℕ) → p x ≡ true → q x ≡ true) → (xs : List ℕ) → list_all p xs ≡ true → list_all q xs ≡ true
 weaker p q h [] a = refl
 weaker p q h (x ∷ xs) a = let parts = and_parts (p x) (list_all p xs) a in and_from (q x) (list_all q xs) (h x parts.0) (weaker p q h xs parts.1)
 
@@ -181,9 +180,6 @@ num_lacks w n h = weaker is_ascii_digit (λ b. not (b == 32)) digit_no_space w (
 dash_lacks : (w : List ℕ) → w ≡ codes "-" → lacks 32 w ≡ true
 dash_lacks w h = subst (λ v. lacks 32 v ≡ true) (sym h) refl
 
-pub data_lacks : (w bytes : List ℕ) → IsData w bytes → lacks 32 w ≡ true
-data_lacks w bytes h = elim h [ inl none ↦ dash_lacks w none.0 | inr digits ↦ hex_lacks w bytes digits.2 ]
-
 field_lacks : (f : Field) (w : List ℕ) → name_lacks f ≡ true → IsField f w → lacks 32 w ≡ true
 unfolding name_lacks
 field_lacks (Name name) w n h = subst (λ v. lacks 32 v ≡ true) (sym h) n
@@ -193,7 +189,7 @@ field_lacks (Show (Key cap)) w n h = new_lacks w cap h
 field_lacks (New cap) w n h = new_lacks w cap h
 field_lacks (Near Null) w n h = dash_lacks w h
 field_lacks (Near (At b)) w n h = num_lacks w b h
-field_lacks (Bytes bytes) w n h = data_lacks w bytes h
+field_lacks (Bytes bytes) w n h = elim h [ inl none ↦ dash_lacks w none.0 | inr digits ↦ hex_lacks w bytes digits.2 ]
 
 all_lack : (fs : List Field) (ws : Words) → list_all name_lacks fs ≡ true → AreFields fs ws → list_all (lacks 32) ws ≡ true
 all_lack [] [] n h = refl

@@ -20,7 +20,7 @@ use Rattle.tsd_model.specs.declared.requests.Hint.TheVariants.{Null, At}
 use Rattle.script_text.specs.Reading.{is_number, num_of, new_of, shown_of, hint_of, data_of}
 use Rattle.script_text.specs.Grammar.{IsNumber, IsNew, IsShown, IsHint, IsData}
 
-pub cond_some : {A : Type 0} (t : Bool) (o : Option A) (x : A) → cond t o None ≡ Some x → (t ≡ true) × (o ≡ Some x)
+cond_some : {A : Type 0} (t : Bool) (o : Option A) (x : A) → cond t o None ≡ Some x → (t ≡ true) × (o ≡ Some x)
 cond_some true o x e = (refl, e)
 cond_some false o x e = absurd (cc)
 

@@ -4,13 +4,25 @@ use Rattle.std.specs.Prelude.{codes, bytes_eq, option_map}
 use Rattle.std.proofs.lemmas.Slice.Eq.{bytes_eq-Decides}
 use Rattle.script_text.specs.Reading.{data_of, reads, ends, Words, ◌>>=◌}
 use Rattle.script_text.proofs.WordLaws.{data_is}
-use Rattle.script_text.proofs.ReadingLaws.{read_word, no_more}
 use Rattle.fs_trees.specs.declared.ask.ShellAsk.{ShellAsk}
 use Rattle.fs_trees.specs.declared.ask.ShellKind.{ShellKind}
 use Rattle.fs_trees.specs.declared.ask.ShellKind.TheVariants.{Inode, Chain}
 use Rattle.shell_text.specs.Grammar.{Field, Place, Bytes, fields, IsField, AreFields}
 use Rattle.shell_text.specs.Reading.{path_of, make_of, put_of, append_of, cat_of, ls_of, rm_of, make_dir_of, copy_of, df_of, of_inodes, chosen, forms, named, asked}
 use Rattle.shell_text.proofs.PathLaws.{path_is}
+
+-- a word was read
+read_word : {A B : Type 0} (f : List ℕ → Option A) (k : A × Words → Option B) (ws : Words) (y : B) → (reads f ws >>= k) ≡ Some y → (w : List ℕ) × (rest : Words) × (x : A) × (ws ≡ w ∷ rest) × (f w ≡ Some x) × (k (x, rest) ≡ Some y)
+read_word f k [] y e = absurd (cc)
+read_word {A} {B} f k (w ∷ ws) y e =
+    elim (f w) as (λ o. f w ≡ o → (option_map (λ x. (x, ws)) o >>= k) ≡ Some y → (v : List ℕ) × (rest : Words) × (x : A) × (w ∷ ws ≡ v ∷ rest) × (f v ≡ Some x) × (k (x, rest) ≡ Some y)) [
+      | None ↦ λ p q. absurd (cc)
+      | Some x ↦ λ p q. (w, ws, x, refl, p, q)
+    ] refl e
+
+no_more : {A : Type 0} (ws : Words) (x y : A) → ends ws x ≡ Some y → (ws ≡ []) × (x ≡ y)
+no_more [] x y e = (refl, cc)
+no_more (w ∷ ws) x y e = absurd (cc)
 
 -- the first word and the others spell the first field and the others
 next : (f : Field) (fs : List Field) (w : List ℕ) (rest ws : Words) → ws ≡ w ∷ rest → IsField f w → AreFields fs rest → AreFields (f ∷ fs) ws

@@ -3,4 +3,3 @@ pub mod NamesLaws
 pub mod AskedLaws
 pub mod SpelledLaws
 pub mod AnswerLaws
-pub mod LineExamples

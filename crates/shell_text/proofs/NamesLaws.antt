@@ -3,8 +3,7 @@ use Rattle.std.proofs.Common.{◌≡◌, true, [], ◌∷◌, ◌++◌, sym, ◌
 use Rattle.std.specs.List.{list_all}
 use Rattle.fs_trees.specs.Names.{Name, Path, is_name}
 use Rattle.shell_text.specs.Reading.{name_of}
-use Rattle.script_text.proofs.WordLaws.{cond_some}
-use Rattle.shell_text.proofs.PathLaws.{one_more}
+use Rattle.shell_text.proofs.PathLaws.{cond_some, one_more}
 
 -- a name was read
 name_is : (w n : Name) → name_of w ≡ Some n → (is_name w ≡ true) × (w ≡ n)

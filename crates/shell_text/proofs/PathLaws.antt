@@ -5,12 +5,14 @@ use Rattle.std.proofs.lemmas.List.Folds.{list_all-append}
 use Rattle.std.proofs.lemmas.Bool.{and_parts, and_from, eqb-true, leb-true}
 use Rattle.std.proofs.lemmas.Bool.Decides.{nat_tests}
 use Rattle.script_text.specs.Pieces.{pieces}
-use Rattle.script_text.proofs.WordLaws.{cond_some}
-use Rattle.script_text.proofs.SpellingLaws.{weaker}
 use Rattle.script_text.proofs.PiecesLaws.{lacks, join-pieces, pieces-join}
 use Rattle.fs_trees.specs.Names.{Name, Path, is_name, is_name_byte, is_path, name_max, path_max, is_reserved}
 use Rattle.shell_text.specs.Grammar.{IsPathWord}
 use Rattle.shell_text.specs.Reading.{names_of, path_if, path_of}
+
+pub cond_some : {A : Type 0} (t : Bool) (o : Option A) (x : A) → cond t o None ≡ Some x → (t ≡ true) × (o ≡ Some x)
+cond_some true o x e = (refl, e)
+cond_some false o x e = absurd (cc)
 
 -- ---- what is read
 
@@ -36,6 +38,11 @@ byte_no_slash x h = grind (arith, nat_tests)
 
 byte_no_space : (x : ℕ) → is_name_byte x ≡ true → not (x == 32) ≡ true
 byte_no_space x h = grind (arith, nat_tests)
+
+-- what each passes, each passes that asks less
+pub weaker : {A : Type 0} (p q : A → Bool) → ((x : A) → p x ≡ true → q x ≡ true) → (xs : List A) → list_all p xs ≡ true → list_all q xs ≡ true
+weaker p q h [] a = refl
+weaker p q h (x ∷ xs) a = let parts = and_parts (p x) (list_all p xs) a in and_from (q x) (list_all q xs) (h x parts.0) (weaker p q h xs parts.1)
 
 -- the four tests of a name
 tests : (a b c d : Bool) → (a && b && c && d) ≡ true → (a ≡ true) × (c ≡ true)

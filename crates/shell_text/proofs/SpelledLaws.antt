@@ -13,7 +13,6 @@ use Rattle.script_text.specs.Grammar.{IsData}
 use Rattle.script_text.specs.Reading.{data_of, reads, ends, Words, ◌>>=◌}
 use Rattle.script_text.proofs.PiecesLaws.{take_all, join-pieces, pieces-join, lacks, some_pieces}
 use Rattle.script_text.proofs.WordLaws.{data_back}
-use Rattle.script_text.proofs.SpellingLaws.{bind_some, ends_back, data_lacks}
 use Rattle.fs_trees.specs.Names.{Path}
 use Rattle.fs_trees.specs.declared.ask.ShellAsk.{ShellAsk}
 use Rattle.fs_trees.specs.declared.ask.ShellAsk.TheVariants as ask
@@ -21,8 +20,11 @@ use Rattle.fs_trees.specs.declared.ask.ShellKind.{ShellKind}
 use Rattle.fs_trees.specs.declared.ask.ShellKind.TheVariants.{Inode, Chain}
 use Rattle.shell_text.specs.Grammar.{Field, Command, Place, Bytes, fields, IsField, AreFields, IsShellLine}
 use Rattle.shell_text.specs.Reading.{path_of, put_of, append_of, cat_of, ls_of, rm_of, make_dir_of, copy_of, chosen, forms, named, asked, ask_of}
-use Rattle.shell_text.proofs.PathLaws.{path_back, path_lacks}
+use Rattle.shell_text.proofs.PathLaws.{path_back, path_lacks, weaker}
 use Rattle.shell_text.proofs.AskedLaws.{asked_is}
+
+bind_some : {A B : Type 0} (o : Option A) (k : A → Option B) (x : A) (y : Option B) → o ≡ Some x → k x ≡ y → (o >>= k) ≡ y
+bind_some o k x y e f = ap (λ v. v >>= k) e ∙ f
 
 -- the reader reads the value, and the words that it leaves spell the other fields
 abbrev Reads : {A : Type 0} → (Words → Option (A × Words)) → Words → A → List Field → Type 0
@@ -37,6 +39,10 @@ path_next p fs ws h = word_back path_of p (Place p) fs ws (λ w g. path_back w p
 
 bytes_next : (x : List ℕ) (fs : List Field) (ws : Words) → AreFields (Bytes x ∷ fs) ws → Reads (reads data_of) ws x fs
 bytes_next x fs ws h = word_back data_of x (Bytes x) fs ws (λ w g. data_back w x g) h
+
+ends_back : {A : Type 0} (ws : Words) (x : A) → AreFields [] ws → ends ws x ≡ Some x
+ends_back [] x h = refl
+ends_back (w ∷ ws) x h = absurd h
 
 put_back : (p : Path) (x : List ℕ) (ws : Words) → AreFields (Place p ∷ Bytes x ∷ []) ws → put_of ws ≡ Some (ask.Put p x)
 unfolding put_of
@@ -95,6 +101,15 @@ asked_back Chain (ask.Copy p q) (v ∷ ws) some h = absurd h
 asked_back kind ask.Df (v ∷ ws) some g = under_name kind (codes "df") v ws ask.Df g.0 (ends_back ws _ g.1)
 
 -- ---- no word has a space in it
+
+hex_no_space : (x : ℕ) → is_hex_digit x ≡ true → not (x == 32) ≡ true
+hex_no_space x h = grind (arith, nat_tests)
+
+data_lacks : (w bytes : List ℕ) → IsData w bytes → lacks 32 w ≡ true
+data_lacks w bytes h = elim h [
+  | inl none ↦ subst (λ v. lacks 32 v ≡ true) (sym none.0) refl
+  | inr digits ↦ weaker is_hex_digit (λ b. not (b == 32)) hex_no_space w (list_all-from_AllPass is_hex_digit w (decode_of-ok w bytes digits.2).1)
+]
 
 command_lacks : Field → Bool
 command_lacks (Command name) = lacks 32 name
