@@ -1,0 +1,9 @@
+pub mod WalkLaws
+pub mod ReadLaws
+pub mod FurtherLaws
+pub mod WalkingLaws
+pub mod RefusalLaws
+pub mod PartLaws
+pub mod FileLaws
+pub mod FoundLaws
+pub mod TellLaws

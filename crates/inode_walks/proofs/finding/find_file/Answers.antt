@@ -1,0 +1,56 @@
+use Rattle.std.proofs.Common.{◌≡◌, sym, ◌∙◌, subst, Option, Some, None}
+use Rattle.fs_trees.specs.declared.refusal.FsRefusal.{FsRefusal}
+use Rattle.fs_trees.specs.declared.refusal.FsRefusal.TheVariants as no
+use Rattle.fs_asks.proofs.LookLaws.{looks_but_refuses}
+use Rattle.inode_walks.specs.Asking.{tree_of}
+use Rattle.inode_walks.specs.Finding.{IsAt, no_file_found}
+use Rattle.inode_walks.proofs.FoundLaws.{a_dir_was, a_file_was, lost_file, file_found, dir_in_place}
+use Rattle.inode_walks.proofs.finding.find_file.Goals as goal
+
+pub walk-requires : goal.walk-requires
+walk-requires g c = record { may = c.requires.may }
+
+pub returns-then-is_directory : goal.returns-then-is_directory
+returns-then-is_directory g c =
+    let told = g.K.Blocks.told in
+    let old = g.K.Blocks.view c.args.disk.now in
+    let new = g.K.Blocks.view c.walk.new.disk in
+    let me = c.args.client.now in
+    let p = c.as_slice.result.now in
+    let v = c.as_slice.ensures.value in
+    let e = c.in-Ok.ensures in
+    record {
+      found = λ t. tt;
+      file = tt;
+      none = λ t. tt;
+      refused = λ t ne. subst (λ q. no_file_found (tree_of me old) q ≡ Some no.IsDir) v (dir_in_place (tree_of me old) p (e.none t) (a_dir_was me old new p c.in-Ok.found (e.found t) (e.looks.looked t).0.world (sym c.is_directory.ensures ∙ c.if-is_directory.true)).0);
+      looks = looks_but_refuses told old new c.in-Ok.found no.IsDir (λ d. cc) e.looks;
+    }
+
+pub returns-else-is_directory : goal.returns-else-is_directory
+returns-else-is_directory g c =
+    let told = g.K.Blocks.told in
+    let old = g.K.Blocks.view c.args.disk.now in
+    let new = g.K.Blocks.view c.walk.new.disk in
+    let me = c.args.client.now in
+    let p = c.as_slice.result.now in
+    let v = c.as_slice.ensures.value in
+    let e = c.in-Ok.ensures in
+    record {
+      found = λ t. subst (λ q. IsAt me new q c.in-Ok.found) v (e.found t);
+      file = sym c.is_directory.ensures ∙ c.if-is_directory.false;
+      none = λ t. subst (λ q. ◌≡◌ {A = Option FsRefusal} (no_file_found (tree_of me old) q) None) v (file_found (tree_of me old) p (e.none t) (a_file_was me old new p c.in-Ok.found (e.found t) (e.looks.looked t).0.world (sym c.is_directory.ensures ∙ c.if-is_directory.false)).0);
+      refused = λ t. tt;
+      looks = e.looks;
+    }
+
+pub returns-in-Err : goal.returns-in-Err
+returns-in-Err g c =
+    record {
+      found = λ t. tt;
+      file = tt;
+      none = λ t. tt;
+      refused = λ t ne. subst (λ q. no_file_found (tree_of c.args.client.now (g.K.Blocks.view c.args.disk.now)) q ≡ Some c.in-Err.refusal) c.as_slice.ensures.value
+          (lost_file (tree_of c.args.client.now (g.K.Blocks.view c.args.disk.now)) c.as_slice.result.now c.in-Err.refusal (c.in-Err.ensures.refused t ne));
+      looks = c.in-Err.ensures.looks;
+    }
