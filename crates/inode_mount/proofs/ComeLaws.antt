@@ -73,17 +73,17 @@ each_in P (x ∷ xs) h = and_from (P x) (list_all P xs) (h x (or_left (x == x) _
 
 pub data_right : (bs : List ℕ) (s t : Come) → come_data bs s ≡ Some t → Fits s [] bs × Adds s t [] bs
 data_right [] s t h = let same : s ≡ t = cc in (fits_none s, subst (λ u. Adds s u [] []) same (adds_none s))
-data_right (b ∷ bs) s t h = by_test (has_number s.inodes b) refl h
+data_right (b ∷ bs) s t h = by_test (λ k. data_right bs (with_data s b) t k) (has_number s.inodes b) refl h
   where
     four : (p q r : Bool) → (q || (p || r)) ≡ ((p || q) || r)
     four true true r = refl
     four true false r = refl
     four false q r = refl
 
-    by_test : (u : Bool) → has_number s.inodes b ≡ u → cond u None (come_data bs (with_data s b)) ≡ Some t → Fits s [] (b ∷ bs) × Adds s t [] (b ∷ bs)
-    by_test true e k = absurd (cc)
-    by_test false e k =
-        let rest = data_right bs (with_data s b) t k in (
+    by_test : (come_data bs (with_data s b) ≡ Some t → Fits (with_data s b) [] bs × Adds (with_data s b) t [] bs) → (u : Bool) → has_number s.inodes b ≡ u → cond u None (come_data bs (with_data s b)) ≡ Some t → Fits s [] (b ∷ bs) × Adds s t [] (b ∷ bs)
+    by_test ih true e k = absurd (cc)
+    by_test ih false e k =
+        let rest = ih k in (
           record {
             apart = refl;
             new = λ c m. absurd (cc);
@@ -100,11 +100,11 @@ data_right (b ∷ bs) s t h = by_test (has_number s.inodes b) refl h
 
 pub data_wrong : (bs : List ℕ) (s : Come) → ◌≡◌ {A = Option Come} (come_data bs s) None → Fits s [] bs → ⊥
 data_wrong [] s h fits = cc
-data_wrong (b ∷ bs) s h fits = by_test (has_number s.inodes b) refl h
+data_wrong (b ∷ bs) s h fits = by_test (λ k f. data_wrong bs (with_data s b) k f) (has_number s.inodes b) refl h
   where
-    by_test : (u : Bool) → has_number s.inodes b ≡ u → ◌≡◌ {A = Option Come} (cond u None (come_data bs (with_data s b))) None → ⊥
-    by_test true e k = yes_no (has_number s.inodes b) e (fits.other b (or_left (b == b) _ (eq-eqb b b refl))).0
-    by_test false e k = data_wrong bs (with_data s b) k (record { apart = refl; new = λ c m. absurd (cc); other = λ c m. fits.other c (or_right (b == c) _ m) })
+    by_test : (◌≡◌ {A = Option Come} (come_data bs (with_data s b)) None → Fits (with_data s b) [] bs → ⊥) → (u : Bool) → has_number s.inodes b ≡ u → ◌≡◌ {A = Option Come} (cond u None (come_data bs (with_data s b))) None → ⊥
+    by_test ih true e k = yes_no (has_number s.inodes b) e (fits.other b (or_left (b == b) _ (eq-eqb b b refl))).0
+    by_test ih false e k = ih k (record { apart = refl; new = λ c m. absurd (cc); other = λ c m. fits.other c (or_right (b == c) _ m) })
 
 -- ---- a node
 
@@ -151,13 +151,13 @@ module _ (w : World) (visit : ℕ → Come → Option Come) (read : ℕ → Inod
       → (xs : InodeEntries) × (entries_by read es ≡ Some xs) × EntriesRight w s t d xs
   each_right d [] s t held h = let same : s ≡ t = cc in
       (none, refl, record { held = λ a c m. absurd (cc); fits = fits_none s; adds = subst (λ u. Adds s u [] []) same (adds_none s) })
-  each_right d (e ∷ es) s t held h = by_first (visit e.block s) refl h
+  each_right d (e ∷ es) s t held h = by_first (λ u k. each_right d es u t (and_parts (holds w.pairs d e.block) (list_all (holds w.pairs d) (map (λ f. f.block) es)) held).1 k) (visit e.block s) refl h
     where
-      by_first : (o : Option Come) → visit e.block s ≡ o → option_and_then (come_each visit (map (λ f. f.block) es)) o ≡ Some t → (xs : InodeEntries) × (entries_by read (e ∷ es) ≡ Some xs) × EntriesRight w s t d xs
-      by_first None v k = absurd (cc)
-      by_first (Some u) v k =
+      by_first : ((u : Come) → come_each visit (map (λ f. f.block) es) u ≡ Some t → (xs : InodeEntries) × (entries_by read es ≡ Some xs) × EntriesRight w u t d xs) → (o : Option Come) → visit e.block s ≡ o → option_and_then (come_each visit (map (λ f. f.block) es)) o ≡ Some t → (xs : InodeEntries) × (entries_by read (e ∷ es) ≡ Some xs) × EntriesRight w s t d xs
+      by_first ih None v k = absurd (cc)
+      by_first ih (Some u) v k =
           let parts = and_parts (holds w.pairs d e.block) (list_all (holds w.pairs d) (map (λ f. f.block) es)) held in
-          let rest = each_right d es u t parts.1 k in
+          let rest = ih u k in
           let all = first_right w s u t d e.name e.block (read e.block) rest.0 parts.0 (right e.block s u v) rest.2 in
           (all.0, ap (with_first e.name (read e.block)) rest.1 ∙ all.1, all.2)
 
@@ -167,37 +167,35 @@ fan_held_all w b (k ∷ ks) h a c m =
     let parts = and_parts (holds w.pairs b k) (list_all (holds w.pairs b) ks) h in
     pair_before w b k [] (map (λ j. (b, j)) ks) parts.0 (λ x y n. absurd (cc)) (fan_held_all w b ks parts.1) a c m
 
+module _ (w : World) (levels : ℕ) (ih : (c : ℕ) (u v : Come) → come_from w levels c u ≡ Some v → NodeRight w u v c (node_at w levels c)) (b : ℕ) (s t : Come) where
+  by_kind : (i : Inode) → is_come s b ≡ false → inode_at w b ≡ Some i → are_held w b (blocks_said i) ≡ true → come_on (come_from w levels) i (with_inode s b) ≡ Some t → NodeRight w s t b (node_at w (suc levels) b)
+  by_kind (regular size blocks) new is held k =
+      let own = data_right blocks (with_inode s b) t k in
+      subst (NodeRight w s t b) (sym (ap (node_by (node_at w levels) b) is)) (record {
+        there = refl;
+        block = refl;
+        held = fan_held_all w b blocks (and_parts (are_apart blocks) _ held).1;
+        fits = fits_both s (with_inode s b) (b ∷ []) [] [] blocks (fits_one s b new) (adds_one s b) own.0;
+        adds = adds_both s (with_inode s b) (b ∷ []) [] [] blocks t (adds_one s b) own.1;
+      })
+  by_kind (directory es) new is held k =
+      let all = each_right w (come_from w levels) (node_at w levels) ih b es (with_inode s b) t (and_parts (are_apart (map (λ e. e.block) es)) _ held).1 k in
+      subst (NodeRight w s t b) (sym (ap (node_by (node_at w levels) b) is ∙ ap (as_dir b) all.1)) (record {
+        there = refl;
+        block = refl;
+        held = all.2.held;
+        fits = fits_both s (with_inode s b) (b ∷ []) [] (inode_blocks all.0) (data_blocks all.0) (fits_one s b new) (adds_one s b) all.2.fits;
+        adds = adds_both s (with_inode s b) (b ∷ []) [] (inode_blocks all.0) (data_blocks all.0) t (adds_one s b) all.2.adds;
+      })
+
+  by_inode : (o : Option Inode) → is_come s b ≡ false → held_at w b ≡ o → come_by (come_from w levels) b o s ≡ Some t → NodeRight w s t b (node_at w (suc levels) b)
+  by_inode None new e k = absurd (cc)
+  by_inode (Some i) new e k = let held = held_is w b i e in by_kind i new held.0 held.1 k
+
+  by_come : (u : Bool) → is_come s b ≡ u → cond u None (come_by (come_from w levels) b (held_at w b) s) ≡ Some t → NodeRight w s t b (node_at w (suc levels) b)
+  by_come true e k = absurd (cc)
+  by_come false e k = by_inode (held_at w b) e refl k
+
 pub node_right : (w : World) (levels b : ℕ) (s t : Come) → come_from w levels b s ≡ Some t → NodeRight w s t b (node_at w levels b)
 node_right w zero b s t h = absurd (cc)
-node_right w (suc levels) b s t h = by_come (is_come s b) refl h
-  where
-    ih : (c : ℕ) (u v : Come) → come_from w levels c u ≡ Some v → NodeRight w u v c (node_at w levels c)
-    ih c u v k = node_right w levels c u v k
-
-    by_kind : (i : Inode) → is_come s b ≡ false → inode_at w b ≡ Some i → are_held w b (blocks_said i) ≡ true → come_on (come_from w levels) i (with_inode s b) ≡ Some t → NodeRight w s t b (node_at w (suc levels) b)
-    by_kind (regular size blocks) new is held k =
-        let bytes = data_right blocks (with_inode s b) t k in
-        subst (NodeRight w s t b) (sym (ap (node_by (node_at w levels) b) is)) (record {
-          there = refl;
-          block = refl;
-          held = fan_held_all w b blocks (and_parts (are_apart blocks) _ held).1;
-          fits = fits_both s (with_inode s b) (b ∷ []) [] [] blocks (fits_one s b new) (adds_one s b) data.0;
-          adds = adds_both s (with_inode s b) (b ∷ []) [] [] blocks t (adds_one s b) data.1;
-        })
-    by_kind (directory es) new is held k =
-        let all = each_right w (come_from w levels) (node_at w levels) ih b es (with_inode s b) t (and_parts (are_apart (map (λ e. e.block) es)) _ held).1 k in
-        subst (NodeRight w s t b) (sym (ap (node_by (node_at w levels) b) is ∙ ap (as_dir b) all.1)) (record {
-          there = refl;
-          block = refl;
-          held = all.2.held;
-          fits = fits_both s (with_inode s b) (b ∷ []) [] (inode_blocks all.0) (data_blocks all.0) (fits_one s b new) (adds_one s b) all.2.fits;
-          adds = adds_both s (with_inode s b) (b ∷ []) [] (inode_blocks all.0) (data_blocks all.0) t (adds_one s b) all.2.adds;
-        })
-
-    by_inode : (o : Option Inode) → is_come s b ≡ false → held_at w b ≡ o → come_by (come_from w levels) b o s ≡ Some t → NodeRight w s t b (node_at w (suc levels) b)
-    by_inode None new e k = absurd (cc)
-    by_inode (Some i) new e k = let held = held_is w b i e in by_kind i new held.0 held.1 k
-
-    by_come : (u : Bool) → is_come s b ≡ u → cond u None (come_by (come_from w levels) b (held_at w b) s) ≡ Some t → NodeRight w s t b (node_at w (suc levels) b)
-    by_come true e k = absurd (cc)
-    by_come false e k = by_inode (held_at w b) e refl k
+node_right w (suc levels) b s t h = by_come w levels (λ c u v k. node_right w levels c u v k) b s t (is_come s b) refl h

@@ -1,0 +1,1 @@
+use Rattle.inode_mount.proofs.WrongLaws.{node_wrong}
