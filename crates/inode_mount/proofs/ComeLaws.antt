@@ -61,7 +61,7 @@ is_held w b i e h = ap (option_and_then (if_held w b)) e ∙ ap (λ t. only_if t
 
 -- ---- a file's blocks
 
-all_in : (P : ℕ → Bool) (xs : List ℕ) (c : ℕ) → list_all P xs ≡ true → has_number xs c ≡ true → P c ≡ true
+pub all_in : (P : ℕ → Bool) (xs : List ℕ) (c : ℕ) → list_all P xs ≡ true → has_number xs c ≡ true → P c ≡ true
 all_in P [] c h m = absurd (cc)
 all_in P (x ∷ xs) c h m =
     let parts = and_parts (P x) (list_all P xs) h in

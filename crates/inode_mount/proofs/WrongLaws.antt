@@ -146,7 +146,7 @@ module _ (w : World) (visit : ℕ → Come → Option Come) (read : ℕ → Inod
 
 -- ---- a node
 
-fan_held : (b : ℕ) (bs : List ℕ) (c : ℕ) → has_number bs c ≡ true → holds (map (λ k. (b, k)) bs) b c ≡ true
+pub fan_held : (b : ℕ) (bs : List ℕ) (c : ℕ) → has_number bs c ≡ true → holds (map (λ k. (b, k)) bs) b c ≡ true
 fan_held b [] c m = absurd (cc)
 fan_held b (k ∷ ks) c m = elim (or_cases (k == c) (has_number ks c) m) [
   | inl e ↦ or_left (is_pair b c (b, k)) _ (and_from (b == b) (k == c) (eq-eqb b b refl) e)
@@ -159,7 +159,7 @@ none_held w b i gone is held = clash (held_at w b) gone (is_held w b i is held)
     clash : (o : Option Inode) → ◌≡◌ {A = Option Inode} o None → o ≡ Some i → ⊥
     clash o p q = cc
 
-dir_of : (b : ℕ) (o : Option InodeEntries) → is_there (as_dir b o) ≡ true → (xs : InodeEntries) × (o ≡ Some xs)
+pub dir_of : (b : ℕ) (o : Option InodeEntries) → is_there (as_dir b o) ≡ true → (xs : InodeEntries) × (o ≡ Some xs)
 dir_of b None h = absurd (cc)
 dir_of b (Some xs) h = (xs, refl)
 

@@ -142,6 +142,7 @@ pub record MarksTree (w : World) (root : ℕ) (m : Marks) : Type 0 where
   pub there : IsTrue (is_there (inode_tree w root))
   pub blocks : (b : ℕ) → has_number (named_at kind.Inode w root).blocks b ≡ (is_inode m b || is_data_block m b)
   pub pairs : (a b : ℕ) → holds (named_at kind.Inode w root).pairs a b ≡ (is_inode m a && has_number (names_at w a) b)
+  pub targets : (a b : ℕ) → IsTrue (holds (named_at kind.Inode w root).pairs a b) → IsTrue (has_number (named_at kind.Inode w root).blocks b)
   pub inodes : (b : ℕ) → IsTrue (is_inode m b) → IsTrue (is_some (inode_at w b))
   pub bytes : (b : ℕ) → IsTrue (is_data_block m b) → (a : ℕ) × IsTrue (is_inode m a) × IsTrue (holds w.pairs a b)
 

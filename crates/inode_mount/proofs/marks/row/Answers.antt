@@ -1,1 +1,1 @@
-use Rattle.inode_mount.proofs.WrongLaws.{node_wrong}
+use Rattle.inode_mount.proofs.RootLaws.{tells_tree}
