@@ -3,3 +3,5 @@ pub mod ComeLaws
 pub mod WrongLaws
 pub mod SaysLaws
 pub mod RootLaws
+pub mod CountLaws
+pub mod SeeLaws

@@ -1,1 +1,2 @@
-use Rattle.inode_mount.proofs.RootLaws.{tells_tree}
+use Rattle.inode_mount.proofs.CountLaws.{no_others}
+use Rattle.inode_mount.proofs.SeeLaws.{named_may}
