@@ -5,3 +5,4 @@ pub mod SaysLaws
 pub mod RootLaws
 pub mod CountLaws
 pub mod SeeLaws
+pub mod SeenLaws

@@ -1,2 +1,0 @@
-use Rattle.inode_mount.proofs.CountLaws.{no_others}
-use Rattle.inode_mount.proofs.SeeLaws.{named_may}
