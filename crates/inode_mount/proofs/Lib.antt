@@ -6,3 +6,4 @@ pub mod RootLaws
 pub mod CountLaws
 pub mod SeeLaws
 pub mod SeenLaws
+pub mod LoopLaws
