@@ -7,3 +7,4 @@ pub mod CountLaws
 pub mod SeeLaws
 pub mod SeenLaws
 pub mod LoopLaws
+pub mod RightLaws

@@ -8,10 +8,12 @@ use Rattle.fs_port.specs.Calls.{IsValidNow}
 use Rattle.fs_asks.specs.declared.client.Client.{Client}
 use Rattle.fs_asks.specs.May.{MayWrite, Looked, Looks}
 use Rattle.fs_asks.proofs.LookLaws.{may_again, then_looks}
-use Rattle.inode_mount.specs.Marked.{is_inode}
+use Rattle.inode_mount.specs.Marked.{is_inode, MarksInode}
+use Rattle.inode_mount.specs.declared.looking.Seen.{Seen}
+use Rattle.tsd_model.specs.Pairs.{holds}
 use Rattle.inode_mount.specs.declared.marks.Marks.{Marks}
-use Rattle.inode_mount.specs.Looking.{Come, with_data, come_data, come_each, come_from, Agrees, Comes, NamesData, Noted}
-use Rattle.inode_mount.proofs.SeeLaws.{drop_at, drop_end, comes_none, comes_some, none_of, some_of, agrees_data}
+use Rattle.inode_mount.specs.Looking.{Come, with_data, come_data, come_each, come_from, Agrees, Comes, NamesData, Noted, IsSeen, names_at}
+use Rattle.inode_mount.proofs.SeeLaws.{drop_at, drop_end, comes_none, comes_some, none_of, some_of, agrees_data, noted_on, noted_inode}
 
 -- after i of these blocks: so they are looked at, where `come` tells what the others come to
 pub record Looping (told : Type 0) (c : Client) (first now : View) (bs : List ℕ) (come : List ℕ → Come → Option Come) (i : ℕ) (begun m : Marks) : Type 0 where
@@ -70,3 +72,16 @@ module _ (visit : ℕ → Come → Option Come) (bs : List ℕ) (i : ℕ) (begun
   each_ends h s agrees =
       let so = comes s agrees in
       comes_some m (come_each visit bs s) so.0 (so.2 ∙ ap (λ xs. come_each visit xs so.0) (drop_end bs i h)) so.1
+
+-- ---- an inode's own mark
+
+pub noted_seen : (c : Client) (old new : View) (m next : Marks) (b : ℕ) (seen : Seen) → Noted c old m → Looked old new → IsSeen c old new b seen → b < 1048576 → MarksInode m next b seen.has_others → Noted c new next
+noted_seen c old new m next b seen noted looked is small marks =
+    noted_inode c new m next b seen.has_others small (noted_on c old new m looked noted) marks is.held
+    (λ clean d h. ap (λ w. has_number (names_at w b) d) looked.world ∙ is.others clean d (ap (λ w. holds w.pairs b d) (sym looked.world) ∙ h))
+
+-- what a call that goes on tells, of the same world and block
+pub told_as : (v first : View) (levels k b : ℕ) (next : Marks) (m : Marks) (field result : Bool) → v.world ≡ first.world → k ≡ b → field ≡ result
+    → ((s : Come) → Agrees m s → Comes next (come_from v.world levels k s) field) → (s : Come) → Agrees m s → Comes next (come_from first.world levels b s) result
+told_as v first levels k b next m field result world block test h s agrees =
+    subst (λ r. Comes next (come_from first.world levels b s) r) test (subst (λ x. Comes next (come_from first.world levels x s) field) block (subst (λ w. Comes next (come_from w levels k s) field) world (h s agrees)))
