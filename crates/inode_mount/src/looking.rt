@@ -23,6 +23,9 @@ use inode_layout::Inode;
 use inode_walks::Found;
 use tsd_model::Data;
 
+/// A path has at most 16 names, and so a tree 17 levels.
+const LEVELS: usize = PATH_MAX + 1;
+
 /// An inode that is right by itself: it points to each block that it names.
 #[derive(Drop)]
 pub struct Seen {
@@ -197,7 +200,7 @@ pub fn is_tree<K: Blocks>(
     ensures looks { Looks K.told (K.view disk.old) (K.view disk.new) result }
 {
     marks.clear();
-    match is_right(client, disk, marks, client.root, PATH_MAX + 1, false) {
+    match is_right(client, disk, marks, client.root, LEVELS, false) {
         Ok(right) => Ok(right),
         Err(refusal) => Err(refusal),
     }
