@@ -8,3 +8,4 @@ pub mod SeeLaws
 pub mod SeenLaws
 pub mod LoopLaws
 pub mod RightLaws
+pub mod TrimLaws
