@@ -9,3 +9,4 @@ pub mod SeenLaws
 pub mod LoopLaws
 pub mod RightLaws
 pub mod TrimLaws
+pub mod DropLaws

@@ -13,7 +13,7 @@ use Rattle.fs_trees.specs.InodeTree.{InodeNode, InodeEntries, inode_at, entries_
 use Rattle.fs_trees.specs.Layouts.{Named, by_inodes, named_at}
 use Rattle.fs_trees.specs.declared.ask.ShellKind.TheVariants as kind
 use Rattle.inode_walks.specs.Finding.{node_pairs}
-use Rattle.fs_laws.proofs.InodeLaws.{node_blocks, HasRoot, found, under_is, by_file, from_inode}
+use Rattle.fs_laws.proofs.InodeLaws.{node_blocks, HasRoot, found, under_is, from_inode}
 use Rattle.fs_laws.proofs.ListLaws.{any-append, all_held}
 use Rattle.inode_mount.specs.Marked.{is_inode, is_data_block}
 use Rattle.inode_mount.specs.declared.marks.Marks.{Marks}
@@ -98,7 +98,6 @@ module _ (w : World) (root : ℕ) (t : Come) (h : come_under w root ≡ Some t) 
       targets = λ a b k. ap (λ x. has_number (by_inodes x).blocks b) under
           ∙ (any-append (λ x. x == b) (root ∷ inode_blocks xs) (data_blocks xs) ∙ says.target a b (ap (λ x. holds (by_inodes x).pairs a b) (sym under) ∙ k));
       inodes = λ b k. says.inode b (sym (inodes_are b) ∙ k);
-      bytes = λ b k. let by = by_file root xs b (sym (data_are b) ∙ k) in (by.0, inodes_are by.0 ∙ or_right (root == by.0) _ by.2, here.held by.0 b by.1);
     }
 
 -- ---- where it isn't

@@ -144,7 +144,6 @@ pub record MarksTree (w : World) (root : ℕ) (m : Marks) : Type 0 where
   pub pairs : (a b : ℕ) → holds (named_at kind.Inode w root).pairs a b ≡ (is_inode m a && has_number (names_at w a) b)
   pub targets : (a b : ℕ) → IsTrue (holds (named_at kind.Inode w root).pairs a b) → IsTrue (has_number (named_at kind.Inode w root).blocks b)
   pub inodes : (b : ℕ) → IsTrue (is_inode m b) → IsTrue (is_some (inode_at w b))
-  pub bytes : (b : ℕ) → IsTrue (is_data_block m b) → (a : ℕ) × IsTrue (is_inode m a) × IsTrue (holds w.pairs a b)
 
 -- the result tells whether there is a tree, and then it is marked
 abbrev pub TellsTree : World → ℕ → Marks → Bool → Type 0

@@ -12,7 +12,7 @@ ghost use Rattle.fs_port.specs.Calls.{Counts, IsValidNow, LeavesOnly, Stays};
 ghost use Rattle.fs_port.specs.Files.{IsReady, IsTreeAlone, LeavesWorld, OnAnswer};
 ghost use Rattle.inode_walks.specs.Asking.{MayAsk, mounted_by};
 ghost use Rattle.inode_mount.specs.Looking.{MarksTree, Noted};
-ghost use Rattle.inode_mount.specs.Trimming.{Trims, HoldsNamers, IsClean, named_by};
+ghost use Rattle.inode_mount.specs.Trimming.{Trims, IsClean, named_by};
 
 use crate::letting_go::delete_others;
 use crate::looking::is_tree;
@@ -31,10 +31,13 @@ fn tidy_block<K: Blocks>(
 ) -> Result<(), FsRefusal>
     requires may { MayAsk K.told client.now (K.view disk.old) }
     requires marked { K.told → MarksTree (K.view disk.old).world client.now.root marks.now }
-    requires namers { K.told → HoldsNamers client.now (K.view disk.old) }
+    requires noted { K.told → Noted client.now (K.view disk.old) marks.now }
     ensures trims { Trims K.told client.now (named_by client.now (K.view disk.old)) (K.view disk.old) (K.view disk.new) result }
     ensures clean { K.told → OnOk result (IsClean (named_by client.now (K.view disk.old)) (K.view disk.new).world block) }
 {
+    if !marks.has_leftovers(block) {
+        return Ok(());
+    }
     if marks.is_inode(block) {
         match read_inode(client, disk, block) {
             Ok(found) => delete_others(client, disk, block, &found),
@@ -56,11 +59,9 @@ fn tidy<K: Blocks>(client: &Client, disk: &mut K, marks: &Marks) -> Result<(), F
     ensures clean { K.told → OnOk result ((a : ℕ) → IsClean (named_by client.now (K.view disk.old)) (K.view disk.new).world a) }
 {
     for block in 0..disk.geometry().blocks {
-        if marks.has_leftovers(block) {
-            match tidy_block(client, disk, marks, block) {
-                Ok(()) => {}
-                Err(refusal) => return Err(refusal),
-            }
+        match tidy_block(client, disk, marks, block) {
+            Ok(()) => {}
+            Err(refusal) => return Err(refusal),
         }
     }
     Ok(())
