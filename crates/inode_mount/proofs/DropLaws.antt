@@ -1,5 +1,5 @@
 -- The pairs out of a block that it doesn't name are deleted page by page.
-use Rattle.std.proofs.Common.{◌≡◌, ℕ, zero, suc, ◌+◌, ◌<◌, ◌≤◌, Bool, true, false, not, cond, ◌&&◌, ◌||◌, ◌==◌, nat_lt, nat_le, List, [], ◌∷◌, ◌++◌, length, refl, sym, ◌∙◌, ap, subst, arith, ◌⊎◌, inl, inr, Ok, take-append-drop}
+use Rattle.std.proofs.Common.{◌≡◌, ℕ, zero, suc, ◌+◌, ◌<◌, ◌≤◌, Bool, true, false, not, cond, ◌&&◌, ◌||◌, ◌==◌, nat_lt, nat_le, List, [], ◌∷◌, ◌++◌, length, refl, sym, ◌∙◌, ap, subst, arith, ◌⊎◌, inl, inr, Ok, Result, take-append-drop}
 use Rattle.std.proofs.lemmas.Bool.{and_parts, and_from, or_cases, or_left, or_right, eq-eqb, eqb-true, cases_eq}
 use Rattle.std.proofs.lemmas.Bool.Decides.{nat_tests}
 use Rattle.std.specs.Prelude.{take, drop, filter, slice_index}
@@ -10,6 +10,11 @@ use Rattle.tsd_model.specs.Valid.{IsValid}
 use Rattle.fs_trees.specs.Inode.{are_apart}
 use Rattle.fs_laws.proofs.ListLaws.{in_append, number_left, number_right}
 use Rattle.fs_port.specs.View.{View, IsSound}
+use Rattle.fs_asks.specs.May.{Looked}
+use Rattle.fs_trees.specs.declared.ask.ShellKind.TheVariants as kind
+use Rattle.disk_laws.proofs.DoomLaws.{live_below}
+use Rattle.fs_trees.specs.Layouts.{Named, named_at}
+use Rattle.fs_trees.specs.declared.refusal.FsRefusal.{FsRefusal}
 use Rattle.fs_asks.specs.declared.client.Client.{Client}
 use Rattle.fs_asks.specs.Leftovers.{targets_of, next_in}
 use Rattle.fs_asks.proofs.Counting.{rest_of, page_is, behind_page}
@@ -17,6 +22,7 @@ use Rattle.disk_laws.proofs.GraphLaws.{has_number-filter}
 use Rattle.inode_walks.specs.Asking.{MayAsk}
 use Rattle.inode_mount.specs.Trimming.{Trims, MayTrim, named_by}
 use Rattle.inode_mount.proofs.FitLaws.{apart_first, apart_with, apart_left, is_false, yes_no}
+use Rattle.inode_mount.proofs.TrimLaws.{then_trims, trim_still, trimmed_by_looks, tree_under}
 use Rattle.inode_mount.proofs.CountLaws.{in_targets, targets_apart}
 use Rattle.inode_mount.proofs.SeeLaws.{drop_at, drop_end}
 
@@ -103,3 +109,63 @@ pub record Clearing (told : Type 0) (c : Client) (first now : View) (a : ℕ) (b
   pub trim : told → MayTrim c now a bs
   pub same : told → named_by c now ≡ named_by c first
   pub gone : told → (b : ℕ) → b < start → holds now.world.pairs a b ≡ true → has_number bs b ≡ true
+
+-- ---- one call more
+
+-- the same of other names, where these are the same
+pub trims_named : {X : Type 0} (told : Type 0) (c : Client) (m n : Named) (old new : View) (result : Result X FsRefusal) → (told → m ≡ n) → Trims told c m old new result → Trims told c n old new result
+trims_named told c m n old new result same h = record {
+  trimmed = λ t. (subst (λ x. Trims told c x old new result) (same t) h).trimmed t;
+  only = h.only;
+  crash = λ t. (subst (λ x. Trims told c x old new result) (same t) h).crash t;
+  stays = h.stays;
+  counts = h.counts;
+  unspent = h.unspent;
+  faultless = h.faultless;
+  cause = h.cause;
+}
+
+pub trims_on : {X : Type 0} (told : Type 0) (c : Client) (first now new : View) (result : Result X FsRefusal) → Trims {X = Unit {0}} told c (named_by c first) first now (Ok tt) → (told → named_by c now ≡ named_by c first) → Trims told c (named_by c now) now new result → Trims told c (named_by c first) first new result
+trims_on told c first now new result before same trims =
+    then_trims told c (named_by c first) first now new tt result before (trims_named told c (named_by c now) (named_by c first) now new result same trims)
+
+-- ---- a page more
+
+-- listing the targets changes nothing that matters
+module _ (told : Type 0) (c : Client) (now mid : View) (sound : told → IsSound now) (may : MayAsk told c now) (looked : told → Looked now mid) where
+  pub same_named : told → named_by c mid ≡ named_by c now
+  same_named t = ap (λ w. named_at kind.Inode w c.root) (looked t).world
+
+  pub trim_looked : (a : ℕ) (bs : List ℕ) → (told → MayTrim c now a bs) → told → MayTrim c mid a bs
+  trim_looked a bs trim t = trim_still told c now mid t may (sound t) (trimmed_by_looks c (named_by c now) now mid (may.valid t) (tree_under told c now mid t may (sound t)) (looked t)) a bs (trim t)
+
+pub whole_disk : (v : View) (n : ℕ) → IsSound v → n ≡ v.geometry.blocks → n ≡ v.world.geometry.blocks
+whole_disk v n sound e = e ∙ ap (λ g. g.blocks) (sym sound.geometry)
+
+-- after a page, what is held before the next is named
+pub cleared : (now mid new : View) (a start end : ℕ) (page bs : List ℕ) → IsValid now.world → mid.world ≡ now.world → start < end → end ≡ now.world.geometry.blocks → page ≡ targets_from now.world.pairs a start
+    → ((b : ℕ) → b < start → holds now.world.pairs a b ≡ true → has_number bs b ≡ true)
+    → ((x y : ℕ) → holds new.world.pairs x y ≡ true → holds mid.world.pairs x y ≡ true)
+    → ((b : ℕ) → has_number page b ≡ true → holds new.world.pairs a b ≡ true → has_number bs b ≡ true)
+    → (b : ℕ) → b < next_in page start end → holds new.world.pairs a b ≡ true → has_number bs b ≡ true
+cleared now mid new a start end page bs valid same some whole is before fewer gone b to h =
+    let old : holds now.world.pairs a b ≡ true = ap (λ w. holds w.pairs a b) (sym same) ∙ fewer a b h in
+    elim (before_or b start) [
+      | inl earlier ↦ before b earlier old
+      | inr here ↦ gone b (page_whole now.world a start end page valid some whole is b here to old) h
+    ]
+  where
+    before_or : (m n : ℕ) → (m < n) ⊎ (n ≤ m)
+    before_or m n = by_test (nat_lt m n) refl
+      where
+        by_test : (t : Bool) → nat_lt m n ≡ t → (m < n) ⊎ (n ≤ m)
+        by_test true e = inl (grind (arith, nat_tests))
+        by_test false e = inr (grind (arith, nat_tests))
+
+-- at the end all
+pub all_cleared : (v : View) (a start end : ℕ) (bs : List ℕ) → IsValid v.world → end ≡ v.world.geometry.blocks → end ≤ start → ((b : ℕ) → b < start → holds v.world.pairs a b ≡ true → has_number bs b ≡ true)
+    → (b : ℕ) → holds v.world.pairs a b ≡ true → has_number bs b ≡ true
+all_cleared v a start end bs valid whole past gone b h =
+    let below = live_below v.world.blocks b (valid.raw.targets a b h) in
+    let many = valid.raw.sized.each_block in
+    gone b (omega (arith, below, many, whole, past)) h

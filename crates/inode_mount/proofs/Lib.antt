@@ -10,3 +10,4 @@ pub mod LoopLaws
 pub mod RightLaws
 pub mod TrimLaws
 pub mod DropLaws
+pub mod TidyLaws
