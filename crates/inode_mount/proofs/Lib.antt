@@ -11,3 +11,4 @@ pub mod RightLaws
 pub mod TrimLaws
 pub mod DropLaws
 pub mod TidyLaws
+pub mod MountLaws

@@ -134,7 +134,7 @@ is_tidy w root m valid under marked clean =
         by_first [] h = absurd (cc)
         by_first (b ∷ bs) h = or_left (b == root) _ (and_parts (b == root) _ h).0
 
-not_live_free : (w : World) (b : ℕ) → is_free w b ≡ true → is_live w b ≡ true → ⊥
+pub not_live_free : (w : World) (b : ℕ) → is_free w b ≡ true → is_live w b ≡ true → ⊥
 not_live_free w b h k = by_test (nat_lt b (length w.blocks)) (is_live w b) h k
   where
     by_test : (p q : Bool) → (p && not q) ≡ true → q ≡ true → ⊥

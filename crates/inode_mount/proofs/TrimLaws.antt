@@ -51,7 +51,7 @@ named_live w root n valid under b m = each_named (λ c. is_live w c ≡ true) ro
 pub keeps_all : (w : World) (root : ℕ) (n : Named) → IsValid w → IsUnder w root n → Keeps w w n
 keeps_all w root n valid under = record { geometry = refl; live = named_live w root n valid under; bytes = λ b m. refl; pairs = under.held }
 
-others_all : (root : ℕ) (w : World) → OthersStay root w w
+pub others_all : (root : ℕ) (w : World) → OthersStay root w w
 others_all root w = record { records = refl; bytes = λ b live away. refl; pairs = λ a b live away. refl; apart = λ b live away. away }
 
 is_trim : (c : Client) (n : Named) (v : View) (w : World) → IsValid v.world → IsUnder v.world c.root n → w ≡ v.world → IsTrim c n v w

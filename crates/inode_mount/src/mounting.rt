@@ -58,7 +58,8 @@ fn tidy<K: Blocks>(client: &Client, disk: &mut K, marks: &Marks) -> Result<(), F
     ensures trims { Trims K.told client.now (named_by client.now (K.view disk.old)) (K.view disk.old) (K.view disk.new) result }
     ensures clean { K.told → OnOk result ((a : ℕ) → IsClean (named_by client.now (K.view disk.old)) (K.view disk.new).world a) }
 {
-    for block in 0..disk.geometry().blocks {
+    let end = disk.geometry().blocks;
+    for block in 0..end {
         match tidy_block(client, disk, marks, block) {
             Ok(()) => {}
             Err(refusal) => return Err(refusal),

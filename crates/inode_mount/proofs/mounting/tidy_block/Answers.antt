@@ -107,16 +107,16 @@ delete_others-requires-then-is_data_block-clause-trim g c = λ t.
     trim_data c.args.client.now (g.K.Blocks.view c.args.disk.now) c.args.marks.now (c.requires.marked t) (c.requires.noted t) c.args.block (sym c.is_inode.ensures ∙ c.if-is_inode.false) (sym c.is_data_block.ensures ∙ c.if-is_data_block.true)
 
 pub returns-then-is_data_block-clause-trims : goal.returns-then-is_data_block-clause-trims
-returns-then-is_data_block-clause-trims g c = c.delete_others.ensures.trims
+returns-then-is_data_block-clause-trims g c = c.delete_others-then-is_data_block.ensures.trims
 
 pub returns-then-is_data_block-clause-clean : goal.returns-then-is_data_block-clause-clean
 returns-then-is_data_block-clause-clean g c = λ t.
     let old = g.K.Blocks.view c.args.disk.now in
-    let new = g.K.Blocks.view c.delete_others.new.disk in
+    let new = g.K.Blocks.view c.delete_others-then-is_data_block.new.disk in
     let me = c.args.client.now in
-    on_ok_clean _ (IsClean (named_by me old) new.world c.args.block) c.delete_others.result
+    on_ok_clean _ (IsClean (named_by me old) new.world c.args.block) c.delete_others-then-is_data_block.result
     (clean_data me old c.args.marks.now (c.requires.marked t) (c.requires.noted t) c.args.block new.world)
-    (c.delete_others.ensures.gone t)
+    (c.delete_others-then-is_data_block.ensures.gone t)
 
 pub returns-else-is_data_block-clause-trims : goal.returns-else-is_data_block-clause-trims
 returns-else-is_data_block-clause-trims g c =
