@@ -1,7 +1,7 @@
 -- A look comes to what the tree names, where all is right, and to nothing else.
-use Rattle.std.proofs.Common.{◌≡◌, ℕ, zero, suc, Bool, true, false, not, cond, ◌&&◌, ◌||◌, ◌==◌, List, [], ◌∷◌, ◌++◌, refl, sym, ◌∙◌, ap, subst, inl, inr, Option, Some, None}
+use Rattle.std.proofs.Common.{◌≡◌, ℕ, zero, suc, Bool, true, false, cond, ◌||◌, ◌==◌, List, [], ◌∷◌, ◌++◌, refl, sym, ◌∙◌, ap, subst, inl, inr, Option, Some, None}
 use Rattle.std.proofs.lemmas.Bool.{and_parts, and_from, or_cases, or_left, or_right, eq-eqb, eqb-true}
-use Rattle.std.specs.Prelude.{map, is_some}
+use Rattle.std.specs.Prelude.{map}
 use Rattle.std.specs.List.{list_all}
 use Rattle.std.specs.Option.{option_and_then}
 use Rattle.tsd_model.specs.Geometry.{block_len}
@@ -11,15 +11,15 @@ use Rattle.fs_trees.specs.Names.{Name}
 use Rattle.fs_trees.specs.Tree.{none, file, dir, nothing, a_file, a_dir, is_there}
 use Rattle.fs_trees.specs.Fields.{Entry, only_if}
 use Rattle.fs_trees.specs.Inode.{Inode, directory, regular, inode_in, are_apart}
-use Rattle.fs_trees.specs.InodeTree.{FileInode, InodeNode, InodeEntries, inode_at, with_first, entries_by, as_dir, node_by, node_at, inode_blocks, data_blocks, named_pairs}
+use Rattle.fs_trees.specs.InodeTree.{InodeNode, InodeEntries, inode_at, with_first, entries_by, as_dir, node_by, node_at, inode_blocks, data_blocks, named_pairs}
 use Rattle.inode_layout.specs.Said.{said_in, in_order, is_in_order, blocks_said}
 use Rattle.inode_layout.proofs.SaidLaws.{in_two_steps}
 use Rattle.inode_walks.specs.Finding.{node_pairs}
 use Rattle.inode_walks.proofs.WalkLaws.{block_is}
 use Rattle.fs_laws.proofs.InodeLaws.{node_blocks}
-use Rattle.fs_laws.proofs.ListLaws.{number_left, number_right, held_left, held_right, held_append, in_append}
+use Rattle.fs_laws.proofs.ListLaws.{held_append}
 use Rattle.inode_mount.specs.Looking.{Come, is_come, with_inode, with_data, come_data, come_each, come_on, come_by, come_from, are_held, if_held, held_at}
-use Rattle.inode_mount.proofs.FitLaws.{yes_no, is_false, no_or, or_no, apart_first, apart_with, Fits, Adds, fits_none, adds_none, fits_one, adds_one, fits_both, adds_both, first_fits, second_fits}
+use Rattle.inode_mount.proofs.FitLaws.{yes_no, Fits, Adds, fits_none, adds_none, fits_one, adds_one, fits_both, adds_both}
 
 abbrev pub node_data : InodeNode → List ℕ
 node_data nothing = []

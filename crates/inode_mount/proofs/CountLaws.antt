@@ -1,18 +1,17 @@
 -- How many of a block's pairs lead to what it names.
-use Rattle.std.proofs.Common.{◌≡◌, ◌≢◌, ℕ, zero, suc, ◌+◌, ◌<◌, ◌≤◌, Bool, true, false, not, cond, ◌&&◌, ◌||◌, ◌==◌, nat_lt, List, [], ◌∷◌, length, refl, sym, ◌∙◌, ap, subst, arith, ◌⊎◌, inl, inr}
-use Rattle.std.proofs.lemmas.Bool.{and_parts, and_from, or_cases, or_left, or_right, eq-eqb, eqb-true}
+use Rattle.std.proofs.Common.{◌≡◌, ℕ, suc, ◌+◌, ◌≤◌, Bool, true, false, not, cond, ◌&&◌, ◌||◌, ◌==◌, nat_lt, List, [], ◌∷◌, length, refl, sym, ◌∙◌, ap, arith, ◌⊎◌, inl, inr}
+use Rattle.std.proofs.lemmas.Bool.{and_parts, and_from, or_cases, eq-eqb, eqb-true}
 use Rattle.std.proofs.lemmas.Bool.Decides.{nat_tests}
 use Rattle.std.specs.Prelude.{map, filter}
 use Rattle.std.specs.List.{list_all}
 use Rattle.tsd_model.specs.World.{World, has_number}
-use Rattle.tsd_model.specs.Pairs.{holds, is_pair}
+use Rattle.tsd_model.specs.Pairs.{holds}
 use Rattle.tsd_model.specs.Valid.{IsValid}
 use Rattle.fs_trees.specs.Inode.{are_apart}
 use Rattle.fs_asks.specs.Leftovers.{targets_of, named_targets, other_targets}
 use Rattle.fs_asks.proofs.PageLaws.{climbs, targets_climb, targets_in}
 use Rattle.inode_mount.specs.Looking.{are_held}
 use Rattle.inode_mount.proofs.FitLaws.{yes_no, is_false, no_or, apart_first, apart_with}
-use Rattle.inode_mount.proofs.ComeLaws.{all_in}
 
 -- ---- a block's targets
 

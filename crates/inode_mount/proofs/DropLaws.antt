@@ -1,6 +1,6 @@
 -- The pairs out of a block that it doesn't name are deleted page by page.
-use Rattle.std.proofs.Common.{◌≡◌, ℕ, zero, suc, ◌+◌, ◌<◌, ◌≤◌, Bool, true, false, not, cond, ◌&&◌, ◌||◌, ◌==◌, nat_lt, nat_le, List, [], ◌∷◌, ◌++◌, length, refl, sym, ◌∙◌, ap, subst, arith, ◌⊎◌, inl, inr, Ok, Result, take-append-drop}
-use Rattle.std.proofs.lemmas.Bool.{and_parts, and_from, or_cases, or_left, or_right, eq-eqb, eqb-true, cases_eq}
+use Rattle.std.proofs.Common.{◌≡◌, ℕ, ◌+◌, ◌<◌, ◌≤◌, Bool, true, false, cond, ◌||◌, ◌==◌, nat_lt, nat_le, List, [], ◌∷◌, length, refl, sym, ◌∙◌, ap, subst, arith, ◌⊎◌, inl, inr, Ok, Result, take-append-drop}
+use Rattle.std.proofs.lemmas.Bool.{and_parts, and_from, or_left, or_right, eq-eqb, eqb-true}
 use Rattle.std.proofs.lemmas.Bool.Decides.{nat_tests}
 use Rattle.std.specs.Prelude.{take, drop, filter, slice_index}
 use Rattle.tsd_model.specs.World.{World, has_number}
@@ -8,7 +8,7 @@ use Rattle.tsd_model.specs.Pairs.{holds}
 use Rattle.tsd_model.specs.Step.{targets_from}
 use Rattle.tsd_model.specs.Valid.{IsValid}
 use Rattle.fs_trees.specs.Inode.{are_apart}
-use Rattle.fs_laws.proofs.ListLaws.{in_append, number_left, number_right}
+use Rattle.fs_laws.proofs.ListLaws.{in_append, number_left}
 use Rattle.fs_port.specs.View.{View, IsSound}
 use Rattle.fs_asks.specs.May.{Looked}
 use Rattle.fs_trees.specs.declared.ask.ShellKind.TheVariants as kind

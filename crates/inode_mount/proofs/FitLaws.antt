@@ -1,10 +1,10 @@
 -- What fits to what a look has come to, and what is then come to.
-use Rattle.std.proofs.Common.{◌≡◌, ℕ, Bool, true, false, not, ◌&&◌, ◌||◌, ◌==◌, List, [], ◌∷◌, ◌++◌, refl, sym, ◌∙◌, ap, inl, inr}
+use Rattle.std.proofs.Common.{◌≡◌, ℕ, Bool, true, false, not, ◌||◌, ◌==◌, List, [], ◌∷◌, ◌++◌, refl, sym, ◌∙◌, ap, inl, inr}
 use Rattle.std.proofs.lemmas.Bool.{and_parts, and_from, or_cases, or_left, or_right, eq-eqb, eqb-true}
 use Rattle.tsd_model.specs.World.{has_number}
 use Rattle.fs_trees.specs.Inode.{are_apart}
 use Rattle.fs_laws.proofs.ListLaws.{any-append, number_left, number_right, in_append}
-use Rattle.inode_mount.specs.Looking.{Come, is_come, with_inode, with_data}
+use Rattle.inode_mount.specs.Looking.{Come, is_come, with_inode}
 
 -- ---- tests
 

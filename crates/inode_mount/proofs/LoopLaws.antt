@@ -1,13 +1,13 @@
 -- What holds while blocks are looked at one after the other.
-use Rattle.std.proofs.Common.{◌≡◌, ◌≢◌, ℕ, zero, suc, ◌+◌, ◌-◌, ◌<◌, ◌≤◌, Bool, true, false, cond, List, [], ◌∷◌, length, refl, sym, ◌∙◌, ap, subst, arith, Option, Some, None, Ok}
+use Rattle.std.proofs.Common.{◌≡◌, ℕ, ◌+◌, ◌<◌, ◌≤◌, Bool, true, false, cond, List, length, sym, ◌∙◌, ap, subst, Option, None, Ok}
 use Rattle.std.specs.Prelude.{drop, slice_index}
 use Rattle.std.specs.Option.{option_and_then}
-use Rattle.tsd_model.specs.World.{World, has_number}
-use Rattle.fs_port.specs.View.{View, IsSound}
+use Rattle.tsd_model.specs.World.{has_number}
+use Rattle.fs_port.specs.View.{View}
 use Rattle.fs_port.specs.Calls.{IsValidNow}
 use Rattle.fs_asks.specs.declared.client.Client.{Client}
 use Rattle.fs_asks.specs.May.{MayWrite, Looked, Looks}
-use Rattle.fs_asks.proofs.LookLaws.{may_again, then_looks}
+use Rattle.fs_asks.proofs.LookLaws.{may_again}
 use Rattle.inode_mount.specs.Marked.{is_inode, MarksInode}
 use Rattle.inode_mount.specs.declared.looking.Seen.{Seen}
 use Rattle.tsd_model.specs.Pairs.{holds}

@@ -1,21 +1,21 @@
 -- What mounting leaves.
-use Rattle.std.proofs.Common.{◌≡◌, ◌≢◌, ◌⊎◌, ℕ, ◌<◌, Bool, true, false, refl, sym, ◌∙◌, ap, subst, inl, inr, Result, Ok, Err}
+use Rattle.std.proofs.Common.{◌≡◌, ◌≢◌, ◌⊎◌, ℕ, Bool, false, refl, sym, ◌∙◌, ap, subst, inr, Result, Ok, Err}
 use Rattle.std.specs.Prelude.{IfErr, OnOk}
 use Rattle.tsd_model.specs.World.{World, is_live}
 use Rattle.fs_trees.specs.Outside.{OthersStay}
 use Rattle.fs_trees.specs.Tree.{Tree, nothing, a_file, a_dir, is_there}
 use Rattle.fs_trees.specs.InodeTree.{inode_tree}
-use Rattle.fs_trees.specs.Layouts.{named_at, IsTidy}
+use Rattle.fs_trees.specs.Layouts.{IsTidy}
 use Rattle.fs_trees.specs.declared.ask.ShellKind.TheVariants as kind
 use Rattle.fs_trees.specs.declared.refusal.FsRefusal.{FsRefusal}
 use Rattle.fs_trees.specs.declared.refusal.FsRefusal.TheVariants as no
-use Rattle.fs_laws.specs.Stays.{IsUnder, Keeps}
+use Rattle.fs_laws.specs.Stays.{IsUnder}
 use Rattle.fs_port.specs.View.{View, IsSound}
 use Rattle.fs_port.specs.Calls.{IsValidNow, LeavesOnly}
 use Rattle.fs_port.specs.Files.{IsReady, IsTreeAlone, LeavesWorld, OnAnswer}
 use Rattle.fs_port.proofs.RunLaws.{leaves_more}
 use Rattle.fs_asks.specs.declared.client.Client.{Client}
-use Rattle.fs_asks.specs.May.{Looked, Looks}
+use Rattle.fs_asks.specs.May.{Looks}
 use Rattle.inode_walks.specs.Asking.{mounted_by, MayAsk}
 use Rattle.inode_mount.specs.declared.marks.Marks.{Marks}
 use Rattle.inode_mount.specs.Looking.{MarksTree}

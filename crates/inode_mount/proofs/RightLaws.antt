@@ -1,5 +1,5 @@
 -- Small steps of the look at an inode.
-use Rattle.std.proofs.Common.{◌≡◌, ◌⊎◌, ◌<◌, ℕ, Bool, true, false, not, ◌||◌, refl, sym, ◌∙◌, ap, subst, inl, inr, Option, Result, Ok, Err}
+use Rattle.std.proofs.Common.{◌≡◌, ◌⊎◌, ◌<◌, ℕ, Bool, true, false, refl, sym, ◌∙◌, ap, subst, inl, inr, Option, Result, Ok, Err}
 use Rattle.std.proofs.lemmas.Bool.{or_left, or_right}
 use Rattle.std.specs.Prelude.{IfOk, slice_get, cond}
 use Rattle.std.proofs.lemmas.Bool.{eq-eqb}
@@ -28,12 +28,6 @@ seen_before m s b agrees h = elim h [
   | inl p ↦ or_left (has_number s.inodes b) _ (sym (agrees.inodes b) ∙ p)
   | inr q ↦ or_right (has_number s.inodes b) _ (sym (agrees.bytes b) ∙ q)
 ]
-
-pub if_told : (t : Bool) → t ≡ true → t ≡ true
-if_told t h = h
-
-pub off_file : (t : Bool) → t ≡ false → t ≡ false
-off_file t h = h
 
 -- a file's result, of what was come to before
 pub when_right : (next : Marks) (result : Result Bool FsRefusal) (m begun : Marks) (b : ℕ) (before after : Come → Option Come) → ((s : Come) → Agrees m s → Agrees begun (with_inode s b)) → ((s : Come) → Agrees m s → before s ≡ after (with_inode s b))

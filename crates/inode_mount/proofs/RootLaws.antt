@@ -1,7 +1,6 @@
 -- What a look from the root on comes to.
-use Rattle.std.proofs.Common.{◌≡◌, ℕ, zero, suc, Bool, true, false, not, cond, ◌&&◌, ◌||◌, ◌==◌, List, [], ◌∷◌, ◌++◌, refl, sym, ◌∙◌, ap, subst, inl, inr, Option, Some, None}
-use Rattle.std.proofs.lemmas.Bool.{and_parts, and_from, or_cases, or_left, or_right, eq-eqb, eqb-true}
-use Rattle.std.specs.Prelude.{is_some}
+use Rattle.std.proofs.Common.{◌≡◌, ℕ, suc, Bool, true, false, not, cond, ◌&&◌, ◌||◌, ◌==◌, ◌∷◌, refl, sym, ◌∙◌, ap, subst, Option, Some, None}
+use Rattle.std.proofs.lemmas.Bool.{and_parts, and_from}
 use Rattle.std.specs.List.{list_all}
 use Rattle.tsd_model.specs.World.{World, has_number}
 use Rattle.tsd_model.specs.Pairs.{holds}
@@ -9,16 +8,15 @@ use Rattle.tsd_model.proofs.PairLaws.{all_of_held}
 use Rattle.fs_trees.specs.Names.{path_max}
 use Rattle.fs_trees.specs.Tree.{nothing, a_file, a_dir, is_there}
 use Rattle.fs_trees.specs.Inode.{Inode, directory, regular, are_apart}
-use Rattle.fs_trees.specs.InodeTree.{InodeNode, InodeEntries, inode_at, entries_by, as_dir, node_by, node_at, inode_blocks, data_blocks, named_pairs, are_right, inodes_under, tree_of, inode_tree}
-use Rattle.fs_trees.specs.Layouts.{Named, by_inodes, named_at}
-use Rattle.fs_trees.specs.declared.ask.ShellKind.TheVariants as kind
+use Rattle.fs_trees.specs.InodeTree.{InodeNode, InodeEntries, inode_at, entries_by, as_dir, node_by, node_at, inode_blocks, data_blocks, named_pairs, inodes_under, tree_of, inode_tree}
+use Rattle.fs_trees.specs.Layouts.{by_inodes}
 use Rattle.inode_walks.specs.Finding.{node_pairs}
 use Rattle.fs_laws.proofs.InodeLaws.{node_blocks, HasRoot, found, under_is, from_inode}
 use Rattle.fs_laws.proofs.ListLaws.{any-append, all_held}
 use Rattle.inode_mount.specs.Marked.{is_inode, is_data_block}
 use Rattle.inode_mount.specs.declared.marks.Marks.{Marks}
-use Rattle.inode_mount.specs.Looking.{Come, is_come, come_from, come_under, nothing_yet, is_dir_in, names_at, Agrees, Comes, MarksTree, TellsTree}
-use Rattle.inode_mount.proofs.FitLaws.{Fits, is_false, yes_no, not_yes, yes_not}
+use Rattle.inode_mount.specs.Looking.{Come, come_from, come_under, nothing_yet, is_dir_in, names_at, Agrees, Comes, MarksTree, TellsTree}
+use Rattle.inode_mount.proofs.FitLaws.{is_false, not_yes, yes_not}
 use Rattle.inode_mount.proofs.ComeLaws.{node_data, each_in, all_in, NodeRight, node_right}
 use Rattle.inode_mount.proofs.WrongLaws.{dir_of, NodeGood, node_wrong}
 use Rattle.inode_mount.proofs.SaysLaws.{Says, node_says}

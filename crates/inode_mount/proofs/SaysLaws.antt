@@ -1,6 +1,6 @@
 -- The pairs that a tree names are those from its inodes to what their blocks say.
-use Rattle.std.proofs.Common.{◌≡◌, ℕ, zero, suc, Bool, true, false, cond, ◌&&◌, ◌||◌, ◌==◌, List, [], ◌∷◌, ◌++◌, refl, sym, ◌∙◌, ap, subst, inl, inr, Option, Some, None}
-use Rattle.std.proofs.lemmas.Bool.{and_parts, and_from, or_cases, or_left, or_right, eq-eqb, eqb-true}
+use Rattle.std.proofs.Common.{◌≡◌, ℕ, zero, suc, true, false, ◌||◌, ◌==◌, List, [], ◌∷◌, ◌++◌, refl, sym, ◌∙◌, ap, subst, inl, inr, Option, Some, None}
+use Rattle.std.proofs.lemmas.Bool.{and_parts, or_cases, or_left, or_right, eq-eqb, eqb-true}
 use Rattle.std.specs.Prelude.{map, is_some}
 use Rattle.tsd_model.specs.World.{World, has_number}
 use Rattle.tsd_model.specs.Pairs.{holds, is_pair}
@@ -8,7 +8,7 @@ use Rattle.fs_trees.specs.Names.{Name}
 use Rattle.fs_trees.specs.Tree.{none, file, dir, nothing, a_file, a_dir, is_there}
 use Rattle.fs_trees.specs.Fields.{Entry}
 use Rattle.fs_trees.specs.Inode.{Inode, directory, regular}
-use Rattle.fs_trees.specs.InodeTree.{FileInode, InodeNode, InodeEntries, inode_at, with_first, entries_by, as_dir, node_by, node_at, inode_blocks, data_blocks, named_pairs}
+use Rattle.fs_trees.specs.InodeTree.{InodeNode, InodeEntries, inode_at, with_first, entries_by, as_dir, node_by, node_at, inode_blocks, data_blocks, named_pairs}
 use Rattle.inode_layout.specs.Said.{blocks_said}
 use Rattle.inode_walks.specs.Finding.{node_pairs}
 use Rattle.inode_walks.proofs.WalkLaws.{block_is, node_block}

@@ -1,12 +1,10 @@
 -- What a look at one block more comes to.
-use Rattle.std.proofs.Common.{◌≡◌, ◌≢◌, ℕ, zero, suc, ◌+◌, ◌-◌, ◌<◌, ◌≤◌, Bool, true, false, not, cond, ◌&&◌, ◌||◌, ◌==◌, List, [], ◌∷◌, length, refl, sym, ◌∙◌, ap, subst, arith, inl, inr, Option, Some, None, Ok}
+use Rattle.std.proofs.Common.{◌≡◌, ℕ, zero, suc, ◌+◌, ◌<◌, ◌≤◌, Bool, true, false, cond, ◌&&◌, ◌||◌, ◌==◌, List, [], ◌∷◌, length, refl, sym, ◌∙◌, ap, subst, arith, inl, inr, Option, Some, None}
 use Rattle.std.proofs.lemmas.Bool.{and_parts, and_from, or_cases, or_left, or_right, eq-eqb, eqb-true}
-use Rattle.std.specs.Prelude.{drop, slice_index, is_some}
-use Rattle.std.specs.List.{list_all}
+use Rattle.std.specs.Prelude.{drop, slice_index}
 use Rattle.std.specs.Option.{option_and_then, option_map}
 use Rattle.tsd_model.specs.World.{World, is_live, has_number}
 use Rattle.tsd_model.specs.Pairs.{holds}
-use Rattle.tsd_model.specs.Valid.{IsValid}
 use Rattle.disk_laws.proofs.DoomLaws.{live_below}
 use Rattle.fs_trees.specs.Fields.{only_if}
 use Rattle.fs_trees.specs.Inode.{Inode, directory, regular, inode_in, are_apart}
@@ -21,12 +19,10 @@ use Rattle.fs_port.specs.View.{View, state_of}
 use Rattle.fs_port.specs.Calls.{IsValidNow, Stays}
 use Rattle.fs_asks.specs.declared.client.Client.{Client}
 use Rattle.fs_asks.specs.Client.{shown_at}
-use Rattle.fs_asks.specs.May.{MayWrite, Looked, Looks}
-use Rattle.fs_asks.proofs.LookLaws.{may_again}
+use Rattle.fs_asks.specs.May.{MayWrite, Looked}
 use Rattle.inode_mount.specs.Marked.{is_inode, is_data_block, has_leftovers, MarksInode, MarksData, NoMarks}
 use Rattle.inode_mount.specs.declared.marks.Marks.{Marks}
-use Rattle.inode_mount.specs.declared.looking.Seen.{Seen}
-use Rattle.inode_mount.specs.Looking.{are_held, held_at, names_at, blocks_in, Come, is_come, with_inode, with_data, come_data, come_each, come_on, come_by, come_from, come_as, is_dir_in, nothing_yet, Agrees, Comes, NamesData, Noted, IsSeen}
+use Rattle.inode_mount.specs.Looking.{held_at, names_at, Come, is_come, with_inode, with_data, come_data, come_each, come_on, come_by, come_from, come_as, is_dir_in, nothing_yet, Agrees, Comes, NamesData, Noted}
 use Rattle.inode_mount.proofs.FitLaws.{yes_no, is_false, no_or}
 use Rattle.inode_mount.proofs.ComeLaws.{all_in, held_is}
 

@@ -1,5 +1,5 @@
 -- An inode that is right by itself.
-use Rattle.std.proofs.Common.{◌≡◌, ◌≢◌, ℕ, zero, suc, ◌<◌, ◌≤◌, Bool, true, false, List, [], length, refl, sym, ◌∙◌, ap, subst, arith, Option, Some, None, nat_lt}
+use Rattle.std.proofs.Common.{◌≡◌, ◌≢◌, ℕ, zero, suc, ◌≤◌, true, false, List, [], length, refl, sym, ◌∙◌, ap, arith, Option, Some, None, nat_lt}
 use Rattle.std.proofs.lemmas.Bool.Decides.{nat_tests}
 use Rattle.std.specs.Option.{option_and_then}
 use Rattle.tsd_model.specs.Geometry.{block_len}
@@ -17,7 +17,7 @@ use Rattle.fs_port.specs.View.{View, state_of}
 use Rattle.fs_asks.specs.declared.client.Client.{Client}
 use Rattle.fs_asks.specs.Leftovers.{named_targets, other_targets}
 use Rattle.inode_mount.specs.declared.looking.Seen.{Seen}
-use Rattle.inode_mount.specs.Looking.{are_held, if_held, held_at, names_at, blocks_in, IsSeen}
+use Rattle.inode_mount.specs.Looking.{are_held, if_held, held_at, blocks_in, IsSeen}
 use Rattle.inode_mount.proofs.FitLaws.{is_false, yes_no}
 use Rattle.inode_mount.proofs.ComeLaws.{is_held}
 use Rattle.inode_mount.proofs.CountLaws.{counted_held, held_counted, no_others}

@@ -1,28 +1,27 @@
 -- What is tidy after the deletions.
-use Rattle.std.proofs.Common.{◌≡◌, ◌≢◌, ℕ, suc, ◌+◌, ◌<◌, ◌≤◌, Bool, true, false, not, ◌&&◌, ◌||◌, ◌==◌, ◌⊎◌, nat_lt, List, [], ◌∷◌, length, refl, sym, ◌∙◌, ap, subst, arith, inl, inr, Option, Some, None, Result, Ok, Err}
+use Rattle.std.proofs.Common.{◌≡◌, ℕ, ◌+◌, ◌<◌, ◌≤◌, Bool, true, false, not, ◌&&◌, ◌==◌, ◌⊎◌, nat_lt, List, [], ◌∷◌, length, refl, sym, ◌∙◌, ap, subst, arith, inl, inr, Result, Ok, Err}
 use Rattle.std.proofs.lemmas.Bool.{and_parts, and_from, or_cases, or_left, or_right}
 use Rattle.std.proofs.lemmas.Bool.Decides.{nat_tests}
-use Rattle.std.specs.Prelude.{is_some, IfErr, OnOk}
+use Rattle.std.specs.Prelude.{is_some, OnOk}
 use Rattle.std.specs.Option.{option_and_then}
 use Rattle.tsd_model.specs.Geometry.{block_len}
 use Rattle.tsd_model.specs.World.{World, contents, is_live, is_free, has_number}
 use Rattle.tsd_model.specs.Pairs.{holds}
 use Rattle.tsd_model.specs.Valid.{IsValid}
 use Rattle.disk_laws.proofs.DoomLaws.{live_below}
-use Rattle.fs_trees.specs.Tree.{nothing, Tree, is_there}
+use Rattle.fs_trees.specs.Tree.{is_there}
 use Rattle.fs_trees.specs.Inode.{inode_in}
 use Rattle.fs_trees.specs.InodeTree.{inode_at, inode_tree}
 use Rattle.fs_trees.specs.Layouts.{Named, named_at, IsTidy}
-use Rattle.fs_trees.specs.Outside.{is_under, OthersStay}
+use Rattle.fs_trees.specs.Outside.{is_under}
 use Rattle.fs_trees.specs.declared.ask.ShellKind.TheVariants as kind
 use Rattle.fs_laws.specs.Stays.{IsUnder, Keeps, hang_from}
 use Rattle.fs_trees.specs.declared.refusal.FsRefusal.{FsRefusal}
 use Rattle.fs_laws.proofs.NamedLaws.{each_named}
-use Rattle.fs_laws.proofs.TreeLaws.{named_is_under, read_from_named}
+use Rattle.fs_laws.proofs.TreeLaws.{read_from_named}
 use Rattle.fs_laws.proofs.UnderLaws.{each_under, root_under, target_under}
-use Rattle.fs_port.specs.View.{View, state_of, IsSound}
-use Rattle.fs_port.specs.Calls.{IsValidNow}
-use Rattle.fs_port.specs.Files.{LeavesWorld, IsLeft, IsTreeAlone}
+use Rattle.fs_port.specs.View.{View, IsSound}
+use Rattle.fs_port.specs.Files.{LeavesWorld, IsTreeAlone}
 use Rattle.fs_asks.specs.declared.client.Client.{Client}
 use Rattle.inode_walks.specs.Asking.{mounted_by, MayAsk}
 use Rattle.inode_mount.specs.Marked.{is_inode, is_data_block, has_leftovers}
@@ -30,7 +29,7 @@ use Rattle.inode_mount.specs.declared.marks.Marks.{Marks}
 use Rattle.inode_mount.specs.Looking.{blocks_in, names_at, Noted, MarksTree}
 use Rattle.inode_mount.specs.Trimming.{Trimmed, IsTrim, Trims, named_by, HoldsNamers, MayTrim, IsClean}
 use Rattle.inode_mount.proofs.FitLaws.{is_false, yes_no}
-use Rattle.inode_mount.proofs.TrimLaws.{tree_under, named_same, tree_same, under_still}
+use Rattle.inode_mount.proofs.TrimLaws.{named_same, tree_same}
 
 -- ---- marks stay what they are
 

@@ -1,22 +1,20 @@
 -- Pairs that a tree doesn't name are deleted, one after the other.
-use Rattle.std.proofs.Common.{◌≡◌, ◌≢◌, ℕ, ◌<◌, ◌≤◌, Bool, true, false, not, ◌&&◌, ◌||◌, ◌==◌, ◌⊎◌, List, [], ◌∷◌, refl, sym, ◌∙◌, ap, subst, arith, inl, inr, Option, Some, None, Result, Ok, Err}
-use Rattle.std.proofs.lemmas.Bool.{and_parts, and_from, or_cases, or_left, or_right, eq-eqb, eqb-true, not-true}
+use Rattle.std.proofs.Common.{◌≡◌, ℕ, ◌<◌, true, false, not, ◌&&◌, ◌==◌, ◌⊎◌, List, refl, sym, ◌∙◌, ap, subst, arith, inl, inr, Result, Ok, Err}
+use Rattle.std.proofs.lemmas.Bool.{and_parts, and_from, eq-eqb, eqb-true}
 use Rattle.std.specs.Prelude.{IfErr, OnOk, slice_get}
-use Rattle.std.specs.List.{list_all}
 use Rattle.image_device.specs.Counts.{Rose}
-use Rattle.tsd_model.specs.World.{World, contents, is_live, has_number}
+use Rattle.tsd_model.specs.World.{World, is_live, has_number}
 use Rattle.tsd_model.specs.Pairs.{holds, is_pair}
 use Rattle.tsd_model.proofs.PairLaws.{holds-filter}
 use Rattle.tsd_model.specs.Records.{kept_of}
 use Rattle.tsd_model.specs.Attained.{record_level}
-use Rattle.tsd_model.specs.Doomed.{doomed, settle}
+use Rattle.tsd_model.specs.Doomed.{doomed}
 use Rattle.tsd_model.specs.Step.{without_pointer}
 use Rattle.tsd_model.specs.Valid.{IsValid}
-use Rattle.tsd_model.specs.declared.requests.Level.TheVariants as level
 use Rattle.disk_laws.proofs.DoomLaws.{live-restricted, holds-restricted}
 use Rattle.fs_trees.specs.Tree.{is_there}
 use Rattle.fs_trees.specs.InodeTree.{inode_tree}
-use Rattle.fs_trees.specs.Layouts.{Named, named_at}
+use Rattle.fs_trees.specs.Layouts.{Named}
 use Rattle.fs_trees.specs.Outside.{is_under, OthersStay}
 use Rattle.fs_trees.specs.declared.ask.ShellKind.TheVariants as kind
 use Rattle.fs_trees.specs.declared.refusal.FsRefusal.{FsRefusal}
@@ -24,21 +22,20 @@ use Rattle.fs_trees.specs.declared.refusal.FsRefusal.TheVariants as no
 use Rattle.fs_laws.specs.Outside.{is_inside}
 use Rattle.fs_laws.specs.Reading.{SameTree}
 use Rattle.fs_laws.specs.Stays.{IsUnder, Keeps, spares}
-use Rattle.fs_laws.specs.Ways.{HoldsWrite}
 use Rattle.fs_laws.proofs.NamedLaws.{each_named}
 use Rattle.fs_laws.proofs.OutsideLaws.{outside_twice}
 use Rattle.fs_laws.proofs.TreeLaws.{named_is_under, read_from_named}
 use Rattle.fs_laws.proofs.UnderLaws.{root_under, target_under}
 use Rattle.fs_laws.proofs.WayLaws.{ways_lead_on}
 use Rattle.fs_port.specs.View.{View, state_of, IsSound}
-use Rattle.fs_port.specs.Calls.{Counts, IsValidNow, LeavesOnly, Stays}
-use Rattle.fs_port.specs.Files.{OnAnswer, IsReady}
+use Rattle.fs_port.specs.Calls.{Counts, IsValidNow, Stays}
+use Rattle.fs_port.specs.Files.{OnAnswer}
 use Rattle.fs_port.proofs.RunLaws.{both_leave, leaves_more}
 use Rattle.fs_asks.specs.declared.client.Client.{Client}
 use Rattle.fs_asks.specs.Client.{shown_at, unlink_by}
 use Rattle.fs_asks.specs.May.{MayWrite, Looked, Looks}
 use Rattle.fs_steps.specs.Steps.{dropped, Leads, Went, Steps}
-use Rattle.inode_walks.specs.Asking.{mounted_by, MayAsk}
+use Rattle.inode_walks.specs.Asking.{MayAsk}
 use Rattle.inode_mount.specs.Trimming.{Trimmed, IsTrim, Trims, named_by, HoldsNamers, MayTrim}
 use Rattle.inode_mount.proofs.FitLaws.{is_false, yes_no, yes_not}
 use Rattle.inode_mount.proofs.RightLaws.{root_may}

@@ -1,23 +1,22 @@
 -- Where a look comes to nothing, there is no tree.
-use Rattle.std.proofs.Common.{◌≡◌, ℕ, zero, suc, Bool, true, false, not, cond, ◌&&◌, ◌||◌, ◌==◌, List, [], ◌∷◌, ◌++◌, refl, sym, ◌∙◌, ap, subst, inl, inr, Option, Some, None}
-use Rattle.std.proofs.lemmas.Bool.{and_parts, and_from, or_cases, or_left, or_right, eq-eqb, eqb-true}
-use Rattle.std.specs.Prelude.{map, is_some}
-use Rattle.std.specs.List.{list_all}
+use Rattle.std.proofs.Common.{◌≡◌, ℕ, zero, suc, Bool, true, false, cond, ◌==◌, List, [], ◌∷◌, ◌++◌, refl, sym, ◌∙◌, ap, subst, inl, inr, Option, Some, None}
+use Rattle.std.proofs.lemmas.Bool.{and_from, or_cases, or_left, or_right, eq-eqb, eqb-true}
+use Rattle.std.specs.Prelude.{map}
 use Rattle.std.specs.Option.{option_and_then}
 use Rattle.tsd_model.specs.World.{World, has_number}
 use Rattle.tsd_model.specs.Pairs.{holds, is_pair}
 use Rattle.fs_trees.specs.Names.{Name}
-use Rattle.fs_trees.specs.Tree.{none, file, dir, nothing, a_file, a_dir, is_there}
-use Rattle.fs_trees.specs.Fields.{Entry, only_if}
+use Rattle.fs_trees.specs.Tree.{file, dir, nothing, a_file, a_dir, is_there}
+use Rattle.fs_trees.specs.Fields.{Entry}
 use Rattle.fs_trees.specs.Inode.{Inode, directory, regular, are_apart}
-use Rattle.fs_trees.specs.InodeTree.{FileInode, InodeNode, InodeEntries, inode_at, with_first, entries_by, as_dir, node_by, node_at, inode_blocks, data_blocks, named_pairs}
+use Rattle.fs_trees.specs.InodeTree.{InodeNode, InodeEntries, inode_at, with_first, entries_by, as_dir, node_by, node_at, inode_blocks, data_blocks, named_pairs}
 use Rattle.inode_layout.specs.Said.{blocks_said}
 use Rattle.inode_walks.specs.Finding.{node_pairs}
 use Rattle.inode_walks.proofs.WalkLaws.{block_is, node_block}
 use Rattle.fs_laws.proofs.InodeLaws.{node_blocks}
-use Rattle.fs_laws.proofs.ListLaws.{number_left, number_right, held_left, held_right}
-use Rattle.inode_mount.specs.Looking.{Come, is_come, with_inode, come_data, come_each, come_on, come_by, come_from, are_held, held_at}
-use Rattle.inode_mount.proofs.FitLaws.{yes_no, is_false, apart_first, apart_with, apart_right, Fits, Adds, fits_one, adds_one, first_fits, second_fits}
+use Rattle.fs_laws.proofs.ListLaws.{number_right, held_left, held_right}
+use Rattle.inode_mount.specs.Looking.{Come, is_come, with_inode, come_each, come_on, come_by, come_from, are_held, held_at}
+use Rattle.inode_mount.proofs.FitLaws.{yes_no, is_false, apart_first, apart_with, apart_right, Fits, Adds, adds_one, first_fits, second_fits}
 use Rattle.inode_mount.proofs.ComeLaws.{node_data, file_apart, held_is, is_held, each_in, data_wrong, NodeRight, node_right}
 
 -- a node that would be right

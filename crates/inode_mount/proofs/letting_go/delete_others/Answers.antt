@@ -1,14 +1,12 @@
-use Rattle.std.proofs.Common.{◌≡◌, ◌<◌, ◌≤◌, true, false, refl, sym, ◌∙◌, ap, subst, Ok, Err, arith}
-use Rattle.tsd_model.specs.World.{has_number}
+use Rattle.std.proofs.Common.{◌≡◌, ◌<◌, refl, sym, ◌∙◌, ap, subst, Ok, Err, arith}
 use Rattle.tsd_model.specs.Pairs.{holds}
-use Rattle.tsd_model.specs.Step.{targets_from}
 use Rattle.fs_port.specs.View.{IsSound}
 use Rattle.fs_asks.proofs.LookLaws.{no_look}
 use Rattle.fs_asks.specs.May.{Looked}
 use Rattle.inode_walks.specs.Asking.{MayAsk}
 use Rattle.inode_mount.specs.Trimming.{Trims, named_by}
 use Rattle.inode_mount.proofs.TrimLaws.{tree_under, may_named, trims_by_looks, trims_as, trims_refused, named_same, trim_still, may_ask_still}
-use Rattle.inode_mount.proofs.DropLaws.{Clearing, page_held, page_apart, trims_on, same_named, trim_looked, whole_disk, cleared, all_cleared}
+use Rattle.inode_mount.proofs.DropLaws.{page_held, page_apart, trims_on, same_named, trim_looked, whole_disk, cleared, all_cleared}
 use Rattle.inode_mount.proofs.letting_go.delete_others.Goals as goal
 
 pub loop-start-init : goal.loop-start-init

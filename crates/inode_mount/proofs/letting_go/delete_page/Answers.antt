@@ -1,5 +1,5 @@
-use Rattle.std.proofs.Common.{◌≡◌, ◌==◌, ◌<◌, true, false, refl, sym, ◌∙◌, ap, subst, Ok, Err, inl, inr}
-use Rattle.std.specs.Prelude.{drop, slice_index, length}
+use Rattle.std.proofs.Common.{◌≡◌, true, refl, sym, ◌∙◌, ap, subst, Ok, Err, inl, inr}
+use Rattle.std.specs.Prelude.{slice_index}
 use Rattle.tsd_model.specs.World.{has_number}
 use Rattle.tsd_model.specs.Pairs.{holds}
 use Rattle.fs_port.specs.View.{IsSound}

@@ -1,11 +1,11 @@
-use Rattle.std.proofs.Common.{◌≡◌, ◌==◌, true, false, refl, sym, ◌∙◌, ap, subst, Ok, Err}
-use Rattle.tsd_model.specs.World.{is_live, has_number}
+use Rattle.std.proofs.Common.{sym, ◌∙◌, ap, Ok, Err}
+use Rattle.tsd_model.specs.World.{is_live}
 use Rattle.tsd_model.specs.Pairs.{holds}
 use Rattle.fs_port.specs.View.{IsSound}
 use Rattle.fs_asks.proofs.LookLaws.{no_look}
 use Rattle.inode_mount.specs.Trimming.{named_by}
 use Rattle.inode_mount.proofs.FitLaws.{is_false, yes_no}
-use Rattle.inode_mount.proofs.TrimLaws.{tree_under, may_named, trims_by_looks, trims_by_step, trims_as, trims_refused, pair_gone, pair_stays, named_live, trimmed_by_step}
+use Rattle.inode_mount.proofs.TrimLaws.{tree_under, may_named, trims_by_looks, trims_by_step, trims_as, trims_refused, pair_gone, pair_stays, trimmed_by_step}
 use Rattle.inode_mount.proofs.letting_go.drop_unnamed.Goals as goal
 
 pub returns-then-names-clause-trims : goal.returns-then-names-clause-trims

@@ -1,14 +1,12 @@
-use Rattle.std.proofs.Common.{◌≡◌, ◌<◌, ◌≤◌, ◌-◌, suc, true, false, refl, sym, ◌∙◌, ap, subst, Ok, Err, length, arith, inl, inr}
+use Rattle.std.proofs.Common.{◌<◌, ◌≤◌, ◌-◌, true, false, refl, sym, ◌∙◌, subst, Ok, Err, arith, inl, inr}
 use Rattle.inode_layout.specs.Block.{inode_of}
 use Rattle.inode_layout.specs.Said.{blocks_said}
 use Rattle.fs_asks.specs.May.{MayWrite}
 use Rattle.fs_asks.proofs.LookLaws.{no_look, looks_as, looks_refused, then_looks}
-use Rattle.inode_mount.specs.Marked.{is_inode}
-use Rattle.inode_mount.specs.Looking.{Comes, IsSeenAt, with_inode, come_as, come_data, come_from, come_each}
-use Rattle.inode_mount.proofs.FitLaws.{no_or}
+use Rattle.inode_mount.specs.Looking.{Comes, IsSeenAt, with_inode, come_as, come_data, come_from}
 use Rattle.inode_mount.proofs.SeeLaws.{place_in, comes_none, no_level, come_before, none_held, no_file, come_file, come_dir, on_disk, not_come, agrees_inode, noted_on, named_may}
 use Rattle.inode_mount.proofs.LoopLaws.{may_still, each_on, each_stops, each_ends, noted_seen, told_as}
-use Rattle.inode_mount.proofs.RightLaws.{seen_before, if_told, off_file, when_right}
+use Rattle.inode_mount.proofs.RightLaws.{seen_before, when_right}
 use Rattle.inode_mount.proofs.looking.+is_right.Goals.{then-levels-eq0-via-then-levels-eq0, then-levels-eq0-via-else-levels-eq0+then-is_inode, then-levels-eq0-via-else-levels-eq0+else-is_inode+then-is_data_block}
 use Rattle.inode_mount.proofs.looking.+is_right.Goals as goal
 
@@ -57,7 +55,7 @@ returns-in-Err-clause-looks g t c = looks_refused g.K.Blocks.told (g.K.Blocks.vi
 pub returns-then-not-is_entry-clause-comes : goal.returns-then-not-is_entry-clause-comes
 returns-then-not-is_entry-clause-comes g t c = λ told s agrees.
     comes_none c.mark_inode.new.self _ (no_file c.args.is_entry (g.K.Blocks.view c.args.disk.now).world c.args.block s (inode_of c.in-Ok-Some.seen.found.inode) (subst (IsSeenAt c.args.client.now (g.K.Blocks.view c.args.disk.now) (g.K.Blocks.view c.look_at.new.disk) c.args.block) c.in-Ok-Some.field-0-is (c.in-Ok-Some.ensures.seen told)).0.is c.args.levels
-    (off_file c.args.is_entry c.if-not-is_entry.true) (sym c.is_directory.ensures ∙ off_file c.is_directory.result c.if-not-is_directory.true))
+    c.if-not-is_entry.true (sym c.is_directory.ensures ∙ c.if-not-is_directory.true))
 
 pub returns-then-not-is_entry-clause-noted : goal.returns-then-not-is_entry-clause-noted
 returns-then-not-is_entry-clause-noted g t c = λ told.
@@ -97,7 +95,7 @@ returns-then-not-is_directory-clause-comes g t c = λ told.
     (λ s agrees. agrees_inode c.args.marks.now c.mark_inode.new.self s b c.in-Ok-Some.seen.has_others (on_disk old b (c.requires.valid told) (c.requires.may told).live) agrees c.mark_inode.ensures)
     (λ s agrees. come_file c.args.is_entry old.world b s i (subst (IsSeenAt c.args.client.now (g.K.Blocks.view c.args.disk.now) (g.K.Blocks.view c.look_at.new.disk) c.args.block) c.in-Ok-Some.field-0-is (c.in-Ok-Some.ensures.seen told)).0.is c.args.levels (c.args.levels - 1) (omega (arith, c.if-levels-eq0.false))
     (not_come c.args.marks.now s b agrees (sym c.is_inode.ensures ∙ c.if-is_inode.false) (sym c.is_data_block.ensures ∙ c.if-is_data_block.false))
-    (if_told c.args.is_entry c.if-not-is_entry.false) (sym c.is_directory.ensures ∙ off_file c.is_directory.result c.if-not-is_directory.true))
+    c.if-not-is_entry.false (sym c.is_directory.ensures ∙ c.if-not-is_directory.true))
     (c.is_file_right.ensures.comes told)
 
 pub returns-then-not-is_directory-clause-noted : goal.returns-then-not-is_directory-clause-noted
@@ -148,7 +146,7 @@ returns-in-Ok-false-clause-comes g t c = λ told s agrees.
     subst (λ o. Comes c.is_right.new.marks o false)
     (sym (come_dir c.args.is_entry old.world b s i (subst (IsSeenAt c.args.client.now (g.K.Blocks.view c.args.disk.now) (g.K.Blocks.view c.look_at.new.disk) c.args.block) c.in-Ok-Some.field-0-is (c.in-Ok-Some.ensures.seen told)).0.is c.args.levels (c.args.levels - 1) (omega (arith, c.if-levels-eq0.false))
     (not_come c.args.marks.now s b agrees (sym c.is_inode.ensures ∙ c.if-is_inode.false) (sym c.is_data_block.ensures ∙ c.if-is_data_block.false))
-    (sym c.is_directory.ensures ∙ if_told c.is_directory.result c.if-not-is_directory.false)))
+    (sym c.is_directory.ensures ∙ c.if-not-is_directory.false)))
     (each_stops (come_from old.world (c.args.levels - 1)) (blocks_said i) c.loop-place.place c.mark_inode.new.self c.loop-place.marks (inv.comes told) c.is_right.new.marks
     (subst (λ n. c.loop-place.place < n) c.count-place-end.ensures.value c.loop-place-test.true)
     (told_as cur old (c.args.levels - 1) c.named.result _ c.is_right.new.marks c.loop-place.marks c.in-Ok-false.field-0 false (inv.looks.looked told).0.world c.named.ensures c.in-Ok-false.field-0-test (c.in-Ok-false.ensures.comes told))
@@ -202,7 +200,7 @@ returns-clause-comes g t c = λ told s agrees.
     subst (λ o. Comes c.loop-place.marks o true)
     (sym (come_dir c.args.is_entry old.world b s i (subst (IsSeenAt c.args.client.now (g.K.Blocks.view c.args.disk.now) (g.K.Blocks.view c.look_at.new.disk) c.args.block) c.in-Ok-Some.field-0-is (c.in-Ok-Some.ensures.seen told)).0.is c.args.levels (c.args.levels - 1) (omega (arith, c.if-levels-eq0.false))
     (not_come c.args.marks.now s b agrees (sym c.is_inode.ensures ∙ c.if-is_inode.false) (sym c.is_data_block.ensures ∙ c.if-is_data_block.false))
-    (sym c.is_directory.ensures ∙ if_told c.is_directory.result c.if-not-is_directory.false)))
+    (sym c.is_directory.ensures ∙ c.if-not-is_directory.false)))
     (each_ends (come_from old.world (c.args.levels - 1)) (blocks_said i) c.loop-place.place c.mark_inode.new.self c.loop-place.marks (c.loop-place.invariant.comes told)
     (subst (λ n. n ≤ c.loop-place.place) c.count-place-end.ensures.value c.loop-place-test.false)
     (with_inode s b)

@@ -1,4 +1,4 @@
-use Rattle.std.proofs.Common.{◌≡◌, refl, sym, ◌∙◌}
+use Rattle.std.proofs.Common.{refl, sym, ◌∙◌}
 use Rattle.inode_mount.proofs.SeeLaws.{read_some, read_wrong, read_none}
 use Rattle.inode_mount.proofs.looking.inode_in.Goals as goal
 

@@ -1,4 +1,4 @@
-use Rattle.std.proofs.Common.{◌≡◌, refl}
+use Rattle.std.proofs.Common.{refl}
 use Rattle.inode_mount.specs.Looking.{come_under, nothing_yet}
 use Rattle.inode_mount.proofs.SeeLaws.{agrees_none, noted_none}
 use Rattle.inode_mount.proofs.RightLaws.{root_may}

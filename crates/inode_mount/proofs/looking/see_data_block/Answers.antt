@@ -1,4 +1,4 @@
-use Rattle.std.proofs.Common.{◌≡◌, refl, sym, ◌∙◌, ap, nat_lt}
+use Rattle.std.proofs.Common.{sym, ◌∙◌, nat_lt}
 use Rattle.fs_asks.proofs.LookLaws.{no_look, looks_as, looks_refused}
 use Rattle.inode_mount.proofs.SeeLaws.{named_again, names_data, noted_on, noted_data, on_disk}
 use Rattle.inode_mount.proofs.SeenLaws.{no_pairs}

@@ -1,4 +1,4 @@
-use Rattle.std.proofs.Common.{◌≡◌, refl, sym, ◌∙◌, ap, Ok, Err, arith}
+use Rattle.std.proofs.Common.{refl, sym, ◌∙◌, ap, Ok, Err, arith}
 use Rattle.fs_port.specs.View.{IsSound}
 use Rattle.fs_asks.proofs.LookLaws.{no_look}
 use Rattle.inode_mount.specs.Trimming.{named_by}

@@ -1,16 +1,14 @@
-use Rattle.std.proofs.Common.{◌≡◌, true, false, refl, sym, ◌∙◌, ap, subst, Ok, Err, []}
-use Rattle.tsd_model.specs.World.{has_number}
-use Rattle.tsd_model.specs.Pairs.{holds}
+use Rattle.std.proofs.Common.{refl, sym, ◌∙◌, ap, Ok, Err}
 use Rattle.inode_layout.specs.Block.{inode_of}
 use Rattle.inode_layout.specs.Said.{blocks_said}
 use Rattle.fs_port.specs.View.{IsSound}
 use Rattle.fs_asks.specs.May.{Looked}
 use Rattle.fs_asks.proofs.LookLaws.{no_look}
 use Rattle.inode_mount.specs.Looking.{blocks_in}
-use Rattle.inode_mount.specs.Trimming.{Trims, IsClean, MayTrim, named_by}
+use Rattle.inode_mount.specs.Trimming.{IsClean, MayTrim, named_by}
 use Rattle.inode_mount.proofs.TrimLaws.{tree_under, may_named, trims_by_looks, trims_refused, then_trims, may_ask_still}
 use Rattle.inode_mount.proofs.DropLaws.{same_named, trim_looked, trims_named}
-use Rattle.inode_mount.proofs.TidyLaws.{namers_noted, trim_inode, trim_data, clean_before, clean_unnamed, clean_inode, clean_data, on_ok_clean}
+use Rattle.inode_mount.proofs.TidyLaws.{trim_inode, trim_data, clean_before, clean_unnamed, clean_inode, clean_data, on_ok_clean}
 use Rattle.inode_mount.proofs.mounting.tidy_block.Goals as goal
 
 pub returns-then-not-has_leftovers-clause-trims : goal.returns-then-not-has_leftovers-clause-trims
