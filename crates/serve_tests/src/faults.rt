@@ -1,7 +1,8 @@
 //! Faults of the outside, and when replies go out.
 
+use crate::disks::made;
 use crate::outside::{Counting, Drip, Looking};
-use crate::spelled::{NEVER, run, spelled, words};
+use crate::spelled::{NEVER, run, run_over, spelled, words};
 use image_device::{MemSource, MemStation};
 use place_policy::PlaceBook;
 use std::alloc::Global;
@@ -57,5 +58,35 @@ pub fn replies_before_takes(rt: &impl Abort, alloc: Global, book: &PlaceBook) ->
     assert_eq!(rt; status, Status::Done);
     assert_eq!(rt; port.inner.sent(), output.as_slice());
     assert_eq!(rt; source.seen(), [0, 3, 6, 21, 37].as_slice());
+    Ok(())
+}
+
+/// More calls than the runs make.
+const CALLS_MAX: u64 = 10_000;
+
+/// A write to a disk, of which each call fails in turn. The first put that fails leaves no answer, and the first write that
+/// fails the answer before it.
+pub fn first_failures(rt: &impl Abort, alloc: Global, book: &PlaceBook) -> Result<(), Fail> {
+    let saved = made(rt, alloc, book, &[("fresh 8 1 R W near", "")])?;
+    let (mut is_put, mut is_written) = (false, false);
+    for call in 0..CALLS_MAX {
+        let mut port = saved.disk(call)?;
+        let texts = ("run near", "open 1/write 1 0 W 01/");
+        let status = run_over(alloc, book, texts, &mut port)?;
+        if status == Status::Done {
+            assert!(rt; is_put && is_written);
+            return Ok(());
+        }
+        if status == Status::PutFault && !is_put {
+            is_put = true;
+            assert!(rt; port.sent().is_empty());
+        }
+        if port.write_calls() != 0 && !is_written {
+            is_written = true;
+            assert_eq!(rt; status, Status::DeviceFault);
+            assert_eq!(rt; port.sent(), b"ok\n".as_slice());
+        }
+    }
+    assert!(rt; false, "it is never done");
     Ok(())
 }

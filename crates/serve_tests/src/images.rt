@@ -1,7 +1,7 @@
-//! Runs one after another over one image, and runs that are stopped.
+//! Runs one after another over one image.
 
 use crate::spelled::{run_over, spelled, words};
-use image_device::{FuseStation, MemSource, MemStation, Pick};
+use image_device::{MemSource, MemStation};
 use place_policy::PlaceBook;
 use std::alloc::Global;
 use std::process::Abort;
@@ -69,75 +69,6 @@ pub fn framed(rt: &impl Abort, alloc: Global, book: &PlaceBook) -> Result<(), Fa
         assert_eq!(rt; status, wanted);
         assert_eq!(rt; port.sent(), ANSWERS.as_slice());
     }
-    Ok(())
-}
-
-/// A chain of three blocks from the primary block.
-const CHAIN: (&str, &str) = (
-    "fresh 8 1 R W near",
-    "open 1/alloc 1 0 W - 1/alloc 1 1 - - 1/alloc 1 2 - - 1/",
-);
-
-/// Reclaims the chain.
-const DELETE: (&str, &str) = ("run near", "open 1/delete 1 0 W 1/");
-
-/// More calls than a run makes.
-const CALLS_MAX: u64 = 10_000;
-
-/// How many calls lie between two stops.
-const STRIDE: u64 = 7;
-
-/// A run of a delete that is stopped after some calls, and opened again: the blocks of the chain are free, all or none, and
-/// all where the reply was sent whole. Whether the run was done.
-fn stopped(
-    rt: &impl Abort,
-    alloc: Global,
-    book: &PlaceBook,
-    passes: u64,
-    pick: Pick,
-) -> Result<bool, Fail> {
-    let mut port = MemStation::new(alloc, Vec::new(alloc));
-    assert_eq!(rt; run_over(alloc, book, CHAIN, &mut port)?, Status::Done);
-    let before = port.sent().len();
-    let mut fuse = FuseStation::new(port, passes, pick);
-    let status = run_over(alloc, book, DELETE, &mut fuse)?;
-    let whole = spelled(alloc, "ok/gone 3/")?.len();
-    let answered = fuse.sent().len() == before.saturating_add(whole);
-    let mut image = fuse.into_image();
-    assert_eq!(rt;
-        run_over(alloc, book, ("run near", "free/"), &mut image)?,
-        Status::Done
-    );
-    let all = spelled(alloc, "free 7/")?;
-    let none = spelled(alloc, "free 4/")?;
-    let is_all = image.sent() == all.as_slice();
-    assert!(rt;
-        is_all || (!answered && image.sent() == none.as_slice()),
-        "{passes}"
-    );
-    assert!(rt;
-        matches!(
-            status,
-            Status::Done | Status::DeviceFault | Status::PutFault
-        ),
-        "{passes}"
-    );
-    Ok(status == Status::Done)
-}
-
-/// Stops of a delete, from its first call until it is done.
-pub fn stops(rt: &impl Abort, alloc: Global, book: &PlaceBook) -> Result<(), Fail> {
-    for turn in 0..CALLS_MAX / STRIDE {
-        let pick = match turn % 3 {
-            0 => Pick::Old,
-            1 => Pick::New,
-            _ => Pick::Torn(7),
-        };
-        if stopped(rt, alloc, book, turn * STRIDE, pick)? {
-            return Ok(());
-        }
-    }
-    assert!(rt; false, "it is never done");
     Ok(())
 }
 

@@ -5,6 +5,8 @@
 #![tactic(auto)]
 
 #[cfg(test)]
+mod disks;
+#[cfg(test)]
 mod faults;
 #[cfg(test)]
 mod images;
@@ -16,6 +18,10 @@ mod outside;
 mod runs;
 #[cfg(test)]
 mod spelled;
+#[cfg(test)]
+mod stops;
+#[cfg(test)]
+mod stories;
 #[cfg(test)]
 mod texts;
 #[cfg(test)]

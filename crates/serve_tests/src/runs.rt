@@ -10,7 +10,7 @@ use std::test::Fail;
 use tsd_serve::Status;
 
 /// Words, input and output.
-const RUNS: [(&str, &str, &str); 20] = [
+const RUNS: [(&str, &str, &str); 24] = [
     ("fresh 8 1 R W near", "", ""),
     ("fresh 8 1 R W near", "open 1/read 1 0 R/", "ok/data -/"),
     (
@@ -99,6 +99,22 @@ const RUNS: [(&str, &str, &str); 20] = [
         "ok/blocks 512 513 514 515 516 517 518 519 520 521 522 523 524 525 526 527 528 529 530 531 532 533 534 535 536 537 538 539 540 541 542 543/blocks 544 545 546 547 548 549 550 551 552 553 554 555 556 557 558 559 560 561 562 563 564 565 566 567 568 569 570 571 572 573 574 575/blocks 576 577 578 579 580 581 582 583 584 585 586 587 588 589 590 591 592 593 594 595 596 597 598 599 256 257 258 259 260 261 262 263/blocks 264 265 266 267 268 269 270 271 272 273 274 275 276 277 278 279 280 281 282 283 284 285 286 287 288 289 290 291 292 293 294 295/",
     ),
     (
+        "fresh 64 1 R W near",
+        "open 1/alloc 1 0 W - 1/alloc 1 1 - - 32/delete 1 0 W 1/free/",
+        "ok/blocks 1/blocks 2 3 4 5 6 7 8 9 10 11 12 13 14 15 16 17 18 19 20 21 22 23 24 25 26 27 28 29 30 31 32 33/gone 33/free 63/",
+    ),
+    ("fresh 64 1 R W near", "open 1/alloc 1 0 W - 1/L", "ok/K"),
+    (
+        "fresh 64 1 R W near",
+        "open 1/alloc 1 0 W - 1/Ldelete 1 0 W 1/free/alloc 1 0 W - 2/",
+        "ok/Kgone 40/free 63/blocks 1 2/",
+    ),
+    (
+        "fresh 8 1 AAAAAAAAAAAAAAAAAAAAAAAAAAAAAAAA W near",
+        "open 1/read 1 0 R/read 1  0 R/read 1 0 R /open 00000000002/open 0000000002",
+        "ok/data -/no bad-request/no bad-request/no bad-request/ok/",
+    ),
+    (
         "fresh 00008 8 R W low",
         "free//free",
         "free 7/no bad-request/free 7/",
@@ -106,7 +122,7 @@ const RUNS: [(&str, &str, &str); 20] = [
 ];
 
 /// Words that are no command. A seed has 64 digits.
-const FAULTY: [&str; 22] = [
+const FAULTY: [&str; 44] = [
     "",
     "fresh",
     "fresh 7 1 R W near",
@@ -122,13 +138,35 @@ const FAULTY: [&str; 22] = [
     "fresh 8 1 R W",
     "fresh 8 1 R W near near",
     "fresher 8 1 R W near",
+    "fresh 8 1 R  near",
+    "fresh 8 1 R W near ",
+    " fresh 8 1 R W near",
+    "fresh 4294967304 1 R W near",
+    "run",
     "run nearer",
+    "run near near",
+    "serve",
+    "serve Zone",
+    "serve near 1",
     "check now",
+    "checks",
     "upgrades",
+    "upgrade 2",
+    "format 64 1 256 2",
     "format 64 1 256 2 RR0",
     "format 64 1 256 17 RR",
+    "format 64 1 0 2 Z",
+    "format 64 1 4194305 2 Z",
+    "format 64 1 256 0 Z",
+    "format 8 1 256 8 Z",
+    "format 64 1 256 2 R",
+    "format 64 1 256 2 Z near",
     "load RR 0 zone",
     "load RR 200001 zone",
+    "load R 1 zone",
+    "load Z 1",
+    "load Z 1 far",
+    "load Z - near",
 ];
 
 /// One run, its input cut into pieces of this size.

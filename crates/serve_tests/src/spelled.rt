@@ -1,7 +1,8 @@
 //! Runs over memory, from texts that are easy to read.
 //!
-//! In a text R, W, C and D stand for 32 digits `a`, `b`, `c` and `d`, B for the 1,024 digits of a block of 512 bytes, and a
-//! slash for a line feed.
+//! In a text R, W, C and D stand for 32 digits `a`, `b`, `c` and `d`, B for the 1,024 digits of a block of 512 bytes, Z for the
+//! 64 digits of a seed of zeros, and a slash for a line feed. L stands for the lines `alloc 1 1 - - 1` to `alloc 1 39 - - 1`,
+//! and K for the lines `blocks 1` to `blocks 40`. What `serve` takes and sends is written in hexadecimal.
 
 ghost use Rattle.std.specs.Prelude.{◌<◌};
 
@@ -30,6 +31,9 @@ pub fn spelled(alloc: Global, text: &str) -> Result<Vec<u8>, AllocError> {
         match *byte {
             b'R' | b'W' | b'C' | b'D' => push_digits(&mut bytes, digit_of(*byte), 32)?,
             b'B' => push_digits(&mut bytes, b'1', 1_024)?,
+            b'Z' => push_digits(&mut bytes, b'0', 64)?,
+            b'L' => push_numbered(&mut bytes, b"alloc 1 ", b" - - 1\n", 39)?,
+            b'K' => push_numbered(&mut bytes, b"blocks ", b"\n", 40)?,
             b'/' => bytes.push(b'\n')?,
             other => bytes.push(other)?,
         }
@@ -53,8 +57,63 @@ fn digit_of(letter: u8) -> u8 {
     }
 }
 
+/// One text for each number from 1 to this one, which is below 100: the number stands between the two parts.
+fn push_numbered(
+    bytes: &mut Vec<u8>,
+    front: &[u8],
+    back: &[u8],
+    last: u8,
+) -> Result<(), AllocError> {
+    for number in 1..=last {
+        bytes.extend_from_slice(front)?;
+        if number > 9 {
+            bytes.push(b'0'.wrapping_add(number / 10))?;
+        }
+        bytes.push(b'0'.wrapping_add(number % 10))?;
+        bytes.extend_from_slice(back)?;
+    }
+    Ok(())
+}
+
+/// The bytes that a text in hexadecimal stands for. Spaces in it say nothing.
+pub fn packed(alloc: Global, text: &str) -> Result<Vec<u8>, AllocError> {
+    let mut bytes = Vec::new(alloc);
+    let mut first = None;
+    for digit in spelled(alloc, text)? {
+        match (value_of(digit), first) {
+            (None, _) => {}
+            (Some(value), None) => first = Some(value),
+            (Some(value), Some(high)) => {
+                bytes.push(value.wrapping_add(16_u8.wrapping_mul(high)))?;
+                first = None;
+            }
+        }
+    }
+    Ok(bytes)
+}
+
+fn value_of(digit: u8) -> Option<u8> {
+    match digit {
+        b'0'..=b'9' => Some(digit.wrapping_sub(b'0')),
+        b'a'..=b'f' => Some(digit.wrapping_sub(b'a').wrapping_add(10)),
+        _ => None,
+    }
+}
+
+/// The bytes that a text of a run with these words stands for.
+pub fn bytes_of(alloc: Global, words: &str, text: &str) -> Result<Vec<u8>, AllocError> {
+    if words.starts_with("serve") {
+        packed(alloc, text)
+    } else {
+        spelled(alloc, text)
+    }
+}
+
 /// The number of a call that never comes.
 pub const NEVER: u64 = u64::MAX;
+
+/// More bytes than a text stands for.
+pub const WHOLE: usize = 10_000;
 
 /// What a run over memory gives: its status, and what was sent. The take and the call of these numbers fail.
 pub fn run(
@@ -67,11 +126,8 @@ pub fn run(
     requires { 0 < cut }
 {
     let (take, call) = failing;
-    let input = spelled(alloc, texts.1)?;
-    let words = words(alloc, spelled(alloc, texts.0)?.as_slice())?;
-    let mut source = MemSource::new(input, cut, vec![in alloc; take]?);
     let mut port = MemStation::new(alloc, vec![in alloc; call]?);
-    let status = tsd(alloc, &words, &mut source, &mut port, book);
+    let status = run_cut(alloc, book, texts, cut, take, &mut port)?;
     let sent = port.sent().to_vec(alloc)?;
     Ok((status, sent))
 }
@@ -83,8 +139,22 @@ pub fn run_over<P: Port>(
     texts: (&str, &str),
     port: &mut P,
 ) -> Result<Status, Fail> {
-    let input = spelled(alloc, texts.1)?;
+    run_cut(alloc, book, texts, 9, NEVER, port)
+}
+
+/// The same, with the input in pieces of this size. The take of this number fails.
+pub fn run_cut<P: Port>(
+    alloc: Global,
+    book: &PlaceBook,
+    texts: (&str, &str),
+    cut: usize,
+    take: u64,
+    port: &mut P,
+) -> Result<Status, Fail>
+    requires { 0 < cut }
+{
+    let input = bytes_of(alloc, texts.0, texts.1)?;
     let words = words(alloc, spelled(alloc, texts.0)?.as_slice())?;
-    let mut source = MemSource::new(input, 9, Vec::new(alloc));
+    let mut source = MemSource::new(input, cut, vec![in alloc; take]?);
     Ok(tsd(alloc, &words, &mut source, port, book))
 }

@@ -4,17 +4,83 @@ ghost use Rattle.std.specs.Prelude.{◌≡◌, ◌+◌, ◌*◌, ◌^◌, slice_
 ghost use Rattle.tsd_model.specs.Rank.{rank_of, zones_after};
 ghost use Rattle.tsd_model.specs.declared.requests.PlaceKind.TheVariants.{Low, Near, Spread};
 
-use crate::faults::{faults, one_byte_puts, replies_before_takes};
-use crate::images::{commands, framed, kept, refused, stops};
+use crate::faults::{faults, first_failures, one_byte_puts, replies_before_takes};
+use crate::images::{commands, framed, kept, refused};
 use crate::loops::loops;
 use crate::runs::{all_runs, faulty_words};
+use crate::spelled::WHOLE;
+use crate::stops::{all_stops, failing_calls};
+use crate::stories::stories;
+use image_device::Pick;
 use place_policy::{PlaceBook, Placement, ZONE_TURNS, low_rank, near_rank, spread_rank, zone_rank};
+use std::alloc::Global;
+use std::process::Abort;
 use std::test::Fail;
 use tsd_model::PlaceKind;
 
+/// What is run.
+#[derive(Clone, Copy)]
+enum Part {
+    Runs,
+    Faults,
+    Images,
+    Stories,
+    Stops(Pick),
+    FailingCalls,
+}
+
 #[test]
 fn runs(rt: HostRuntime) -> Result<(), Fail> {
-    let alloc = rt.alloc();
+    over_places(&rt, rt.alloc(), Part::Runs)
+}
+
+#[test]
+fn faults_of_the_outside(rt: HostRuntime) -> Result<(), Fail> {
+    over_places(&rt, rt.alloc(), Part::Faults)
+}
+
+#[test]
+fn runs_over_one_image(rt: HostRuntime) -> Result<(), Fail> {
+    over_places(&rt, rt.alloc(), Part::Images)
+}
+
+#[test]
+fn steps_over_one_disk(rt: HostRuntime) -> Result<(), Fail> {
+    over_places(&rt, rt.alloc(), Part::Stories)
+}
+
+#[test]
+fn stops_that_leave_old_sectors(rt: HostRuntime) -> Result<(), Fail> {
+    over_places(&rt, rt.alloc(), Part::Stops(Pick::Old))
+}
+
+#[test]
+fn stops_that_leave_new_sectors(rt: HostRuntime) -> Result<(), Fail> {
+    over_places(&rt, rt.alloc(), Part::Stops(Pick::New))
+}
+
+#[test]
+fn stops_that_leave_zeros(rt: HostRuntime) -> Result<(), Fail> {
+    over_places(&rt, rt.alloc(), Part::Stops(Pick::Torn(0)))
+}
+
+#[test]
+fn stops_that_leave_ones(rt: HostRuntime) -> Result<(), Fail> {
+    over_places(&rt, rt.alloc(), Part::Stops(Pick::Torn(1)))
+}
+
+#[test]
+fn stops_that_leave_greatest_bytes(rt: HostRuntime) -> Result<(), Fail> {
+    over_places(&rt, rt.alloc(), Part::Stops(Pick::Torn(255)))
+}
+
+#[test]
+fn runs_of_which_a_call_fails(rt: HostRuntime) -> Result<(), Fail> {
+    over_places(&rt, rt.alloc(), Part::FailingCalls)
+}
+
+/// One part, over the four placements.
+fn over_places(rt: &impl Abort, alloc: Global, part: Part) -> Result<(), Fail> {
     let turns = ZONE_TURNS;
     let low = Box::new(
         alloc,
@@ -46,15 +112,33 @@ fn runs(rt: HostRuntime) -> Result<(), Fail> {
         Placement::new(PlaceKind::Spread, spread),
         Placement::new(PlaceKind::Zone, zone),
     );
-    all_runs(&rt, alloc, &book)?;
-    faulty_words(&rt, alloc, &book)?;
-    faults(&rt, alloc, &book)?;
-    one_byte_puts(&rt, alloc, &book)?;
-    replies_before_takes(&rt, alloc, &book)?;
-    kept(&rt, alloc, &book)?;
-    refused(&rt, alloc, &book)?;
-    framed(&rt, alloc, &book)?;
-    loops(&rt, alloc, &book)?;
-    commands(&rt, alloc, &book)?;
-    stops(&rt, alloc, &book)
+    run_part(rt, alloc, &book, part)
+}
+
+fn run_part(rt: &impl Abort, alloc: Global, book: &PlaceBook, part: Part) -> Result<(), Fail> {
+    match part {
+        Part::Runs => {
+            all_runs(rt, alloc, book)?;
+            faulty_words(rt, alloc, book)
+        }
+        Part::Faults => {
+            faults(rt, alloc, book)?;
+            one_byte_puts(rt, alloc, book)?;
+            replies_before_takes(rt, alloc, book)?;
+            first_failures(rt, alloc, book)
+        }
+        Part::Images => {
+            kept(rt, alloc, book)?;
+            refused(rt, alloc, book)?;
+            framed(rt, alloc, book)?;
+            commands(rt, alloc, book)?;
+            loops(rt, alloc, book)
+        }
+        Part::Stories => {
+            stories(rt, alloc, book, 1)?;
+            stories(rt, alloc, book, WHOLE)
+        }
+        Part::Stops(pick) => all_stops(rt, alloc, book, pick),
+        Part::FailingCalls => failing_calls(rt, alloc, book),
+    }
 }
