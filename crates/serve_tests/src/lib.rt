@@ -19,8 +19,6 @@ mod runs;
 #[cfg(test)]
 mod spelled;
 #[cfg(test)]
-mod stops;
-#[cfg(test)]
 mod stories;
 #[cfg(test)]
 mod texts;

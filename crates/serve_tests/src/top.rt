@@ -9,9 +9,7 @@ use crate::images::{commands, framed, kept, refused};
 use crate::loops::loops;
 use crate::runs::{all_runs, faulty_words};
 use crate::spelled::WHOLE;
-use crate::stops::{all_stops, failing_calls};
 use crate::stories::stories;
-use image_device::Pick;
 use place_policy::{PlaceBook, Placement, ZONE_TURNS, low_rank, near_rank, spread_rank, zone_rank};
 use std::alloc::Global;
 use std::process::Abort;
@@ -25,8 +23,6 @@ enum Part {
     Faults,
     Images,
     Stories,
-    Stops(Pick),
-    FailingCalls,
 }
 
 #[test]
@@ -47,36 +43,6 @@ fn runs_over_one_image(rt: HostRuntime) -> Result<(), Fail> {
 #[test]
 fn steps_over_one_disk(rt: HostRuntime) -> Result<(), Fail> {
     over_places(&rt, rt.alloc(), Part::Stories)
-}
-
-#[test]
-fn stops_that_leave_old_sectors(rt: HostRuntime) -> Result<(), Fail> {
-    over_places(&rt, rt.alloc(), Part::Stops(Pick::Old))
-}
-
-#[test]
-fn stops_that_leave_new_sectors(rt: HostRuntime) -> Result<(), Fail> {
-    over_places(&rt, rt.alloc(), Part::Stops(Pick::New))
-}
-
-#[test]
-fn stops_that_leave_zeros(rt: HostRuntime) -> Result<(), Fail> {
-    over_places(&rt, rt.alloc(), Part::Stops(Pick::Torn(0)))
-}
-
-#[test]
-fn stops_that_leave_ones(rt: HostRuntime) -> Result<(), Fail> {
-    over_places(&rt, rt.alloc(), Part::Stops(Pick::Torn(1)))
-}
-
-#[test]
-fn stops_that_leave_greatest_bytes(rt: HostRuntime) -> Result<(), Fail> {
-    over_places(&rt, rt.alloc(), Part::Stops(Pick::Torn(255)))
-}
-
-#[test]
-fn runs_of_which_a_call_fails(rt: HostRuntime) -> Result<(), Fail> {
-    over_places(&rt, rt.alloc(), Part::FailingCalls)
 }
 
 /// One part, over the four placements.
@@ -138,7 +104,5 @@ fn run_part(rt: &impl Abort, alloc: Global, book: &PlaceBook, part: Part) -> Res
             stories(rt, alloc, book, 1)?;
             stories(rt, alloc, book, WHOLE)
         }
-        Part::Stops(pick) => all_stops(rt, alloc, book, pick),
-        Part::FailingCalls => failing_calls(rt, alloc, book),
     }
 }

@@ -1,0 +1,334 @@
+//! Damaged images, and the line that a check puts for each.
+
+use crate::disks::{Saved, made};
+use crate::spelled::{NEVER, run_over, spelled};
+use image_device::{Device, MemStation};
+use place_policy::PlaceBook;
+use std::alloc::Global;
+use std::process::Abort;
+use std::test::Fail;
+
+/// What is done to a sector. Numbers have four bytes.
+#[derive(Clone, Copy)]
+enum Harm {
+    /// It begins with these numbers, and is zero behind them.
+    Set(u32, &'static [u32]),
+
+    /// From the number of this place on it holds these; the rest of it stays.
+    Put(u32, usize, &'static [u32]),
+}
+
+use Harm::{Put, Set};
+
+/// The first eight bytes of a header, as two numbers.
+const TSDI: u32 = 0x4944_5354;
+
+const SK01: u32 = 0x3130_4b53;
+
+/// One sector of a disk of eight blocks is harmed, with pointers from block 0 to the blocks 1, 2 and 3. Its counts, its bitmap
+/// and its slots are in the sectors 134, 135 and 136.
+const CASES: [(Harm, &str); 51] = [
+    (Set(1, &[0]), "not-formatted/"),
+    (Set(1, &[0x0101_0100]), "not-formatted/"),
+    (Set(1, &[2]), "not-formatted/"),
+    (Set(1, &[0xffff_ff01]), "clean 4 4 3/"),
+    // The header: its first bytes, and a version.
+    (Set(0, &[0]), "header magic/"),
+    (
+        Set(0, &[TSDI, 0x3230_4b53, 1, 1, 8, 1, 32]),
+        "header magic/",
+    ),
+    (
+        Set(0, &[0x4944_5374, SK01, 1, 1, 8, 1, 32]),
+        "header magic/",
+    ),
+    (Set(0, &[TSDI, SK01, 7, 1, 8, 1, 32]), "header version 7/"),
+    (Set(0, &[TSDI, SK01, 0, 1, 8, 1, 32]), "header version 0/"),
+    (Set(0, &[TSDI, SK01, 1, 1, 8, 1, 32]), "clean 4 4 3/"),
+    (Set(0, &[TSDI, SK01, 2, 1, 8, 1, 32]), "clean 4 4 3/"),
+    (Set(0, &[TSDI, SK01, 3, 1, 8, 1, 32]), "header version 3/"),
+    (
+        Set(0, &[TSDI, SK01, 257, 1, 8, 1, 32]),
+        "header version 257/",
+    ),
+    (
+        Set(0, &[TSDI, SK01, 4294967295, 1, 8, 1, 32]),
+        "header version 4294967295/",
+    ),
+    // The sectors of a block.
+    (Set(0, &[TSDI, SK01, 1, 0, 8, 1, 32]), "header field 1 0/"),
+    (Set(0, &[TSDI, SK01, 1, 2, 8, 1, 32]), "clean 4 4 3/"),
+    (Set(0, &[TSDI, SK01, 1, 3, 8, 1, 32]), "header field 1 3/"),
+    (Set(0, &[TSDI, SK01, 1, 5, 8, 1, 32]), "header field 1 5/"),
+    (Set(0, &[TSDI, SK01, 1, 7, 8, 1, 32]), "header field 1 7/"),
+    (Set(0, &[TSDI, SK01, 1, 8, 8, 1, 32]), "clean 4 4 3/"),
+    (Set(0, &[TSDI, SK01, 1, 9, 8, 1, 32]), "header field 1 9/"),
+    (Set(0, &[TSDI, SK01, 1, 16, 8, 1, 32]), "header field 1 16/"),
+    // The blocks.
+    (Set(0, &[TSDI, SK01, 1, 1, 7, 1, 32]), "header field 2 7/"),
+    (Set(0, &[TSDI, SK01, 1, 1, 9, 1, 32]), "clean 4 5 3/"),
+    (
+        Set(0, &[TSDI, SK01, 1, 1, 1048577, 1, 32]),
+        "header field 2 1048577/",
+    ),
+    // The primary blocks. To such a block no pointer leads.
+    (Set(0, &[TSDI, SK01, 1, 1, 8, 0, 32]), "header field 3 0/"),
+    (Set(0, &[TSDI, SK01, 1, 1, 8, 7, 32]), "damaged slot 0 1 1/"),
+    (Set(0, &[TSDI, SK01, 1, 1, 8, 8, 32]), "header field 3 8/"),
+    (
+        Set(0, &[TSDI, SK01, 1, 1, 16, 16, 32]),
+        "header field 3 16/",
+    ),
+    (
+        Set(0, &[TSDI, SK01, 1, 1, 17, 16, 32]),
+        "damaged slot 0 1 1/",
+    ),
+    (
+        Set(0, &[TSDI, SK01, 1, 1, 18, 17, 32]),
+        "header field 3 17/",
+    ),
+    // The slots.
+    (Set(0, &[TSDI, SK01, 1, 1, 8, 1, 0]), "header field 4 0/"),
+    (Set(0, &[TSDI, SK01, 1, 1, 8, 1, 1]), "damaged count 2 1 0/"),
+    (
+        Set(0, &[TSDI, SK01, 1, 1, 8, 1, 4194305]),
+        "header field 4 4194305/",
+    ),
+    // Of several fields the first is named.
+    (Set(0, &[TSDI, SK01, 1, 3, 7, 0, 0]), "header field 1 3/"),
+    (Set(0, &[TSDI, SK01, 1, 1, 7, 0, 0]), "header field 2 7/"),
+    (Set(0, &[TSDI, SK01, 1, 1, 8, 0, 0]), "header field 3 0/"),
+    // Slots: of the blocks 0 to 7 a source is named by one more, and 0 is primary.
+    (Set(136, &[1, 1, 1, 2, 1, 9]), "damaged slot 2 1 9/"),
+    (Set(136, &[1, 1, 1, 2, 1, 8]), "damaged slot 2 1 8/"),
+    (Set(136, &[1, 0, 9, 9]), "damaged slot 0 1 0/"),
+    (Set(136, &[1, 1, 1, 2, 9, 3]), "damaged slot 2 9 3/"),
+    (Set(136, &[1, 1, 1, 1, 1, 2, 1, 3]), "damaged repeated 0 1/"),
+    (
+        Set(136, &[1, 3, 1, 2, 1, 3, 1, 1, 1, 2]),
+        "damaged repeated 0 2/",
+    ),
+    (Set(136, &[1, 1, 1, 2]), "damaged count 3 1 0/"),
+    // Bits: of block 0, of a target, of a source, and of a block that nothing leads to, which is reclaimed.
+    (Set(135, &[0x0e]), "damaged primary 0/"),
+    (Set(135, &[0x07]), "damaged end 0 3/"),
+    (Set(135, &[0x01]), "damaged end 0 1/"),
+    (Set(136, &[1, 1, 1, 2, 5, 3]), "damaged end 4 3/"),
+    (Set(135, &[0x1f]), "clean 4 4 3/"),
+    (
+        Set(134, &[0, 1, 1, 1, 0, 0, 0, 4294967295]),
+        "damaged count 7 4294967295 0/",
+    ),
+    // A sweep that had begun.
+    (Set(131, &[1]), "clean 4 4 3/"),
+];
+
+/// A disk of eight blocks, of which three are allocated.
+pub const ALLOCATED: [(&str, &str); 1] = [("fresh 8 1 R W near", "open 1/alloc 1 0 W - 3/free/")];
+
+/// Its pointers, each in its place.
+const SLOTS: Harm = Set(136, &[1, 1, 1, 2, 1, 3]);
+
+/// Does this to a disk.
+fn do_harm(alloc: Global, disk: &mut MemStation, harm: Harm) -> Result<(), Fail> {
+    let (sector, at, numbers, keeps) = match harm {
+        Set(sector, numbers) => (sector, 0, numbers, false),
+        Put(sector, at, numbers) => (sector, at, numbers, true),
+    };
+    let mut bytes = [0; 512];
+    if keeps {
+        disk.read(sector, &mut bytes)?;
+    }
+    put_numbers(alloc, &mut bytes, at, numbers)?;
+    disk.poke(sector, &bytes)?;
+    Ok(())
+}
+
+/// Puts numbers into a sector, from the number of this place on.
+pub fn put_numbers(
+    alloc: Global,
+    sector: &mut [u8; 512],
+    at: usize,
+    numbers: &[u32],
+) -> Result<(), Fail> {
+    let mut bytes = Vec::new(alloc);
+    for number in numbers {
+        bytes.extend_from_slice(number.to_le_bytes().as_slice())?;
+    }
+    for (place, byte) in sector.iter_mut().skip(at.saturating_mul(4)).zip(bytes) {
+        *place = byte;
+    }
+    Ok(())
+}
+
+/// Whether a check of the disk puts this line, with the status that goes with it.
+pub fn puts_line(
+    alloc: Global,
+    book: &PlaceBook,
+    disk: &mut MemStation,
+    line: &str,
+) -> Result<bool, Fail> {
+    let before = disk.sent().len();
+    let status = run_over(alloc, book, ("check", ""), disk)?;
+    let wanted = spelled(alloc, line)?;
+    let code = if line.starts_with("clean") { 0 } else { 3 };
+    let is_put = disk.sent().get(before..) == Some(wanted.as_slice());
+    Ok(is_put && status.code() == code)
+}
+
+/// Each case on a disk of its own. A disk that is damaged isn't run.
+pub fn cases(rt: &impl Abort, alloc: Global, book: &PlaceBook) -> Result<(), Fail> {
+    let saved = made(rt, alloc, book, &ALLOCATED)?;
+    for (number, (damage, line)) in CASES.iter().enumerate() {
+        let mut disk = saved.disk(NEVER)?;
+        do_harm(alloc, &mut disk, SLOTS)?;
+        do_harm(alloc, &mut disk, *damage)?;
+        assert!(rt; puts_line(alloc, book, &mut disk, line)?, "{number} {line}");
+        let before = disk.sent().len();
+        let status = run_over(alloc, book, ("run near", ""), &mut disk)?;
+        assert_eq!(rt;
+            status.code() == 0,
+            line.starts_with("clean"),
+            "{number} {line}"
+        );
+        assert_eq!(rt; disk.sent().len(), before, "{number} {line}");
+    }
+    Ok(())
+}
+
+/// The most blocks, whose bits stand where no sector was written; and the most slots, which reach over the data, which is zero.
+const EXTREMES: [(Harm, &str); 2] = [
+    (
+        Set(0, &[TSDI, SK01, 1, 1, 1048576, 1, 32]),
+        "damaged primary 0/",
+    ),
+    (Set(0, &[TSDI, SK01, 1, 1, 8, 1, 4194304]), "clean 4 4 3/"),
+];
+
+/// Each of them.
+pub fn extremes(rt: &impl Abort, alloc: Global, book: &PlaceBook) -> Result<(), Fail> {
+    let saved = made(rt, alloc, book, &ALLOCATED)?;
+    for (damage, line) in EXTREMES {
+        let mut disk = saved.disk(NEVER)?;
+        do_harm(alloc, &mut disk, SLOTS)?;
+        do_harm(alloc, &mut disk, damage)?;
+        assert!(rt; puts_line(alloc, book, &mut disk, line)?, "{line}");
+    }
+    Ok(())
+}
+
+/// A damage for each test, in the order of the tests. None of them mends another.
+const ORDERED: [(&[Harm], &str); 8] = [
+    (&[Set(1, &[0])], "not-formatted/"),
+    (&[Set(2, &[1]), Set(3, &[0])], "damaged descriptor/"),
+    (&[Set(0, &[0])], "header magic/"),
+    (&[Put(136, 8, &[9, 9])], "damaged slot 4 9 9/"),
+    (&[Put(136, 10, &[1, 1])], "damaged repeated 0 1/"),
+    (&[Set(135, &[0x0e])], "damaged primary 0/"),
+    (&[Put(136, 12, &[1, 5])], "damaged end 0 5/"),
+    (&[Put(134, 1, &[2])], "damaged count 1 2 1/"),
+];
+
+/// Any of these damages together: the first one is named.
+pub fn together(rt: &impl Abort, alloc: Global, book: &PlaceBook) -> Result<(), Fail> {
+    let saved = made(rt, alloc, book, &ALLOCATED)?;
+    for choice in 0..256 {
+        let mut disk = saved.disk(NEVER)?;
+        do_harm(alloc, &mut disk, SLOTS)?;
+        let mut first = "clean 4 4 3/";
+        let mut left = choice;
+        for (damages, line) in ORDERED {
+            if left % 2 == 1 {
+                for damage in damages {
+                    do_harm(alloc, &mut disk, *damage)?;
+                }
+                if first.starts_with("clean") {
+                    first = line;
+                }
+            }
+            left /= 2;
+        }
+        assert!(rt;
+            puts_line(alloc, book, &mut disk, first)?,
+            "{choice} {first}"
+        );
+    }
+    Ok(())
+}
+
+/// Whether a rule names this byte of the disk with three allocated blocks, or it lies in their data.
+fn is_named(sector: u32, byte: usize, is_source: bool) -> bool {
+    match sector {
+        0 => byte < 28,
+        1 | 2 | 131 | 135 => byte < 1,
+        132 | 134 => byte < 32,
+        136 => byte < 256 && (byte % 8 < 4 || is_source),
+        137..=140 => true,
+        _ => false,
+    }
+}
+
+/// Past the end of the disk.
+const PAST: u32 = 200;
+
+/// A disk with this byte wherever no rule names one.
+fn with_rubbish(saved: &Saved, rubbish: u8) -> Result<MemStation, Fail> {
+    let mut disk = saved.disk(NEVER)?;
+    for sector in 0..PAST {
+        let mut bytes = [0; 512];
+        disk.read(sector, &mut bytes)?;
+        let mut is_source = false;
+        for (at, byte) in bytes.iter_mut().enumerate() {
+            if at % 8 == 0 {
+                is_source = false;
+            }
+            is_source = is_source || (at % 8 < 4 && *byte != 0);
+            if !is_named(sector, at, is_source) {
+                *byte = rubbish;
+            }
+        }
+        disk.poke(sector, &bytes)?;
+    }
+    Ok(disk)
+}
+
+/// Rubbish in every byte that no rule names, all at once.
+pub fn rubbish(rt: &impl Abort, alloc: Global, book: &PlaceBook) -> Result<(), Fail> {
+    let saved = made(rt, alloc, book, &ALLOCATED)?;
+    let input =
+        "open 1/read 1 0 R/list 1 0 R 0/read 1 3 -/alloc 1 0 W 7 4/read 1 7 -/free/delete 1 0 W 7/";
+    let output = "ok/data -/list 1 2 3/data -/blocks 7 6 5 4/data -/free 0/gone 1/";
+    for byte in [1, 0xee, 0xff] {
+        let mut disk = with_rubbish(&saved, byte)?;
+        assert!(rt;
+            puts_line(alloc, book, &mut disk, "clean 4 4 3/")?,
+            "{byte}"
+        );
+        let before = disk.sent().len();
+        let status = run_over(alloc, book, ("run near", input), &mut disk)?;
+        let wanted = spelled(alloc, output)?;
+        assert_eq!(rt; status.code(), 0, "{byte}");
+        assert_eq!(rt;
+            disk.sent().get(before..),
+            Some(wanted.as_slice()),
+            "{byte}"
+        );
+        assert!(rt;
+            puts_line(alloc, book, &mut disk, "clean 7 1 6/")?,
+            "{byte}"
+        );
+    }
+    Ok(())
+}
+
+/// Bits of ten blocks fill a byte and a part of the next one.
+pub fn more_bits(rt: &impl Abort, alloc: Global, book: &PlaceBook) -> Result<(), Fail> {
+    let runs = [("fresh 10 1 R W near", "open 1/alloc 1 0 W 8 2/")];
+    let mut disk = made(rt, alloc, book, &runs)?.disk(NEVER)?;
+    assert!(rt; puts_line(alloc, book, &mut disk, "clean 3 7 2/")?);
+    do_harm(alloc, &mut disk, Set(135, &[0xffff_ff01]))?;
+    assert!(rt; puts_line(alloc, book, &mut disk, "clean 3 7 2/")?);
+    do_harm(alloc, &mut disk, Set(135, &[0xffff_fc01]))?;
+    assert!(rt; puts_line(alloc, book, &mut disk, "damaged end 0 8/")?);
+    Ok(())
+}

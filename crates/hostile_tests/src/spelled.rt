@@ -1,0 +1,144 @@
+//! Runs over memory, from texts that are easy to read.
+//!
+//! In a text R, W, C and D stand for 32 digits `a`, `b`, `c` and `d`, Z for the 64 digits of a seed of zeros, and a slash for a line
+//! feed. L stands for the lines `alloc 1 1 - - 1` to `alloc 1 39 - - 1`, and K for the lines `blocks 1` to `blocks 40`.
+
+ghost use Rattle.std.specs.Prelude.{◌<◌};
+
+use image_device::{MemSource, Port};
+use place_policy::PlaceBook;
+use std::alloc::{AllocError, Global};
+use std::test::Fail;
+use tsd_serve::{Status, tsd};
+
+/// Words, as they are parted by spaces.
+fn words(alloc: Global, text: &[u8]) -> Result<Vec<String>, Fail> {
+    let mut words = Vec::new(alloc);
+    for word in text.split(|b| *b == b' ') {
+        match std::str::from_utf8(word) {
+            Ok(word) => words.push(String::from_str(alloc, word)?)?,
+            Err(_) => {}
+        }
+    }
+    Ok(words)
+}
+
+/// The bytes that a text stands for.
+pub fn spelled(alloc: Global, text: &str) -> Result<Vec<u8>, AllocError> {
+    let mut bytes = Vec::new(alloc);
+    for byte in text.as_bytes() {
+        match *byte {
+            b'R' | b'W' | b'C' | b'D' => push_digits(&mut bytes, digit_of(*byte), 32)?,
+            b'Z' => push_digits(&mut bytes, b'0', 64)?,
+            b'L' => push_numbered(&mut bytes, b"alloc 1 ", b" - - 1\n", 39)?,
+            b'K' => push_numbered(&mut bytes, b"blocks ", b"\n", 40)?,
+            b'/' => bytes.push(b'\n')?,
+            other => bytes.push(other)?,
+        }
+    }
+    Ok(bytes)
+}
+
+fn push_digits(bytes: &mut Vec<u8>, digit: u8, count: u32) -> Result<(), AllocError> {
+    for _ in 0..count {
+        bytes.push(digit)?;
+    }
+    Ok(())
+}
+
+fn digit_of(letter: u8) -> u8 {
+    match letter {
+        b'R' => b'a',
+        b'W' => b'b',
+        b'C' => b'c',
+        _ => b'd',
+    }
+}
+
+/// One text for each number from 1 to this one, which is below 100: the number stands between the two parts.
+fn push_numbered(
+    bytes: &mut Vec<u8>,
+    front: &[u8],
+    back: &[u8],
+    last: u8,
+) -> Result<(), AllocError> {
+    for number in 1..=last {
+        bytes.extend_from_slice(front)?;
+        if number > 9 {
+            bytes.push(b'0'.wrapping_add(number / 10))?;
+        }
+        bytes.push(b'0'.wrapping_add(number % 10))?;
+        bytes.extend_from_slice(back)?;
+    }
+    Ok(())
+}
+
+/// The bytes that a text in hexadecimal stands for. Spaces in it say nothing.
+pub fn packed(alloc: Global, text: &str) -> Result<Vec<u8>, AllocError> {
+    let mut bytes = Vec::new(alloc);
+    let mut first = None;
+    for digit in spelled(alloc, text)? {
+        match (value_of(digit), first) {
+            (None, _) => {}
+            (Some(value), None) => first = Some(value),
+            (Some(value), Some(high)) => {
+                bytes.push(value.wrapping_add(16_u8.wrapping_mul(high)))?;
+                first = None;
+            }
+        }
+    }
+    Ok(bytes)
+}
+
+fn value_of(digit: u8) -> Option<u8> {
+    match digit {
+        b'0'..=b'9' => Some(digit.wrapping_sub(b'0')),
+        b'a'..=b'f' => Some(digit.wrapping_sub(b'a').wrapping_add(10)),
+        _ => None,
+    }
+}
+
+/// The number of a call that never comes.
+pub const NEVER: u64 = u64::MAX;
+
+/// The status of a run over an image that is there.
+pub fn run_over<P: Port>(
+    alloc: Global,
+    book: &PlaceBook,
+    texts: (&str, &str),
+    port: &mut P,
+) -> Result<Status, Fail> {
+    run_cut(alloc, book, texts, 9, NEVER, port)
+}
+
+/// The same, with the input in pieces of this size. The take of this number fails.
+pub fn run_cut<P: Port>(
+    alloc: Global,
+    book: &PlaceBook,
+    texts: (&str, &str),
+    cut: usize,
+    take: u64,
+    port: &mut P,
+) -> Result<Status, Fail>
+    requires { 0 < cut }
+{
+    let input = spelled(alloc, texts.1)?;
+    run_bytes(alloc, book, (texts.0, input), cut, take, port)
+}
+
+/// The same, where the input is given by its bytes.
+pub fn run_bytes<P: Port>(
+    alloc: Global,
+    book: &PlaceBook,
+    texts: (&str, Vec<u8>),
+    cut: usize,
+    take: u64,
+    port: &mut P,
+) -> Result<Status, Fail>
+    requires { 0 < cut }
+{
+    let (text, input) = texts;
+    let words = words(alloc, spelled(alloc, text)?.as_slice())?;
+    let mut source = MemSource::new(input, cut, vec![in alloc; take]?);
+    Ok(tsd(alloc, &words, &mut source, port, book))
+}
