@@ -1,5 +1,7 @@
 //! Lines and frames that are no request. The next request is served.
 
+ghost use Rattle.std.specs.Prelude.{◌<◌};
+
 use crate::disks::made;
 use crate::spelled::{NEVER, packed, run_bytes};
 use place_policy::PlaceBook;
@@ -170,15 +172,28 @@ fn sent_for(
 /// The frame of a refused body, and the one that says that seven blocks are free.
 const REFUSED_FRAMES: &[u8] = b"\x02\x00\x08\x00\x05\x00\x04\x07\x00\x00\x00";
 
-/// Asserts that a frame with this body isn't taken, and that the next one is served.
-fn refuses_body(rt: &impl Abort, alloc: Global, book: &PlaceBook, body: &[u8]) -> Result<(), Fail> {
+/// Asserts that a frame with this body isn't taken, and that the next one is served. The input comes in pieces of this size.
+fn refuses_pieces(
+    rt: &impl Abort,
+    alloc: Global,
+    book: &PlaceBook,
+    body: &[u8],
+    cut: usize,
+) -> Result<(), Fail>
+    requires { 0 < cut }
+{
     let length = body.len();
     let start = body.get(..60).unwrap_or(body);
-    for cut in [1, 7, 1_000] {
-        let sent = sent_for(rt, alloc, book, body, cut)?;
-        assert_eq!(rt; sent.as_slice(), REFUSED_FRAMES, "{length} {start:?}");
-    }
+    let sent = sent_for(rt, alloc, book, body, cut)?;
+    assert_eq!(rt; sent.as_slice(), REFUSED_FRAMES, "{length} {start:?} {cut}");
     Ok(())
+}
+
+/// The same in pieces of one byte, of seven, and of many.
+fn refuses_body(rt: &impl Abort, alloc: Global, book: &PlaceBook, body: &[u8]) -> Result<(), Fail> {
+    refuses_pieces(rt, alloc, book, body, 1)?;
+    refuses_pieces(rt, alloc, book, body, 7)?;
+    refuses_pieces(rt, alloc, book, body, 1_000)
 }
 
 /// Each body is taken, but not with a byte less or a byte more. Other bodies aren't taken at all.

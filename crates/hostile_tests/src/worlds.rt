@@ -1,5 +1,7 @@
 //! Whether the sectors of a disk are those of a plain world, read by the rules of the image alone.
 
+ghost use Rattle.std.specs.Prelude.{◌<◌};
+
 use image_device::{Device, Failed, MemStation};
 use plain_disk::World;
 
@@ -19,9 +21,9 @@ fn byte_at(disk: &mut MemStation, area: u32, at: u32) -> Result<u8, Failed> {
 /// A number of an area, which has four bytes.
 fn number_at(disk: &mut MemStation, area: u32, place: u32) -> Result<u32, Failed> {
     let mut bytes = [0; 4];
-    for (at, byte) in bytes.iter_mut().enumerate() {
-        let start = place.saturating_mul(4);
-        *byte = byte_at(disk, area, start.saturating_add(at as u32))?;
+    let start = place.saturating_mul(4);
+    for (at, byte) in (0..4).zip(bytes.iter_mut()) {
+        *byte = byte_at(disk, area, start.saturating_add(at))?;
     }
     Ok(u32::from_le_bytes(bytes))
 }
@@ -58,7 +60,9 @@ fn pointers_to(world: &World, block: u32) -> usize {
 }
 
 /// The bit of this number.
-fn bit_of(number: u32) -> u8 {
+fn bit_of(number: u32) -> u8
+    ensures { 0 < result }
+{
     match number {
         0 => 1,
         1 => 2,
@@ -73,12 +77,12 @@ fn bit_of(number: u32) -> u8 {
 
 /// Whether the slots that aren't empty hold pointers of the world, and as many as it has.
 fn has_pointers(disk: &mut MemStation, slots: u32, world: &World) -> Result<bool, Failed> {
-    let mut count = 0;
+    let mut count: usize = 0;
     for slot in 0..world.geometry().slots {
         let first = number_at(disk, slots, slot.saturating_mul(2))?;
         let target = number_at(disk, slots, slot.saturating_mul(2).saturating_add(1))?;
         if first != 0 {
-            count += 1;
+            count = count.saturating_add(1);
             if !world.pairs().contains(&(first.saturating_sub(1), target)) {
                 return Ok(false);
             }
