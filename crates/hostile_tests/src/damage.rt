@@ -176,7 +176,7 @@ pub fn puts_line(
     Ok(is_put && status.code() == code)
 }
 
-/// Each case on a disk of its own. A disk that is damaged isn't run.
+/// Each case on a disk of its own. A disk that is damaged isn't run, and nothing is written to it.
 pub fn cases(rt: &impl Abort, alloc: Global, book: &PlaceBook) -> Result<(), Fail> {
     let saved = made(rt, alloc, book, &ALLOCATED)?;
     for (number, (damage, line)) in CASES.iter().enumerate() {
@@ -186,12 +186,10 @@ pub fn cases(rt: &impl Abort, alloc: Global, book: &PlaceBook) -> Result<(), Fai
         assert!(rt; puts_line(alloc, book, &mut disk, line)?, "{number} {line}");
         let before = disk.sent().len();
         let status = run_over(alloc, book, ("run near", ""), &mut disk)?;
-        assert_eq!(rt;
-            status.code() == 0,
-            line.starts_with("clean"),
-            "{number} {line}"
-        );
+        let is_clean = line.starts_with("clean");
+        assert_eq!(rt; status.code() == 0, is_clean, "{number} {line}");
         assert_eq!(rt; disk.sent().len(), before, "{number} {line}");
+        assert!(rt; is_clean || disk.write_calls() == 0, "{number} {line}");
     }
     Ok(())
 }
@@ -217,41 +215,55 @@ pub fn extremes(rt: &impl Abort, alloc: Global, book: &PlaceBook) -> Result<(), 
     Ok(())
 }
 
-/// A damage for each test, in the order of the tests. None of them mends another.
-const ORDERED: [(&[Harm], &str); 8] = [
-    (&[Set(1, &[0])], "not-formatted/"),
-    (&[Set(2, &[1]), Set(3, &[0])], "damaged descriptor/"),
-    (&[Set(0, &[0])], "header magic/"),
-    (&[Put(136, 8, &[9, 9])], "damaged slot 4 9 9/"),
-    (&[Put(136, 10, &[1, 1])], "damaged repeated 0 1/"),
-    (&[Set(135, &[0x0e])], "damaged primary 0/"),
-    (&[Put(136, 12, &[1, 5])], "damaged end 0 5/"),
-    (&[Put(134, 1, &[2])], "damaged count 1 2 1/"),
+/// A damage for each test, in the order of the tests, with a bit of its own. None of them mends another.
+const ORDERED: [(u32, &[Harm], &str); 8] = [
+    (1, &[Set(1, &[0])], "not-formatted/"),
+    (2, &[Set(2, &[1]), Set(3, &[0])], "damaged descriptor/"),
+    (4, &[Set(0, &[0])], "header magic/"),
+    (8, &[Put(136, 8, &[9, 9])], "damaged slot 4 9 9/"),
+    (16, &[Put(136, 10, &[1, 1])], "damaged repeated 0 1/"),
+    (32, &[Set(135, &[0x0e])], "damaged primary 0/"),
+    (64, &[Put(136, 12, &[1, 5])], "damaged end 0 5/"),
+    (128, &[Put(134, 1, &[2])], "damaged count 1 2 1/"),
 ];
 
-/// Any of these damages together: the first one is named.
+/// Does all this to a disk.
+fn do_all(alloc: Global, disk: &mut MemStation, harms: &[Harm]) -> Result<(), Fail> {
+    for harm in harms {
+        do_harm(alloc, disk, *harm)?;
+    }
+    Ok(())
+}
+
+/// Does the damages whose bits are chosen.
+fn do_chosen(alloc: Global, disk: &mut MemStation, choice: u32) -> Result<(), Fail> {
+    for (bit, harms, _) in ORDERED {
+        if choice & bit != 0 {
+            do_all(alloc, disk, harms)?;
+        }
+    }
+    Ok(())
+}
+
+/// What a check puts for the damages whose bits are chosen: the line of the first one.
+fn first_line(choice: u32) -> &'static str {
+    for (bit, _, line) in ORDERED {
+        if choice & bit != 0 {
+            return line;
+        }
+    }
+    "clean 4 4 3/"
+}
+
+/// Any of these damages together.
 pub fn together(rt: &impl Abort, alloc: Global, book: &PlaceBook) -> Result<(), Fail> {
     let saved = made(rt, alloc, book, &ALLOCATED)?;
     for choice in 0..256 {
+        let line = first_line(choice);
         let mut disk = saved.disk(NEVER)?;
         do_harm(alloc, &mut disk, SLOTS)?;
-        let mut first = "clean 4 4 3/";
-        let mut left = choice;
-        for (damages, line) in ORDERED {
-            if left % 2 == 1 {
-                for damage in damages {
-                    do_harm(alloc, &mut disk, *damage)?;
-                }
-                if first.starts_with("clean") {
-                    first = line;
-                }
-            }
-            left /= 2;
-        }
-        assert!(rt;
-            puts_line(alloc, book, &mut disk, first)?,
-            "{choice} {first}"
-        );
+        do_chosen(alloc, &mut disk, choice)?;
+        assert!(rt; puts_line(alloc, book, &mut disk, line)?, "{choice} {line}");
     }
     Ok(())
 }
