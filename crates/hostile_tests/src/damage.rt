@@ -203,7 +203,7 @@ const EXTREMES: [(Harm, &str); 2] = [
     (Set(0, &[TSDI, SK01, 1, 1, 8, 1, 4194304]), "clean 4 4 3/"),
 ];
 
-/// Each of them.
+/// Each of them, and a disk of the greatest size.
 pub fn extremes(rt: &impl Abort, alloc: Global, book: &PlaceBook) -> Result<(), Fail> {
     let saved = made(rt, alloc, book, &ALLOCATED)?;
     for (damage, line) in EXTREMES {
@@ -212,6 +212,18 @@ pub fn extremes(rt: &impl Abort, alloc: Global, book: &PlaceBook) -> Result<(), 
         do_harm(alloc, &mut disk, damage)?;
         assert!(rt; puts_line(alloc, book, &mut disk, line)?, "{line}");
     }
+    let mut largest = MemStation::new(alloc, Vec::new(alloc));
+    let texts = (
+        "fresh 1048576 8 R W near",
+        "open 1/alloc 1 0 W 1048575 2/free/",
+    );
+    let status = run_over(alloc, book, texts, &mut largest)?;
+    assert_eq!(rt; status.code(), 0);
+    assert_eq!(rt;
+        largest.sent(),
+        b"ok\nblocks 1048575 1048574\nfree 1048573\n".as_slice()
+    );
+    assert!(rt; puts_line(alloc, book, &mut largest, "clean 3 1048573 2/")?);
     Ok(())
 }
 

@@ -14,102 +14,103 @@ use std::test::Fail;
 use tsd_model::{CapList, Geometry, PlaceKind, Request, lawful};
 use tsd_serve::Status;
 
-/// A disk, and the requests that are carried out on it.
+/// How large a disk is, with one sector a block.
 #[derive(Clone, Copy)]
-pub struct Load {
-    /// The words that make the disk.
+pub struct Size {
+    /// The words that make it, but for the seed.
     format: &'static str,
 
-    /// Its size. A block has one sector.
     geometry: Geometry,
 
-    /// Each byte of its seed.
-    seed: u8,
-
-    /// The words that open it.
-    run: &'static str,
-
-    /// How free blocks are taken by these words.
-    kind: PlaceKind,
-
-    /// After how many requests it is opened again.
-    part: u32,
+    /// How one of the replies begins, so that such a run is known to come this far.
+    reply: &'static str,
 }
 
-/// The least disk.
-pub const LEAST: Load = Load {
-    format: "format 8 1 32 1 Z",
+/// The least disk. It gets full.
+pub const LEAST: Size = Size {
+    format: "format 8 1 32 1",
     geometry: Geometry {
         sectors: 1,
         blocks: 8,
         primaries: 1,
         slots: 32,
     },
-    seed: 0,
-    run: "run near",
-    kind: PlaceKind::Near,
-    part: 100,
+    reply: "no full 0 ",
 };
 
 /// Four slots alone.
-pub const FEW_SLOTS: Load = Load {
-    format: "format 12 1 4 2 RR",
+pub const FEW_SLOTS: Size = Size {
+    format: "format 12 1 4 2",
     geometry: Geometry {
         sectors: 1,
         blocks: 12,
         primaries: 2,
         slots: 4,
     },
-    seed: 0xaa,
-    run: "run low",
-    kind: PlaceKind::Low,
-    part: 100,
+    reply: "no pointers-full 4 4",
 };
 
-/// More blocks than slots.
-pub const MIDDLE: Load = Load {
-    format: "format 24 1 30 3 WW",
+/// A disk whose free blocks are often apart.
+pub const MIDDLE: Size = Size {
+    format: "format 24 1 30 3",
     geometry: Geometry {
         sectors: 1,
         blocks: 24,
         primaries: 3,
         slots: 30,
     },
-    seed: 0xbb,
-    run: "run spread",
-    kind: PlaceKind::Spread,
-    part: 100,
+    reply: "no run ",
 };
 
 /// Many pointers to few blocks.
-pub const MANY_SLOTS: Load = Load {
-    format: "format 16 1 200 1 CC",
+pub const MANY_SLOTS: Size = Size {
+    format: "format 16 1 200 1",
     geometry: Geometry {
         sectors: 1,
         blocks: 16,
         primaries: 1,
         slots: 200,
     },
-    seed: 0xcc,
-    run: "run zone",
-    kind: PlaceKind::Zone,
-    part: 100,
+    reply: "no pointer-exists",
 };
 
-/// Opened once.
-pub const ONCE: Load = Load {
-    format: "format 20 1 60 2 DD",
+/// Chains that go whole.
+pub const LARGER: Size = Size {
+    format: "format 40 1 60 2",
     geometry: Geometry {
         sectors: 1,
-        blocks: 20,
+        blocks: 40,
         primaries: 2,
         slots: 60,
     },
-    seed: 0xdd,
-    run: "run near",
-    kind: PlaceKind::Near,
-    part: 2_000,
+    reply: "gone 3",
 };
+
+/// Seeds: their spellings, and the byte of which each has 32.
+const SEEDS: [(&str, u8); 5] = [
+    ("Z", 0),
+    ("RR", 0xaa),
+    ("WW", 0xbb),
+    ("CC", 0xcc),
+    ("DD", 0xdd),
+];
+
+/// The words that open a disk, and how it takes free blocks then.
+const KINDS: [(&str, PlaceKind); 4] = [
+    ("run low", PlaceKind::Low),
+    ("run near", PlaceKind::Near),
+    ("run spread", PlaceKind::Spread),
+    ("run zone", PlaceKind::Zone),
+];
+
+/// A disk, the requests that are carried out on it, and after how many of them it is opened again.
+#[derive(Clone, Copy)]
+struct Load {
+    size: Size,
+    seed: (&'static str, u8),
+    kind: (&'static str, PlaceKind),
+    part: u32,
+}
 
 /// How many requests are carried out.
 const REQUESTS: u32 = 2_000;
@@ -117,11 +118,9 @@ const REQUESTS: u32 = 2_000;
 /// The capabilities of a disk's primary blocks, which the seed gives.
 fn caps_of(load: &Load) -> Result<CapList, Fail> {
     let mut few = CapList::new();
-    for pair in seed_caps(&[load.seed; 32])
-        .as_slice()
-        .iter()
-        .take(load.geometry.primaries as usize)
-    {
+    let all = seed_caps(&[load.seed.1; 32]);
+    let count = load.size.geometry.primaries as usize;
+    for pair in all.as_slice().iter().take(count) {
         few.push(*pair)?;
     }
     Ok(few)
@@ -130,9 +129,10 @@ fn caps_of(load: &Load) -> Result<CapList, Fail> {
 /// The plain disk as it is made.
 fn plain_disk_of(rt: &impl Abort, alloc: Global, load: &Load) -> Result<World, Fail> {
     let caps = caps_of(load)?;
-    assert!(rt; lawful(&load.geometry));
-    assert_eq!(rt; caps.len(), load.geometry.primaries as usize);
-    Ok(World::fresh(alloc, &load.geometry, &caps)?)
+    let geometry = load.size.geometry;
+    assert!(rt; lawful(&geometry));
+    assert_eq!(rt; caps.len(), geometry.primaries as usize);
+    Ok(World::fresh(alloc, &geometry, &caps)?)
 }
 
 /// The lines of some requests, and of what the plain program replies.
@@ -178,46 +178,82 @@ fn plain_part(
     };
     let mut state = (world, Sessions::none(alloc));
     if drawn.drawn() != 0 {
-        state = script.ask(rt, alloc, load.kind, state, &Request::Begin { session: 1 })?;
+        state = script.ask(
+            rt,
+            alloc,
+            load.kind.1,
+            state,
+            &Request::Begin { session: 1 },
+        )?;
     }
     for _ in 0..load.part {
         assert!(rt; drawn.drawn() < REQUESTS);
         let request = drawn.next_request();
-        state = script.ask(rt, alloc, load.kind, state, &request)?;
+        state = script.ask(rt, alloc, load.kind.1, state, &request)?;
     }
     Ok((script, state.0))
 }
 
 /// All requests through both, with the disk opened again after each part. The replies are the same, and so is the world in the end.
-pub fn alike(rt: &impl Abort, alloc: Global, book: &PlaceBook, load: &Load) -> Result<(), Fail> {
-    let format = load.format;
+/// Gives whether one of them begins as it should.
+fn alike(rt: &impl Abort, alloc: Global, book: &PlaceBook, load: &Load) -> Result<bool, Fail> {
+    let (size, seed, run) = (load.size.format, load.seed.0, load.kind.0);
+    let format = format!(in alloc; "{size} {seed}")?;
     let mut disk = MemStation::new(alloc, Vec::new(alloc));
-    assert_eq!(rt;
-        run_over(alloc, book, (format, ""), &mut disk)?,
-        Status::Done
-    );
+    let made = run_over(alloc, book, (format.as_str(), ""), &mut disk)?;
+    assert_eq!(rt; made, Status::Done, "{size} {seed}");
     let mut world = plain_disk_of(rt, alloc, load)?;
-    assert!(rt; lawful(&load.geometry));
-    let mut drawn = LoadGen::new(&[load.seed; 32], &load.geometry);
+    assert!(rt; lawful(&load.size.geometry));
+    let mut drawn = LoadGen::new(&[load.seed.1; 32], &load.size.geometry);
+    let mut is_met = false;
     for part in 0..REQUESTS {
         if drawn.drawn() == REQUESTS {
             break;
         }
         let (script, next) = plain_part(rt, alloc, load, &mut drawn, world)?;
         world = next;
+        is_met = is_met || has_reply(script.replied.as_slice(), load.size.reply);
         let before = disk.sent().len();
-        let status = run_bytes(
-            alloc,
-            book,
-            (load.run, script.asked),
-            1_000,
-            NEVER,
-            &mut disk,
-        )?;
-        assert_eq!(rt; status, Status::Done, "{format} {part}");
+        let status = run_bytes(alloc, book, (run, script.asked), 1_000, NEVER, &mut disk)?;
+        assert_eq!(rt; status, Status::Done, "{size} {seed} {run} {part}");
         let replied = Some(script.replied.as_slice());
-        assert_eq!(rt; disk.sent().get(before..), replied, "{format} {part}");
+        assert_eq!(rt;
+            disk.sent().get(before..),
+            replied,
+            "{size} {seed} {run} {part}"
+        );
     }
-    assert!(rt; is_world(&mut disk, &world)?, "{format}");
+    assert!(rt; is_world(&mut disk, &world)?, "{size} {seed} {run}");
+    Ok(is_met)
+}
+
+/// Whether one of these lines begins so.
+fn has_reply(lines: &[u8], start: &str) -> bool {
+    lines
+        .split(|byte| *byte == b'\n')
+        .any(|line| line.starts_with(start.as_bytes()))
+}
+
+/// Runs of each seed and each kind over disks of this size, opened again after so many requests.
+pub fn all_alike(
+    rt: &impl Abort,
+    alloc: Global,
+    book: &PlaceBook,
+    size: Size,
+    part: u32,
+) -> Result<(), Fail> {
+    let mut is_met = false;
+    for seed in SEEDS {
+        for kind in KINDS {
+            let load = Load {
+                size,
+                seed,
+                kind,
+                part,
+            };
+            is_met = alike(rt, alloc, book, &load)? || is_met;
+        }
+    }
+    assert!(rt; is_met);
     Ok(())
 }

@@ -19,7 +19,7 @@ const PICKS: [Pick; 5] = [
     Pick::Torn(255),
 ];
 
-/// A run that is stopped at each of its calls with each pick. Each opening of what is left is stopped too.
+/// A run that is stopped at each of its calls with each pick. Each opening of what is left is stopped with each pick too.
 pub fn stopped_twice(
     rt: &impl Abort,
     alloc: Global,
@@ -27,13 +27,14 @@ pub fn stopped_twice(
     row: &Row,
 ) -> Result<(), Fail> {
     for pick in PICKS {
-        stop_run(rt, alloc, book, row, pick)?;
+        stopped_by(rt, alloc, book, row, pick)?;
     }
     Ok(())
 }
 
-/// A run that is stopped at each call from the first one until it is done. What two stops left alike is opened once.
-fn stop_run(
+/// A run that is stopped with this pick at each call from the first one until it is done. Each opening of what is left is stopped
+/// with each pick. What two stops left alike is opened once.
+pub fn stopped_by(
     rt: &impl Abort,
     alloc: Global,
     book: &PlaceBook,
@@ -48,7 +49,9 @@ fn stop_run(
         let sayings = allowed(status, count_lines(fuse.sent()));
         let left = Saved::of(alloc, &mut fuse.into_image(), SMALL_END)?;
         if !is_last(&last, &left, sayings) {
-            stop_opening(rt, alloc, book, row, sayings, &left, pick)?;
+            for again in PICKS {
+                stop_opening(rt, alloc, book, row, sayings, &left, again)?;
+            }
         }
         if status == Status::Done {
             return Ok(());

@@ -7,12 +7,14 @@ ghost use Rattle.tsd_model.specs.declared.requests.PlaceKind.TheVariants.{Low, N
 use crate::cuts::{small_cuts, wide_cuts};
 use crate::damage::{cases, extremes, more_bits, rubbish, together};
 use crate::failures::{failing_calls, failing_takes};
-use crate::long_runs::{FEW_SLOTS, LEAST, Load, MANY_SLOTS, MIDDLE, ONCE, alike};
+use crate::long_runs::{FEW_SLOTS, LARGER, LEAST, MANY_SLOTS, MIDDLE, Size, all_alike};
 use crate::malformed::{bodies, lines, long_bodies, long_lines};
-use crate::openings::stopped_twice;
+use crate::openings::{stopped_by, stopped_twice};
 use crate::rings::{behind_a_closed_gate, descriptors, full_rings};
 use crate::stops::all_stops;
-use crate::table::{BROAD, CHAIN, CYCLE, REUSED, REVOKED, Row, UPGRADED};
+use crate::table::{
+    BROAD, CHAIN, CYCLE, NINE_WRITES, REUSED, REVOKED, Row, TAKEN, UPGRADED, WRITTEN,
+};
 use image_device::Pick;
 use place_policy::{PlaceBook, Placement, ZONE_TURNS, low_rank, near_rank, spread_rank, zone_rank};
 use std::alloc::Global;
@@ -33,7 +35,8 @@ enum Part {
     FailingTakes,
     Stops(Pick),
     StoppedTwice(Row),
-    LongRun(Load),
+    StoppedBy(Pick),
+    LongRuns(Size, u32),
 }
 
 #[test]
@@ -117,8 +120,28 @@ fn capabilities_set_and_stopped_twice(rt: HostRuntime) -> Result<(), Fail> {
 }
 
 #[test]
-fn a_block_with_many_pointers_stopped_twice(rt: HostRuntime) -> Result<(), Fail> {
-    over_places(&rt, rt.alloc(), Part::StoppedTwice(BROAD))
+fn many_pointers_stopped_twice_that_leave_old_sectors(rt: HostRuntime) -> Result<(), Fail> {
+    over_places(&rt, rt.alloc(), Part::StoppedBy(Pick::Old))
+}
+
+#[test]
+fn many_pointers_stopped_twice_that_leave_new_sectors(rt: HostRuntime) -> Result<(), Fail> {
+    over_places(&rt, rt.alloc(), Part::StoppedBy(Pick::New))
+}
+
+#[test]
+fn many_pointers_stopped_twice_that_leave_zeros(rt: HostRuntime) -> Result<(), Fail> {
+    over_places(&rt, rt.alloc(), Part::StoppedBy(Pick::Torn(0)))
+}
+
+#[test]
+fn many_pointers_stopped_twice_that_leave_ones(rt: HostRuntime) -> Result<(), Fail> {
+    over_places(&rt, rt.alloc(), Part::StoppedBy(Pick::Torn(1)))
+}
+
+#[test]
+fn many_pointers_stopped_twice_that_leave_greatest_bytes(rt: HostRuntime) -> Result<(), Fail> {
+    over_places(&rt, rt.alloc(), Part::StoppedBy(Pick::Torn(255)))
 }
 
 #[test]
@@ -132,28 +155,48 @@ fn an_upgrade_stopped_twice(rt: HostRuntime) -> Result<(), Fail> {
 }
 
 #[test]
-fn a_long_run_over_the_least_disk(rt: HostRuntime) -> Result<(), Fail> {
-    over_places(&rt, rt.alloc(), Part::LongRun(LEAST))
+fn a_write_stopped_twice(rt: HostRuntime) -> Result<(), Fail> {
+    over_places(&rt, rt.alloc(), Part::StoppedTwice(WRITTEN))
 }
 
 #[test]
-fn a_long_run_with_few_slots(rt: HostRuntime) -> Result<(), Fail> {
-    over_places(&rt, rt.alloc(), Part::LongRun(FEW_SLOTS))
+fn blocks_taken_and_stopped_twice(rt: HostRuntime) -> Result<(), Fail> {
+    over_places(&rt, rt.alloc(), Part::StoppedTwice(TAKEN))
 }
 
 #[test]
-fn a_long_run_over_a_middle_disk(rt: HostRuntime) -> Result<(), Fail> {
-    over_places(&rt, rt.alloc(), Part::LongRun(MIDDLE))
+fn nine_writes_stopped_twice(rt: HostRuntime) -> Result<(), Fail> {
+    over_places(&rt, rt.alloc(), Part::StoppedTwice(NINE_WRITES))
 }
 
 #[test]
-fn a_long_run_with_many_slots(rt: HostRuntime) -> Result<(), Fail> {
-    over_places(&rt, rt.alloc(), Part::LongRun(MANY_SLOTS))
+fn long_runs_over_the_least_disk(rt: HostRuntime) -> Result<(), Fail> {
+    over_places(&rt, rt.alloc(), Part::LongRuns(LEAST, 100))
 }
 
 #[test]
-fn a_long_run_that_is_opened_once(rt: HostRuntime) -> Result<(), Fail> {
-    over_places(&rt, rt.alloc(), Part::LongRun(ONCE))
+fn long_runs_with_few_slots(rt: HostRuntime) -> Result<(), Fail> {
+    over_places(&rt, rt.alloc(), Part::LongRuns(FEW_SLOTS, 100))
+}
+
+#[test]
+fn long_runs_over_a_middle_disk(rt: HostRuntime) -> Result<(), Fail> {
+    over_places(&rt, rt.alloc(), Part::LongRuns(MIDDLE, 100))
+}
+
+#[test]
+fn long_runs_with_many_slots(rt: HostRuntime) -> Result<(), Fail> {
+    over_places(&rt, rt.alloc(), Part::LongRuns(MANY_SLOTS, 100))
+}
+
+#[test]
+fn long_runs_over_a_larger_disk(rt: HostRuntime) -> Result<(), Fail> {
+    over_places(&rt, rt.alloc(), Part::LongRuns(LARGER, 100))
+}
+
+#[test]
+fn long_runs_that_are_opened_once(rt: HostRuntime) -> Result<(), Fail> {
+    over_places(&rt, rt.alloc(), Part::LongRuns(LARGER, 2000))
 }
 
 /// One part, over the four placements.
@@ -222,6 +265,7 @@ fn run_part(rt: &impl Abort, alloc: Global, book: &PlaceBook, part: Part) -> Res
         Part::FailingTakes => failing_takes(rt, alloc, book),
         Part::Stops(pick) => all_stops(rt, alloc, book, pick),
         Part::StoppedTwice(row) => stopped_twice(rt, alloc, book, &row),
-        Part::LongRun(load) => alike(rt, alloc, book, &load),
+        Part::StoppedBy(pick) => stopped_by(rt, alloc, book, &BROAD, pick),
+        Part::LongRuns(size, part) => all_alike(rt, alloc, book, size, part),
     }
 }
