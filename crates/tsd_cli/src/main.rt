@@ -11,6 +11,8 @@ mod ahead;
 mod file_station;
 mod help;
 mod input;
+#[cfg(test)]
+mod input_tests;
 mod run;
 #[cfg(test)]
 mod station_tests;
