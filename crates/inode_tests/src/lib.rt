@@ -1,0 +1,19 @@
+//! Tests of the calls of the file system of inodes over the plain disk: lines of the shell, each with the answer that it is to
+//! have, and worlds laid by hand.
+//!
+//! They use public calls alone and show what no clause says. They stand in a crate of their own, so that a change of a test
+//! proves no other crate again. Nothing stands on it, and it promises nothing.
+#![tactic(auto)]
+
+#[cfg(test)]
+mod calls;
+#[cfg(test)]
+mod disks;
+#[cfg(test)]
+mod files;
+#[cfg(test)]
+mod laying;
+#[cfg(test)]
+mod shell;
+#[cfg(test)]
+mod worlds;
