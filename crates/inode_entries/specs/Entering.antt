@@ -1,0 +1,92 @@
+-- A file that was made is entered at the place of a path.
+use Rattle.std.specs.Prelude.{◌≡◌, ℕ, suc, ◌+◌, ◌<◌, ◌⊎◌, List, [], ◌∷◌, ◌++◌, length, Some, None, IsTrue}
+use Rattle.tsd_model.specs.Geometry.{block_len}
+use Rattle.tsd_model.specs.World.{World, is_live, is_free, has_number}
+use Rattle.tsd_model.specs.Valid.{IsValid}
+use Rattle.fs_trees.specs.Names.{Name, Path, path_max, is_path}
+use Rattle.fs_trees.specs.Tree.{a_file, at, is_there, with_at}
+use Rattle.fs_trees.specs.Inode.{regular, entries_room, block_named}
+use Rattle.fs_trees.specs.InodeTree.{FileInode, inode_at, node_at, inodes_under, file_bytes, inode_tree}
+use Rattle.fs_trees.specs.Layouts.{named_at, IsTidy}
+use Rattle.fs_trees.specs.Outside.{OthersStay}
+use Rattle.fs_trees.specs.Refusals.{directory_of}
+use Rattle.fs_trees.specs.declared.ask.ShellKind.TheVariants as kind
+use Rattle.inode_layout.specs.declared.inode.Inode.{Inode}
+use Rattle.inode_layout.specs.Block.{inode_of, block_len_of}
+use Rattle.inode_layout.specs.Said.{is_directory, entries_said}
+use Rattle.inode_walks.specs.declared.finding.Place.{Place}
+use Rattle.inode_files.specs.Making.{Making}
+
+-- ---- where it is entered
+
+-- The place of a path, as it was read from the blocks of a world: its directory, its name, and what stands there.
+pub record IsEntry (root : ℕ) (w : World) (path : Path) (place : Place) : Type 0 where
+  -- so many names may follow those of the directory
+  pub more : ℕ
+  pub levels : more + length (directory_of path) ≡ path_max
+  pub node : at (inodes_under w root) (directory_of path) ≡ node_at w (suc more) place.directory.block
+  pub there : IsTrue (is_there (node_at w (suc more) place.directory.block))
+  pub says : inode_at w place.directory.block ≡ Some (inode_of place.directory.inode)
+  pub whole : block_len_of place.directory.inode ≡ block_len w.geometry
+  pub dir : IsTrue (is_directory (inode_of place.directory.inode))
+  pub name : path ≡ directory_of path ++ place.name.now ∷ []
+  pub old : place.old ≡ block_named place.name.now (entries_said (inode_of place.directory.inode))
+
+-- a directory has room for an entry of this name, if it is a new one
+abbrev pub HasRoom : Inode → Name → Type 0
+HasRoom directory n = block_named n (entries_said (inode_of directory)) ≡ None → length (entries_said (inode_of directory)) < entries_room (block_len_of directory)
+
+-- the place of a path in a valid world that has a tree under the root, with room for an entry
+pub record Grounds (root : ℕ) (first : World) (path : Path) (place : Place) : Type 0 where
+  pub valid : IsValid first
+  pub primary : root < first.geometry.primaries
+  pub there : IsTrue (is_there (inode_tree first root))
+  pub path_is : IsTrue (is_path path)
+  pub entry : IsEntry root first path place
+  pub room : HasRoom place.directory.inode place.name.now
+
+-- ---- what is entered
+
+-- some file of the tree has the block
+abbrev pub IsOfFile : ℕ → World → ℕ → Type 0
+IsOfFile root w b = (path : Path) × (file : FileInode) × (at (inodes_under w root) path ≡ a_file file) × IsTrue (has_number file.blocks b)
+
+abbrev pub AreOfFiles : ℕ → World → List ℕ → Type 0
+AreOfFiles root w blocks = (b : ℕ) → IsTrue (has_number blocks b) → IsOfFile root w b
+
+-- In block i stands the inode of a file of these bytes, which no directory names yet. What it shares are blocks of files.
+pub record IsMade (root : ℕ) (first : World) (d i : ℕ) (bytes : List ℕ) (w : World) : Type 0 where
+  pub size : ℕ
+  pub shared : List ℕ
+  pub fresh : List ℕ
+  pub making : Making root first d i shared fresh w
+  pub says : inode_at w i ≡ Some (regular size (shared ++ fresh))
+  pub bytes_are : file_bytes w (record { block = i; size = size; blocks = shared ++ fresh }) ≡ bytes
+  pub of_files : AreOfFiles root first shared
+
+-- it may be entered at the place, whatever has gone before
+abbrev pub MayEnter : ℕ → Place → ℕ → World → Type 0
+MayEnter root place i w = (first : World) × (path : Path) × (bytes : List ℕ) × Grounds root first path place × IsMade root first place.directory.block i bytes w
+
+-- ---- what that leaves
+
+-- the tree has the file at its path, and all else is as it was
+pub record HasFile (root : ℕ) (first : World) (path : Path) (bytes : List ℕ) (w : World) : Type 0 where
+  pub tree : inode_tree w root ≡ with_at path (a_file bytes) (inode_tree first root)
+  pub tidy : IsTidy kind.Inode first root → IsTidy kind.Inode w root
+  pub others : OthersStay root first w
+  pub taken : (b : ℕ) → IsTrue (is_free first b) → IsTrue (is_live w b) → IsTrue (has_number (named_at kind.Inode w root).blocks b)
+
+-- the tree before or the tree with the file, in a valid world where all else is as it was
+pub record HasEither (root : ℕ) (first : World) (path : Path) (bytes : List ℕ) (w : World) : Type 0 where
+  pub tree : (inode_tree w root ≡ inode_tree first root) ⊎ (inode_tree w root ≡ with_at path (a_file bytes) (inode_tree first root))
+  pub valid : IsValid w
+  pub geometry : w.geometry ≡ first.geometry
+  pub others : OthersStay root first w
+
+-- whatever has gone before the file stood made in this world
+abbrev pub Enters : ℕ → Place → ℕ → World → World → Type 0
+Enters root place i made w = (first : World) (path : Path) (bytes : List ℕ) → Grounds root first path place → IsMade root first place.directory.block i bytes made → HasFile root first path bytes w
+
+abbrev pub EntersOrNot : ℕ → Place → ℕ → World → World → Type 0
+EntersOrNot root place i made w = (first : World) (path : Path) (bytes : List ℕ) → Grounds root first path place → IsMade root first place.directory.block i bytes made → HasEither root first path bytes w

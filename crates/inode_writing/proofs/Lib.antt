@@ -1,0 +1,12 @@
+pub mod AppendLaws
+pub mod NeedLaws
+pub mod GrownLaws
+pub mod SharedLaws
+pub mod SameLaws
+pub mod LastLaws
+pub mod PlacedLaws
+pub mod StillLaws
+pub mod EndLaws
+pub mod GrowLaws
+pub mod PutLaws
+pub mod CopyLaws
