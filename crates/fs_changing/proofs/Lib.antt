@@ -1,0 +1,14 @@
+pub mod RunLaws
+pub mod AskLaws
+pub mod RoomLaws
+pub mod NewLaws
+pub mod NeedLaws
+pub mod StepLaws
+pub mod DropLaws
+pub mod TrimLaws
+pub mod GoingLaws
+pub mod TargetLaws
+pub mod TidyLaws
+pub mod WriteLaws
+pub mod MakeLaws
+pub mod MountLaws

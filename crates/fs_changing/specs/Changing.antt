@@ -1,0 +1,67 @@
+-- What holds of each call that may change a tree, of either layout, whatever it answers.
+use Rattle.std.specs.Prelude.{◌≡◌, ◌≤◌, ℕ, true, false, List, [], ◌∷◌, length, Option, Some, Result, IfErr}
+use Rattle.image_device.specs.Counts.{Rose}
+use Rattle.tsd_model.specs.Geometry.{block_len}
+use Rattle.tsd_model.specs.World.{World, free_count}
+use Rattle.fs_trees.specs.Names.{Path}
+use Rattle.fs_trees.specs.Tree.{Tree}
+use Rattle.fs_trees.specs.Layouts.{tree_at, named_at, IsTidy}
+use Rattle.fs_trees.specs.Needs.{need_of}
+use Rattle.fs_trees.specs.Refusals.{lost_on_the_way, refusal}
+use Rattle.fs_trees.specs.Step.{empty_tree}
+use Rattle.fs_trees.specs.declared.ask.ShellAsk.{ShellAsk}
+use Rattle.fs_trees.specs.declared.ask.ShellKind.{ShellKind}
+use Rattle.fs_trees.specs.declared.refusal.FsRefusal.{FsRefusal}
+use Rattle.fs_trees.specs.declared.refusal.FsRefusal.TheVariants as no
+use Rattle.fs_port.specs.View.{View}
+use Rattle.fs_port.specs.Calls.{Counts, IsValidNow, LeavesOnly, Stays}
+use Rattle.fs_port.specs.Files.{FilesView, IsReady, IsEitherTree, LeavesWorld, OnAnswer, tree_on}
+use Rattle.fs_asks.specs.declared.client.Client.{Client}
+use Rattle.fs_steps.specs.Steps.{written}
+use Rattle.fs_changing.specs.Trimming.{root_alone}
+
+-- the file system of a client, of this layout, where a tree is mounted
+abbrev pub files_by : ShellKind → Client → FilesView
+files_by kind c = record { kind = kind; root = c.root; cap = c.cap; session = c.session; mounted = true }
+
+-- a call that may change the tree, as this ask does: what holds whatever it answers
+pub record Changes {X : Type 0} (told : Type 0) (f : FilesView) (old new : View) (a : ShellAsk) (result : Result X FsRefusal) : Type 0 where
+  pub world : told → OnAnswer result (LeavesWorld f old new)
+  pub crash : told → LeavesOnly old new (IsEitherTree f old a)
+  pub valid : told → OnAnswer result (IsValidNow new)
+  pub stays : OnAnswer result (Stays old new)
+  pub counts : Counts old new
+  pub unspent : OnAnswer result (new.spent ≡ false)
+  pub faultless : OnAnswer result (new.faults ≡ old.faults)
+  pub cause : IfErr result (λ e. e ≡ no.Device → Rose old.faults new.faults)
+
+-- ---- making
+
+-- the tree is empty, and nothing but the root is named
+pub record IsEmptied (kind : ShellKind) (w : World) (root : ℕ) : Type 0 where
+  pub tree : tree_at kind w root ≡ empty_tree
+  pub named : named_at kind w root ≡ root_alone root
+
+-- before the root is written so that its tree is empty
+pub record MayMake (told : Type 0) (kind : ShellKind) (c : Client) (v : View) (bytes : List ℕ) : Type 0 where
+  pub ready : IsReady (files_by kind c) v
+  pub valid : told → IsValidNow v
+  pub fits : told → length bytes ≤ block_len v.world.geometry
+  pub empty : told → IsEmptied kind (written v.world c.root bytes) c.root
+
+-- the tree is empty and the world tidy, and what the root didn't reach is as it was
+pub record IsMade (f : FilesView) (old new : View) : Type 0 where
+  pub tree : tree_at f.kind new.world f.root ≡ empty_tree
+  pub tidy : IsTidy f.kind new.world f.root
+  pub left : LeavesWorld f old new
+
+-- ---- asking
+
+-- the refusal that applies first to an ask there
+abbrev pub refused_on : FilesView → View → ShellAsk → Option FsRefusal
+refused_on f v a = refusal f.kind v.world.geometry (tree_on f v) (free_count v.world) (length v.world.pairs) (need_of f.kind v.world f.root (tree_on f v) a) a
+
+-- why a path leads to no entry: `/` is none
+abbrev pub no_entry_of : Tree → Path → FsRefusal → Option FsRefusal
+no_entry_of t [] at_root = Some at_root
+no_entry_of t (n ∷ ns) at_root = lost_on_the_way t (n ∷ ns)
