@@ -31,6 +31,7 @@ use Rattle.inode_entries.specs.Beginning.{Began, IsBack, AsideOr}
 use Rattle.inode_files.proofs.NewLaws.{chosen_free, chosen_enough}
 use Rattle.inode_files.proofs.MakingLaws.{making_begins}
 use Rattle.inode_files.proofs.FillLaws.{aside_now, took_some}
+use Rattle.inode_files.proofs.ShareLaws.{fault_before}
 use Rattle.inode_entries.proofs.BackLaws.{taken_back}
 use Rattle.inode_entries.proofs.NeedLaws.{free_count_new}
 
@@ -106,14 +107,4 @@ module _ (root d i : ℕ) (w : World) where
 
 -- a refusal as of another time is no fault
 pub no_fault : (e : FsRefusal) (made : ℕ) → e ≢ no.Device → refusal_before e made ≢ no.Device
-no_fault no.NotThisFs made ne h = cc
-no_fault no.NotDir made ne h = cc
-no_fault no.NoEntry made ne h = cc
-no_fault no.IsDir made ne h = cc
-no_fault no.Exists made ne h = cc
-no_fault no.NotEmpty made ne h = cc
-no_fault no.DirFull made ne h = cc
-no_fault no.TooBig made ne h = cc
-no_fault (no.Full free wanted) made ne h = cc
-no_fault (no.PointersFull held most) made ne h = cc
-no_fault no.Device made ne h = ne h
+no_fault e made ne h = ne (fault_before e made h)

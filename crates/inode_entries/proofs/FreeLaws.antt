@@ -1,11 +1,9 @@
 -- The free blocks are counted, which changes nothing.
-use Rattle.std.proofs.Common.{◌≡◌, ℕ, Bool, true, false, refl, sym, ◌∙◌, ap, subst, inl, inr}
+use Rattle.std.proofs.Common.{◌≡◌, ℕ, Bool, true, false, refl, sym, ◌∙◌, ap, subst}
 use Rattle.tsd_model.specs.World.{is_live}
-use Rattle.tsd_model.specs.Sessions.{level_le, level_from, Fits}
+use Rattle.tsd_model.specs.Sessions.{Fits}
 use Rattle.tsd_model.specs.Valid.{IsValid}
 use Rattle.tsd_model.specs.Run.{answer}
-use Rattle.tsd_model.specs.declared.requests.Level.{Level}
-use Rattle.tsd_model.specs.declared.requests.Level.TheVariants as level
 use Rattle.tsd_model.specs.declared.requests.Request.TheVariants as ask
 use Rattle.tsd_model.specs.declared.replies.Reply.TheVariants as reply
 use Rattle.disk_laws.proofs.RunLaws.{answer_valid, answer_fits}
@@ -14,18 +12,7 @@ use Rattle.fs_laws.proofs.WayLaws.{ways_stay}
 use Rattle.fs_port.specs.View.{View, state_of}
 use Rattle.fs_port.specs.Calls.{IsCarriedOut, IsValidNow}
 use Rattle.fs_asks.specs.May.{Looked}
-
--- what is held for writing is live
-held_live : (v : View) → IsValidNow v → (s a : ℕ) → HoldsWrite (state_of v) s a → is_live v.world a ≡ true
-held_live v now s a held = elim (now.fits.live s held.0 a) [
-  | inl bare ↦ absurd (no_write (level_from v.sessions s held.0 a) bare held.2)
-  | inr lives ↦ lives
-]
-  where
-    no_write : (l : Level) → l ≡ level.Bare → level_le level.Write l ≡ true → ⊥
-    no_write level.Bare e h = cc
-    no_write level.Read e h = cc
-    no_write level.Write e h = cc
+use Rattle.inode_files.proofs.FillLaws.{held_live}
 
 pub free_same : (v : View) (want : Bool) → (answer v.kind (state_of v) ask.GetFree want).state.world ≡ v.world
 free_same v true = refl

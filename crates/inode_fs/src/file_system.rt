@@ -1,0 +1,178 @@
+//! The file system as one value.
+
+ghost use Rattle.std.specs.Prelude.{◌≡◌, false, IfOk, IfErr, IsTrue};
+ghost use Rattle.image_device.specs.Counts.{Rose};
+ghost use Rattle.fs_trees.specs.Names.{is_path};
+ghost use Rattle.fs_trees.specs.Answer.{done};
+ghost use Rattle.fs_trees.specs.declared.ask.ShellAsk.TheVariants as ask;
+ghost use Rattle.fs_trees.specs.declared.refusal.FsRefusal.TheVariants as no;
+ghost use Rattle.fs_port.specs.Calls.{Counts, IsValidNow, LeavesOnly, Stays};
+ghost use Rattle.fs_port.specs.Files.{Answers, HasTree, IsEitherTree, IsReady, LeavesWorld, OnAnswer};
+
+use fs_asks::Client;
+use fs_port::{Blocks, Files};
+use fs_trees::{FsRefusal, Name, Path};
+use inode_mount::Marks;
+use std::alloc::Global;
+use tsd_model::{Cap, Data, NoMemory};
+
+/// A file system of inodes under a root. It knows no more of the tree than whether one is mounted.
+#[derive(Drop)]
+pub struct InodeFs {
+    client: Client,
+    mounted: bool,
+    marks: Marks,
+}
+
+impl InodeFs {
+    ghost use Rattle.inode_fs.specs.View.{new_view, inode_view};
+
+    /// A file system under a root, for a session that shows this capability there; nothing is mounted. Its room is for any disk.
+    pub fn new(alloc: Global, root: u32, cap: &Cap, session: u32) -> Result<InodeFs, NoMemory>
+        ensures { IfOk result (λ f. inode_view f ≡ new_view root cap.now session) }
+    {
+        let marks = Marks::new(alloc)?;
+        Ok(InodeFs {
+            client: Client {
+                root,
+                cap: *cap,
+                session,
+            },
+            mounted: false,
+            marks,
+        })
+    }
+
+    /// Makes a new file of the bytes of another, at a path where nothing stands. The two change apart afterwards.
+    pub fn copy<K: Blocks>(
+        &mut self,
+        disk: &mut K,
+        path: &Path,
+        new: &Path,
+    ) -> Result<(), FsRefusal>
+        requires ready { IsReady (inode_view self.old) (K.view disk.old) }
+        requires valid { K.told → IsValidNow (K.view disk.old) }
+        requires named { IsTrue (is_path path.now) }
+        requires new_named { IsTrue (is_path new.now) }
+        requires tree { K.told → HasTree (inode_view self.old) (K.view disk.old) }
+        ensures answer { K.told → Answers (inode_view self.old) (K.view disk.old) (K.view disk.new) (ask.Copy path.now new.now) result (λ _ answer. answer ≡ done) }
+        ensures world { K.told → OnAnswer result (LeavesWorld (inode_view self.old) (K.view disk.old) (K.view disk.new)) }
+        ensures crash { K.told → LeavesOnly (K.view disk.old) (K.view disk.new) (IsEitherTree (inode_view self.old) (K.view disk.old) (ask.Copy path.now new.now)) }
+        ensures valid { K.told → OnAnswer result (IsValidNow (K.view disk.new)) }
+        ensures stays { OnAnswer result (Stays (K.view disk.old) (K.view disk.new)) }
+        ensures counts { Counts (K.view disk.old) (K.view disk.new) }
+        ensures same { inode_view self.new ≡ inode_view self.old }
+        ensures unspent { OnAnswer result ((K.view disk.new).spent ≡ false) }
+        ensures faultless { OnAnswer result ((K.view disk.new).faults ≡ (K.view disk.old).faults) }
+        ensures cause { IfErr result (λ e. e ≡ no.Device → Rose (K.view disk.old).faults (K.view disk.new).faults) }
+    {
+        if self.mounted {
+            inode_writing::copy(&self.client, disk, path, new)
+        } else {
+            Err(FsRefusal::NotThisFs)
+        }
+    }
+}
+
+impl Files for InodeFs {
+    ghost use Rattle.inode_fs.specs.View.{inode_view};
+
+    ghost view = { inode_view };
+
+    fn has_dirs(&self) -> bool {
+        true
+    }
+
+    fn make<K: Blocks>(&mut self, disk: &mut K) -> Result<(), FsRefusal> {
+        match inode_mounting::make(&self.client, disk) {
+            Ok(()) => {
+                self.mounted = true;
+                Ok(())
+            }
+            Err(refusal) => Err(refusal),
+        }
+    }
+
+    fn mount<K: Blocks>(&mut self, disk: &mut K) -> Result<(), FsRefusal> {
+        self.mounted = false;
+        match inode_mount::mount(&self.client, &mut self.marks, disk) {
+            Ok(()) => {
+                self.mounted = true;
+                Ok(())
+            }
+            Err(refusal) => Err(refusal),
+        }
+    }
+
+    fn put<K: Blocks>(&mut self, disk: &mut K, path: &Path, bytes: &Data) -> Result<(), FsRefusal> {
+        if self.mounted {
+            inode_writing::put(&self.client, disk, path, bytes)
+        } else {
+            Err(FsRefusal::NotThisFs)
+        }
+    }
+
+    fn make_dir<K: Blocks>(&mut self, disk: &mut K, path: &Path) -> Result<(), FsRefusal> {
+        if self.mounted {
+            inode_changes::make_dir(&self.client, disk, path)
+        } else {
+            Err(FsRefusal::NotThisFs)
+        }
+    }
+
+    fn append<K: Blocks>(
+        &mut self,
+        disk: &mut K,
+        path: &Path,
+        bytes: &Data,
+    ) -> Result<(), FsRefusal> {
+        if self.mounted {
+            inode_writing::append(&self.client, disk, path, bytes)
+        } else {
+            Err(FsRefusal::NotThisFs)
+        }
+    }
+
+    fn remove<K: Blocks>(&mut self, disk: &mut K, path: &Path) -> Result<(), FsRefusal> {
+        if self.mounted {
+            inode_changes::remove(&self.client, disk, path)
+        } else {
+            Err(FsRefusal::NotThisFs)
+        }
+    }
+
+    fn size<K: Blocks>(&mut self, disk: &mut K, path: &Path) -> Result<u64, FsRefusal> {
+        if self.mounted {
+            inode_walks::size(&self.client, disk, path)
+        } else {
+            Err(FsRefusal::NotThisFs)
+        }
+    }
+
+    fn read_part<K: Blocks>(
+        &mut self,
+        disk: &mut K,
+        path: &Path,
+        start: u64,
+        into: &mut Data,
+    ) -> Result<(), FsRefusal> {
+        if self.mounted {
+            inode_walks::read_part(&self.client, disk, path, start, into)
+        } else {
+            Err(FsRefusal::NotThisFs)
+        }
+    }
+
+    fn name_after<K: Blocks>(
+        &mut self,
+        disk: &mut K,
+        path: &Path,
+        after: &Name,
+    ) -> Result<Option<Name>, FsRefusal> {
+        if self.mounted {
+            inode_walks::name_after(&self.client, disk, path, after)
+        } else {
+            Err(FsRefusal::NotThisFs)
+        }
+    }
+}
