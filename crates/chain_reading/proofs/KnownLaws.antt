@@ -302,10 +302,17 @@ module _ (told : Type 0) (c : Client) (old new : View) (t : told) (may : MayAsk 
     a_file_there =
         let known = is_known told c old t may sound in
         let taken = found known.chains.directory known.has.listing.entries known.ahead in
+        let here = entry_file c old new known seen n page place first taken in
         record {
           file = (entry_file c old new known seen n page place first taken).0;
           ahead = file_ahead c old new known seen n page place first taken stays (root_may told c old t may sound);
           there = ap (λ w. at (chain_tree w c.root) (n ∷ [])) seen.world ∙ (ap (λ x. at x (n ∷ [])) (tree_known c old known) ∙ taken_name c old new known seen n page place first taken);
+          chains = known.chains;
+          under = ap (λ w. chains_under w c.root) seen.world ∙ known.under;
+          front = here.1;
+          back = here.2;
+          among = here.3;
+          named = ap (λ m. m ∷ []) (sym (here.4.name ∙ taken.entry.name));
         }
 
 -- `/` is a directory

@@ -50,7 +50,7 @@ pub record IsLooking (c : Client) (now : View) (len : ℕ) (ls : List Link) (ps 
   pub entries : AreEntries len before qs
   pub all : AreEntries len ls ps
 
-pub look_starts : (c : Client) (v : View) (len : ℕ) (ls : List Link) (ps : List Placed) → len ≡ block_len v.world.geometry → IsDirectoryAhead c v ls ps → IsLooking c v len ls ps [] 0 c.root
+abbrev pub look_starts : (c : Client) (v : View) (len : ℕ) (ls : List Link) (ps : List Placed) → len ≡ block_len v.world.geometry → IsDirectoryAhead c v ls ps → IsLooking c v len ls ps [] 0 c.root
 look_starts c v len ls ps is ahead = record {
   before = [];
   walked = walk_starts c v c.root ls ahead.ahead;
@@ -77,10 +77,10 @@ module _ (c : Client) (now : View) (len : ℕ) (ls : List Link) (ps qs : List Pl
           ∙ (ap (λ n. is_some (entries_of n k.cluster)) (sym whole) ∙ ap is_some split.4.2)
 
   module _ (cl : Cluster) (es : List Entry) (at : cluster_at now.world b ≡ Some cl) (own : entries_of len cl ≡ Some es) where
-    more : AreEntries len (looking.before ++ link_of b cl ∷ []) (qs ++ placed b es)
+    pub more : AreEntries len (looking.before ++ link_of b cl ∷ []) (qs ++ placed b es)
     more = entries-append len looking.before (link_of b cl ∷ []) qs (placed b es) looking.entries (one_cluster len b cl es own)
 
-    pub look_on : (new : View) (d : ℕ) → cl.next ≡ Some d → Looked now new → Stays now new → HoldsWrite (state_of new) c.session b → IsLooking c new len ls ps (qs ++ placed b es) (i + 1) d
+    abbrev pub look_on : (new : View) (d : ℕ) → cl.next ≡ Some d → Looked now new → Stays now new → HoldsWrite (state_of new) c.session b → IsLooking c new len ls ps (qs ++ placed b es) (i + 1) d
     look_on new d next seen stays held = record {
       before = looking.before ++ link_of b cl ∷ [];
       walked = walk_on c now new ls looking.before b d cl looking.walked at next seen stays held;

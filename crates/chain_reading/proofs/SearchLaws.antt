@@ -1,8 +1,8 @@
 -- A name, looked up in the directory.
-use Rattle.std.proofs.Common.{◌≡◌, ℕ, suc, ◌+◌, ◌*◌, ◌≤◌, ◌<◌, Bool, true, false, cond, List, [], ◌∷◌, ◌++◌, length, refl, sym, ◌∙◌, ap, subst, arith, length-append, Some, None, Ok}
+use Rattle.std.proofs.Common.{◌≡◌, ℕ, suc, ◌+◌, ◌*◌, ◌≤◌, ◌<◌, Bool, true, false, cond, ◌||◌, List, [], ◌∷◌, ◌++◌, length, refl, sym, ◌∙◌, ap, subst, arith, length-append, append_assoc, Option, Some, None, Ok}
 use Rattle.std.proofs.lemmas.Slice.Eq.{bytes_eq-Decides}
 use Rattle.std.specs.Prelude.{bytes_eq, slice_index}
-use Rattle.std.specs.List.{position_from}
+use Rattle.std.specs.List.{position_from, list_any}
 use Rattle.tsd_model.specs.Geometry.{block_len}
 use Rattle.fs_trees.specs.Names.{Name}
 use Rattle.fs_trees.specs.Fields.{Entry, entry_names}
@@ -10,19 +10,20 @@ use Rattle.fs_trees.specs.Cluster.{Cluster, entries_of}
 use Rattle.fs_trees.specs.ChainTree.{Link, cluster_at}
 use Rattle.fs_laws.specs.Ways.{HoldsWrite}
 use Rattle.fs_port.specs.View.{View, state_of}
-use Rattle.fs_port.specs.Calls.{Stays}
+use Rattle.fs_port.specs.Calls.{IsValidNow, Stays}
 use Rattle.fs_asks.specs.declared.client.Client.{Client}
-use Rattle.fs_asks.specs.May.{Looked, Looks}
+use Rattle.fs_asks.specs.May.{MayWrite, Looked, Looks}
+use Rattle.fs_asks.proofs.LookLaws.{may_again}
 use Rattle.chain_layout.specs.Listed.{has_name, entry_blocks}
-use Rattle.chain_layout.specs.Block.{cluster_of}
+use Rattle.chain_layout.specs.Block.{cluster_of, block_len_of}
 use Rattle.chain_layout.specs.Held.{cluster_in, entries_in}
 use Rattle.chain_laws.specs.Chained.{Placed, placed, AreEntries, AreOthers}
 use Rattle.chain_laws.proofs.FileLaws.{others-append}
 use Rattle.chain_reading.specs.declared.walking.Page.{Page}
 use Rattle.chain_reading.specs.Standing.{IsPage}
 use Rattle.chain_reading.specs.Ahead.{IsDirectoryAhead}
-use Rattle.chain_reading.specs.Finding.{placed_names, IsEntry, IsTaken}
-use Rattle.chain_reading.proofs.WalkLaws.{link_of, first_link}
+use Rattle.chain_reading.specs.Finding.{placed_names, page_link, IsEntry, IsTaken, is_roomy, IsRoomiest, better}
+use Rattle.chain_reading.proofs.WalkLaws.{link_of, first_link, walk_ends}
 use Rattle.chain_reading.proofs.ListLaws.{IsLooking, look_starts, look_on, look_ends, names_placed, names-append}
 
 -- ---- in one cluster
@@ -81,24 +82,87 @@ place_within n es place at =
     let sum = length-append found.0 (found.1 ∷ found.2) in
     omega (arith, found.4, size, sum)
 
--- ---- in all of them
+-- ---- the cluster for a new entry
 
-pub record IsSearched (c : Client) (now : View) (len : ℕ) (ls : List Link) (ps : List Placed) (i b : ℕ) (n : Name) (count : ℕ) : Type 0 where
+-- none was read, or this one is it of those that were
+abbrev pub IsRoomiestOf : Client → View → List Link → Option Page → Type 0
+IsRoomiestOf c v ls None = ls ≡ []
+IsRoomiestOf c v ls (Some page) = IsRoomiest c v ls page
+
+-- reading leaves it so
+module _ (c : Client) (now new : View) (seen : Looked now new) (stays : Stays now new) (valid : IsValidNow now) where
+  roomiest_still : (ls : List Link) (page : Page) → IsRoomiest c now ls page → IsRoomiest c new ls page
+  roomiest_still ls page is = record {
+    before = is.before;
+    behind = is.behind;
+    parts = is.parts;
+    read = subst (λ w. IsPage w page.block page) (sym seen.world) is.read;
+    held = seen.ways c.session page.block is.held;
+    may = may_again c now new page.block seen stays valid is.may;
+    full = subst (λ w. list_any (is_roomy (block_len w.geometry)) is.before ≡ false) (sym seen.world) is.full;
+    last = subst (λ w. is_roomy (block_len w.geometry) (page_link page) ≡ false → is.behind ≡ []) (sym seen.world) is.last;
+  }
+
+  pub roomiest_of_still : (ls : List Link) (best : Option Page) → IsRoomiestOf c now ls best → IsRoomiestOf c new ls best
+  roomiest_of_still ls None is = is
+  roomiest_of_still ls (Some page) is = roomiest_still ls page is
+
+any-none : (p : Link → Bool) (ls ms : List Link) → list_any p ls ≡ false → list_any p ms ≡ false → list_any p (ls ++ ms) ≡ false
+any-none p [] ms a b = b
+any-none p (l ∷ ls) ms a b = by_first (p l) a (λ h. any-none p ls ms h b)
+  where
+    by_first : (t : Bool) → (t || list_any p ls) ≡ false → (list_any p ls ≡ false → list_any p (ls ++ ms) ≡ false) → (t || list_any p (ls ++ ms)) ≡ false
+    by_first true h rest = absurd (cc)
+    by_first false h rest = rest h
+
+-- with one cluster more
+module _ (c : Client) (v : View) (ls : List Link) (page : Page) (read : IsPage v.world page.block page) (held : HoldsWrite (state_of v) c.session page.block) (may : MayWrite c v page.block) where
+  -- it is the last, and those before have no room
+  newest : list_any (is_roomy (block_len v.world.geometry)) ls ≡ false → IsRoomiest c v (ls ++ page_link page ∷ []) page
+  newest full = record { before = ls; behind = []; parts = refl; read = read; held = held; may = may; full = full; last = λ _. refl }
+
+  pub roomiest_more : (best : Option Page) → IsRoomiestOf c v ls best → IsRoomiest c v (ls ++ page_link page ∷ []) (better best page)
+  roomiest_more None is = newest (ap (list_any (is_roomy (block_len v.world.geometry))) is)
+  roomiest_more (Some old) is = by_room (is_roomy (block_len_of (cluster_in old.cluster)) (page_link old)) (ap (λ n. is_roomy n (page_link old)) (sym is.read.read.whole))
+    where
+      len : ℕ
+      len = block_len v.world.geometry
+
+      by_room : (t : Bool) → is_roomy len (page_link old) ≡ t → IsRoomiest c v (ls ++ page_link page ∷ []) (cond t old page)
+      by_room true roomy = record {
+        before = is.before;
+        behind = is.behind ++ page_link page ∷ [];
+        parts = ap (λ xs. xs ++ page_link page ∷ []) is.parts ∙ append_assoc is.before (page_link old ∷ is.behind) (page_link page ∷ []);
+        read = is.read;
+        held = is.held;
+        may = is.may;
+        full = is.full;
+        last = λ none. absurd (not_both roomy none);
+      }
+        where
+          not_both : {t : Bool} → t ≡ true → t ≡ false → ⊥
+          not_both a b = cc
+      by_room false roomy = newest (ap (list_any (is_roomy len)) (is.parts ∙ ap (λ xs. is.before ++ page_link old ∷ xs) (is.last roomy)) ∙ any-none (is_roomy len) is.before (page_link old ∷ []) is.full (ap (λ t. t || false) roomy))
+
+-- ---- in all clusters
+
+pub record IsSearched (c : Client) (now : View) (len : ℕ) (ls : List Link) (ps : List Placed) (i b : ℕ) (n : Name) (count : ℕ) (best : Option Page) : Type 0 where
   pub qs : List Placed
   pub looking : IsLooking c now len ls ps qs i b
   pub others : AreOthers n (placed_names qs)
   pub counted : count ≡ length qs
+  pub roomiest : IsRoomiestOf c now looking.before best
 
-pub record Searching (told : Type 0) (c : Client) (first now : View) (i b : ℕ) (n : Name) (count : ℕ) : Type 0 where
+pub record Searching (told : Type 0) (c : Client) (first now : View) (i b : ℕ) (n : Name) (count : ℕ) (best : Option Page) : Type 0 where
   pub looks : Looks {X = Unit {0}} told first now (Ok tt)
-  pub searched : told → (ls : List Link) (ps : List Placed) → IsDirectoryAhead c first ls ps → IsSearched c now (block_len first.world.geometry) ls ps i b n count
+  pub searched : told → (ls : List Link) (ps : List Placed) → IsDirectoryAhead c first ls ps → IsSearched c now (block_len first.world.geometry) ls ps i b n count best
   pub few : count ≤ 127 * i
 
 length-placed : (b : ℕ) (es : List Entry) → length (placed b es) ≡ length es
 length-placed b [] = refl
 length-placed b (e ∷ es) = ap suc (length-placed b es)
 
-module _ (c : Client) (now : View) (len : ℕ) (ls : List Link) (ps : List Placed) (i b : ℕ) (n : Name) (count more : ℕ) (cl : Cluster) (es : List Entry) (searched : IsSearched c now len ls ps i b n count) (at : cluster_at now.world b ≡ Some cl) (own : entries_of len cl ≡ Some es)
+module _ (c : Client) (now : View) (len : ℕ) (ls : List Link) (ps : List Placed) (i b : ℕ) (n : Name) (count more : ℕ) (best : Option Page) (cl : Cluster) (es : List Entry) (searched : IsSearched c now len ls ps i b n count best) (at : cluster_at now.world b ≡ Some cl) (own : entries_of len cl ≡ Some es)
     (none : position_from (has_name n) 0 es ≡ None) (sized : more ≡ length es) where
   others_now : AreOthers n (placed_names (searched.qs ++ placed b es))
   others_now = subst (AreOthers n) (sym (names-append searched.qs (placed b es) ∙ ap (λ ns. placed_names searched.qs ++ ns) (names_placed b es))) (others-append n (placed_names searched.qs) (entry_names es) searched.others (none_found n es 0 none))
@@ -106,24 +170,34 @@ module _ (c : Client) (now : View) (len : ℕ) (ls : List Link) (ps : List Place
   counted_now : count + more ≡ length (searched.qs ++ placed b es)
   counted_now = let sum = length-append searched.qs (placed b es) in let size = length-placed b es in omega (arith, sum, size, sized, searched.counted)
 
-  pub search_on : (new : View) (d : ℕ) → cl.next ≡ Some d → Looked now new → Stays now new → HoldsWrite (state_of new) c.session b → IsSearched c new len ls ps (i + 1) d n (count + more)
-  search_on new d next seen stays held = record {
-    qs = searched.qs ++ placed b es;
-    looking = look_on c now len ls ps searched.qs i b searched.looking cl es at own new d next seen stays held;
-    others = others_now;
-    counted = counted_now;
-  }
+  module _ (page : Page) (here : page_link page ≡ link_of b cl) (read : IsPage now.world page.block page) (new : View) (valid : IsValidNow now) (seen : Looked now new) (stays : Stays now new) (held : HoldsWrite (state_of new) c.session b) where
+    roomiest_now : IsRoomiest c new (searched.looking.before ++ link_of b cl ∷ []) (better best page)
+    roomiest_now = subst (λ l. IsRoomiest c new (searched.looking.before ++ l ∷ []) (better best page)) here
+        (roomiest_more c new searched.looking.before page (subst (λ w. IsPage w page.block page) (sym seen.world) read) (subst (HoldsWrite (state_of new) c.session) (sym (ap (λ l. l.block) here)) held)
+        (subst (MayWrite c new) (sym (ap (λ l. l.block) here)) (may_again c now new b seen stays valid searched.looking.walked.ahead.may)) best (roomiest_of_still c now new seen stays valid searched.looking.before best searched.roomiest))
 
-  pub search_ends : cl.next ≡ None → AreOthers n (placed_names ps) × (count + more ≡ length ps)
-  search_ends next =
-      let all = look_ends c now len ls ps searched.qs i b searched.looking cl es at own next in
-      (subst (λ xs. AreOthers n (placed_names xs)) (sym all) others_now, counted_now ∙ ap length (sym all))
+    pub search_on : (d : ℕ) → cl.next ≡ Some d → IsSearched c new len ls ps (i + 1) d n (count + more) (Some (better best page))
+    search_on d next = record {
+      qs = searched.qs ++ placed b es;
+      looking = look_on c now len ls ps searched.qs i b searched.looking cl es at own new d next seen stays held;
+      others = others_now;
+      counted = counted_now;
+      roomiest = roomiest_now;
+    }
+
+    pub search_ends : cl.next ≡ None → AreOthers n (placed_names ps) × (count + more ≡ length ps) × IsRoomiest c new ls (better best page)
+    search_ends next =
+        let all = look_ends c now len ls ps searched.qs i b searched.looking cl es at own next in (
+          subst (λ xs. AreOthers n (placed_names xs)) (sym all) others_now,
+          counted_now ∙ ap length (sym all),
+          subst (λ xs. IsRoomiest c new xs (better best page)) (sym (walk_ends c now ls searched.looking.before b cl searched.looking.walked at next)) roomiest_now,
+        )
 
 -- it was found in this cluster
-pub search_finds : (c : Client) (first now new : View) (ls : List Link) (ps : List Placed) (i b : ℕ) (n : Name) (count : ℕ) (page : Page) (place block : ℕ) → IsSearched c now (block_len first.world.geometry) ls ps i b n count → Looked first now → Looked now new
+pub search_finds : (c : Client) (first now new : View) (ls : List Link) (ps : List Placed) (i b : ℕ) (n : Name) (count : ℕ) (best : Option Page) (page : Page) (place block : ℕ) → IsSearched c now (block_len first.world.geometry) ls ps i b n count best → Looked first now → Looked now new → Stays now new
     → IsPage now.world b page → HoldsWrite (state_of new) c.session b → position_from (has_name n) 0 (entries_in page.cluster) ≡ Some place → block ≡ slice_index (entry_blocks (entries_in page.cluster)) place
     → IsTaken c new n ls page place block
-search_finds c first now new ls ps i b n count page place block searched before seen read held at is =
+search_finds c first now new ls ps i b n count best page place block searched before seen stays read held at is =
     let cl = cluster_of (cluster_in page.cluster) in
     let walked = searched.looking.walked in
     let ahead = first_link now.world b walked.rest cl walked.ahead.rest read.read.says in
@@ -138,7 +212,8 @@ search_finds c first now new ls ps i b n count page place block searched before 
       entries = subst (λ w. AreEntries (block_len w.geometry) searched.looking.before searched.qs) (sym (seen.world ∙ before.world)) searched.looking.entries;
       others = searched.others;
       held = subst (λ k. HoldsWrite (state_of new) c.session k) (sym here) held;
+      may = subst (MayWrite c new) (sym here) (may_again c now new b seen stays before.valid walked.ahead.may);
     }
 
-pub search_starts : (c : Client) (v : View) (ls : List Link) (ps : List Placed) (n : Name) → IsDirectoryAhead c v ls ps → IsSearched c v (block_len v.world.geometry) ls ps 0 c.root n 0
-search_starts c v ls ps n ahead = record { qs = []; looking = look_starts c v (block_len v.world.geometry) ls ps refl ahead; others = tt; counted = refl }
+pub search_starts : (c : Client) (v : View) (ls : List Link) (ps : List Placed) (n : Name) → IsDirectoryAhead c v ls ps → IsSearched c v (block_len v.world.geometry) ls ps 0 c.root n 0 None
+search_starts c v ls ps n ahead = record { qs = []; looking = look_starts c v (block_len v.world.geometry) ls ps refl ahead; others = tt; counted = refl; roomiest = refl }

@@ -1,18 +1,20 @@
 -- What a name is looked up as.
-use Rattle.std.specs.Prelude.{◌≡◌, ℕ, List, [], ◌∷◌, ◌++◌, length, map}
+use Rattle.std.specs.Prelude.{◌≡◌, ℕ, ◌<◌, Bool, false, cond, nat_lt, List, [], ◌∷◌, ◌++◌, length, map, Option, Some, None}
+use Rattle.std.specs.List.{list_any}
 use Rattle.tsd_model.specs.Geometry.{block_len}
 use Rattle.fs_trees.specs.Names.{Name, Path}
 use Rattle.fs_trees.specs.Tree.{Tree, a_file, at}
 use Rattle.fs_trees.specs.Fields.{Entry, entry_names}
-use Rattle.fs_trees.specs.ChainTree.{Link, ChainFile, chain_bytes}
+use Rattle.fs_trees.specs.Cluster.{entries_room}
+use Rattle.fs_trees.specs.ChainTree.{Link, ChainFile, chain_bytes, Chains, chains_under}
 use Rattle.fs_trees.specs.Refusals.{first_of, lost_on_the_way, missing, no_file, no_dir}
 use Rattle.fs_trees.specs.declared.refusal.FsRefusal.{FsRefusal}
 use Rattle.fs_trees.specs.declared.refusal.FsRefusal.TheVariants as no
-use Rattle.std.specs.Prelude.{Option}
 use Rattle.fs_laws.specs.Ways.{HoldsWrite}
 use Rattle.fs_port.specs.View.{View, state_of}
 use Rattle.fs_asks.specs.declared.client.Client.{Client}
-use Rattle.chain_layout.specs.Block.{cluster_of}
+use Rattle.fs_asks.specs.May.{MayWrite}
+use Rattle.chain_layout.specs.Block.{cluster_of, block_len_of}
 use Rattle.chain_layout.specs.Held.{cluster_in, entries_in}
 use Rattle.chain_laws.specs.Chained.{Placed, AreEntries, AreOthers}
 use Rattle.chain_reading.specs.Standing.{IsPage}
@@ -24,6 +26,10 @@ use Rattle.chain_reading.specs.declared.finding.Place.TheVariants.{Taken, Free}
 
 abbrev pub placed_names : List Placed → List Name
 placed_names ps = map (λ p. p.1.name) ps
+
+-- a cluster that was read, as one of its chain
+abbrev pub page_link : Page → Link
+page_link page = record { block = page.block; cluster = cluster_of (cluster_in page.cluster) }
 
 -- the first entry of a name stands at this place, and names this block
 pub record IsEntry (n : Name) (es : List Entry) (place first : ℕ) : Type 0 where
@@ -40,17 +46,43 @@ pub record IsEntry (n : Name) (es : List Entry) (place first : ℕ) : Type 0 whe
 pub record IsTaken (c : Client) (v : View) (n : Name) (ls : List Link) (page : Page) (place first : ℕ) : Type 0 where
   pub before : List Link
   pub behind : List Link
-  pub parts : ls ≡ before ++ (record { block = page.block; cluster = cluster_of (cluster_in page.cluster) } ∷ behind)
+  pub parts : ls ≡ before ++ (page_link page ∷ behind)
   pub read : IsPage v.world page.block page
   pub entry : IsEntry n (entries_in page.cluster) place first
   pub earlier : List Placed
   pub entries : AreEntries (block_len v.world.geometry) before earlier
   pub others : AreOthers n (placed_names earlier)
   pub held : HoldsWrite (state_of v) c.session page.block
+  pub may : MayWrite c v page.block
+
+-- a cluster of the directory, in a block of this length, has room for one entry more
+abbrev pub is_roomy : ℕ → Link → Bool
+is_roomy len l = nat_lt l.cluster.used (entries_room len)
+
+-- of the directory's clusters it is the first one that has room, or the last one where none has; it was read, and the session may write it
+pub record IsRoomiest (c : Client) (v : View) (ls : List Link) (page : Page) : Type 0 where
+  pub before : List Link
+  pub behind : List Link
+  pub parts : ls ≡ before ++ (page_link page ∷ behind)
+  pub read : IsPage v.world page.block page
+  pub held : HoldsWrite (state_of v) c.session page.block
+  pub may : MayWrite c v page.block
+  pub full : list_any (is_roomy (block_len v.world.geometry)) before ≡ false
+  pub last : is_roomy (block_len v.world.geometry) (page_link page) ≡ false → behind ≡ []
+
+-- the cluster to put a new entry in, of one that was chosen before and another one behind it
+abbrev pub better : Option Page → Page → Page
+better None other = other
+better (Some page) other = cond (is_roomy (block_len_of (cluster_in page.cluster)) (page_link page)) page other
 
 abbrev pub IsFound : Client → View → Name → List Link → List Placed → Place → Type 0
 IsFound c v n ls ps (Taken page place first) = IsTaken c v n ls page place first
-IsFound c v n ls ps (Free page count) = AreOthers n (placed_names ps) × (count ≡ length ps)
+IsFound c v n ls ps (Free page count) = AreOthers n (placed_names ps) × (count ≡ length ps) × IsRoomiest c v ls page
+
+-- where it is taken, its place is that of an entry
+abbrev pub IsWithin : Place → Type 0
+IsWithin (Taken page place first) = place < length (entries_in page.cluster)
+IsWithin (Free page count) = Unit {0}
 
 -- why no way leads on from what stands at a name
 abbrev pub no_way : Place → FsRefusal
@@ -59,11 +91,17 @@ no_way (Free page count) = no.NoEntry
 
 -- ---- at a path
 
--- the file at a path begins at this block
+-- the file at a path begins at this block, and is one of those under the root
 pub record IsFileOf (c : Client) (v : View) (path : Path) (first : ℕ) : Type 0 where
   pub file : ChainFile
   pub ahead : IsFileAhead c v first file.chain
   pub there : at (tree_of c v) path ≡ a_file (chain_bytes file.chain)
+  pub chains : Chains
+  pub under : chains_under v.world c.root ≡ Some chains
+  pub front : List ChainFile
+  pub back : List ChainFile
+  pub among : chains.files ≡ front ++ (file ∷ back)
+  pub named : path ≡ file.name ∷ []
 
 -- the refusals of what reads a file, and of what lists the directory
 abbrev pub no_file_found : Tree → Path → Option FsRefusal

@@ -8,7 +8,7 @@ ghost use Rattle.fs_asks.specs.May.{Looks};
 ghost use Rattle.chain_laws.specs.Chained.{Placed};
 ghost use Rattle.chain_reading.specs.Ahead.{IsDirectoryAhead, HasDirectory};
 ghost use Rattle.chain_reading.specs.Asking.{MayAsk, tree_of};
-ghost use Rattle.chain_reading.specs.Finding.{no_way, IsFound, IsFileOf, no_file_found, no_directory_found};
+ghost use Rattle.chain_reading.specs.Finding.{better, no_way, IsFound, IsWithin, IsFileOf, no_file_found, no_directory_found};
 
 use crate::walking::{Page, read_page};
 use fs_asks::Client;
@@ -33,7 +33,9 @@ pub enum Place {
 }
 
 /// The cluster to put a new entry in: the first one that has room, or the last.
-fn better(page: Option<Page>, other: Page) -> Page {
+fn better(page: Option<Page>, other: Page) -> Page
+    ensures { result ≡ better page other }
+{
     match page {
         Some(page) if page.cluster.has_room() => page,
         _ => other,
@@ -46,6 +48,7 @@ pub fn search<K: Blocks>(client: &Client, disk: &mut K, name: &Name) -> Result<P
     requires valid { K.told → IsValidNow (K.view disk.old) }
     requires directory { K.told → HasDirectory client.now (K.view disk.old) }
     ensures found { K.told → (ls : List Link) (ps : List Placed) → IsDirectoryAhead client.now (K.view disk.old) ls ps → IfOk result (IsFound client.now (K.view disk.new) name.now ls ps) }
+    ensures within { IfOk result IsWithin }
     ensures only { K.told → IfErr result (λ e. e ≡ no.Device) }
     ensures looks { Looks K.told (K.view disk.old) (K.view disk.new) result }
 {
@@ -76,7 +79,7 @@ pub fn search<K: Blocks>(client: &Client, disk: &mut K, name: &Name) -> Result<P
 }
 
 /// Why no way leads on from what stands at a name.
-fn no_way(place: Place) -> FsRefusal
+pub fn no_way(place: Place) -> FsRefusal
     ensures { result ≡ no_way place }
 {
     match place {

@@ -14,6 +14,6 @@ mod finding;
 mod reading;
 mod walking;
 
-pub use finding::{Place, find_directory, find_file, search};
+pub use finding::{Place, find_directory, find_file, no_way, search};
 pub use reading::{name_after, read_file, size};
 pub use walking::{Page, Part, page_at, part_at, read_page, read_part};

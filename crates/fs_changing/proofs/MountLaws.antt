@@ -1,7 +1,7 @@
 -- What mounting leaves, in either layout.
 use Rattle.std.proofs.Common.{◌≡◌, ◌≢◌, ℕ, ◌<◌, Bool, true, false, refl, sym, ◌∙◌, ap, subst, Result, Ok, Err}
 use Rattle.std.specs.Prelude.{IfErr, OnOk}
-use Rattle.tsd_model.specs.World.{World, has_number}
+use Rattle.tsd_model.specs.World.{has_number}
 use Rattle.tsd_model.specs.Pairs.{holds}
 use Rattle.fs_trees.specs.Tree.{Tree, nothing, a_file, a_dir, is_there}
 use Rattle.fs_trees.specs.Layouts.{Named, tree_at, named_at, IsTidy}

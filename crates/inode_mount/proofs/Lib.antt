@@ -8,7 +8,4 @@ pub mod SeeLaws
 pub mod SeenLaws
 pub mod LoopLaws
 pub mod RightLaws
-pub mod TrimLaws
-pub mod DropLaws
 pub mod TidyLaws
-pub mod MountLaws

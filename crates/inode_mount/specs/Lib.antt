@@ -1,3 +1,3 @@
 pub mod Marked
 pub mod Looking
-pub mod Trimming
+pub mod Tidying

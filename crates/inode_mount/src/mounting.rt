@@ -5,19 +5,19 @@ ghost use Rattle.std.specs.Prelude.{◌≡◌, ◌≢◌, ◌⊎◌, false, ℕ,
 ghost use Rattle.image_device.specs.Counts.{Rose};
 ghost use Rattle.fs_trees.specs.Tree.{is_there, nothing};
 ghost use Rattle.fs_trees.specs.InodeTree.{inode_tree};
-ghost use Rattle.fs_trees.specs.Layouts.{IsTidy};
+ghost use Rattle.fs_trees.specs.Layouts.{Named, IsTidy};
 ghost use Rattle.fs_trees.specs.declared.ask.ShellKind.TheVariants as kind;
 ghost use Rattle.fs_trees.specs.declared.refusal.FsRefusal.TheVariants as no;
 ghost use Rattle.fs_port.specs.Calls.{Counts, IsValidNow, LeavesOnly, Stays};
 ghost use Rattle.fs_port.specs.Files.{IsReady, IsTreeAlone, LeavesWorld, OnAnswer};
-ghost use Rattle.inode_walks.specs.Asking.{MayAsk, mounted_by};
-ghost use Rattle.inode_mount.specs.Looking.{MarksTree, Noted};
-ghost use Rattle.inode_mount.specs.Trimming.{Trims, IsClean, named_by};
+ghost use Rattle.fs_changing.specs.Trimming.{Trims, IsClean};
+ghost use Rattle.inode_walks.specs.Asking.{mounted_by};
+ghost use Rattle.inode_mount.specs.Tidying.{MayTidy};
 
-use crate::letting_go::delete_others;
 use crate::looking::is_tree;
 use crate::marks::Marks;
 use fs_asks::{Client, NoNames};
+use fs_changing::delete_others;
 use fs_port::Blocks;
 use fs_trees::FsRefusal;
 use inode_walks::read_inode;
@@ -29,11 +29,10 @@ fn tidy_block<K: Blocks>(
     marks: &Marks,
     block: u32,
 ) -> Result<(), FsRefusal>
-    requires may { MayAsk K.told client.now (K.view disk.old) }
-    requires marked { K.told → MarksTree (K.view disk.old).world client.now.root marks.now }
-    requires noted { K.told → Noted client.now (K.view disk.old) marks.now }
-    ensures trims { Trims K.told client.now (named_by client.now (K.view disk.old)) (K.view disk.old) (K.view disk.new) result }
-    ensures clean { K.told → OnOk result (IsClean (named_by client.now (K.view disk.old)) (K.view disk.new).world block) }
+    ghost kept: { Named }
+    requires { MayTidy K.told client.now kept (K.view disk.old) marks.now }
+    ensures trims { Trims K.told client.now kept (K.view disk.old) (K.view disk.new) result }
+    ensures clean { K.told → OnOk result (IsClean kept (K.view disk.new).world block) }
 {
     if !marks.has_leftovers(block) {
         return Ok(());
@@ -52,11 +51,10 @@ fn tidy_block<K: Blocks>(
 
 /// Deletes all pairs that are left over.
 fn tidy<K: Blocks>(client: &Client, disk: &mut K, marks: &Marks) -> Result<(), FsRefusal>
-    requires may { MayAsk K.told client.now (K.view disk.old) }
-    requires marked { K.told → MarksTree (K.view disk.old).world client.now.root marks.now }
-    requires noted { K.told → Noted client.now (K.view disk.old) marks.now }
-    ensures trims { Trims K.told client.now (named_by client.now (K.view disk.old)) (K.view disk.old) (K.view disk.new) result }
-    ensures clean { K.told → OnOk result ((a : ℕ) → IsClean (named_by client.now (K.view disk.old)) (K.view disk.new).world a) }
+    ghost kept: { Named }
+    requires { MayTidy K.told client.now kept (K.view disk.old) marks.now }
+    ensures trims { Trims K.told client.now kept (K.view disk.old) (K.view disk.new) result }
+    ensures clean { K.told → OnOk result ((a : ℕ) → IsClean kept (K.view disk.new).world a) }
 {
     let end = disk.geometry().blocks;
     for block in 0..end {

@@ -1,3 +1,1 @@
-pub mod LettingLaws
-pub mod GoingLaws
 pub mod MakeLaws

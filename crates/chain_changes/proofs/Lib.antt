@@ -1,0 +1,13 @@
+pub mod PlaceLaws
+pub mod EntryLaws
+pub mod ExchangeLaws
+pub mod AfterLaws
+pub mod RemoveLaws
+pub mod LastLaws
+pub mod KeptLaws
+pub mod SizeLaws
+pub mod TailLaws
+pub mod LongerLaws
+pub mod GrowthLaws
+pub mod AgainLaws
+pub mod AppendLaws

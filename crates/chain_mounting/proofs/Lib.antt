@@ -1,0 +1,5 @@
+pub mod MakeLaws
+pub mod StandLaws
+pub mod TidyLaws
+pub mod PageLaws
+pub mod MountLaws
