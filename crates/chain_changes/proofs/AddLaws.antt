@@ -1,8 +1,8 @@
 -- The cluster of the directory with the entry of a new file, of a new name or in place of an old one: what its write leaves.
-use Rattle.std.proofs.Common.{◌≡◌, ℕ, suc, ◌+◌, ◌^◌, ◌<◌, ◌≤◌, Bool, true, false, ◌&&◌, ◌||◌, ◌==◌, nat_lt, List, [], ◌∷◌, ◌++◌, length, length-append, append-nil, refl, sym, ◌∙◌, ap, subst, arith, inl, inr, ◌⊎◌, Option, Some, None}
+use Rattle.std.proofs.Common.{◌≡◌, ℕ, suc, ◌+◌, ◌^◌, ◌<◌, ◌≤◌, true, ◌==◌, nat_lt, List, [], ◌∷◌, ◌++◌, length, length-append, append-nil, refl, sym, ◌∙◌, ap, subst, arith, inl, inr, Option, Some, None}
 use Rattle.std.proofs.lemmas.Bool.{and_from, and_parts, eq-eqb, eqb-true}
 use Rattle.std.proofs.lemmas.Bool.Decides.{nat_tests}
-use Rattle.std.specs.Prelude.{drop, slice_index_or}
+use Rattle.std.specs.Prelude.{slice_index_or}
 use Rattle.tsd_model.specs.Geometry.{block_len}
 use Rattle.tsd_model.specs.World.{World, has_number}
 use Rattle.tsd_model.specs.Pairs.{holds, is_pair}
@@ -11,9 +11,9 @@ use Rattle.fs_trees.specs.Names.{Name, is_name}
 use Rattle.fs_trees.specs.Tree.{a_file, with_at}
 use Rattle.fs_trees.specs.Fields.{Entry, all_named}
 use Rattle.fs_trees.specs.Inode.{are_apart}
-use Rattle.fs_trees.specs.Cluster.{Cluster, entries_room, entries_of, directory_bytes}
+use Rattle.fs_trees.specs.Cluster.{entries_room, entries_of, directory_bytes}
 use Rattle.fs_trees.specs.Needs.{clusters_for}
-use Rattle.fs_trees.specs.ChainTree.{Link, blocks_of, links, ChainFile, chain_bytes, Chains, chain_blocks, chain_pairs, names_max, chain_tree}
+use Rattle.fs_trees.specs.ChainTree.{blocks_of, links, ChainFile, Chains, chain_blocks, names_max, chain_tree}
 use Rattle.fs_trees.specs.declared.ask.ShellAsk.TheVariants as ask
 use Rattle.fs_trees.specs.declared.refusal.FsRefusal.{FsRefusal}
 use Rattle.fs_laws.proofs.ListLaws.{number_left, number_right, first_in, held_left, held_right, held_append}
@@ -25,12 +25,12 @@ use Rattle.fs_steps.specs.Steps.{Leads, written, no_room_in}
 use Rattle.fs_changing.specs.Changing.{refused_on}
 use Rattle.chain_layout.specs.Block.{cluster_of, block_len_of}
 use Rattle.chain_layout.specs.Held.{cluster_in, entries_in}
-use Rattle.chain_layout.specs.Listed.{listed_at, entry_blocks}
+use Rattle.chain_layout.specs.Listed.{entry_blocks}
 use Rattle.chain_layout.specs.ReadsBack.{are_small}
-use Rattle.chain_laws.specs.Chained.{IsFrom, IsFile, AreOthers}
-use Rattle.chain_laws.specs.Changed.{file_blocks, file_pairs, file_names, relinked, Rewrites}
+use Rattle.chain_laws.specs.Chained.{IsFrom, AreOthers}
+use Rattle.chain_laws.specs.Changed.{file_blocks, file_pairs, file_names, relinked}
 use Rattle.chain_laws.specs.Decided.{IsNew, FileAdded, FileSet}
-use Rattle.chain_laws.proofs.ChangeLaws.{blocks-append, has_chains, right_is}
+use Rattle.chain_laws.proofs.ChangeLaws.{blocks-append}
 use Rattle.chain_laws.proofs.DecidedLaws.{entry_is_added, entry_is_set}
 use Rattle.chain_files.specs.Filling.{AreLinkable, NewFile}
 use Rattle.chain_files.proofs.MakingLaws.{primary_now, link_held}
@@ -42,7 +42,7 @@ use Rattle.chain_changes.proofs.ExchangeLaws.{old_gone, named_before, still_name
 use Rattle.chain_changes.proofs.RemoveLaws.{same_blocks, file_first, file_has_first, file_pair}
 use Rattle.chain_changes.proofs.AfterLaws.{Decided, LetsGo, None_loose, This_loose}
 use Rattle.chain_changes.proofs.AmongLaws.{among_named, among_held, among_parts, others_held}
-use Rattle.chain_changes.proofs.PuttingLaws.{Putting, stage, named_here, under_now, new_apart, within_now, decided, file_in}
+use Rattle.chain_changes.proofs.PuttingLaws.{Putting, stage, under_now, new_apart, within_now, decided, file_in}
 use Rattle.chain_changes.proofs.PlacedLaws.{first_of_all, none_dropped, first_there}
 
 pub small_block : (b : ℕ) → b + 1 < 2 ^ 32 → nat_lt b (2 ^ 32) ≡ true

@@ -1,8 +1,8 @@
 -- A call that begins where others only looked before.
-use Rattle.std.proofs.Common.{◌≡◌, ℕ, true, cond, List, refl, sym, ◌∙◌, ap, subst, inl, inr, Result, Ok, Err}
+use Rattle.std.proofs.Common.{◌≡◌, ℕ, cond, List, sym, ◌∙◌, ap, subst, inl, inr, Result, Ok, Err}
 use Rattle.tsd_model.specs.World.{World, is_free}
 use Rattle.tsd_model.specs.Valid.{IsValid}
-use Rattle.fs_trees.specs.Tree.{Tree, nothing, is_there}
+use Rattle.fs_trees.specs.Tree.{nothing, is_there}
 use Rattle.fs_trees.specs.ChainTree.{chains_under, chain_tree}
 use Rattle.fs_trees.specs.Answer.{Answer}
 use Rattle.fs_trees.specs.Layouts.{tree_at, IsTidy, step_in}

@@ -1,6 +1,6 @@
 -- One file among others of the chains under a root: its blocks and its pairs.
-use Rattle.std.proofs.Common.{◌≡◌, ℕ, Bool, true, false, ◌||◌, ◌==◌, List, [], ◌∷◌, ◌++◌, refl, sym, ◌∙◌, ap, subst, inl, inr, ◌⊎◌}
-use Rattle.std.proofs.lemmas.Bool.{and_from, and_parts, or_cases, or_left, or_right, eq-eqb}
+use Rattle.std.proofs.Common.{◌≡◌, ℕ, true, ◌==◌, List, [], ◌∷◌, ◌++◌, refl, sym, ◌∙◌, ap, inl, inr, ◌⊎◌}
+use Rattle.std.proofs.lemmas.Bool.{and_from, or_cases, or_left, or_right, eq-eqb}
 use Rattle.tsd_model.specs.World.{has_number}
 use Rattle.tsd_model.specs.Pairs.{holds, is_pair}
 use Rattle.fs_trees.specs.ChainTree.{Link, blocks_of, links, ChainFile, Chains, chain_blocks, chain_pairs}

@@ -1,10 +1,10 @@
 -- An append of no bytes.
-use Rattle.std.proofs.Common.{◌≡◌, ℕ, ◌+◌, ◌-◌, ◌<◌, ◌≤◌, true, List, [], ◌∷◌, ◌++◌, length, refl, sym, ◌∙◌, ap, subst, arith, append-nil, Option, Some, None}
-use Rattle.tsd_model.specs.World.{World, free_count}
+use Rattle.std.proofs.Common.{◌≡◌, ℕ, ◌+◌, ◌-◌, ◌<◌, true, List, [], ◌∷◌, ◌++◌, length, refl, sym, ◌∙◌, ap, subst, arith, append-nil, Option, Some, None}
+use Rattle.tsd_model.specs.World.{free_count}
 use Rattle.tsd_model.specs.Valid.{IsValid}
 use Rattle.fs_trees.specs.Names.{Path, are_distinct}
 use Rattle.fs_trees.specs.Tree.{a_file, a_dir, at, is_there, bytes_in, with_at, with_entry}
-use Rattle.fs_trees.specs.ChainTree.{ChainFile, chain_bytes, chains_under, as_tree, tree_of_files, chain_tree}
+use Rattle.fs_trees.specs.ChainTree.{chain_bytes, as_tree, tree_of_files, chain_tree}
 use Rattle.fs_trees.specs.Needs.{clusters_for, need_of}
 use Rattle.fs_trees.specs.Refusals.{first_of, lost_on_the_way}
 use Rattle.fs_trees.specs.declared.ask.ShellAsk.TheVariants as ask

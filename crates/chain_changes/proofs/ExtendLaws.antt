@@ -1,10 +1,10 @@
 -- A new cluster of the directory, with the entry of a new file: it is made, and then the last cluster leads to it, which decides.
-use Rattle.std.proofs.Common.{◌≡◌, ℕ, suc, ◌+◌, ◌-◌, ◌/◌, ◌^◌, ◌<◌, ◌≤◌, Bool, true, false, not, ◌&&◌, ◌||◌, ◌==◌, nat_lt, List, [], ◌∷◌, ◌++◌, length, append-nil, append_assoc, refl, sym, ◌∙◌, ap, subst, arith, inl, inr, ◌⊎◌, Option, Some, None}
+use Rattle.std.proofs.Common.{◌≡◌, ℕ, ◌+◌, ◌^◌, ◌<◌, ◌≤◌, Bool, true, false, not, ◌==◌, nat_lt, List, [], ◌∷◌, ◌++◌, length, append-nil, append_assoc, refl, sym, ◌∙◌, ap, subst, arith, inl, inr, ◌⊎◌, Option, Some, None}
 use Rattle.std.proofs.lemmas.Bool.{and_from, and_parts, or_cases, or_left, or_right, eq-eqb, eqb-true, not-true}
 use Rattle.std.specs.Prelude.{drop, slice_index_or}
 use Rattle.std.specs.Option.{option_and_then}
 use Rattle.tsd_model.specs.Geometry.{block_len}
-use Rattle.tsd_model.specs.World.{World, contents, is_live, has_number}
+use Rattle.tsd_model.specs.World.{World, has_number}
 use Rattle.tsd_model.specs.Pairs.{holds, is_pair}
 use Rattle.tsd_model.specs.Step.{filled}
 use Rattle.disk_laws.proofs.ChangeLaws.{contents-other, contents-same}
@@ -15,7 +15,7 @@ use Rattle.fs_trees.specs.Fields.{Entry, all_named}
 use Rattle.fs_trees.specs.Inode.{are_apart}
 use Rattle.fs_trees.specs.Cluster.{Cluster, cluster_in, entries_room, entries_of, directory_bytes}
 use Rattle.fs_trees.specs.Needs.{clusters_for}
-use Rattle.fs_trees.specs.ChainTree.{Link, cluster_at, blocks_of, links, ChainFile, chain_bytes, Chains, chain_blocks, chain_pairs, names_max, chain_tree}
+use Rattle.fs_trees.specs.ChainTree.{Link, blocks_of, links, ChainFile, chain_bytes, Chains, chain_blocks, names_max, chain_tree}
 use Rattle.fs_trees.specs.declared.ask.ShellAsk.TheVariants as ask
 use Rattle.fs_trees.specs.declared.refusal.FsRefusal.{FsRefusal}
 use Rattle.fs_laws.proofs.ListLaws.{number_left, number_right, in_append, first_in, held_left, held_right, held_append}
@@ -30,14 +30,14 @@ use Rattle.chain_layout.specs.Held as held
 use Rattle.chain_layout.specs.Held.{entries_in}
 use Rattle.chain_layout.specs.Listed.{entry_blocks}
 use Rattle.chain_layout.specs.ReadsBack.{are_small}
-use Rattle.chain_laws.specs.Chained.{IsFrom, IsFile, AreOthers}
+use Rattle.chain_laws.specs.Chained.{IsFrom, AreOthers}
 use Rattle.chain_laws.specs.Changed.{file_blocks, file_pairs, file_names, relinked}
 use Rattle.chain_laws.specs.Decided.{IsNewCluster, Becomes}
 use Rattle.chain_laws.proofs.ChainedLaws.{from_same}
 use Rattle.chain_laws.proofs.ChangeLaws.{blocks-append}
 use Rattle.chain_laws.proofs.DecidedLaws.{the_directory_grows}
 use Rattle.chain_files.specs.Making.{Making}
-use Rattle.chain_files.specs.Filling.{AreLinkable, first_block, NewFile}
+use Rattle.chain_files.specs.Filling.{AreLinkable, NewFile}
 use Rattle.chain_files.proofs.MakingLaws.{aside_now, link_held, making_written}
 use Rattle.chain_files.proofs.WriteLaws.{in_drop}
 use Rattle.chain_reading.specs.declared.walking.Page.{Page}
@@ -47,7 +47,7 @@ use Rattle.chain_changes.proofs.EntryLaws.{ReadsAs, directory_read, directory_fi
 use Rattle.chain_changes.proofs.AfterLaws.{Decided, None_loose}
 use Rattle.chain_changes.proofs.AmongLaws.{among_named, among_held, among_parts, others_held, links_left, links_seam}
 use Rattle.chain_changes.proofs.PuttingLaws.{Putting, stage, aside_either, under_now, new_apart, within_now, decided, file_in}
-use Rattle.chain_changes.proofs.PlacedLaws.{first_of_all, second_of_all, first_and_rest, first_there, second_there}
+use Rattle.chain_changes.proofs.PlacedLaws.{second_of_all, first_and_rest, first_there, second_there}
 use Rattle.chain_changes.proofs.AddLaws.{small_block}
 
 clash : (t : Bool) → t ≡ true → t ≡ false → ⊥

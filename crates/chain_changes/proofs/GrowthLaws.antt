@@ -1,29 +1,29 @@
 -- A file gets longer, from its last cluster that was read to the write that decides.
 -- What the last cluster has no room for stands in new clusters that nothing names yet; the last one, written anew, names them.
-use Rattle.std.proofs.Common.{◌≡◌, ℕ, zero, suc, ◌+◌, ◌-◌, ◌*◌, ◌^◌, ◌<◌, ◌≤◌, Bool, true, false, not, ◌&&◌, ◌||◌, ◌==◌, nat_lt, min, List, [], ◌∷◌, ◌++◌, length, refl, sym, ◌∙◌, ap, subst, arith, inl, inr, ◌⊎◌, append-nil, append_assoc, length-append, Option, Some, None}
+use Rattle.std.proofs.Common.{◌≡◌, ℕ, zero, suc, ◌+◌, ◌-◌, ◌^◌, ◌<◌, ◌≤◌, Bool, true, false, not, ◌&&◌, ◌==◌, nat_lt, min, List, [], ◌∷◌, ◌++◌, length, refl, sym, ◌∙◌, ap, subst, arith, inl, inr, ◌⊎◌, append-nil, append_assoc, length-append, Option, Some, None}
 use Rattle.std.proofs.lemmas.Bool.{and_from, or_cases, eq-eqb, cases_eq, le-leb, lt-ltb}
 use Rattle.std.proofs.lemmas.List.{take-append-drop, length-take-le, length-drop}
-use Rattle.std.proofs.lemmas.Grind.{flat_map-append, div_ceil_times}
+use Rattle.std.proofs.lemmas.Grind.{flat_map-append}
 use Rattle.std.proofs.Math.Seq.{take-append_seam}
 use Rattle.std.specs.Prelude.{take, drop, is_some, replicate, max}
 use Rattle.std.specs.Int.{div_ceil}
 use Rattle.tsd_model.specs.Geometry.{block_len}
 use Rattle.tsd_model.specs.declared.geometry.Geometry.{Geometry}
-use Rattle.tsd_model.specs.World.{World, contents, is_live, is_free, free_count, has_number}
+use Rattle.tsd_model.specs.World.{World, is_live, is_free, free_count, has_number}
 use Rattle.tsd_model.specs.Pairs.{holds}
 use Rattle.tsd_model.specs.Valid.{IsValid}
 use Rattle.tsd_model.specs.Step.{filled}
 use Rattle.disk_laws.proofs.ChangeLaws.{contents-other}
 use Rattle.disk_laws.proofs.DoomLaws.{live_below}
 use Rattle.fs_trees.specs.Names.{Path}
-use Rattle.fs_trees.specs.Tree.{Tree, nothing, a_file, a_dir, at, is_there, is_dir, bytes_in, with_at}
+use Rattle.fs_trees.specs.Tree.{Tree, a_file, a_dir, at, is_there, is_dir, bytes_in, with_at}
 use Rattle.fs_trees.specs.Inode.{are_apart}
-use Rattle.fs_trees.specs.Cluster.{Cluster, cluster_in, bytes_room, link_field, part_bytes}
-use Rattle.fs_trees.specs.ChainTree.{Link, cluster_at, blocks_of, links, is_filled, ChainFile, chain_bytes, Chains, chain_blocks, chain_pairs, chains_under, as_tree, tree_of_files, chain_tree}
-use Rattle.fs_trees.specs.Layouts.{by_chains, named_at, IsTidy}
+use Rattle.fs_trees.specs.Cluster.{Cluster, cluster_in, bytes_room, part_bytes}
+use Rattle.fs_trees.specs.ChainTree.{Link, blocks_of, links, is_filled, chain_bytes, Chains, chain_blocks, chain_pairs, chains_under, as_tree, tree_of_files, chain_tree}
+use Rattle.fs_trees.specs.Layouts.{by_chains, IsTidy}
 use Rattle.fs_trees.specs.Needs.{need_of, clusters_for}
-use Rattle.fs_trees.specs.Outside.{is_under, OthersStay}
-use Rattle.fs_trees.specs.Refusals.{Need, when, first_of, not_mounted, lost_on_the_way, missing, no_file, too_big, no_room, refusal}
+use Rattle.fs_trees.specs.Outside.{is_under}
+use Rattle.fs_trees.specs.Refusals.{Need, when, first_of, lost_on_the_way, missing, no_file, too_big, no_room, refusal}
 use Rattle.fs_trees.specs.declared.ask.ShellAsk.{ShellAsk}
 use Rattle.fs_trees.specs.declared.ask.ShellAsk.TheVariants as ask
 use Rattle.fs_trees.specs.declared.ask.ShellKind.TheVariants as kind
@@ -54,7 +54,7 @@ use Rattle.chain_laws.proofs.DecidedLaws.{the_file_grows}
 use Rattle.chain_reading.specs.declared.walking.Part.{Part}
 use Rattle.chain_reading.specs.Asking.{tree_of, mounted_by}
 use Rattle.chain_reading.specs.Finding.{no_file_found}
-use Rattle.chain_files.specs.Making.{Stage, Making, IsAside}
+use Rattle.chain_files.specs.Making.{Stage, IsAside}
 use Rattle.chain_files.specs.Filling.{AreLinkable, first_block, ArePartsOf}
 use Rattle.chain_files.proofs.FileLaws.{long_room, file_filled}
 use Rattle.chain_files.proofs.MakingLaws.{aside_now, tree_same, primary_now, link_held, source_under, new_unnamed, was_live}

@@ -11,3 +11,9 @@ pub mod LongerLaws
 pub mod GrowthLaws
 pub mod AgainLaws
 pub mod AppendLaws
+pub mod PutNeedLaws
+pub mod AmongLaws
+pub mod PuttingLaws
+pub mod PlacedLaws
+pub mod AddLaws
+pub mod ExtendLaws

@@ -1,15 +1,14 @@
 -- A file with further clusters: its links, its filling, and its place among the others.
-use Rattle.std.proofs.Common.{◌≡◌, ℕ, zero, suc, ◌+◌, ◌*◌, ◌<◌, ◌≤◌, Bool, true, false, cond, ◌&&◌, ◌==◌, nat_lt, List, [], ◌∷◌, ◌++◌, length, refl, sym, ◌∙◌, ap, subst, arith, inl, inr, ◌⊎◌, append-nil, length-append}
-use Rattle.std.proofs.lemmas.Bool.{or_cases, or_left, or_right, and_parts, and_from, eq-eqb, eqb-true, leb-true, le-leb, ltb-true, lt-ltb}
+use Rattle.std.proofs.Common.{◌≡◌, ℕ, ◌+◌, ◌≤◌, Bool, true, false, ◌&&◌, ◌==◌, nat_lt, List, [], ◌∷◌, ◌++◌, refl, sym, ◌∙◌, ap, arith, inl, inr, ◌⊎◌, append-nil}
+use Rattle.std.proofs.lemmas.Bool.{or_cases, or_left, or_right, and_parts, and_from, ltb-true, lt-ltb}
 use Rattle.std.proofs.lemmas.Grind.{flat_map-append}
-use Rattle.std.specs.Prelude.{flat_map}
 use Rattle.tsd_model.specs.World.{has_number}
 use Rattle.tsd_model.specs.Pairs.{holds, is_pair}
 use Rattle.fs_trees.specs.Cluster.{Cluster}
 use Rattle.fs_trees.specs.Inode.{are_apart}
 use Rattle.fs_trees.specs.ChainTree.{Link, blocks_of, links, is_filled, ChainFile, Chains, chain_blocks, chain_pairs}
-use Rattle.fs_laws.proofs.ListLaws.{held_left, held_right, held_append, number_left, number_right, in_append, first_in}
-use Rattle.fs_laws.proofs.CountLaws.{times, times-append, times_none, none_times, apart_times, times_apart}
+use Rattle.fs_laws.proofs.ListLaws.{held_left, held_right, held_append, number_left, number_right}
+use Rattle.fs_laws.proofs.CountLaws.{times, times-append, times_none, times_apart}
 use Rattle.chain_laws.specs.Changed.{file_blocks, file_pairs, relinked}
 use Rattle.chain_laws.specs.Decided.{grown}
 use Rattle.chain_laws.proofs.ChangeLaws.{blocks-append, file_pairs-append, times_three, held_three, first_held, last_held}
@@ -87,11 +86,11 @@ module _ (c : Chains) (fs : List ChainFile) (f : ChainFile) (hs : List ChainFile
       by_tests true t p q = inl refl
       by_tests false true p q = inr refl
       by_tests false false p q = absurd (
-        let some = in_times b (chain_blocks longer) h in
-        let all = longer_times b in
-        let none = times_none b (chain_blocks c) p in
-        let no_more = times_none b (blocks_of more) q in
-        omega (arith, some, all, none, no_more))
+          let some = in_times b (chain_blocks longer) h in
+          let all = longer_times b in
+          let none = times_none b (chain_blocks c) p in
+          let no_more = times_none b (blocks_of more) q in
+          omega (arith, some, all, none, no_more))
 
   pub more_in : (b : ℕ) → has_number (blocks_of more) b ≡ true → has_number (chain_blocks longer) b ≡ true
   more_in b h = number_right (blocks_of c.directory) (file_blocks longer.files) b (ap (λ xs. has_number xs b) (flat_map-append (λ g. blocks_of g.chain) fs (grown f ks k cl more ∷ hs))

@@ -1,19 +1,21 @@
 -- What was found of a name, for the file that is put there, and what refuses that.
-use Rattle.std.proofs.Common.{◌≡◌, ◌≢◌, ℕ, zero, suc, ◌+◌, ◌-◌, ◌^◌, ◌<◌, ◌≤◌, Bool, true, false, not, cond, ◌&&◌, ◌||◌, ◌==◌, nat_lt, nat_le, List, [], ◌∷◌, ◌++◌, length, refl, sym, ◌∙◌, ap, subst, arith, inl, inr, ◌⊎◌, Option, Some, None, append-nil}
-use Rattle.std.proofs.lemmas.Bool.{or_left, or_right, eq-eqb}
+use Rattle.std.proofs.Common.{◌≡◌, ℕ, suc, ◌+◌, ◌<◌, ◌≤◌, true, false, not, cond, ◌&&◌, ◌||◌, ◌==◌, nat_lt, nat_le, List, [], ◌∷◌, ◌++◌, length, refl, sym, ◌∙◌, ap, subst, arith, Option, Some}
+use Rattle.std.proofs.lemmas.Bool.{and_parts, or_left, or_right}
 use Rattle.std.proofs.lemmas.Bool.Decides.{nat_tests}
-use Rattle.std.specs.Prelude.{take, drop, slice_index_or, map}
+use Rattle.std.specs.Prelude.{take, drop, slice_index_or}
 use Rattle.std.specs.Option.{option_map_or}
-use Rattle.std.specs.List.{list_any}
+use Rattle.std.specs.List.{list_any, list_all}
 use Rattle.tsd_model.specs.Geometry.{block_len}
 use Rattle.tsd_model.specs.World.{free_count, has_number}
-use Rattle.fs_trees.specs.Names.{Name, Path, is_name}
+use Rattle.fs_trees.specs.Names.{Name, Path, path_max, is_name, is_path}
 use Rattle.fs_trees.specs.Tree.{nothing, a_file, entry, is_there, names}
-use Rattle.fs_trees.specs.Fields.{Entry, entries, all_named}
+use Rattle.fs_trees.specs.Fields.{Entry}
 use Rattle.fs_trees.specs.Cluster.{entries_room, directory_bytes}
-use Rattle.fs_trees.specs.ChainTree.{Link, ChainFile, chain_bytes, Chains, chains_under, as_tree, has_room, names_max, tree_of_files}
-use Rattle.fs_trees.specs.Needs.{need, clusters_for, chain_need}
+use Rattle.fs_trees.specs.ChainTree.{ChainFile, chain_bytes, Chains, chains_under, as_tree, has_room, names_max, tree_of_files}
+use Rattle.fs_trees.specs.Layouts.{tree_at}
+use Rattle.fs_trees.specs.Needs.{clusters_for, chain_need, need_of}
 use Rattle.fs_trees.specs.Refusals.{when, first_of, no_room, refusal}
+use Rattle.fs_trees.specs.declared.ask.ShellAsk.{ShellAsk}
 use Rattle.fs_trees.specs.declared.ask.ShellAsk.TheVariants as ask
 use Rattle.fs_trees.specs.declared.ask.ShellKind.TheVariants as kind
 use Rattle.fs_trees.specs.declared.refusal.FsRefusal.{FsRefusal}
@@ -23,6 +25,7 @@ use Rattle.fs_laws.proofs.ChainLaws.{found}
 use Rattle.fs_laws.proofs.ListLaws.{any-append, first_in}
 use Rattle.fs_port.specs.View.{View}
 use Rattle.fs_port.specs.Calls.{IsValidNow}
+use Rattle.fs_port.specs.Files.{FilesView}
 use Rattle.fs_asks.specs.declared.client.Client.{Client}
 use Rattle.fs_asks.specs.May.{Looked}
 use Rattle.fs_steps.specs.Steps.{no_room_in}
@@ -247,3 +250,12 @@ refused_lost c old there path body e h =
     ap (by_any c old path body) f.under
     ∙ put_lost old.world.geometry (tree_of_files cs.files) (free_count old.world) (length old.world.pairs) (chain_need old.world.geometry (as_tree (Some cs)) (has_room old.world cs) (ask.Put path body)) body path e
     (ap (λ o. no_entry_of (as_tree o) path no.IsDir) (sym f.under) ∙ h)
+
+-- what refuses an ask where nothing has changed since
+pub refused_since : (f : FilesView) (first mid : View) (a : ShellAsk) → mid.world ≡ first.world → refused_on f mid a ≡ refused_on f first a
+refused_since f first mid a same =
+    ap (λ w. refusal f.kind w.geometry (cond f.mounted (tree_at f.kind w f.root) nothing) (free_count w) (length w.pairs) (need_of f.kind w f.root (cond f.mounted (tree_at f.kind w f.root) nothing) a) a) same
+
+-- the name of a path of one
+pub name_of_path : (path : Path) (n : Name) → path ≡ n ∷ [] → is_path path ≡ true → is_name n ≡ true
+name_of_path path n e h = (and_parts (is_name n) true (and_parts (nat_le (length (n ∷ [])) path_max) (list_all is_name (n ∷ [])) (ap is_path (sym e) ∙ h)).1).0

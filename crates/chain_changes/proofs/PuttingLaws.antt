@@ -1,31 +1,28 @@
 -- A file that is put under a name: what is known where it begins, and what its deciding write leaves.
-use Rattle.std.proofs.Common.{◌≡◌, ℕ, zero, suc, ◌+◌, ◌-◌, ◌^◌, ◌<◌, ◌≤◌, Bool, true, false, ◌&&◌, ◌||◌, ◌==◌, List, [], ◌∷◌, ◌++◌, length, refl, sym, ◌∙◌, ap, subst, arith, inl, inr, ◌⊎◌, Option, Some, None}
+use Rattle.std.proofs.Common.{◌≡◌, ℕ, suc, ◌+◌, ◌<◌, ◌≤◌, true, false, List, [], ◌∷◌, ◌++◌, length, refl, sym, ◌∙◌, ap, subst, arith, inl, inr, ◌⊎◌, Option, Some, None}
 use Rattle.std.proofs.lemmas.Bool.{and_from, or_cases, false_from_ne_true, cases_eq}
 use Rattle.std.proofs.lemmas.List.{length-drop}
 use Rattle.std.proofs.lemmas.List.Sums.{count_by-le-length}
-use Rattle.std.specs.Prelude.{is_some, is_none, drop}
-use Rattle.std.specs.Option.{option_map_or}
+use Rattle.std.specs.Prelude.{is_some, is_none}
 use Rattle.tsd_model.specs.Geometry.{block_len}
-use Rattle.tsd_model.specs.World.{World, contents, is_live, is_free, free_count, has_number}
+use Rattle.tsd_model.specs.World.{World, contents, is_live, is_free, has_number}
 use Rattle.tsd_model.specs.Pairs.{holds}
-use Rattle.tsd_model.specs.Valid.{IsValid}
 use Rattle.tsd_model.specs.Step.{filled}
 use Rattle.disk_laws.proofs.ChangeLaws.{contents-other}
 use Rattle.disk_laws.proofs.DoomLaws.{live_below}
 use Rattle.fs_trees.specs.Names.{Name, is_name}
 use Rattle.fs_trees.specs.Tree.{a_file, is_there, with_at}
-use Rattle.fs_trees.specs.Fields.{Entry}
 use Rattle.fs_trees.specs.Inode.{are_apart}
 use Rattle.fs_trees.specs.Cluster.{bytes_room}
 use Rattle.fs_trees.specs.Needs.{clusters_for}
-use Rattle.fs_trees.specs.ChainTree.{Link, blocks_of, links, is_filled, ChainFile, chain_bytes, Chains, chain_blocks, chain_pairs, chains_under, chain_tree}
-use Rattle.fs_trees.specs.Layouts.{by_chains, named_at, IsTidy}
+use Rattle.fs_trees.specs.ChainTree.{Link, blocks_of, links, is_filled, Chains, chain_blocks, chain_pairs, chains_under, chain_tree}
+use Rattle.fs_trees.specs.Layouts.{by_chains, named_at}
 use Rattle.fs_trees.specs.Outside.{is_under}
 use Rattle.fs_trees.specs.declared.ask.ShellAsk.TheVariants as ask
 use Rattle.fs_trees.specs.declared.ask.ShellKind.TheVariants as kind
 use Rattle.fs_trees.specs.declared.refusal.FsRefusal.{FsRefusal}
 use Rattle.fs_laws.specs.Outside.{is_inside}
-use Rattle.fs_laws.proofs.CountLaws.{times, times-append, times_none, apart_times, times_apart}
+use Rattle.fs_laws.proofs.CountLaws.{times-append, times_none, apart_times, times_apart}
 use Rattle.fs_laws.proofs.OutsideLaws.{outside_twice}
 use Rattle.fs_port.specs.View.{View}
 use Rattle.fs_port.specs.Calls.{IsValidNow}
@@ -38,11 +35,10 @@ use Rattle.fs_changing.specs.Changing.{refused_on}
 use Rattle.fs_changing.proofs.RoomLaws.{there_is_room}
 use Rattle.fs_changing.proofs.RunLaws.{clash_free_live}
 use Rattle.chain_laws.specs.Chained.{IsFrom, IsFile}
-use Rattle.chain_laws.specs.Decided.{IsNew}
 use Rattle.chain_laws.proofs.ChangeLaws.{has_chains, right_is}
 use Rattle.chain_files.specs.Making.{Stage, Making, IsAside}
-use Rattle.chain_files.specs.Filling.{first_block, NewFile}
-use Rattle.chain_files.proofs.MakingLaws.{named_live, tree_same, primary_now, source_under, aside_now, link_held}
+use Rattle.chain_files.specs.Filling.{NewFile}
+use Rattle.chain_files.proofs.MakingLaws.{named_live, tree_same, primary_now, source_under, aside_now}
 use Rattle.chain_reading.specs.declared.walking.Page.{Page}
 use Rattle.chain_reading.specs.Standing.{IsPage}
 use Rattle.chain_reading.specs.Asking.{tree_of, mounted_by}

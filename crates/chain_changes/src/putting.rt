@@ -85,8 +85,8 @@ fn add<K: Blocks>(
         Ok(blocks) => blocks,
         Err(refusal) => return Err(refusal),
     };
-    let place = page.cluster.count();
-    let entered = directory_with(&page.cluster, place, name.as_slice(), blocks.as_slice()[0]);
+    let behind = page.cluster.count();
+    let entered = directory_with(&page.cluster, behind, name.as_slice(), blocks.as_slice()[0]);
     match write_block(client, disk, page.block, entered) {
         Ok(()) => Ok(()),
         Err(refusal) => Err(refusal),
@@ -123,7 +123,12 @@ fn extend<K: Blocks>(
         Ok(()) => {}
         Err(refusal) => return Err(refusal),
     }
-    match write_block(client, disk, page.block, directory_linked(&page.cluster, next)) {
+    match write_block(
+        client,
+        disk,
+        page.block,
+        directory_linked(&page.cluster, next),
+    ) {
         Ok(()) => Ok(()),
         Err(refusal) => Err(refusal),
     }

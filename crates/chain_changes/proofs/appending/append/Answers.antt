@@ -1,11 +1,10 @@
-use Rattle.std.proofs.Common.{◌≡◌, ℕ, ◌<◌, ◌≤◌, Bool, true, false, [], length, refl, sym, ◌∙◌, ap, subst, arith, Ok, Err}
+use Rattle.std.proofs.Common.{◌≡◌, ◌<◌, ◌≤◌, Bool, true, false, [], length, refl, sym, subst, Ok, Err}
 use Rattle.tsd_model.specs.World.{free_count}
 use Rattle.fs_trees.specs.Needs.{need_of}
 use Rattle.fs_trees.specs.Answer.{done}
 use Rattle.fs_trees.specs.declared.ask.ShellAsk.TheVariants as ask
 use Rattle.fs_trees.specs.declared.ask.ShellKind.TheVariants as kind
 use Rattle.fs_port.specs.Files.{Answers}
-use Rattle.fs_asks.specs.May.{Looks}
 use Rattle.fs_asks.proofs.LookLaws.{looks_as, looks_refused, then_looks}
 use Rattle.fs_changing.specs.Changing.{Changes}
 use Rattle.fs_changing.proofs.AskLaws.{ask_refuses, ask_done}

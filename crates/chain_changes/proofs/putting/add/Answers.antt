@@ -1,35 +1,28 @@
-use Rattle.std.proofs.Common.{◌≡◌, ◌≢◌, ◌+◌, ◌^◌, ◌<◌, ◌≤◌, ℕ, Bool, true, false, not, cond, ◌&&◌, [], ◌∷◌, ◌++◌, List, length, refl, sym, ◌∙◌, ap, subst, arith, ◌⊎◌, Option, Some, None, Ok, Err}
+use Rattle.std.proofs.Common.{◌≡◌, ◌+◌, ◌<◌, ◌≤◌, ℕ, true, not, cond, ◌&&◌, [], ◌∷◌, ◌++◌, length, sym, ◌∙◌, ap, subst, arith, ◌⊎◌, Option, None, Ok, Err}
 use Rattle.std.specs.Prelude.{slice_index_or}
 use Rattle.tsd_model.specs.Geometry.{block_len}
-use Rattle.tsd_model.specs.World.{World, has_number}
-use Rattle.disk_laws.proofs.ChangeLaws.{live-with_contents}
+use Rattle.tsd_model.specs.World.{World}
 use Rattle.fs_trees.specs.Answer.{done}
-use Rattle.fs_trees.specs.Fields.{Entry}
-use Rattle.fs_trees.specs.ChainTree.{names_max, has_room}
+use Rattle.fs_trees.specs.ChainTree.{names_max}
 use Rattle.fs_trees.specs.Cluster.{entries_room, directory_bytes}
 use Rattle.fs_trees.specs.Needs.{clusters_for}
 use Rattle.fs_trees.specs.declared.ask.ShellAsk.TheVariants as ask
 use Rattle.fs_trees.specs.declared.refusal.FsRefusal.{FsRefusal}
-use Rattle.fs_trees.specs.declared.refusal.FsRefusal.TheVariants as no
 use Rattle.fs_port.specs.Files.{IsEitherTree}
 use Rattle.fs_asks.specs.Client.{write_by}
-use Rattle.fs_steps.specs.Steps.{Leads, Went, Steps, written, no_room_in}
+use Rattle.fs_steps.specs.Steps.{Leads, Steps, written, no_room_in}
 use Rattle.fs_changing.specs.Changing.{refused_on}
 use Rattle.fs_changing.specs.Runs.{Runs}
 use Rattle.fs_changing.proofs.AskLaws.{ask_refuses}
-use Rattle.fs_changing.proofs.RunLaws.{runs_step, runs_more, then_runs, runs_as, runs_refused, changes_of, leaves_same}
-use Rattle.fs_changing.proofs.StepLaws.{may_after}
+use Rattle.fs_changing.proofs.RunLaws.{runs_step, runs_more, then_runs, runs_refused, changes_of, leaves_same}
 use Rattle.chain_layout.specs.Block.{cluster_of, block_len_of}
 use Rattle.chain_layout.specs.Held.{cluster_in, entries_in}
 use Rattle.chain_layout.specs.Listed.{listed_at}
 use Rattle.chain_laws.specs.Chained.{AreOthers}
 use Rattle.chain_laws.specs.Changed.{file_names}
-use Rattle.chain_files.specs.Making.{Making, IsAside}
-use Rattle.chain_files.proofs.MakingLaws.{aside_now}
+use Rattle.chain_files.specs.Making.{IsAside}
 use Rattle.chain_reading.specs.Asking.{mounted_by}
-use Rattle.chain_reading.specs.Finding.{IsEntry}
-use Rattle.chain_reading.proofs.KnownLaws.{is_known}
-use Rattle.chain_changes.proofs.AfterLaws.{Decided, LetsGo, None_loose, This_loose, decided_answers, decided_leaves, loose_gone, loose_runs}
+use Rattle.chain_changes.proofs.AfterLaws.{Decided, None_loose, decided_answers, decided_leaves}
 use Rattle.chain_changes.proofs.PuttingLaws.{Putting, stage, aside_either, stop_either}
 use Rattle.chain_changes.proofs.PlacedLaws.{putting_new, new_name, new_count, new_entry, roomy_there, refused_new, add_bytes}
 use Rattle.chain_changes.proofs.AddLaws.{add_fits, add_decided}
@@ -103,7 +96,7 @@ bounds-as_slice-0 g c =
 
 pub directory_with-entered-requires : goal.directory_with-entered-requires
 directory_with-entered-requires g c =
-    let place = c.count-place.ensures.value in
+    let place = c.count-behind.ensures.value in
     let room = c.requires.room in
     record {
       named = let long = ap length c.as_slice.ensures.value in let few = c.as_slice.ensures.fits in omega (arith, long, few);
@@ -142,9 +135,9 @@ write_block-requires g c =
     let bytes = directory_bytes next (entries_in page.cluster ++ (record { name = n; block = b } ∷ [])) in
     let is : c.directory_with-entered.result ≡ directory_bytes next (entries_in page.cluster ++ (record { name = n; block = b } ∷ [])) =
     c.directory_with-entered.ensures
-    ∙ (ap (λ m. directory_bytes next (listed_at c.count-place.result (record { name = m; block = slice_index_or c.as_slice-2.result.now 0 0 }) (entries_in page.cluster))) c.as_slice.ensures.value
-    ∙ (ap (λ bs. directory_bytes next (listed_at c.count-place.result (record { name = n; block = slice_index_or bs 0 0 }) (entries_in page.cluster))) c.as_slice-2.ensures.value
-    ∙ add_bytes next n b (entries_in page.cluster) c.count-place.result c.count-place.ensures.value)) in
+    ∙ (ap (λ m. directory_bytes next (listed_at c.count-behind.result (record { name = m; block = slice_index_or c.as_slice-2.result.now 0 0 }) (entries_in page.cluster))) c.as_slice.ensures.value
+    ∙ (ap (λ bs. directory_bytes next (listed_at c.count-behind.result (record { name = n; block = slice_index_or bs 0 0 }) (entries_in page.cluster))) c.as_slice-2.ensures.value
+    ∙ add_bytes next n b (entries_in page.cluster) c.count-behind.result c.count-behind.ensures.value)) in
     record {
       unspent = e.runs.unspent.0;
       valid = now;
@@ -183,9 +176,9 @@ returns-in-Err-write_block g c =
     let bytes = directory_bytes next (entries_in page.cluster ++ (record { name = n; block = b } ∷ [])) in
     let is : c.directory_with-entered.result ≡ directory_bytes next (entries_in page.cluster ++ (record { name = n; block = b } ∷ [])) =
     c.directory_with-entered.ensures
-    ∙ (ap (λ m. directory_bytes next (listed_at c.count-place.result (record { name = m; block = slice_index_or c.as_slice-2.result.now 0 0 }) (entries_in page.cluster))) c.as_slice.ensures.value
-    ∙ (ap (λ bs. directory_bytes next (listed_at c.count-place.result (record { name = n; block = slice_index_or bs 0 0 }) (entries_in page.cluster))) c.as_slice-2.ensures.value
-    ∙ add_bytes next n b (entries_in page.cluster) c.count-place.result c.count-place.ensures.value)) in
+    ∙ (ap (λ m. directory_bytes next (listed_at c.count-behind.result (record { name = m; block = slice_index_or c.as_slice-2.result.now 0 0 }) (entries_in page.cluster))) c.as_slice.ensures.value
+    ∙ (ap (λ bs. directory_bytes next (listed_at c.count-behind.result (record { name = n; block = slice_index_or bs 0 0 }) (entries_in page.cluster))) c.as_slice-2.ensures.value
+    ∙ add_bytes next n b (entries_in page.cluster) c.count-behind.result c.count-behind.ensures.value)) in
     let decide : (t : told) → Leads mid.world (write_by me d bytes) (written mid.world d bytes) → Decided me old a (written mid.world d bytes) None_loose = λ t leads.
     add_decided me old n page (x t) body blocks mid (e.made t) (e.room t) e.linkable e.some (others t) (few t) c.requires.room (granted t) leads in
     let stop : (t : told) → (v : World) → (v ≡ mid.world) ⊎ ((v ≡ written mid.world d bytes) × Leads mid.world (write_by me d bytes) (written mid.world d bytes)) → IsEitherTree (mounted_by me) old a v = λ t. stop_either me old n page (x t) blocks mid.world (e.made t).making body bytes None_loose (decide t) in
@@ -229,9 +222,9 @@ returns-in-Ok-write_block g c =
     let bytes = directory_bytes next (entries_in page.cluster ++ (record { name = n; block = b } ∷ [])) in
     let is : c.directory_with-entered.result ≡ directory_bytes next (entries_in page.cluster ++ (record { name = n; block = b } ∷ [])) =
     c.directory_with-entered.ensures
-    ∙ (ap (λ m. directory_bytes next (listed_at c.count-place.result (record { name = m; block = slice_index_or c.as_slice-2.result.now 0 0 }) (entries_in page.cluster))) c.as_slice.ensures.value
-    ∙ (ap (λ bs. directory_bytes next (listed_at c.count-place.result (record { name = n; block = slice_index_or bs 0 0 }) (entries_in page.cluster))) c.as_slice-2.ensures.value
-    ∙ add_bytes next n b (entries_in page.cluster) c.count-place.result c.count-place.ensures.value)) in
+    ∙ (ap (λ m. directory_bytes next (listed_at c.count-behind.result (record { name = m; block = slice_index_or c.as_slice-2.result.now 0 0 }) (entries_in page.cluster))) c.as_slice.ensures.value
+    ∙ (ap (λ bs. directory_bytes next (listed_at c.count-behind.result (record { name = n; block = slice_index_or bs 0 0 }) (entries_in page.cluster))) c.as_slice-2.ensures.value
+    ∙ add_bytes next n b (entries_in page.cluster) c.count-behind.result c.count-behind.ensures.value)) in
     let decide : (t : told) → Leads mid.world (write_by me d bytes) (written mid.world d bytes) → Decided me old a (written mid.world d bytes) None_loose = λ t leads.
     add_decided me old n page (x t) body blocks mid (e.made t) (e.room t) e.linkable e.some (others t) (few t) c.requires.room (granted t) leads in
     let stop : (t : told) → (v : World) → (v ≡ mid.world) ⊎ ((v ≡ written mid.world d bytes) × Leads mid.world (write_by me d bytes) (written mid.world d bytes)) → IsEitherTree (mounted_by me) old a v = λ t. stop_either me old n page (x t) blocks mid.world (e.made t).making body bytes None_loose (decide t) in

@@ -1,4 +1,4 @@
-use Rattle.std.proofs.Common.{◌≡◌, ◌<◌, ◌≤◌, ℕ, Bool, true, false, nat_lt, [], ◌∷◌, length, refl, sym, ◌∙◌, ap, subst, arith, Some, Ok, Err}
+use Rattle.std.proofs.Common.{◌≡◌, ◌<◌, ◌≤◌, ℕ, true, false, nat_lt, [], ◌∷◌, length, sym, ◌∙◌, ap, subst, arith, Some, Err}
 use Rattle.std.proofs.lemmas.Bool.Decides.{nat_tests}
 use Rattle.fs_trees.specs.Answer.{done}
 use Rattle.fs_trees.specs.ChainTree.{names_max}
@@ -15,8 +15,8 @@ use Rattle.chain_layout.specs.Held.{cluster_in, entries_in}
 use Rattle.chain_reading.specs.Asking.{MayAsk, mounted_by}
 use Rattle.chain_reading.specs.Finding.{IsWithin}
 use Rattle.chain_changes.specs.Places.{IsAt}
-use Rattle.chain_changes.proofs.PlacedLaws.{entries_used, new_count, new_entry, refused_full, refused_lost}
-use Rattle.chain_changes.proofs.SinceLaws.{answers_since, refused_since, changes_since, may_since, name_of_path}
+use Rattle.chain_changes.proofs.PlacedLaws.{entries_used, new_count, new_entry, refused_full, refused_lost, refused_since, name_of_path}
+use Rattle.chain_changes.proofs.AgainLaws.{may_ask_again, answers_again, changes_again}
 use Rattle.chain_changes.proofs.putting.put.Goals as goal
 
 pub find_place-requires : goal.find_place-requires
@@ -56,7 +56,7 @@ replace-requires g c =
     let b = ask.Put (n ∷ []) body in
     let same = λ (t : told). (e.looks.looked t).0.world in
     record {
-      may = may_since told me first mid c.in-Ok.found e.looks c.requires.may;
+      may = may_ask_again told me first mid c.in-Ok.found e.looks c.requires.may;
       found = λ t. subst (IsAt me mid n) c.in-Taken.is (e.found t);
       within = subst IsWithin c.in-Taken.is e.within;
       named = name_of_path path n e.path c.requires.named;
@@ -79,7 +79,7 @@ returns-then-count-ge-NAMES_MAX g c =
     let same = λ (t : told). (e.looks.looked t).0.world in
     let full : names_max ≤ c.in-Free.count = c.if-count-ge-NAMES_MAX.true in
     let primary : told → me.root < mid.world.geometry.primaries = λ t. subst (λ v. me.root < v.geometry.primaries) (sym (same t)) (subst (λ k. me.root < k.primaries) (sym (g.met.K.Blocks.sound c.args.disk.now t c.requires.may.ready.unspent).geometry) c.requires.may.ready.primary) in
-    let may : MayAsk told me mid = may_since told me first mid c.in-Ok.found e.looks c.requires.may in
+    let may : MayAsk told me mid = may_ask_again told me first mid c.in-Ok.found e.looks c.requires.may in
     let named = name_of_path path n e.path c.requires.named in
     let at = λ (t : told). subst (IsAt me mid n) c.in-Free.is (e.found t) in
     let refuses : told → refused_on f first a ≡ Some no.DirFull = λ t.
@@ -111,7 +111,7 @@ add-requires g c =
     let fewer = c.if-count-ge-NAMES_MAX.false in
     let test : nat_lt (cluster_of (cluster_in page.cluster)).used (entries_room (block_len_of (cluster_in page.cluster))) ≡ true = sym c.has_room.ensures ∙ c.if-has_room.true in
     record {
-      may = may_since told me first mid c.in-Ok.found e.looks c.requires.may;
+      may = may_ask_again told me first mid c.in-Ok.found e.looks c.requires.may;
       found = λ t. subst (IsAt me mid n) c.in-Free.is (e.found t);
       few = omega (arith, fewer);
       room = tested (length (entries_in page.cluster)) (cluster_of (cluster_in page.cluster)).used (entries_room (block_len_of (cluster_in page.cluster))) used test;
@@ -141,7 +141,7 @@ extend-requires g c =
     let fewer = c.if-count-ge-NAMES_MAX.false in
     let test : nat_lt (cluster_of (cluster_in page.cluster)).used (entries_room (block_len_of (cluster_in page.cluster))) ≡ false = sym c.has_room.ensures ∙ c.if-has_room.false in
     record {
-      may = may_since told me first mid c.in-Ok.found e.looks c.requires.may;
+      may = may_ask_again told me first mid c.in-Ok.found e.looks c.requires.may;
       found = λ t. subst (IsAt me mid n) c.in-Free.is (e.found t);
       few = omega (arith, fewer);
       full = tested (length (entries_in page.cluster)) (cluster_of (cluster_in page.cluster)).used (entries_room (block_len_of (cluster_in page.cluster))) used test;
@@ -170,8 +170,8 @@ returns-in-Taken g c =
     let h = c.replace.ensures in
     let r = c.replace.result in
     record {
-      answer = λ t. subst (λ p. Answers f first new (ask.Put p body) r (λ _ answer. answer ≡ done)) (sym e.path) (answers_since f first mid b (same t) new r (λ _ answer. answer ≡ done) (h.answer t));
-      changes = subst (λ p. Changes told f first new (ask.Put p body) r) (sym e.path) (changes_since told f first mid new b c.in-Ok.found r same valid e.looks h.changes);
+      answer = λ t. subst (λ p. Answers f first new (ask.Put p body) r (λ _ answer. answer ≡ done)) (sym e.path) (answers_again f first mid b (same t) new r (λ _ answer. answer ≡ done) (h.answer t));
+      changes = subst (λ p. Changes told f first new (ask.Put p body) r) (sym e.path) (changes_again told f first mid new b c.in-Ok.found r valid e.looks h.changes);
     }
 
 pub returns-then-has_room : goal.returns-then-has_room
@@ -193,8 +193,8 @@ returns-then-has_room g c =
     let h = c.add.ensures in
     let r = c.add.result in
     record {
-      answer = λ t. subst (λ p. Answers f first new (ask.Put p body) r (λ _ answer. answer ≡ done)) (sym e.path) (answers_since f first mid b (same t) new r (λ _ answer. answer ≡ done) (h.answer t));
-      changes = subst (λ p. Changes told f first new (ask.Put p body) r) (sym e.path) (changes_since told f first mid new b c.in-Ok.found r same valid e.looks h.changes);
+      answer = λ t. subst (λ p. Answers f first new (ask.Put p body) r (λ _ answer. answer ≡ done)) (sym e.path) (answers_again f first mid b (same t) new r (λ _ answer. answer ≡ done) (h.answer t));
+      changes = subst (λ p. Changes told f first new (ask.Put p body) r) (sym e.path) (changes_again told f first mid new b c.in-Ok.found r valid e.looks h.changes);
     }
 
 pub returns-else-has_room : goal.returns-else-has_room
@@ -216,6 +216,6 @@ returns-else-has_room g c =
     let h = c.extend.ensures in
     let r = c.extend.result in
     record {
-      answer = λ t. subst (λ p. Answers f first new (ask.Put p body) r (λ _ answer. answer ≡ done)) (sym e.path) (answers_since f first mid b (same t) new r (λ _ answer. answer ≡ done) (h.answer t));
-      changes = subst (λ p. Changes told f first new (ask.Put p body) r) (sym e.path) (changes_since told f first mid new b c.in-Ok.found r same valid e.looks h.changes);
+      answer = λ t. subst (λ p. Answers f first new (ask.Put p body) r (λ _ answer. answer ≡ done)) (sym e.path) (answers_again f first mid b (same t) new r (λ _ answer. answer ≡ done) (h.answer t));
+      changes = subst (λ p. Changes told f first new (ask.Put p body) r) (sym e.path) (changes_again told f first mid new b c.in-Ok.found r valid e.looks h.changes);
     }

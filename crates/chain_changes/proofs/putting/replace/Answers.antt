@@ -1,19 +1,16 @@
-use Rattle.std.proofs.Common.{◌≡◌, ◌≢◌, ◌+◌, ◌^◌, ◌<◌, ◌≤◌, ℕ, Bool, true, false, not, cond, ◌&&◌, [], ◌∷◌, ◌++◌, List, length, refl, sym, ◌∙◌, ap, subst, arith, ◌⊎◌, Option, Some, None, Ok, Err}
+use Rattle.std.proofs.Common.{◌≡◌, ◌+◌, ◌<◌, ◌≤◌, [], ◌∷◌, ◌++◌, length, refl, sym, ◌∙◌, ap, subst, arith, ◌⊎◌, Option, None, Ok, Err}
 use Rattle.std.specs.Prelude.{slice_index_or}
 use Rattle.tsd_model.specs.Geometry.{block_len}
-use Rattle.tsd_model.specs.World.{World, has_number}
+use Rattle.tsd_model.specs.World.{World}
 use Rattle.disk_laws.proofs.ChangeLaws.{live-with_contents}
 use Rattle.fs_trees.specs.Answer.{done}
-use Rattle.fs_trees.specs.Fields.{Entry}
-use Rattle.fs_trees.specs.ChainTree.{names_max, has_room}
 use Rattle.fs_trees.specs.Cluster.{directory_bytes}
 use Rattle.fs_trees.specs.Needs.{clusters_for}
 use Rattle.fs_trees.specs.declared.ask.ShellAsk.TheVariants as ask
 use Rattle.fs_trees.specs.declared.refusal.FsRefusal.{FsRefusal}
-use Rattle.fs_trees.specs.declared.refusal.FsRefusal.TheVariants as no
 use Rattle.fs_port.specs.Files.{IsEitherTree}
 use Rattle.fs_asks.specs.Client.{write_by}
-use Rattle.fs_steps.specs.Steps.{Leads, Went, Steps, written, no_room_in}
+use Rattle.fs_steps.specs.Steps.{Leads, Went, written, no_room_in}
 use Rattle.fs_changing.specs.Changing.{refused_on}
 use Rattle.fs_changing.specs.Runs.{Runs}
 use Rattle.fs_changing.proofs.AskLaws.{ask_refuses}
@@ -22,14 +19,11 @@ use Rattle.fs_changing.proofs.StepLaws.{may_after}
 use Rattle.chain_layout.specs.Block.{cluster_of, block_len_of}
 use Rattle.chain_layout.specs.Held.{cluster_in, entries_in}
 use Rattle.chain_layout.specs.Listed.{listed_at}
-use Rattle.chain_laws.specs.Chained.{AreOthers}
-use Rattle.chain_laws.specs.Changed.{file_names}
-use Rattle.chain_files.specs.Making.{Making, IsAside}
-use Rattle.chain_files.proofs.MakingLaws.{aside_now}
+use Rattle.chain_files.specs.Making.{IsAside}
 use Rattle.chain_reading.specs.Asking.{mounted_by}
 use Rattle.chain_reading.specs.Finding.{IsEntry}
 use Rattle.chain_reading.proofs.KnownLaws.{is_known}
-use Rattle.chain_changes.proofs.AfterLaws.{Decided, LetsGo, None_loose, This_loose, decided_answers, decided_leaves, loose_gone, loose_runs}
+use Rattle.chain_changes.proofs.AfterLaws.{LetsGo, None_loose, This_loose, decided_answers, decided_leaves, loose_gone, loose_runs}
 use Rattle.chain_changes.proofs.PuttingLaws.{Putting, stage, aside_either, stop_either}
 use Rattle.chain_changes.proofs.PlacedLaws.{putting_over, the_taken, over_entry, refused_over, set_bytes, entries_used}
 use Rattle.chain_changes.proofs.AddLaws.{set_fits, set_lets}
