@@ -38,6 +38,7 @@ runs_on told old new P e y ne h = record {
   unspent = (h.unspent.1 ne, tt);
   faultless = (h.faultless.1 ne, tt);
   cause = tt;
+  spent = tt;
 }
 
 -- the root reaches the blocks of its files

@@ -113,6 +113,7 @@ runs_before told old new P e n h = record {
   unspent = (tt, λ ne. h.unspent.1 (λ k. ne (before_fault e n k)));
   faultless = (tt, λ ne. h.faultless.1 (λ k. ne (before_fault e n k)));
   cause = λ k. h.cause (fault_before e n k);
+  spent = λ k. h.spent (fault_before e n k);
 }
 
 -- ---- so far
