@@ -79,4 +79,4 @@ changes_again {X} {Y} told f first rd fin a x result valid looks h =
     (runs_more told rd fin (IsEitherTree f rd a) (IsEitherTree f first a) result (λ t w either. either_again f first rd a (looks.looked t).0.world w either) ran))
   where
     ran : Runs told rd fin (IsEitherTree f rd a) result
-    ran = record { valid = h.valid; crash = h.crash; stays = h.stays; counts = h.counts; unspent = h.unspent; faultless = h.faultless; cause = h.cause }
+    ran = record { valid = h.valid; crash = h.crash; stays = h.stays; counts = h.counts; unspent = h.unspent; faultless = h.faultless; cause = h.cause; spent = h.spent }

@@ -68,10 +68,10 @@ too_few w wanted h =
 
 -- what holds of a request holds of it where another value is given on
 pub as_block : {X Y : Type 0} (told : Type 0) (c : Client) (old new : View) (q : Request) (a : ℕ) (after : World) (x : X) (y : Y) → Steps told c old new q a after (Ok x) → Steps told c old new q a after (Ok y)
-as_block told c old new q a after x y h = record { went = h.went; same = λ t. tt; crash = h.crash; stays = h.stays; counts = h.counts; unspent = h.unspent; faultless = h.faultless; cause = tt }
+as_block told c old new q a after x y h = record { went = h.went; same = λ t. tt; crash = h.crash; stays = h.stays; counts = h.counts; unspent = h.unspent; faultless = h.faultless; cause = tt; spent = tt }
 
 pub as_refused : {X Y : Type 0} (told : Type 0) (c : Client) (old new : View) (q : Request) (a : ℕ) (after : World) (e : FsRefusal) → Steps {X = X} told c old new q a after (Err e) → Steps {X = Y} told c old new q a after (Err e)
-as_refused told c old new q a after e h = record { went = λ t. tt; same = h.same; crash = h.crash; stays = h.stays; counts = h.counts; unspent = h.unspent; faultless = h.faultless; cause = h.cause }
+as_refused told c old new q a after e h = record { went = λ t. tt; same = h.same; crash = h.crash; stays = h.stays; counts = h.counts; unspent = h.unspent; faultless = h.faultless; cause = h.cause; spent = h.spent }
 
 pub no_block : {X Y : Type 0} (told : Type 0) (c : Client) (old new : View) (q : Request) (a : ℕ) (after : World) (x : X) (e : FsRefusal) → e ≢ no.Device → (told → ⊥) → Steps told c old new q a after (Ok x) → Steps {X = Y} told c old new q a after (Err e)
 no_block told c old new q a after x e ne never h = record {
@@ -83,6 +83,7 @@ no_block told c old new q a after x e ne never h = record {
   unspent = (tt, λ _. h.unspent.0);
   faultless = (tt, λ _. h.faultless.0);
   cause = λ d. absurd (ne d);
+  spent = λ d. absurd (ne d);
 }
 
 -- where there is room for one, one is chosen, and it can be named
@@ -106,6 +107,7 @@ runs_despite told old new P e ne h = record {
   unspent = (h.unspent.1 ne, tt);
   faultless = (h.faultless.1 ne, tt);
   cause = tt;
+  spent = tt;
 }
 
 may_same : (c : Client) (now new : View) (b : ℕ) → state_of new ≡ state_of now → MayWrite c now b → MayWrite c new b

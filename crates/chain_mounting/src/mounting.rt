@@ -1,7 +1,7 @@
 //! Mounting.
 #![tactic(none)]
 
-ghost use Rattle.std.specs.Prelude.{◌≡◌, ◌⊎◌, false, OnOk, IfErr, IsTrue};
+ghost use Rattle.std.specs.Prelude.{◌≡◌, ◌⊎◌, true, false, OnOk, IfErr, IsTrue};
 ghost use Rattle.image_device.specs.Counts.{Rose};
 ghost use Rattle.fs_trees.specs.Tree.{is_there, nothing};
 ghost use Rattle.fs_trees.specs.ChainTree.{chain_tree};
@@ -36,6 +36,7 @@ pub fn mount<K: Blocks>(client: &Client, disk: &mut K, seen: &mut BlockSet) -> R
     ensures counts { Counts (K.view disk.old) (K.view disk.new) }
     ensures unspent { OnAnswer result ((K.view disk.new).spent ≡ false) }
     ensures faultless { OnAnswer result ((K.view disk.new).faults ≡ (K.view disk.old).faults) }
+    ensures spent { IfErr result (λ e. e ≡ no.Device → (K.view disk.new).spent ≡ true) }
     ensures cause { IfErr result (λ e. e ≡ no.Device → Rose (K.view disk.old).faults (K.view disk.new).faults) }
 {
     match is_tree(client, disk, seen) {

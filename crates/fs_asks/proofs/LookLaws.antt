@@ -171,6 +171,7 @@ module _ {X : Type 0} (told : Type 0) (old new : View) (q : Request) where
     unspent = once.unspent;
     faultless = once.faultless;
     cause = once.cause;
+    spent = once.spent;
   }
 
   never_refused : (e : FsRefusal) → (told → verdict old.world old.sessions q ≡ None) → told → AsksOnce {X = X} told old new q (Err e) → e ≢ no.Device → ⊥
@@ -189,6 +190,7 @@ module _ {X : Type 0} (told : Type 0) (old new : View) (q : Request) where
     unspent = once.unspent;
     faultless = once.faultless;
     cause = once.cause;
+    spent = once.spent;
   }
 
   pub is_a_fault : (e : FsRefusal) → (told → verdict old.world old.sessions q ≡ None) → told → AsksOnce {X = X} told old new q (Err e) → e ≡ no.Device
@@ -212,6 +214,7 @@ no_look told v unspent sound valid = record {
   unspent = (unspent, tt);
   faultless = (refl, tt);
   cause = tt;
+  spent = tt;
 }
 
 also : (old mid new : View) → Looked old mid → Looked mid new → Looked old new
@@ -252,14 +255,15 @@ then_looks told old mid new x result first second = record {
   unspent = second.unspent;
   faultless = on_answer (new.faults ≡ mid.faults) (new.faults ≡ old.faults) result (λ e. e ∙ first.faultless.0) second.faultless;
   cause = if_fault (Rose mid.faults new.faults) (Rose old.faults new.faults) result (subst (λ n. Rose n new.faults) first.faultless.0) second.cause;
+  spent = second.spent;
 }
 
 -- the same answered otherwise
 pub looks_as : {X Y : Type 0} (told : Type 0) (old new : View) (x : X) (y : Y) → Looks told old new (Ok x) → Looks told old new (Ok y)
-looks_as told old new x y h = record { looked = h.looked; crash = h.crash; stays = h.stays; counts = h.counts; unspent = h.unspent; faultless = h.faultless; cause = tt }
+looks_as told old new x y h = record { looked = h.looked; crash = h.crash; stays = h.stays; counts = h.counts; unspent = h.unspent; faultless = h.faultless; cause = tt; spent = tt }
 
 pub looks_refused : {X Y : Type 0} (told : Type 0) (old new : View) (e : FsRefusal) → Looks {X = X} told old new (Err e) → Looks {X = Y} told old new (Err e)
-looks_refused told old new e h = record { looked = h.looked; crash = h.crash; stays = h.stays; counts = h.counts; unspent = h.unspent; faultless = h.faultless; cause = h.cause }
+looks_refused told old new e h = record { looked = h.looked; crash = h.crash; stays = h.stays; counts = h.counts; unspent = h.unspent; faultless = h.faultless; cause = h.cause; spent = h.spent }
 
 -- a refusal of its own, not the disk's
 pub looks_but_refuses : {X Y : Type 0} (told : Type 0) (old new : View) (x : X) (e : FsRefusal) → e ≢ no.Device → Looks told old new (Ok x) → Looks {X = Y} told old new (Err e)
@@ -271,6 +275,7 @@ looks_but_refuses told old new x e ne h = record {
   unspent = (tt, λ _. h.unspent.0);
   faultless = (tt, λ _. h.faultless.0);
   cause = λ g. absurd (ne g);
+  spent = λ g. absurd (ne g);
 }
 
 -- what may be written still may: at a primary block by what is shown, elsewhere by what is held

@@ -32,6 +32,7 @@ module _ {X : Type 0} (told : Type 0) (old new : View) (q : Request) (crash : to
     unspent = (unspent, tt);
     faultless = (faultless, tt);
     cause = tt;
+    spent = tt;
   }
 
   pub replied_otherwise : (r : Reply) → is_of_files q ≡ true → (told → IsCarriedOut old new q r) → has_wanted_form q r ≡ false → Stays old new → new.spent ≡ false → new.faults ≡ old.faults → AsksOnce {X = X} told old new q (Err (refusal_in r))
@@ -43,10 +44,11 @@ module _ {X : Type 0} (told : Type 0) (old new : View) (q : Request) (crash : to
     unspent = (tt, λ ne. unspent);
     faultless = (tt, λ ne. faultless);
     cause = λ e. absurd (no_reply_is_a_fault r e);
+    spent = λ e. absurd (no_reply_is_a_fault r e);
   }
 
-  pub failed : Rose old.faults new.faults → AsksOnce {X = X} told old new q (Err no.Device)
-  failed rose = record {
+  pub failed : Rose old.faults new.faults → new.spent ≡ true → AsksOnce {X = X} told old new q (Err no.Device)
+  failed rose spent = record {
     refused = λ t ne. absurd (ne refl);
     crash = crash;
     stays = (tt, λ ne. absurd (ne refl));
@@ -54,4 +56,5 @@ module _ {X : Type 0} (told : Type 0) (old new : View) (q : Request) (crash : to
     unspent = (tt, λ ne. absurd (ne refl));
     faultless = (tt, λ ne. absurd (ne refl));
     cause = λ e. rose;
+    spent = λ e. spent;
   }

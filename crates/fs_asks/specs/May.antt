@@ -1,5 +1,5 @@
 -- What a client may ask, and what it leaves where it only looks.
-use Rattle.std.specs.Prelude.{◌≡◌, ℕ, ◌≤◌, false, Result, IfErr, IsTrue}
+use Rattle.std.specs.Prelude.{◌≡◌, ℕ, ◌≤◌, true, false, Result, IfErr, IsTrue}
 use Rattle.image_device.specs.Counts.{Rose}
 use Rattle.tsd_model.specs.World.{is_live}
 use Rattle.tsd_model.specs.Sessions.{sessions_max, is_open}
@@ -39,3 +39,4 @@ pub record Looks {X : Type 0} (told : Type 0) (old new : View) (result : Result 
   pub unspent : OnAnswer result (new.spent ≡ false)
   pub faultless : OnAnswer result (new.faults ≡ old.faults)
   pub cause : IfErr result (λ e. e ≡ no.Device → Rose old.faults new.faults)
+  pub spent : IfErr result (λ e. e ≡ no.Device → new.spent ≡ true)

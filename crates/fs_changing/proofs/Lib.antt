@@ -12,3 +12,4 @@ pub mod TidyLaws
 pub mod WriteLaws
 pub mod MakeLaws
 pub mod MountLaws
+pub mod AgainLaws

@@ -42,25 +42,25 @@ wanted_pairs w b p e h is = by_tests (nat_lt (free_count w) b) (nat_lt w.geometr
     by_tests false false f g is = absurd (cc)
 
 -- the first block and pair are refused as all of them are
-pub refused_at_once : (w : World) (n : ℕ) (e : FsRefusal) → 1 + n ≤ free_count w → no_room_in w 1 1 ≡ Some e → no_room_in w (1 + n) (1 + n) ≡ Some e
-refused_at_once w n e free is =
+pub refused_at_once : (w : World) (n p : ℕ) (e : FsRefusal) → 1 + n ≤ free_count w → no_room_in w 1 1 ≡ Some e → no_room_in w (1 + n) (1 + p) ≡ Some e
+refused_at_once w n p e free is =
     let want = wanted_pairs w 1 1 e (omega (arith, free)) is in
-    pairs_want w (1 + n) (1 + n) free (let low = want.0 in omega (arith, low)) ∙ ap (λ r. Some r) want.1
+    pairs_want w (1 + n) (1 + p) free (let low = want.0 in omega (arith, low)) ∙ ap (λ r. Some r) want.1
 
 -- with the first one taken
-module _ (first w : World) (n : ℕ) (size : w.geometry ≡ first.geometry) (blocks : free_count w + 1 ≡ free_count first) (pairs : length w.pairs ≡ length first.pairs + 1) (free : 1 + n ≤ free_count first) where
+module _ (first w : World) (n p : ℕ) (size : w.geometry ≡ first.geometry) (blocks : free_count w + 1 ≡ free_count first) (pairs : length w.pairs ≡ length first.pairs + 1) (free : 1 + n ≤ free_count first) where
   same_slots : w.geometry.slots ≡ first.geometry.slots
   same_slots = ap (λ g. g.slots) size
 
   -- the others are refused as all would have been before
-  pub refused_later : (e : FsRefusal) → no_room_in w n n ≡ Some e → no_room_in first (1 + n) (1 + n) ≡ Some (refusal_before e 1)
+  pub refused_later : (e : FsRefusal) → no_room_in w n p ≡ Some e → no_room_in first (1 + n) (1 + p) ≡ Some (refusal_before e 1)
   refused_later e is =
-      let want = wanted_pairs w n n e (omega (arith, blocks, free)) is in
+      let want = wanted_pairs w n p e (omega (arith, blocks, free)) is in
       let low = want.0 in
       let held : length first.pairs ≡ length w.pairs - 1 = omega (arith, pairs) in
-      pairs_want first (1 + n) (1 + n) free (omega (arith, low, pairs, same_slots))
+      pairs_want first (1 + n) (1 + p) free (omega (arith, low, pairs, same_slots))
       ∙ (ap (λ k. Some (no.PointersFull k first.geometry.slots)) held
       ∙ (ap (λ k. Some (no.PointersFull (length w.pairs - 1) k)) (sym same_slots) ∙ ap (λ r. Some (refusal_before r 1)) want.1))
 
-  pub room_for_both : ◌≡◌ {A = Option FsRefusal} (no_room_in w n n) None → ◌≡◌ {A = Option FsRefusal} (no_room_in first (1 + n) (1 + n)) None
-  room_for_both is = let room = (there_is_room w n n is).1 in room_there first (1 + n) (1 + n) free (omega (arith, room, pairs, same_slots))
+  pub room_for_both : ◌≡◌ {A = Option FsRefusal} (no_room_in w n p) None → ◌≡◌ {A = Option FsRefusal} (no_room_in first (1 + n) (1 + p)) None
+  room_for_both is = let room = (there_is_room w n p is).1 in room_there first (1 + n) (1 + p) free (omega (arith, room, pairs, same_slots))

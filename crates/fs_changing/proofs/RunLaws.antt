@@ -83,6 +83,7 @@ runs_look told old new P result on looks = record {
   unspent = looks.unspent;
   faultless = looks.faultless;
   cause = looks.cause;
+  spent = looks.spent;
 }
 
 pub runs_step : {X : Type 0} (told : Type 0) (c : Client) (old new : View) (q : Request) (a : ℕ) (after : World) (P : World → Type 0) (result : Result X FsRefusal) → (told → IsValidNow old)
@@ -95,6 +96,7 @@ runs_step {X} told c old new q a after P result now on steps = record {
   unspent = steps.unspent;
   faultless = steps.faultless;
   cause = steps.cause;
+  spent = steps.spent;
 }
   where
     stays_valid : (r : Result X FsRefusal) → OnOk r (Went c old new q a after) → IfErr r (λ e. e ≢ no.Device → state_of new ≡ state_of old) → IsValidNow old → OnAnswer r (IsValidNow new)
@@ -116,13 +118,14 @@ then_runs told old mid new P x result first second = record {
   unspent = second.unspent;
   faultless = on_answer (new.faults ≡ mid.faults) (new.faults ≡ old.faults) result (λ e. e ∙ first.faultless.0) second.faultless;
   cause = if_fault (Rose mid.faults new.faults) (Rose old.faults new.faults) result (subst (λ n. Rose n new.faults) first.faultless.0) second.cause;
+  spent = second.spent;
 }
 
 pub runs_as : {X Y : Type 0} (told : Type 0) (old new : View) (P : World → Type 0) (x : X) (y : Y) → Runs told old new P (Ok x) → Runs told old new P (Ok y)
-runs_as told old new P x y h = record { valid = h.valid; crash = h.crash; stays = h.stays; counts = h.counts; unspent = h.unspent; faultless = h.faultless; cause = tt }
+runs_as told old new P x y h = record { valid = h.valid; crash = h.crash; stays = h.stays; counts = h.counts; unspent = h.unspent; faultless = h.faultless; cause = tt; spent = tt }
 
 pub runs_refused : {X Y : Type 0} (told : Type 0) (old new : View) (P : World → Type 0) (e : FsRefusal) → Runs {X = X} told old new P (Err e) → Runs {X = Y} told old new P (Err e)
-runs_refused told old new P e h = record { valid = h.valid; crash = h.crash; stays = h.stays; counts = h.counts; unspent = h.unspent; faultless = h.faultless; cause = h.cause }
+runs_refused told old new P e h = record { valid = h.valid; crash = h.crash; stays = h.stays; counts = h.counts; unspent = h.unspent; faultless = h.faultless; cause = h.cause; spent = h.spent }
 
 -- a refusal of its own, not the disk's
 pub runs_but_refuses : {X Y : Type 0} (told : Type 0) (old new : View) (P : World → Type 0) (x : X) (e : FsRefusal) → e ≢ no.Device → Runs told old new P (Ok x) → Runs {X = Y} told old new P (Err e)
@@ -134,6 +137,7 @@ runs_but_refuses told old new P x e ne h = record {
   unspent = (tt, λ _. h.unspent.0);
   faultless = (tt, λ _. h.faultless.0);
   cause = λ d. absurd (ne d);
+  spent = λ d. absurd (ne d);
 }
 
 -- what a stop leaves has Q as well
@@ -146,6 +150,7 @@ runs_more told old new P Q result on h = record {
   unspent = h.unspent;
   faultless = h.faultless;
   cause = h.cause;
+  spent = h.spent;
 }
 
 -- ---- what a file system's calls leave
@@ -161,6 +166,7 @@ changes_of told f old new a result world h = record {
   unspent = h.unspent;
   faultless = h.faultless;
   cause = h.cause;
+  spent = h.spent;
 }
 
 -- the client stays ready

@@ -72,7 +72,7 @@ trims_refused told c n old new e h = record { trimmed = h.trimmed; only = h.only
 
 -- ---- one after the other
 
-keeps_both : (w mid next : World) (n : Named) → Keeps w mid n → Keeps mid next n → Keeps w next n
+pub keeps_both : (w mid next : World) (n : Named) → Keeps w mid n → Keeps mid next n → Keeps w next n
 keeps_both w mid next n first second = record {
   geometry = second.geometry ∙ first.geometry;
   live = second.live;

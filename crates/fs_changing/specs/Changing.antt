@@ -34,6 +34,7 @@ pub record Changes {X : Type 0} (told : Type 0) (f : FilesView) (old new : View)
   pub unspent : OnAnswer result (new.spent ≡ false)
   pub faultless : OnAnswer result (new.faults ≡ old.faults)
   pub cause : IfErr result (λ e. e ≡ no.Device → Rose old.faults new.faults)
+  pub spent : IfErr result (λ e. e ≡ no.Device → new.spent ≡ true)
 
 -- ---- making
 

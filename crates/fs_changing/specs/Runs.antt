@@ -1,5 +1,5 @@
 -- Calls one after the other, whatever they answer.
-use Rattle.std.specs.Prelude.{◌≡◌, false, Result, IfErr}
+use Rattle.std.specs.Prelude.{◌≡◌, true, false, Result, IfErr}
 use Rattle.image_device.specs.Counts.{Rose}
 use Rattle.tsd_model.specs.World.{World}
 use Rattle.fs_trees.specs.declared.refusal.FsRefusal.{FsRefusal}
@@ -17,3 +17,4 @@ pub record Runs {X : Type 0} (told : Type 0) (old new : View) (P : World → Typ
   pub unspent : OnAnswer result (new.spent ≡ false)
   pub faultless : OnAnswer result (new.faults ≡ old.faults)
   pub cause : IfErr result (λ e. e ≡ no.Device → Rose old.faults new.faults)
+  pub spent : IfErr result (λ e. e ≡ no.Device → new.spent ≡ true)

@@ -41,6 +41,7 @@ pub trait Files {
         ensures unmounted { OnErr result (view self.new ≡ view self.old) }
         ensures unspent { OnAnswer result ((K.view disk.new).spent ≡ false) }
         ensures faultless { OnAnswer result ((K.view disk.new).faults ≡ (K.view disk.old).faults) }
+        ensures spent { IfErr result (λ e. e ≡ no.Device → (K.view disk.new).spent ≡ true) }
         ensures cause { IfErr result (λ e. e ≡ no.Device → Rose (K.view disk.old).faults (K.view disk.new).faults) };
 
     /// Mounts the tree under the root, and deletes the pairs that it doesn't name. Where it fails nothing is mounted.
@@ -60,6 +61,7 @@ pub trait Files {
         ensures unmounted { OnErr result (view self.new ≡ unmounted_now (view self.old)) }
         ensures unspent { OnAnswer result ((K.view disk.new).spent ≡ false) }
         ensures faultless { OnAnswer result ((K.view disk.new).faults ≡ (K.view disk.old).faults) }
+        ensures spent { IfErr result (λ e. e ≡ no.Device → (K.view disk.new).spent ≡ true) }
         ensures cause { IfErr result (λ e. e ≡ no.Device → Rose (K.view disk.old).faults (K.view disk.new).faults) };
 
     /// Makes a file of these bytes at a path, in place of the old one.
@@ -77,6 +79,7 @@ pub trait Files {
         ensures same { view self.new ≡ view self.old }
         ensures unspent { OnAnswer result ((K.view disk.new).spent ≡ false) }
         ensures faultless { OnAnswer result ((K.view disk.new).faults ≡ (K.view disk.old).faults) }
+        ensures spent { IfErr result (λ e. e ≡ no.Device → (K.view disk.new).spent ≡ true) }
         ensures cause { IfErr result (λ e. e ≡ no.Device → Rose (K.view disk.old).faults (K.view disk.new).faults) };
 
     /// Makes a directory without entries at a path.
@@ -95,6 +98,7 @@ pub trait Files {
         ensures same { view self.new ≡ view self.old }
         ensures unspent { OnAnswer result ((K.view disk.new).spent ≡ false) }
         ensures faultless { OnAnswer result ((K.view disk.new).faults ≡ (K.view disk.old).faults) }
+        ensures spent { IfErr result (λ e. e ≡ no.Device → (K.view disk.new).spent ≡ true) }
         ensures cause { IfErr result (λ e. e ≡ no.Device → Rose (K.view disk.old).faults (K.view disk.new).faults) };
 
     /// Adds these bytes at the end of a file.
@@ -117,6 +121,7 @@ pub trait Files {
         ensures same { view self.new ≡ view self.old }
         ensures unspent { OnAnswer result ((K.view disk.new).spent ≡ false) }
         ensures faultless { OnAnswer result ((K.view disk.new).faults ≡ (K.view disk.old).faults) }
+        ensures spent { IfErr result (λ e. e ≡ no.Device → (K.view disk.new).spent ≡ true) }
         ensures cause { IfErr result (λ e. e ≡ no.Device → Rose (K.view disk.old).faults (K.view disk.new).faults) };
 
     /// Takes away a file, or a directory without entries.
@@ -134,6 +139,7 @@ pub trait Files {
         ensures same { view self.new ≡ view self.old }
         ensures unspent { OnAnswer result ((K.view disk.new).spent ≡ false) }
         ensures faultless { OnAnswer result ((K.view disk.new).faults ≡ (K.view disk.old).faults) }
+        ensures spent { IfErr result (λ e. e ≡ no.Device → (K.view disk.new).spent ≡ true) }
         ensures cause { IfErr result (λ e. e ≡ no.Device → Rose (K.view disk.old).faults (K.view disk.new).faults) };
 
     /// How many bytes a file has.
@@ -151,6 +157,7 @@ pub trait Files {
         ensures same { view self.new ≡ view self.old }
         ensures unspent { OnAnswer result ((K.view disk.new).spent ≡ false) }
         ensures faultless { OnAnswer result ((K.view disk.new).faults ≡ (K.view disk.old).faults) }
+        ensures spent { IfErr result (λ e. e ≡ no.Device → (K.view disk.new).spent ≡ true) }
         ensures cause { IfErr result (λ e. e ≡ no.Device → Rose (K.view disk.old).faults (K.view disk.new).faults) };
 
     /// The bytes of a file from a place on: all that are left, or the first 4,096.
@@ -174,6 +181,7 @@ pub trait Files {
         ensures same { view self.new ≡ view self.old }
         ensures unspent { OnAnswer result ((K.view disk.new).spent ≡ false) }
         ensures faultless { OnAnswer result ((K.view disk.new).faults ≡ (K.view disk.old).faults) }
+        ensures spent { IfErr result (λ e. e ≡ no.Device → (K.view disk.new).spent ≡ true) }
         ensures cause { IfErr result (λ e. e ≡ no.Device → Rose (K.view disk.old).faults (K.view disk.new).faults) };
 
     /// The least name in a directory above another; the empty name is below all.
@@ -196,5 +204,6 @@ pub trait Files {
         ensures same { view self.new ≡ view self.old }
         ensures unspent { OnAnswer result ((K.view disk.new).spent ≡ false) }
         ensures faultless { OnAnswer result ((K.view disk.new).faults ≡ (K.view disk.old).faults) }
+        ensures spent { IfErr result (λ e. e ≡ no.Device → (K.view disk.new).spent ≡ true) }
         ensures cause { IfErr result (λ e. e ≡ no.Device → Rose (K.view disk.old).faults (K.view disk.new).faults) };
 }

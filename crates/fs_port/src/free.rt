@@ -1,6 +1,6 @@
 //! How many blocks are free.
 
-ghost use Rattle.std.specs.Prelude.{◌≡◌, false, IfOk, IfErr, OnOk};
+ghost use Rattle.std.specs.Prelude.{◌≡◌, true, false, IfOk, IfErr, OnOk};
 ghost use Rattle.image_device.specs.Counts.{Rose};
 ghost use Rattle.tsd_model.specs.World.{free_count};
 ghost use Rattle.fs_trees.specs.declared.refusal.FsRefusal.TheVariants as no;
@@ -23,6 +23,7 @@ pub fn free_blocks<K: Blocks>(disk: &mut K) -> Result<u32, FsRefusal>
     ensures counts { Counts (K.view disk.old) (K.view disk.new) }
     ensures unspent { OnAnswer result ((K.view disk.new).spent ≡ false) }
     ensures faultless { OnAnswer result ((K.view disk.new).faults ≡ (K.view disk.old).faults) }
+    ensures spent { IfErr result (λ e. e ≡ no.Device → (K.view disk.new).spent ≡ true) }
     ensures cause { IfErr result (λ e. e ≡ no.Device → Rose (K.view disk.old).faults (K.view disk.new).faults) }
 {
     match disk.ask(&Request::GetFree) {

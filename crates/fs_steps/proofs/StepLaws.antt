@@ -114,6 +114,7 @@ module _ (c : Client) (old new : View) (q : Request) (a : ℕ) (after : World) (
       unspent = once.unspent;
       faultless = once.faultless;
       cause = once.cause;
+      spent = once.spent;
     }
 
     pub step_err : (e : FsRefusal) → AsksOnce {X = X} told old new q (Err e) → Steps {X = X} told c old new q a after (Err e)
@@ -126,6 +127,7 @@ module _ (c : Client) (old new : View) (q : Request) (a : ℕ) (after : World) (
       unspent = once.unspent;
       faultless = once.faultless;
       cause = once.cause;
+      spent = once.spent;
     }
 
 -- ---- the new blocks

@@ -1,5 +1,5 @@
 -- A request that changes the world, of a client that may write there.
-use Rattle.std.specs.Prelude.{◌≡◌, ◌≢◌, ◌<◌, ◌⊎◌, ℕ, false, List, length, Option, Result, IfErr, OnOk, IsTrue}
+use Rattle.std.specs.Prelude.{◌≡◌, ◌≢◌, ◌<◌, ◌⊎◌, ℕ, true, false, List, length, Option, Result, IfErr, OnOk, IsTrue}
 use Rattle.image_device.specs.Counts.{Rose}
 use Rattle.tsd_model.specs.Geometry.{block_len}
 use Rattle.tsd_model.specs.World.{World, is_live, free_count}
@@ -74,3 +74,4 @@ pub record Steps {X : Type 0} (told : Type 0) (c : Client) (old new : View) (q :
   pub unspent : OnAnswer result (new.spent ≡ false)
   pub faultless : OnAnswer result (new.faults ≡ old.faults)
   pub cause : IfErr result (λ e. e ≡ no.Device → Rose old.faults new.faults)
+  pub spent : IfErr result (λ e. e ≡ no.Device → new.spent ≡ true)

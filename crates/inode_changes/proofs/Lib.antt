@@ -3,8 +3,7 @@ pub mod TidyLaws
 pub mod ListingLaws
 pub mod SpotLaws
 pub mod RemovalLaws
-pub mod RunLaws
-pub mod AskLaws
+pub mod PlaceLaws
 pub mod RemoveLaws
 pub mod MakingLaws
 pub mod MakeLaws

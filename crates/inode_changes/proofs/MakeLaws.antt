@@ -8,13 +8,10 @@ use Rattle.tsd_model.specs.Geometry.{block_len}
 use Rattle.tsd_model.specs.World.{World, contents, is_live, is_free, free_count, has_number}
 use Rattle.tsd_model.specs.Pairs.{holds}
 use Rattle.tsd_model.specs.Placing.{chosen}
-use Rattle.tsd_model.specs.Sessions.{level_le, level_from}
 use Rattle.tsd_model.specs.Valid.{IsValid}
 use Rattle.tsd_model.specs.Step.{filled, zeros, with_contents, with_pointer, with_new_blocks}
 use Rattle.tsd_model.specs.declared.geometry.Geometry.{Geometry}
 use Rattle.tsd_model.specs.declared.requests.Request.{Request}
-use Rattle.tsd_model.specs.declared.requests.Level.{Level}
-use Rattle.tsd_model.specs.declared.requests.Level.TheVariants as level
 use Rattle.tsd_model.specs.declared.requests.Hint.TheVariants.{At}
 use Rattle.disk_laws.proofs.ChangeLaws.{AllFree, chosen_are_free, free_may, contents-same, live-with_contents, old_pair, new_pair}
 use Rattle.fs_trees.specs.Names.{Name, Path, path_max, is_name, is_path}
@@ -31,12 +28,11 @@ use Rattle.fs_trees.specs.declared.ask.ShellAsk.TheVariants as ask
 use Rattle.fs_trees.specs.declared.ask.ShellKind.TheVariants as kind
 use Rattle.fs_trees.specs.declared.refusal.FsRefusal.{FsRefusal}
 use Rattle.fs_trees.specs.declared.refusal.FsRefusal.TheVariants as no
-use Rattle.fs_laws.specs.Ways.{HoldsWrite}
 use Rattle.fs_laws.proofs.WayLaws.{ways_lead_on}
 use Rattle.fs_laws.proofs.InodeLaws.{inodes_under_root}
 use Rattle.fs_laws.proofs.TreeLaws.{read_from_named}
 use Rattle.fs_port.specs.View.{View, state_of}
-use Rattle.fs_port.specs.Calls.{IsValidNow, Stays}
+use Rattle.fs_port.specs.Calls.{Stays}
 use Rattle.fs_port.specs.Files.{IsEitherTree, LeavesWorld}
 use Rattle.fs_asks.specs.declared.client.Client.{Client}
 use Rattle.fs_asks.specs.Client.{shown_at, write_by, alloc_by}
@@ -49,16 +45,19 @@ use Rattle.inode_layout.specs.Said.{is_directory, entries_said, blocks_said}
 use Rattle.inode_walks.specs.declared.finding.Place.{Place}
 use Rattle.inode_walks.specs.Asking.{tree_of, mounted_by}
 use Rattle.inode_walks.specs.Finding.{IsPlace, no_place_found}
-use Rattle.inode_walks.proofs.ReadLaws.{block_long}
+use Rattle.fs_changing.proofs.WriteLaws.{block_long}
 use Rattle.inode_walks.proofs.FoundLaws.{names_there, dir_said}
-use Rattle.inode_changes.specs.Changing.{the_block}
+use Rattle.fs_changing.specs.Changing.{refused_on}
+use Rattle.fs_changing.proofs.RunLaws.{as_before}
+use Rattle.fs_changing.proofs.AskLaws.{after_is, is_mounted}
+use Rattle.fs_changing.proofs.NewLaws.{chosen_enough}
+use Rattle.fs_changing.proofs.StepLaws.{may_still, held_live}
+use Rattle.inode_changes.specs.Blocks.{the_block}
 use Rattle.inode_changes.proofs.SpotLaws.{Spot, spot_of, deeper_is, live, order}
 use Rattle.inode_changes.proofs.ListingLaws.{named_with, length_with}
 use Rattle.inode_changes.proofs.MakingLaws as making
-use Rattle.inode_changes.proofs.MakingLaws.{one_chosen}
-use Rattle.inode_changes.proofs.RunLaws.{as_before}
-use Rattle.inode_changes.proofs.RemoveLaws.{directory_length, may_still}
-use Rattle.inode_changes.proofs.AskLaws.{refused_on, after_is, is_mounted, none_at}
+use Rattle.inode_changes.proofs.RemoveLaws.{directory_length}
+use Rattle.inode_changes.proofs.PlaceLaws.{none_at}
 
 -- ---- mkdir
 
@@ -195,11 +194,11 @@ module _ (c : Client) (first mid : View) (path : Path) (place : Place) (x : Plac
       ap (nat_le (entries_room (block_len first.world.geometry))) names_at
       ∙ ap (λ k. nat_le (entries_room k) (length (blocks_said (inode_of place.directory.inode)))) (ap (λ v. block_len v.geometry) (sym x.seen.world) ∙ sym x.place_is.above.stands.whole)
 
-  pub full_refuses : nat_le (entries_room (block_len_of place.directory.inode)) (length (blocks_said (inode_of place.directory.inode))) ≡ true → refused_on c first (ask.MakeDir path) ≡ Some no.DirFull
+  pub full_refuses : nat_le (entries_room (block_len_of place.directory.inode)) (length (blocks_said (inode_of place.directory.inode))) ≡ true → refused_on (mounted_by c) first (ask.MakeDir path) ≡ Some no.DirFull
   full_refuses full = dir_is_full first.world.geometry (tree_of c first) (free_count first.world) (length first.world.pairs) (need 1 1) x.tree path x.found nothing_at (full_is ∙ full)
 
   module _ (roomy : nat_le (entries_room (block_len_of place.directory.inode)) (length (blocks_said (inode_of place.directory.inode))) ≡ false) where
-    pub room_refuses : refused_on c first (ask.MakeDir path) ≡ no_room_in mid.world 1 1
+    pub room_refuses : refused_on (mounted_by c) first (ask.MakeDir path) ≡ no_room_in mid.world 1 1
     room_refuses = dir_room first.world.geometry (tree_of c first) (free_count first.world) (length first.world.pairs) (need 1 1) x.tree path x.found nothing_at (full_is ∙ roomy)
         ∙ ap (λ v. no_room_in v 1 1) (sym x.seen.world)
 
@@ -226,7 +225,7 @@ module _ (c : Client) (first mid : View) (path : Path) (place : Place) (x : Plac
     under_mid = making.dir_under_first c w c.root p d es spot valid_mid primary_mid
 
     pub stop_at_take : (u : World) → (u ≡ mid.world) ⊎ ((u ≡ steps.taken mid d 1) × Leads mid.world (alloc_by c d 1) (steps.taken mid d 1)) → IsEitherTree (mounted_by c) first (ask.MakeDir path) u
-    stop_at_take u (inl before) = as_before c first (ask.MakeDir path) u x.valid (before ∙ x.seen.world)
+    stop_at_take u (inl before) = as_before (mounted_by c) first (ask.MakeDir path) u x.valid (before ∙ x.seen.world)
     stop_at_take u (inr h) =
         let after = steps.taken mid d 1 in
         let keeps = h.1.keeps c.root (named_at kind.Inode w c.root) (inodes_under_root w c.root primary_mid tree_mid) refl in
@@ -245,7 +244,7 @@ module _ (c : Client) (first mid : View) (path : Path) (place : Place) (x : Plac
           tested false o e h = grind (arith, nat_tests)
 
       pub one_block : ◌≡◌ {A = Option ℕ} (the_block blocks) None → ⊥
-      one_block h = not_one blocks h (ap length are ∙ one_chosen mid.kind w (At d) some_free)
+      one_block h = not_one blocks h (ap length are ∙ chosen_enough mid.kind w (At d) 1 some_free)
         where
           not_one : (bs : List ℕ) → ◌≡◌ {A = Option ℕ} (the_block bs) None → length bs ≡ 1 → ⊥
           not_one [] h e = absurd (omega arith)
@@ -303,17 +302,6 @@ module _ (c : Client) (first mid : View) (path : Path) (place : Place) (x : Plac
 
         dir_live : is_live w d ≡ true
         dir_live = live w c.root p d es spot valid_mid
-
-        held_live : (v : View) → IsValidNow v → (s a : ℕ) → HoldsWrite (state_of v) s a → is_live v.world a ≡ true
-        held_live v now s a held = elim (now.fits.live s held.0 a) [
-          | inl bare ↦ absurd (no_write (level_from v.sessions s held.0 a) bare held.2)
-          | inr lives ↦ lives
-        ]
-          where
-            no_write : (l : Level) → l ≡ level.Bare → level_le level.Write l ≡ true → ⊥
-            no_write level.Bare e h = cc
-            no_write level.Read e h = cc
-            no_write level.Write e h = cc
 
         -- the new block may be written
         pub may_make : MayWrite c tk i
@@ -382,7 +370,7 @@ module _ (c : Client) (first mid : View) (path : Path) (place : Place) (x : Plac
               omega (arith, long, most, roomy, size, head)
 
           -- nothing refuses it
-          pub none_refuses : ◌≡◌ {A = Option FsRefusal} (refused_on c first (ask.MakeDir path)) None
+          pub none_refuses : ◌≡◌ {A = Option FsRefusal} (refused_on (mounted_by c) first (ask.MakeDir path)) None
           none_refuses = room_refuses ∙ room
 
           abbrev bytes : List ℕ
@@ -400,7 +388,7 @@ module _ (c : Client) (first mid : View) (path : Path) (place : Place) (x : Plac
 
           at_three : Leads v2 q3 v3 → IsEitherTree (mounted_by c) first (ask.MakeDir path) v3
           at_three leads = (
-            inr (tree_three ∙ sym (after_is c first (ask.MakeDir path) none_refuses refl)),
+            inr (tree_three ∙ sym (after_is (mounted_by c) first (ask.MakeDir path) none_refuses refl)),
             record {
               valid = leads.valid;
               geometry = leads.geometry ∙ (leads_two.geometry ∙ (leads_one.geometry ∙ ap (λ v. v.geometry) x.seen.world));

@@ -1,23 +1,17 @@
 -- A directory is made, and entered in the one above.
-use Rattle.std.proofs.Common.{◌≡◌, ℕ, suc, ◌+◌, ◌-◌, ◌^◌, ◌<◌, ◌≤◌, Bool, true, false, not, cond, ◌&&◌, ◌||◌, ◌==◌, nat_lt, List, [], ◌∷◌, ◌++◌, length, refl, sym, ◌∙◌, ap, subst, arith, inl, inr, ◌⊎◌, Option, Some, None}
-use Rattle.std.proofs.lemmas.Bool.{and_parts, and_from, or_cases, or_left, or_right, eq-eqb, eqb-true, ltb-true, lt-ltb}
+use Rattle.std.proofs.Common.{◌≡◌, ℕ, suc, ◌+◌, ◌-◌, ◌^◌, ◌<◌, ◌≤◌, Bool, true, false, not, cond, ◌&&◌, ◌||◌, ◌==◌, nat_lt, List, [], ◌∷◌, ◌++◌, length, refl, sym, ◌∙◌, ap, subst, arith, inl, inr, ◌⊎◌, Some, None}
+use Rattle.std.proofs.lemmas.Bool.{and_parts, and_from, or_cases, or_left, or_right, eq-eqb, eqb-true, ltb-true}
 use Rattle.std.proofs.lemmas.Bool.Decides.{nat_tests}
-use Rattle.std.proofs.lemmas.List.{length-take, length-set}
-use Rattle.std.specs.Prelude.{is_some, is_none, count_by, slice_index_or, replicate}
+use Rattle.std.proofs.lemmas.List.{length-set}
+use Rattle.std.specs.Prelude.{is_some, is_none, replicate}
 use Rattle.std.specs.List.{list_all}
 use Rattle.std.specs.Option.{option_and_then}
 use Rattle.tsd_model.specs.Geometry.{block_len}
-use Rattle.tsd_model.specs.World.{World, contents, is_live, is_free, free_count, all_blocks, has_number}
+use Rattle.tsd_model.specs.World.{World, contents, is_live, is_free, has_number}
 use Rattle.tsd_model.specs.Pairs.{holds, is_pair}
-use Rattle.tsd_model.specs.Rank.{rank_of}
-use Rattle.tsd_model.specs.Placing.{hint_block, in_rank_order, sorted_by_rank, free_blocks, chosen}
 use Rattle.tsd_model.specs.Valid.{IsValid}
 use Rattle.tsd_model.specs.Step.{filled, zeros, with_contents, with_pointer}
 use Rattle.tsd_model.specs.declared.requests.Request.{Request}
-use Rattle.tsd_model.specs.declared.requests.Hint.{Hint}
-use Rattle.tsd_model.specs.declared.requests.PlaceKind.{PlaceKind}
-use Rattle.disk_laws.proofs.GraphLaws.{has_number-filter}
-use Rattle.disk_laws.proofs.DoomLaws.{in_all}
 use Rattle.disk_laws.proofs.ChangeLaws.{contents-other, contents-same, either_pair, new_pair}
 use Rattle.fs_trees.specs.Names.{Name, Path, path_max, is_name}
 use Rattle.fs_trees.specs.Tree.{none, nothing, a_file, a_dir, entry, at, is_there, with_entry, with_child, with_at}
@@ -43,52 +37,21 @@ use Rattle.fs_laws.proofs.UnderLaws.{each_under, root_under, target_under}
 use Rattle.fs_asks.specs.declared.client.Client.{Client}
 use Rattle.fs_asks.specs.Client.{write_by, alloc_by}
 use Rattle.fs_steps.specs.Steps.{Leads, written}
+use Rattle.fs_changing.proofs.RunLaws.{clash_free_live}
+use Rattle.fs_changing.proofs.TrimLaws.{named_live}
 use Rattle.inode_layout.proofs.BackLaws.{reads_back}
 use Rattle.inode_walks.proofs.WalkLaws.{dir_node}
-use Rattle.inode_walks.proofs.ReadLaws.{block_long}
+use Rattle.fs_changing.proofs.WriteLaws.{block_long, written_elsewhere}
 use Rattle.inode_changes.proofs.ExchangeLaws.{Exchange, block_is_at, dir_stays_with, still_named, named_before, inodes_are}
 use Rattle.inode_changes.proofs.TidyLaws.{named_of, named_under, tidy_by_pairs}
 use Rattle.inode_changes.proofs.ListingLaws.{ascending_with, named_with, small_with, length_with}
 use Rattle.inode_changes.proofs.SpotLaws.{Spot, live, within, order, small, small_block, reads_as}
-use Rattle.inode_changes.proofs.RemovalLaws.{there_with, clash_free_live}
+use Rattle.inode_changes.proofs.RemovalLaws.{there_with}
 
 clash : (t : Bool) → t ≡ true → t ≡ false → ⊥
 clash t p q = cc
 
--- ---- one block is chosen where one is free
-
-some_none : (os : List (Option (List ℕ))) → 1 ≤ count_by is_none os → (b : ℕ) × (b < length os) × (is_none (slice_index_or os b None) ≡ true)
-some_none [] h = absurd (omega arith)
-some_none (None ∷ os) h = (0, omega arith, refl)
-some_none (Some x ∷ os) h = let later = some_none os h in (suc later.0, omega (arith, later.1), later.2)
-
-length-in_order : (rank : ℕ → ℕ) (b : ℕ) (bs : List ℕ) → length (in_rank_order rank b bs) ≡ suc (length bs)
-length-in_order rank b [] = refl
-length-in_order rank b (c ∷ cs) = elim (nat_lt (rank b) (rank c)) as (λ t. length (cond t (b ∷ c ∷ cs) (c ∷ in_rank_order rank b cs)) ≡ suc (suc (length cs))) [
-  | true ↦ refl
-  | false ↦ ap suc (length-in_order rank b cs)
-]
-
-length-sorted : (rank : ℕ → ℕ) (bs : List ℕ) → length (sorted_by_rank rank bs) ≡ length bs
-length-sorted rank [] = refl
-length-sorted rank (b ∷ bs) = length-in_order rank b (sorted_by_rank rank bs) ∙ ap suc (length-sorted rank bs)
-
-pub one_chosen : (kind : PlaceKind) (w : World) (h : Hint) → 1 ≤ free_count w → length (chosen kind w h 1) ≡ 1
-one_chosen kind w h some =
-    let free = some_none w.blocks some in
-    let listed : has_number (free_blocks w) free.0 ≡ true = has_number-filter (is_free w) (all_blocks w) free.0
-    ∙ and_from (has_number (all_blocks w) free.0) (is_free w free.0) (in_all w free.0 free.1) (and_from (nat_lt free.0 (length w.blocks)) _ (lt-ltb free.0 (length w.blocks) free.1) free.2) in
-    let long = some_listed (free_blocks w) free.0 listed in
-    let rank = rank_of kind (hint_block h) in
-    let sorted = length-sorted rank (free_blocks w) in
-    let taken = length-take 1 (sorted_by_rank rank (free_blocks w)) in
-    omega (arith, long, sorted, taken)
-  where
-    some_listed : (xs : List ℕ) (b : ℕ) → has_number xs b ≡ true → 1 ≤ length xs
-    some_listed [] b h = absurd (cc)
-    some_listed (x ∷ xs) b h = omega arith
-
-has_times : (b : ℕ) (xs : List ℕ) → 1 ≤ times b xs → has_number xs b ≡ true
+pub has_times : (b : ℕ) (xs : List ℕ) → 1 ≤ times b xs → has_number xs b ≡ true
 has_times b xs h = elim (has_number xs b) as (λ t. has_number xs b ≡ t → t ≡ true) [
   | true ↦ λ e. refl
   | false ↦ λ e. absurd (never (times b xs) h (times_none b xs e))
@@ -97,12 +60,8 @@ has_times b xs h = elim (has_number xs b) as (λ t. has_number xs b ≡ t → t 
     never : (t : ℕ) → 1 ≤ t → t ≡ 0 → ⊥
     never t h e = omega arith
 
--- what is reached is live
-pub under_live : (w : World) (root : ℕ) → IsValid w → root < w.geometry.primaries → (b : ℕ) → is_under w root b ≡ true → is_live w b ≡ true
-under_live w root valid primary b h = each_under w root (λ c. is_live w c ≡ true) (valid.raw.primaries root primary) (λ a c pair k. valid.raw.targets a c pair) b h
-
 -- inodes at a path are among those of the root
-below_blocks : (p : Path) (x : InodeNode) (d : ℕ) (xs : InodeEntries) → at x p ≡ a_dir d xs → (b : ℕ) → has_number (d ∷ inode_blocks xs) b ≡ true → has_number (node_blocks x) b ≡ true
+pub below_blocks : (p : Path) (x : InodeNode) (d : ℕ) (xs : InodeEntries) → at x p ≡ a_dir d xs → (b : ℕ) → has_number (d ∷ inode_blocks xs) b ≡ true → has_number (node_blocks x) b ≡ true
 below_blocks [] x d xs e b h = ap (λ y. has_number (node_blocks y) b) e ∙ h
 below_blocks (n ∷ ns) nothing d xs e b h = absurd (nowhere ns d xs e)
 below_blocks (n ∷ ns) (a_file f) d xs e b h = absurd (nowhere ns d xs e)
@@ -149,13 +108,10 @@ module _ (c : Client) (w : World) (root : ℕ) (p : Path) (d : ℕ) (es : List E
   dir_live : is_live w d ≡ true
   dir_live = live w root p d es s valid
 
-  named_live : (b : ℕ) → has_number (named_at kind.Inode w root).blocks b ≡ true → is_live w b ≡ true
-  named_live b h = under_live w root valid primary b (named_under w root valid primary there b h)
-
   -- the new block isn't named
   unnamed : (b : ℕ) → has_number (named_at kind.Inode w root).blocks b ≡ true → (b == i) ≡ false
   unnamed b h = elim (b == i) as (λ t. (b == i) ≡ t → t ≡ false) [
-    | true ↦ λ e. absurd (clash_free_live w i free (subst (λ x. is_live w x ≡ true) (eqb-true b i e) (named_live b h)))
+    | true ↦ λ e. absurd (clash_free_live w i free (subst (λ x. is_live w x ≡ true) (eqb-true b i e) (named_live w root (named_at kind.Inode w root) valid (inodes_under_root w root primary there) b h)))
     | false ↦ λ e. refl
   ] refl
 
@@ -334,7 +290,7 @@ module _ (c : Client) (w : World) (root : ℕ) (p : Path) (d : ℕ) (es : List E
       new = (dir_stays_with p n (a_dir i none) root s.old).0
 
       elsewhere : (b : ℕ) → (b == d) ≡ false → contents w3 b ≡ contents w2 b
-      elsewhere b off = contents-other w2 d b (filled (block_len w.geometry) bytes) (λ e. clash (b == d) (eq-eqb b d e) off)
+      elsewhere = written_elsewhere w2 d bytes
 
       put_back : inode_at w3 d ≡ Some (directory (with_listed (record { name = n; block = i }) es))
       put_back = ap (option_and_then (inode_in (block_len w.geometry))) (contents-same w2 d (filled (block_len w.geometry) bytes) (within w2 root p d es spot_two valid_two)) ∙ reads

@@ -1,18 +1,13 @@
 -- A directory's entry is taken out, and what it named let go of.
-use Rattle.std.proofs.Common.{◌≡◌, ℕ, suc, ◌<◌, Bool, true, false, not, ◌&&◌, ◌==◌, nat_lt, List, [], ◌∷◌, ◌++◌, length, refl, sym, ◌∙◌, ap, subst, arith, inl, inr, ◌⊎◌, Option, Some, None}
-use Rattle.std.proofs.lemmas.Bool.{and_parts, and_from, or_left, eq-eqb, eqb-true, not-true}
-use Rattle.std.specs.Prelude.{is_some, is_none}
+use Rattle.std.proofs.Common.{◌≡◌, ℕ, suc, ◌<◌, Bool, true, false, not, ◌&&◌, ◌==◌, List, [], ◌∷◌, ◌++◌, refl, sym, ◌∙◌, ap, subst, arith, inl, inr, ◌⊎◌, Some}
+use Rattle.std.proofs.lemmas.Bool.{and_parts, and_from, or_left, eq-eqb}
 use Rattle.std.specs.List.{list_all}
 use Rattle.std.specs.Option.{option_and_then}
 use Rattle.tsd_model.specs.Geometry.{block_len}
 use Rattle.tsd_model.specs.World.{World, contents, is_live, is_free, has_number}
 use Rattle.tsd_model.specs.Pairs.{holds, is_pair}
 use Rattle.tsd_model.specs.Valid.{IsValid}
-use Rattle.tsd_model.specs.Step.{filled, without_pointer}
-use Rattle.tsd_model.proofs.PairLaws.{holds-filter}
-use Rattle.disk_laws.proofs.ChangeLaws.{contents-other, contents-same}
-use Rattle.graph_laws.specs.Counts.{stays}
-use Rattle.graph_laws.proofs.SettleLaws.{live-settle, holds-settle}
+use Rattle.tsd_model.specs.Step.{filled}
 use Rattle.fs_trees.specs.Names.{Name, Path, path_max}
 use Rattle.fs_trees.specs.Tree.{Tree, nothing, a_file, a_dir, entry, is_there, with_entry, with_child, with_at}
 use Rattle.fs_trees.specs.Fields.{Entry}
@@ -31,6 +26,8 @@ use Rattle.fs_laws.proofs.CountLaws.{apart_times}
 use Rattle.fs_laws.proofs.EntryLaws as deciding
 use Rattle.fs_laws.proofs.UnderLaws.{each_under, root_under, target_under}
 use Rattle.fs_steps.specs.Steps.{written, dropped}
+use Rattle.fs_changing.proofs.DropLaws.{fewer_pairs, fewer_live, other_pair}
+use Rattle.fs_changing.proofs.WriteLaws.{written_elsewhere, written_here, written_free}
 use Rattle.inode_walks.proofs.WalkLaws.{block_is, node_block, named_is_there, entry_pair}
 use Rattle.inode_changes.proofs.ExchangeLaws.{Exchange, block_is_at, dir_stays, spared, still_named, named_before}
 use Rattle.inode_changes.proofs.TidyLaws.{named_of, named_under, tidy_by_pairs}
@@ -49,23 +46,15 @@ there_with (m ∷ ms) n y nothing h = absurd (cc)
 there_with (m ∷ ms) n y (a_file x) h = refl
 there_with (m ∷ ms) n y (a_dir d es) h = refl
 
-own_pair : (d a b c : ℕ) (z : InodeNode) → block_is_at d a b z → block_is z c → (d ≡ a) × (c ≡ b)
+pub own_pair : (d a b c : ℕ) (z : InodeNode) → block_is_at d a b z → block_is z c → (d ≡ a) × (c ≡ b)
 own_pair d a b c nothing h k = absurd h
 own_pair d a b c (a_file f) h k = (h.0, sym k ∙ h.1)
 own_pair d a b c (a_dir e es) h k = (h.0, sym k ∙ h.1)
 
-own_inode : (z : InodeNode) (c : ℕ) → block_is z c → has_number (node_blocks z) c ≡ true
+pub own_inode : (z : InodeNode) (c : ℕ) → block_is z c → has_number (node_blocks z) c ≡ true
 own_inode nothing c k = absurd k
 own_inode (a_file f) c k = or_left (f.block == c) _ (eq-eqb f.block c k)
 own_inode (a_dir b es) c k = or_left (b == c) _ (eq-eqb b c k)
-
-clash_by : (t : Bool) (o : Option (List ℕ)) → (t && is_none o) ≡ true → is_some o ≡ true → ⊥
-clash_by true None h k = cc
-clash_by true (Some x) h k = cc
-clash_by false o h k = cc
-
-pub clash_free_live : (w : World) (b : ℕ) → is_free w b ≡ true → is_live w b ≡ true → ⊥
-clash_free_live w b h k = clash_by (nat_lt b (length w.blocks)) (contents w b) h k
 
 module _ (w : World) (root : ℕ) (p : Path) (d : ℕ) (es : List Entry) (s : Spot w root p d es) (valid : IsValid w) (primary : root < w.geometry.primaries) (n : Name) where
   abbrev bytes : List ℕ
@@ -96,10 +85,10 @@ module _ (w : World) (root : ℕ) (p : Path) (d : ℕ) (es : List Entry) (s : Sp
   new = (dir_stays p n root s.old).0
 
   elsewhere : (b : ℕ) → (b == d) ≡ false → contents next b ≡ contents w b
-  elsewhere b off = contents-other w d b (filled (block_len w.geometry) bytes) (λ e. clash (b == d) (eq-eqb b d e) off)
+  elsewhere = written_elsewhere w d bytes
 
   put_back : inode_at next d ≡ Some (directory (without_listed n es))
-  put_back = ap (option_and_then (inode_in (block_len w.geometry))) (contents-same w d (filled (block_len w.geometry) bytes) (within w root p d es s valid)) ∙ reads
+  put_back = ap (option_and_then (inode_in (block_len w.geometry))) (written_here w d bytes (live w root p d es s valid)) ∙ reads
 
   node_next : node_at next (suc path_max) root ≡ a_dir root new
   node_next =
@@ -176,10 +165,7 @@ module _ (w : World) (root : ℕ) (p : Path) (d : ℕ) (es : List Entry) (s : Sp
         same_last = read_from_named kind.Inode next last root there_next keeps
 
         was_held : (a b : ℕ) → holds last.pairs a b ≡ true → (holds w.pairs a b ≡ true) × (is_pair d c (a, b) ≡ false)
-        was_held a b h =
-            let left = and_parts (holds (without_pointer next d c).pairs a b) (stays (without_pointer next d c) a) (sym (holds-settle (without_pointer next d c) a b) ∙ h) in
-            let both = and_parts (holds next.pairs a b) (not (is_pair d c (a, b))) (sym (holds-filter (λ e. not (is_pair d c e)) next.pairs a b) ∙ left.0) in
-            (both.0, not-true (is_pair d c (a, b)) both.1)
+        was_held a b h = (fewer_pairs next d c a b h, other_pair next d c a b h)
 
         pub tidy_last : IsTidy kind.Inode w root → IsTidy kind.Inode last root
         tidy_last tidy = tidy_by_pairs last root valid_last primary new (same_last.named ∙ named_next) (ap is_there same_last.tree ∙ there_next) (λ a b from h.
@@ -198,12 +184,4 @@ module _ (w : World) (root : ℕ) (p : Path) (d : ℕ) (es : List Entry) (s : Sp
 
         -- nothing is taken
         pub none_taken : (b : ℕ) → is_free w b ≡ true → is_live last b ≡ true → ⊥
-        none_taken b free lives =
-            let left = and_parts (stays (without_pointer next d c) b) (is_live next b) (sym (live-settle (without_pointer next d c) b) ∙ lives) in
-            was_free b free left.1
-          where
-            was_free : (b : ℕ) → is_free w b ≡ true → is_live next b ≡ true → ⊥
-            was_free b free lives = elim (b == d) as (λ t. (b == d) ≡ t → ⊥) [
-              | true ↦ λ e. clash_free_live w d (subst (λ x. is_free w x ≡ true) (eqb-true b d e) free) (live w root p d es s valid)
-              | false ↦ λ e. clash_free_live w b free (ap is_some (sym (elsewhere b e)) ∙ lives)
-            ] refl
+        none_taken b free lives = written_free w d bytes (live w root p d es s valid) b free (fewer_live next d c b lives)

@@ -2,22 +2,14 @@
 use Rattle.std.proofs.Common.{◌≡◌, ℕ, ◌+◌, ◌*◌, ◌<◌, ◌≤◌, true, false, not, ◌&&◌, nat_lt, nat_le, List, [], ◌∷◌, length, refl, sym, ◌∙◌, ap, subst, arith, inl, inr, ◌⊎◌, Option, Some, None, length-append}
 use Rattle.std.proofs.lemmas.Bool.{and_from, and_parts}
 use Rattle.std.proofs.lemmas.Bool.Decides.{nat_tests}
-use Rattle.std.specs.Prelude.{flat_map, slice_get}
+use Rattle.std.specs.Prelude.{flat_map}
 use Rattle.std.specs.List.{list_all}
 use Rattle.tsd_model.specs.Geometry.{block_len}
 use Rattle.tsd_model.specs.World.{World, is_live, is_free, free_count}
 use Rattle.tsd_model.specs.Pairs.{holds}
-use Rattle.tsd_model.specs.Sessions.{level_le, level_from}
 use Rattle.tsd_model.specs.Valid.{IsValid}
-use Rattle.tsd_model.specs.declared.requests.Level.TheVariants as level
-use Rattle.tsd_model.specs.declared.requests.Level.{Level}
-use Rattle.tsd_model.specs.Attained.{record_level, shown_level}
-use Rattle.tsd_model.specs.Records.{kept_of}
-use Rattle.tsd_model.specs.declared.caps.Shown.{Shown}
-use Rattle.tsd_model.specs.declared.caps.Shown.TheVariants.{Nothing, Key}
 use Rattle.fs_laws.specs.Outside.{is_inside}
 use Rattle.fs_laws.specs.Stays.{Keeps}
-use Rattle.disk_laws.proofs.AttainedLaws.{attained_where}
 use Rattle.disk_laws.proofs.ChangeLaws.{live-with_contents}
 use Rattle.fs_trees.specs.Names.{Name, Path, name_max, is_name_byte, is_reserved, is_name}
 use Rattle.fs_trees.specs.Tree.{nothing, at, is_there, names_in, with_at}
@@ -32,14 +24,13 @@ use Rattle.fs_trees.specs.declared.ask.ShellAsk.TheVariants as ask
 use Rattle.fs_trees.specs.declared.ask.ShellKind.TheVariants as kind
 use Rattle.fs_trees.specs.declared.refusal.FsRefusal.{FsRefusal}
 use Rattle.fs_trees.specs.declared.refusal.FsRefusal.TheVariants as no
-use Rattle.fs_laws.specs.Ways.{HoldsWrite}
 use Rattle.fs_laws.proofs.InodeLaws.{inodes_under_root}
 use Rattle.fs_laws.proofs.OutsideLaws.{outside_twice}
-use Rattle.fs_port.specs.View.{View, state_of}
+use Rattle.fs_port.specs.View.{View}
 use Rattle.fs_port.specs.Calls.{Stays}
 use Rattle.fs_port.specs.Files.{IsEitherTree, LeavesWorld}
 use Rattle.fs_asks.specs.declared.client.Client.{Client}
-use Rattle.fs_asks.specs.Client.{shown_at, write_by, unlink_by}
+use Rattle.fs_asks.specs.Client.{write_by, unlink_by}
 use Rattle.fs_asks.specs.May.{MayWrite, Looked}
 use Rattle.fs_asks.proofs.LookLaws.{may_again}
 use Rattle.fs_steps.specs.Steps.{Leads, Went, written, dropped}
@@ -52,8 +43,12 @@ use Rattle.inode_walks.specs.Finding.{IsPlace, no_place_found}
 use Rattle.inode_changes.proofs.SpotLaws.{Spot, spot_of, live, order}
 use Rattle.inode_changes.proofs.ListingLaws.{named_without, length_without}
 use Rattle.inode_changes.proofs.RemovalLaws as removal
-use Rattle.inode_changes.proofs.RunLaws.{as_before}
-use Rattle.inode_changes.proofs.AskLaws.{refused_on, after_is, rm_none, old_there, entries_at}
+use Rattle.fs_changing.specs.Changing.{refused_on}
+use Rattle.fs_changing.proofs.RunLaws.{as_before}
+use Rattle.fs_changing.proofs.AskLaws.{after_is, rm_none}
+use Rattle.fs_changing.proofs.StepLaws.{may_still, held_live}
+use Rattle.fs_changing.proofs.WriteLaws.{block_long}
+use Rattle.inode_changes.proofs.PlaceLaws.{old_there, entries_at}
 
 -- ---- how long a directory's bytes are
 
@@ -76,28 +71,6 @@ listed_length (e ∷ es) h =
 
 pub directory_length : (es : List Entry) → all_named es ≡ true → length (inode_bytes (directory es)) ≡ 16 + 32 * length es
 directory_length es h = let list = listed_length es h in omega (arith, list)
-
--- ---- what may be written after a step
-
--- a block that is live still, and the sources of its pairs
-pub may_still : (c : Client) (old new : View) (b : ℕ) → new.world.geometry ≡ old.world.geometry → new.world.version ≡ old.world.version → new.world.records ≡ old.world.records
-    → ((a : ℕ) → holds old.world.pairs a b ≡ true → holds new.world.pairs a b ≡ true) → ((s a : ℕ) → HoldsWrite (state_of old) s a → HoldsWrite (state_of new) s a) → is_live new.world b ≡ true → Stays old new → MayWrite c old b → MayWrite c new b
-may_still c old new b size version records pairs ways lives stays may = record {
-  number = may.number;
-  begun = stays.sessions c.session ∙ may.begun;
-  live = lives;
-  attains = (attained_where new.world new.sessions c.session b (shown_at c b) level.Write refl).1
-      (elim ((attained_where old.world old.sessions c.session b (shown_at c b) level.Write refl).0 may.attains) [
-        | inl shown ↦ inl (subst (λ g. b < g.primaries) (sym size) shown.0, ap (level_le level.Write) (shown_same (shown_at c b)) ∙ shown.1)
-        | inr held ↦ inr (
-            let way = ways c.session held.1.0 (held.1.1, held.1.3, held.1.4) in
-            (subst (λ g. g.primaries ≤ b) (sym size) held.0, (held.1.0, way.0, pairs held.1.0 held.1.2, way.1, way.2)))
-      ]);
-}
-  where
-    shown_same : (x : Shown) → shown_level new.world b x ≡ shown_level old.world b x
-    shown_same Nothing = refl
-    shown_same (Key k) = ap (λ rs. record_level (slice_get rs b) (kept_of new.world.version k)) records ∙ ap (λ n. record_level (slice_get old.world.records b) (kept_of n k)) version
 
 -- ---- an entry that is to be taken out
 
@@ -152,11 +125,8 @@ module _ (c : Client) (first mid rd : View) (path : Path) (place : Place) (b : �
   fits =
       let long = directory_length (without_listed n es) (named_without n es (order rd.world c.root p d es spot valid_rd).0) in
       let less = length_without n es in
-      let head = big rd.world.geometry.sectors valid_rd.raw.sized.lawful.sectors in
+      let head = block_long rd.world valid_rd in
       omega (arith, long, less, spot.room, head)
-    where
-      big : (k : ℕ) → (k ≡ 1) ⊎ (k ≡ 2) ⊎ (k ≡ 4) ⊎ (k ≡ 8) → 16 ≤ 512 * k
-      big k h = elim h [ inl one ↦ omega (arith, one) | inr more ↦ elim more [ inl two ↦ omega (arith, two) | inr most ↦ elim most [ inl four ↦ omega (arith, four) | inr eight ↦ omega (arith, eight) ] ] ]
 
   -- ---- the deciding write
 
@@ -173,14 +143,14 @@ module _ (c : Client) (first mid rd : View) (path : Path) (place : Place) (b : �
 
   module _ (there : is_there (node_at mid.world x.place_is.above.more b) ≡ true) (k : Inode) (is : inode_at mid.world b ≡ Some k) (empty : (is_directory k && nat_lt 0 (length (blocks_said k))) ≡ false) where
     -- nothing refuses it
-    pub none_refuses : ◌≡◌ {A = Option FsRefusal} (refused_on c first (ask.Rm path)) None
-    none_refuses = rm_none first.world.geometry (tree_of c first) (free_count first.world) (length first.world.pairs) (need_of kind.Inode first.world c.root (tree_of c first) (ask.Rm path)) x.tree path x.found
+    pub none_refuses : ◌≡◌ {A = Option FsRefusal} (refused_on (mounted_by c) first (ask.Rm path)) None
+    none_refuses = rm_none kind.Inode first.world.geometry (tree_of c first) (free_count first.world) (length first.world.pairs) (need_of kind.Inode first.world c.root (tree_of c first) (ask.Rm path)) x.tree path x.found
         (ap (λ w. is_there (at (inode_tree w c.root) path)) (sym x.seen.world) ∙ old_there c mid path place x.is_dir x.place_is b x.some there k is)
         (ap (λ w. nat_lt 0 (length (names_in (at (inode_tree w c.root) path)))) (sym x.seen.world) ∙ (entries_at c mid path place x.is_dir x.place_is b x.some there k is ∙ empty))
 
     after : (w : World) → inode_tree w c.root ≡ with_at path nothing (tree_of c first) → IsValid w → w.geometry ≡ rd.world.geometry → OthersStay c.root rd.world w → IsEitherTree (mounted_by c) first (ask.Rm path) w
     after w tree valid size others = (
-      inr (tree ∙ sym (after_is c first (ask.Rm path) none_refuses refl)),
+      inr (tree ∙ sym (after_is (mounted_by c) first (ask.Rm path) none_refuses refl)),
       record {
         valid = valid;
         geometry = size ∙ ap (λ v. v.geometry) same;
@@ -189,7 +159,7 @@ module _ (c : Client) (first mid rd : View) (path : Path) (place : Place) (b : �
     )
 
     pub stop_at_write : (w : World) → (w ≡ rd.world) ⊎ ((w ≡ written rd.world d bytes) × Leads rd.world (write_by c d bytes) (written rd.world d bytes)) → IsEitherTree (mounted_by c) first (ask.Rm path) w
-    stop_at_write w (inl before) = as_before c first (ask.Rm path) w x.valid (before ∙ same)
+    stop_at_write w (inl before) = as_before (mounted_by c) first (ask.Rm path) w x.valid (before ∙ same)
     stop_at_write w (inr h) = subst (IsEitherTree (mounted_by c) first (ask.Rm path)) (sym h.0)
         (after next tree_next h.1.valid h.1.geometry (h.1.others c.root primary_rd inside))
 
@@ -199,19 +169,8 @@ module _ (c : Client) (first mid rd : View) (path : Path) (place : Place) (b : �
 
       pub may_drop : MayWrite c wr d
       may_drop = may_still c rd wr d (ap (λ w. w.geometry) went.world) (ap (λ w. w.version) went.world) (ap (λ w. w.records) went.world) (λ a h. ap (λ w. holds w.pairs a d) went.world ∙ h)
-          (λ s a held. went.ways s a held (live_next a (held_live s a held)))
+          (λ s a held. went.ways s a held (live_next a (held_live rd x.read.valid s a held)))
           (ap (λ w. is_live w d) went.world ∙ live_next d (live rd.world c.root p d es spot valid_rd)) stays_wr may_write
-        where
-          held_live : (s a : ℕ) → HoldsWrite (state_of rd) s a → is_live rd.world a ≡ true
-          held_live s a held = elim (x.read.valid.fits.live s held.0 a) [
-            | inl bare ↦ absurd (no_write (level_from rd.sessions s held.0 a) bare held.2)
-            | inr lives ↦ lives
-          ]
-            where
-              no_write : (l : Level) → l ≡ level.Bare → level_le level.Write l ≡ true → ⊥
-              no_write level.Bare e h = cc
-              no_write level.Read e h = cc
-              no_write level.Write e h = cc
 
       pub pair_held : holds wr.world.pairs d b ≡ true
       pair_held = ap (λ w. holds w.pairs d b) went.world ∙ removal.old_held rd.world c.root p d es spot valid_rd primary_rd n went.leads.valid b listed

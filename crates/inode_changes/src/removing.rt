@@ -7,8 +7,8 @@ ghost use Rattle.fs_trees.specs.declared.ask.ShellAsk.TheVariants as ask;
 ghost use Rattle.fs_port.specs.Files.{Answers};
 ghost use Rattle.inode_layout.specs.Block.{inode_of};
 ghost use Rattle.inode_layout.specs.Said.{blocks_said, is_directory};
+ghost use Rattle.fs_changing.specs.Changing.{Changes};
 ghost use Rattle.inode_walks.specs.Asking.{MayAsk, mounted_by};
-ghost use Rattle.inode_changes.specs.Changing.{Changes};
 
 use fs_asks::Client;
 use fs_port::Blocks;
@@ -31,7 +31,7 @@ pub fn remove<K: Blocks>(client: &Client, disk: &mut K, path: &Path) -> Result<(
     requires may { MayAsk K.told client.now (K.view disk.old) }
     requires named { IsTrue (is_path path.now) }
     ensures answer { K.told → Answers (mounted_by client.now) (K.view disk.old) (K.view disk.new) (ask.Rm path.now) result (λ _ answer. answer ≡ done) }
-    ensures changes { Changes K.told client.now (K.view disk.old) (K.view disk.new) (ask.Rm path.now) result }
+    ensures changes { Changes K.told (mounted_by client.now) (K.view disk.old) (K.view disk.new) (ask.Rm path.now) result }
 {
     let place = match find_place(client, disk, path, FsRefusal::IsDir) {
         Ok(place) => place,

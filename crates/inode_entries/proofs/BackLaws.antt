@@ -16,8 +16,8 @@ use Rattle.graph_laws.proofs.SettleLaws.{settle_same, valid_is_settled, none_doo
 use Rattle.fs_trees.specs.Inode.{are_apart}
 use Rattle.fs_laws.proofs.ListLaws.{in_append}
 use Rattle.fs_steps.specs.Steps.{dropped}
-use Rattle.inode_changes.proofs.RemovalLaws.{clash_free_live}
-use Rattle.inode_changes.proofs.TidyLaws.{both_ways}
+use Rattle.fs_changing.proofs.RunLaws.{clash_free_live}
+use Rattle.fs_changing.proofs.TidyLaws.{both_ways}
 use Rattle.inode_files.specs.Making.{Making}
 use Rattle.inode_files.proofs.MakingLaws.{fan_is}
 

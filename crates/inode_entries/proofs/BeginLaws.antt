@@ -23,17 +23,17 @@ use Rattle.fs_asks.specs.Client.{alloc_by, unlink_by}
 use Rattle.fs_asks.specs.Leftovers.{refusal_before}
 use Rattle.fs_asks.specs.May.{MayWrite}
 use Rattle.fs_steps.specs.Steps.{Leads, Went, dropped, taken}
-use Rattle.inode_changes.specs.Changing.{the_block}
-use Rattle.inode_changes.proofs.RemovalLaws.{clash_free_live}
+use Rattle.fs_changing.proofs.RunLaws.{clash_free_live}
+use Rattle.fs_changing.proofs.NewLaws.{chosen_free, chosen_enough}
+use Rattle.fs_changing.proofs.NeedLaws.{free_count_new}
+use Rattle.inode_changes.specs.Blocks.{the_block}
 use Rattle.inode_files.specs.Making.{Making}
 use Rattle.inode_files.specs.Filling.{Stage, IsAside}
 use Rattle.inode_entries.specs.Beginning.{Began, IsBack, AsideOr}
-use Rattle.inode_files.proofs.NewLaws.{chosen_free, chosen_enough}
 use Rattle.inode_files.proofs.MakingLaws.{making_begins}
 use Rattle.inode_files.proofs.FillLaws.{aside_now, took_some}
 use Rattle.inode_files.proofs.ShareLaws.{fault_before}
 use Rattle.inode_entries.proofs.BackLaws.{taken_back}
-use Rattle.inode_entries.proofs.NeedLaws.{free_count_new}
 
 pub began_so : (c : Client) (old new : View) (d i : ℕ) → Stage c.root old.world d → IsValidNow old → MayWrite c old d → chosen old.kind old.world (At d) 1 ≡ i ∷ []
     → Went c old new (alloc_by c d 1) d (taken old d 1) → Stays old new → Began c old new d i

@@ -8,11 +8,8 @@ use Rattle.tsd_model.specs.Geometry.{block_len}
 use Rattle.tsd_model.specs.World.{World, contents, is_live, is_free, has_number}
 use Rattle.tsd_model.specs.Pairs.{holds, is_pair}
 use Rattle.tsd_model.specs.Valid.{IsValid}
-use Rattle.tsd_model.specs.Step.{filled, without_pointer}
-use Rattle.tsd_model.proofs.PairLaws.{holds-filter}
-use Rattle.disk_laws.proofs.ChangeLaws.{contents-other, contents-same}
-use Rattle.graph_laws.specs.Counts.{stays}
-use Rattle.graph_laws.proofs.SettleLaws.{live-settle, holds-settle}
+use Rattle.tsd_model.specs.Step.{filled}
+use Rattle.disk_laws.proofs.ChangeLaws.{contents-same}
 use Rattle.fs_trees.specs.Names.{Name, Path, path_max, is_name}
 use Rattle.fs_trees.specs.Tree.{nothing, a_file, a_dir, entry, at, is_there, with_entry, with_child, with_at}
 use Rattle.fs_trees.specs.Fields.{Entry}
@@ -28,7 +25,7 @@ use Rattle.fs_laws.proofs.TreeLaws.{read_from_named}
 use Rattle.fs_laws.proofs.OutsideLaws.{outside_twice}
 use Rattle.fs_laws.proofs.ListLaws.{number_left, number_right, in_append}
 use Rattle.fs_laws.proofs.InodeLaws.{node_blocks, node_same, HasRoot, found, under_is, inodes_under_root}
-use Rattle.fs_laws.proofs.DirectoryLaws.{read_named, entry_is_read, entry_is_put, node_away, with_last, block_at, nowhere, entry_blocks_in}
+use Rattle.fs_laws.proofs.DirectoryLaws.{read_named, entry_is_read, entry_is_put, node_away, with_last, block_at, entry_blocks_in}
 use Rattle.fs_laws.proofs.CountLaws.{times, times_none, apart_times, times-with_at}
 use Rattle.fs_laws.proofs.EntryLaws.{FitsIn}
 use Rattle.fs_laws.proofs.EntryLaws as deciding
@@ -36,48 +33,21 @@ use Rattle.fs_laws.proofs.UnderLaws.{each_under, root_under, target_under}
 use Rattle.fs_asks.specs.declared.client.Client.{Client}
 use Rattle.fs_asks.specs.Client.{write_by, unlink_by}
 use Rattle.fs_steps.specs.Steps.{Leads, written, dropped}
+use Rattle.fs_changing.proofs.RunLaws.{clash_free_live}
 use Rattle.inode_walks.proofs.WalkLaws.{block_is, node_block, named_is_there, entry_pair, dir_node}
-use Rattle.inode_changes.proofs.ExchangeLaws.{Exchange, block_is_at, spared, still_named, named_before, named_target, all_off, some_times}
+use Rattle.fs_changing.proofs.DropLaws.{fewer_pairs, fewer_live, other_pair}
+use Rattle.fs_changing.proofs.WriteLaws.{written_elsewhere}
+use Rattle.inode_changes.proofs.ExchangeLaws.{Exchange, block_is_at, dir_stays_with, spared, still_named, named_before, named_target, all_off, some_times}
 use Rattle.inode_changes.proofs.TidyLaws.{named_of, named_under, tidy_by_pairs}
 use Rattle.inode_changes.proofs.ListingLaws.{ascending_with, named_with, small_with}
 use Rattle.inode_changes.proofs.SpotLaws.{Spot, live, within, order, small, small_block, reads_as, child_held}
-use Rattle.inode_changes.proofs.RemovalLaws.{there_with, clash_free_live}
+use Rattle.inode_changes.proofs.RemovalLaws.{there_with, own_pair, own_inode}
+use Rattle.inode_changes.proofs.MakingLaws.{has_times, below_blocks}
 use Rattle.inode_files.specs.Making.{new_pairs, Making}
 use Rattle.inode_files.proofs.MakingLaws.{fan_has, tree_same, new_unnamed, primary_now, dir_now}
 
 clash : (t : Bool) → t ≡ true → t ≡ false → ⊥
 clash t p q = cc
-
-has_times : (b : ℕ) (xs : List ℕ) → 1 ≤ times b xs → has_number xs b ≡ true
-has_times b xs h = elim (has_number xs b) as (λ t. has_number xs b ≡ t → t ≡ true) [
-  | true ↦ λ e. refl
-  | false ↦ λ e. absurd (never (times b xs) h (times_none b xs e))
-] refl
-  where
-    never : (t : ℕ) → 1 ≤ t → t ≡ 0 → ⊥
-    never t h e = omega arith
-
--- the root stays a directory
-dir_stays_with : (p : Path) (n : Name) (y : InodeNode) (b : ℕ) (es : InodeEntries) → (new : InodeEntries) × (with_at (p ++ n ∷ []) y (a_dir b es) ≡ a_dir b new)
-dir_stays_with [] n y b es = (with_entry n y es, refl)
-dir_stays_with (m ∷ ms) n y b es = (with_entry m (with_at (ms ++ n ∷ []) y (entry m es)) es, refl)
-
--- inodes at a path are among those of the root
-below_blocks : (p : Path) (x : InodeNode) (d : ℕ) (xs : InodeEntries) → at x p ≡ a_dir d xs → (b : ℕ) → has_number (d ∷ inode_blocks xs) b ≡ true → has_number (node_blocks x) b ≡ true
-below_blocks [] x d xs e b h = ap (λ y. has_number (node_blocks y) b) e ∙ h
-below_blocks (n ∷ ns) nothing d xs e b h = absurd (nowhere ns d xs e)
-below_blocks (n ∷ ns) (a_file f) d xs e b h = absurd (nowhere ns d xs e)
-below_blocks (n ∷ ns) (a_dir c es) d xs e b h = or_right (c == b) _ (entry_blocks_in n es b (below_blocks ns (entry n es) d xs e b h))
-
-own_pair : (d a b c : ℕ) (z : InodeNode) → block_is_at d a b z → block_is z c → (d ≡ a) × (c ≡ b)
-own_pair d a b c nothing h k = absurd h
-own_pair d a b c (a_file f) h k = (h.0, sym k ∙ h.1)
-own_pair d a b c (a_dir e es) h k = (h.0, sym k ∙ h.1)
-
-own_inode : (z : InodeNode) (c : ℕ) → block_is z c → has_number (node_blocks z) c ≡ true
-own_inode nothing c k = absurd k
-own_inode (a_file f) c k = or_left (f.block == c) _ (eq-eqb f.block c k)
-own_inode (a_dir b es) c k = or_left (b == c) _ (eq-eqb b c k)
 
 block_in : (d a b : ℕ) (z : InodeNode) → block_is_at d a b z → has_number (node_blocks z) b ≡ true
 block_in d a b nothing h = absurd h
@@ -249,7 +219,7 @@ module _ (first : World) (root : ℕ) (p : Path) (d : ℕ) (es : List Entry) (s 
   new = (dir_stays_with p n (a_file file) root s.old).0
 
   elsewhere : (b : ℕ) → (b == d) ≡ false → contents next b ≡ contents w b
-  elsewhere b off = contents-other w d b (filled (block_len w.geometry) bytes) (λ e. clash (b == d) (eq-eqb b d e) off)
+  elsewhere = written_elsewhere w d bytes
 
   put_back : inode_at next d ≡ Some (directory (with_listed (record { name = n; block = i }) es))
   put_back = ap (option_and_then (inode_in (block_len w.geometry))) (contents-same w d (filled (block_len w.geometry) bytes) within_w) ∙ reads
@@ -434,10 +404,7 @@ module _ (first : World) (root : ℕ) (p : Path) (d : ℕ) (es : List Entry) (s 
       tree_last = same_last.tree
 
       was_held : (a b : ℕ) → holds (dropped next d c).pairs a b ≡ true → (holds w.pairs a b ≡ true) × (is_pair d c (a, b) ≡ false)
-      was_held a b h =
-          let left = and_parts (holds (without_pointer next d c).pairs a b) (stays (without_pointer next d c) a) (sym (holds-settle (without_pointer next d c) a b) ∙ h) in
-          let both = and_parts (holds next.pairs a b) (not (is_pair d c (a, b))) (sym (holds-filter (λ e. not (is_pair d c e)) next.pairs a b) ∙ left.0) in
-          (both.0, not-true (is_pair d c (a, b)) both.1)
+      was_held a b h = (fewer_pairs next d c a b h, other_pair next d c a b h)
 
       pub tidy_last : IsTidy kind.Inode first root → IsTidy kind.Inode (dropped next d c) root
       tidy_last tidy = tidy_by_pairs (dropped next d c) root leads.valid primary_next new (same_last.named ∙ named_next) (ap is_there same_last.tree ∙ there_next) (λ a b from h.
@@ -447,9 +414,7 @@ module _ (first : World) (root : ℕ) (p : Path) (d : ℕ) (es : List Entry) (s 
           clash (is_pair d c (a, b)) (and_from (a == d) (b == c) (eq-eqb a d (sym same.0)) (eq-eqb b c (sym same.1))) was.1))
 
       pub taken_last : (b : ℕ) → is_free first b ≡ true → is_live (dropped next d c) b ≡ true → has_number (named_at kind.Inode (dropped next d c) root).blocks b ≡ true
-      taken_last b was lives =
-          let left = and_parts (stays (without_pointer next d c) b) (is_live next b) (sym (live-settle (without_pointer next d c) b) ∙ lives) in
-          ap (λ q. has_number q.blocks b) same_last.named ∙ named_if_taken b was left.1
+      taken_last b was lives = ap (λ q. has_number q.blocks b) same_last.named ∙ named_if_taken b was (fewer_live next d c b lives)
 
       pub others_last : OthersStay root first next → OthersStay root first (dropped next d c)
       others_last so_far = outside_twice root first next (dropped next d c) so_far (leads.others root primary_next (drop_inside me))

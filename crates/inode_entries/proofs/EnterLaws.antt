@@ -18,7 +18,7 @@ use Rattle.fs_steps.specs.Steps.{Leads, written, dropped}
 use Rattle.inode_layout.specs.Block.{inode_of}
 use Rattle.inode_layout.specs.Said.{entries_said}
 use Rattle.inode_walks.specs.declared.finding.Place.{Place}
-use Rattle.inode_walks.proofs.ReadLaws.{block_long}
+use Rattle.fs_changing.proofs.WriteLaws.{block_long}
 use Rattle.inode_changes.proofs.SpotLaws.{order}
 use Rattle.inode_changes.proofs.ListingLaws.{named_with}
 use Rattle.inode_changes.proofs.RemoveLaws.{directory_length}

@@ -12,7 +12,7 @@ use Rattle.fs_laws.proofs.WayLaws.{ways_stay}
 use Rattle.fs_port.specs.View.{View, state_of}
 use Rattle.fs_port.specs.Calls.{IsCarriedOut, IsValidNow}
 use Rattle.fs_asks.specs.May.{Looked}
-use Rattle.inode_files.proofs.FillLaws.{held_live}
+use Rattle.fs_changing.proofs.StepLaws.{held_live}
 
 pub free_same : (v : View) (want : Bool) → (answer v.kind (state_of v) ask.GetFree want).state.world ≡ v.world
 free_same v true = refl

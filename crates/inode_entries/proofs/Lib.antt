@@ -1,6 +1,5 @@
 pub mod BeginLaws
 pub mod BackLaws
-pub mod NeedLaws
 pub mod DecideLaws
 pub mod EntryLaws
 pub mod EnterLaws

@@ -15,8 +15,8 @@ use Rattle.fs_port.specs.Calls.{IsValidNow, Stays}
 use Rattle.fs_asks.specs.declared.client.Client.{Client}
 use Rattle.fs_asks.specs.May.{MayWrite, Looked}
 use Rattle.fs_asks.proofs.LookLaws.{may_again}
-use Rattle.inode_changes.specs.Runs.{Runs}
-use Rattle.inode_changes.proofs.RemovalLaws.{clash_free_live}
+use Rattle.fs_changing.specs.Runs.{Runs}
+use Rattle.fs_changing.proofs.RunLaws.{clash_free_live}
 use Rattle.inode_changes.proofs.TidyLaws.{named_of, named_under}
 use Rattle.inode_files.specs.declared.content.Content.{Content}
 use Rattle.inode_files.specs.Making.{Making}
@@ -38,6 +38,7 @@ runs_on told old new P e y ne h = record {
   unspent = (h.unspent.1 ne, tt);
   faultless = (h.faultless.1 ne, tt);
   cause = tt;
+  spent = tt;
 }
 
 -- the root reaches the blocks of its files

@@ -5,7 +5,7 @@ use Rattle.fs_trees.specs.declared.refusal.FsRefusal.{FsRefusal}
 use Rattle.fs_port.specs.View.{View}
 use Rattle.fs_asks.specs.declared.client.Client.{Client}
 use Rattle.fs_asks.specs.May.{MayWrite}
-use Rattle.inode_changes.specs.Runs.{Runs}
+use Rattle.fs_changing.specs.Runs.{Runs}
 use Rattle.inode_files.specs.Making.{Making}
 use Rattle.inode_files.specs.Filling.{Stage, IsAside}
 

@@ -8,8 +8,8 @@ ghost use Rattle.fs_port.specs.Calls.{IsValidNow};
 ghost use Rattle.fs_asks.specs.May.{MayWrite};
 ghost use Rattle.fs_asks.specs.Leftovers.{refusal_before};
 ghost use Rattle.fs_steps.specs.Steps.{no_room_in};
-ghost use Rattle.inode_changes.specs.Changing.{the_block};
-ghost use Rattle.inode_changes.specs.Runs.{Runs};
+ghost use Rattle.fs_changing.specs.Runs.{Runs};
+ghost use Rattle.inode_changes.specs.Blocks.{the_block};
 ghost use Rattle.inode_files.specs.Filling.{Stage, IsAside};
 ghost use Rattle.inode_entries.specs.Beginning.{Began, IsBack, AsideOr, IsRefusedSo};
 

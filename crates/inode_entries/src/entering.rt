@@ -6,9 +6,9 @@ ghost use Rattle.fs_trees.specs.Inode.{entries_room};
 ghost use Rattle.fs_trees.specs.declared.refusal.FsRefusal.TheVariants as no;
 ghost use Rattle.fs_port.specs.Calls.{IsValidNow};
 ghost use Rattle.fs_asks.specs.May.{MayWrite};
+ghost use Rattle.fs_changing.specs.Runs.{Runs};
 ghost use Rattle.inode_layout.specs.Block.{inode_of, block_len_of};
 ghost use Rattle.inode_layout.specs.Said.{is_directory, blocks_said, entry_said};
-ghost use Rattle.inode_changes.specs.Runs.{Runs};
 ghost use Rattle.inode_entries.specs.Entering.{HasRoom, MayEnter, Enters, EntersOrNot};
 
 use fs_asks::Client;

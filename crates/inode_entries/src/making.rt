@@ -5,7 +5,7 @@ ghost use Rattle.fs_trees.specs.declared.refusal.FsRefusal.TheVariants as no;
 ghost use Rattle.fs_port.specs.Calls.{IsValidNow};
 ghost use Rattle.fs_asks.specs.May.{MayWrite};
 ghost use Rattle.fs_steps.specs.Steps.{no_room_in};
-ghost use Rattle.inode_changes.specs.Runs.{Runs};
+ghost use Rattle.fs_changing.specs.Runs.{Runs};
 ghost use Rattle.inode_files.specs.Content.{shared_of, new_count, all_count, HasRoom, IsFor};
 ghost use Rattle.inode_files.specs.Filling.{Stage, IsAside};
 ghost use Rattle.inode_entries.specs.Entering.{AreOfFiles, IsMade};

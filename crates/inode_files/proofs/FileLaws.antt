@@ -14,7 +14,7 @@ use Rattle.tsd_model.specs.Geometry.{block_len}
 use Rattle.tsd_model.specs.World.{World, contents, is_live, has_number}
 use Rattle.tsd_model.specs.Valid.{IsValid}
 use Rattle.tsd_model.specs.Step.{filled}
-use Rattle.disk_laws.proofs.ChangeLaws.{contents-other, contents-same, live-with_contents}
+use Rattle.disk_laws.proofs.ChangeLaws.{contents-other, live-with_contents}
 use Rattle.disk_laws.proofs.DoomLaws.{live_below}
 use Rattle.fs_trees.specs.Inode.{regular, are_apart, data_room, inode_in, inode_bytes}
 use Rattle.fs_trees.specs.InodeTree.{inode_at, file_bytes}
@@ -25,14 +25,16 @@ use Rattle.fs_asks.specs.declared.client.Client.{Client}
 use Rattle.fs_asks.specs.Client.{write_by}
 use Rattle.fs_asks.specs.May.{MayWrite}
 use Rattle.fs_steps.specs.Steps.{Leads, Went, written}
+use Rattle.fs_changing.proofs.RunLaws.{clash_free_live}
+use Rattle.fs_changing.proofs.WriteLaws.{written_here}
+use Rattle.fs_changing.proofs.StepLaws.{may_after}
 use Rattle.inode_walks.specs.Reading.{bytes_at}
-use Rattle.inode_changes.proofs.RemovalLaws.{clash_free_live}
 use Rattle.inode_layout.specs.Said.{are_small}
 use Rattle.inode_layout.proofs.BackLaws.{reads_back}
 use Rattle.inode_files.specs.Making.{Making}
 use Rattle.inode_files.specs.Content.{AreReached}
 use Rattle.inode_files.specs.Filling.{Stage, Holds, AsideWith, Wrote, AsideOf, Took, Shared, joined, IsFile, Filled}
-use Rattle.inode_files.proofs.FillLaws.{made_by_one, stop_at_one, may_after}
+use Rattle.inode_files.proofs.FillLaws.{made_by_one, stop_at_one}
 
 clash : (t : Bool) → t ≡ true → t ≡ false → ⊥
 clash t p q = cc
@@ -190,7 +192,7 @@ module _ (c : Client) (old vs v1 v2 : View) (i n : ℕ) (shared bytes blocks : L
       says_so : inode_at after i ≡ Some (regular size (shared ++ blocks))
       says_so =
           let len = block_len v2.world.geometry in
-          ap (option_and_then (inode_in len)) (contents-same v2.world i (filled len x) (live_below v2.world.blocks i may.live))
+          ap (option_and_then (inode_in len)) (written_here v2.world i x may.live)
           ∙ reads_back len (regular size (shared ++ blocks)) (replicate (len - length x) 0) (
             enough ∙ ap (λ g. div_ceil size (block_len g)) (sym same_size),
             subst (λ g. length (shared ++ blocks) ≤ data_room (block_len g)) (sym same_size) room,

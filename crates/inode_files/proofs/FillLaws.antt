@@ -6,34 +6,28 @@ use Rattle.std.proofs.lemmas.List.{length-drop}
 use Rattle.tsd_model.specs.Geometry.{block_len}
 use Rattle.tsd_model.specs.World.{World, contents, is_live, has_number}
 use Rattle.tsd_model.specs.Pairs.{holds}
-use Rattle.tsd_model.specs.Sessions.{level_le, level_from}
 use Rattle.tsd_model.specs.Placing.{chosen}
 use Rattle.tsd_model.specs.Step.{filled}
 use Rattle.tsd_model.specs.declared.requests.Hint.TheVariants.{At}
-use Rattle.tsd_model.specs.declared.requests.Level.{Level}
-use Rattle.tsd_model.specs.declared.requests.Level.TheVariants as level
-use Rattle.tsd_model.specs.declared.requests.Request.{Request}
-use Rattle.disk_laws.proofs.ChangeLaws.{contents-other, contents-same, live-with_contents, free_may}
+use Rattle.disk_laws.proofs.ChangeLaws.{contents-other, live-with_contents, free_may}
 use Rattle.disk_laws.proofs.StayLaws.{live-new_blocks, holds-new_blocks}
-use Rattle.disk_laws.proofs.DoomLaws.{live_below}
 use Rattle.fs_trees.specs.Inode.{are_apart}
 use Rattle.fs_trees.specs.declared.refusal.FsRefusal.{FsRefusal}
-use Rattle.fs_laws.specs.Ways.{HoldsWrite}
 use Rattle.fs_laws.proofs.WayLaws.{ways_lead_on}
 use Rattle.fs_port.specs.View.{View, IsSound, state_of}
 use Rattle.fs_port.specs.Calls.{IsValidNow, Stays}
-use Rattle.fs_port.proofs.RunLaws.{leaves_more}
 use Rattle.fs_asks.specs.declared.client.Client.{Client}
 use Rattle.fs_asks.specs.Client.{shown_at, write_by, alloc_by}
 use Rattle.fs_asks.specs.May.{MayWrite}
 use Rattle.fs_asks.proofs.LookLaws.{no_look}
 use Rattle.fs_steps.specs.Steps.{Leads, Went, Steps, written, taken}
-use Rattle.inode_changes.specs.Runs.{Runs}
-use Rattle.inode_changes.proofs.RunLaws.{runs_look, runs_step, then_runs}
-use Rattle.inode_changes.proofs.RemoveLaws.{may_still}
+use Rattle.fs_changing.specs.Runs.{Runs}
+use Rattle.fs_changing.proofs.RunLaws.{runs_look, runs_step, then_runs}
+use Rattle.fs_changing.proofs.NewLaws.{chosen_apart, chosen_free, lives_new, holds_new, version_new, records_new}
+use Rattle.fs_changing.proofs.StepLaws.{may_after}
+use Rattle.fs_changing.proofs.WriteLaws.{written_here}
 use Rattle.inode_files.specs.Making.{Making}
 use Rattle.inode_files.specs.Filling.{Stage, IsAside, Holds, AsideWith, MadeWith, WroteIn, Wrote, AsideTaking, Took}
-use Rattle.inode_files.proofs.NewLaws.{chosen_apart, chosen_free, lives_new, holds_new, version_new, records_new}
 use Rattle.inode_files.proofs.MakingLaws.{fan_has, tree_same, making_written, making_taken}
 
 clash : (t : Bool) → t ≡ true → t ≡ false → ⊥
@@ -42,32 +36,6 @@ clash t p q = cc
 neither : (s t : Bool) → (s || t) ≡ false → (s ≡ false) × (t ≡ false)
 neither true t e = absurd (cc)
 neither false t e = (refl, e)
-
--- ---- calls so far
-
-pub runs_more : {X : Type 0} (told : Type 0) (old new : View) (P Q : World → Type 0) (result : Result X FsRefusal) → (told → (w : World) → P w → Q w) → Runs told old new P result → Runs told old new Q result
-runs_more told old new P Q result on h = record { valid = h.valid; crash = λ t. leaves_more old new P Q (on t) (h.crash t); stays = h.stays; counts = h.counts; unspent = h.unspent; faultless = h.faultless; cause = h.cause }
-
--- ---- what may be written after a step
-
-pub held_live : (v : View) → IsValidNow v → (s a : ℕ) → HoldsWrite (state_of v) s a → is_live v.world a ≡ true
-held_live v now s a held = elim (now.fits.live s held.0 a) [
-  | inl bare ↦ absurd (no_write (level_from v.sessions s held.0 a) bare held.2)
-  | inr lives ↦ lives
-]
-  where
-    no_write : (l : Level) → l ≡ level.Bare → level_le level.Write l ≡ true → ⊥
-    no_write level.Bare e h = cc
-    no_write level.Read e h = cc
-    no_write level.Write e h = cc
-
-pub may_after : (c : Client) (old new : View) (q : Request) (a : ℕ) (after : World) → Went c old new q a after → IsValidNow old → after.version ≡ old.world.version → after.records ≡ old.world.records
-    → ((x y : ℕ) → holds old.world.pairs x y ≡ true → holds after.pairs x y ≡ true) → ((b : ℕ) → is_live old.world b ≡ true → is_live after b ≡ true) → Stays old new → (b : ℕ) → MayWrite c old b → MayWrite c new b
-may_after c old new q a after went now version records pairs lives stays b may =
-    may_still c old new b (ap (λ w. w.geometry) went.world ∙ went.leads.geometry) (ap (λ w. w.version) went.world ∙ version) (ap (λ w. w.records) went.world ∙ records)
-    (λ x h. ap (λ w. holds w.pairs x b) went.world ∙ pairs x b h)
-    (λ s x held. went.ways s x held (lives x (held_live old now s x held)))
-    (ap (λ w. is_live w b) went.world ∙ lives b may.live) stays may
 
 -- ---- a file in the making stays aside
 
@@ -99,7 +67,7 @@ module _ (c : Client) (b : ℕ) (rest bytes : List ℕ) where
     wrote_more new apart later = record {
       geometry = later.geometry ∙ ap (λ w. w.geometry) went.world;
       holds = (
-        later.others b apart ∙ (ap (λ w. contents w b) went.world ∙ (contents-same old.world b (filled (block_len old.world.geometry) (take len bytes)) (live_below old.world.blocks b lives)
+        later.others b apart ∙ (ap (λ w. contents w b) went.world ∙ (written_here old.world b (take len bytes) lives
             ∙ ap (λ n. Some (filled (block_len old.world.geometry) (take n bytes))) is_len)),
         subst (λ n. Holds n new rest (drop n bytes)) is_len (subst (λ n. Holds n new rest (drop len bytes)) (sym len_mid) later.holds),
       );

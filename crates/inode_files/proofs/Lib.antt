@@ -1,4 +1,3 @@
-pub mod NewLaws
 pub mod RoomLaws
 pub mod PartLaws
 pub mod MakingLaws

@@ -6,7 +6,7 @@ use Rattle.tsd_model.specs.Geometry.{block_len}
 use Rattle.tsd_model.specs.World.{World, contents, is_live, is_free, has_number}
 use Rattle.tsd_model.specs.Pairs.{holds, is_pair}
 use Rattle.tsd_model.specs.Valid.{IsValid}
-use Rattle.tsd_model.specs.Step.{filled, zeros, with_contents, with_pointer, with_new_blocks}
+use Rattle.tsd_model.specs.Step.{filled, with_new_blocks}
 use Rattle.tsd_model.proofs.PairLaws.{holds-with_pair}
 use Rattle.disk_laws.proofs.ChangeLaws.{contents-other, live-with_contents, free_may}
 use Rattle.disk_laws.proofs.StayLaws.{live-new_blocks}
@@ -17,7 +17,7 @@ use Rattle.fs_trees.specs.Layouts.{Named, named_at}
 use Rattle.fs_trees.specs.Outside.{is_under}
 use Rattle.fs_trees.specs.declared.ask.ShellKind.TheVariants as kind
 use Rattle.fs_laws.specs.Outside.{is_inside}
-use Rattle.fs_laws.specs.Stays.{IsUnder, Keeps}
+use Rattle.fs_laws.specs.Stays.{IsUnder}
 use Rattle.fs_laws.specs.Reading.{SameTree}
 use Rattle.fs_laws.proofs.TreeLaws.{read_from_named}
 use Rattle.fs_laws.proofs.InodeLaws.{inodes_under_root}
@@ -27,10 +27,10 @@ use Rattle.fs_laws.proofs.ListLaws.{number_right}
 use Rattle.fs_asks.specs.declared.client.Client.{Client}
 use Rattle.fs_asks.specs.Client.{write_by, alloc_by, link_by}
 use Rattle.fs_steps.specs.Steps.{Leads, written, pointed}
-use Rattle.inode_changes.proofs.RemovalLaws.{clash_free_live}
-use Rattle.inode_changes.proofs.TidyLaws.{named_under}
+use Rattle.fs_changing.proofs.RunLaws.{clash_free_live}
+use Rattle.fs_changing.proofs.NewLaws.{contents_off, lives_new, holds_new, version_new, records_new}
+use Rattle.fs_changing.proofs.TrimLaws.{named_live, keeps_both}
 use Rattle.inode_files.specs.Making.{Making}
-use Rattle.inode_files.proofs.NewLaws.{contents_off, lives_new, holds_new}
 
 clash : (t : Bool) → t ≡ true → t ≡ false → ⊥
 clash t p q = cc
@@ -71,18 +71,6 @@ module _ (root : ℕ) (first : World) (valid : IsValid first) (primary : root < 
 
   first_under : IsUnder first root named
   first_under = inodes_under_root first root primary there
-
-  -- what is named is live
-  pub named_live : (b : ℕ) → has_number named.blocks b ≡ true → is_live first b ≡ true
-  named_live b h = each_under first root (λ c. is_live first c ≡ true) (valid.raw.primaries root primary) (λ a c pair k. valid.raw.targets a c pair) b (named_under first root valid primary there b h)
-
-  both_keep : (w next : World) → Keeps first w named → Keeps w next named → Keeps first next named
-  both_keep w next one two = record {
-    geometry = two.geometry ∙ one.geometry;
-    live = two.live;
-    bytes = λ b h. two.bytes b h ∙ one.bytes b h;
-    pairs = two.pairs;
-  }
 
   -- ---- the first block
 
@@ -150,7 +138,7 @@ module _ (root : ℕ) (first : World) (valid : IsValid first) (primary : root < 
 
     -- a new block isn't named
     pub new_unnamed : (b : ℕ) → has_number (i ∷ fresh) b ≡ true → has_number named.blocks b ≡ false
-    new_unnamed b h = false_from_ne_true (has_number named.blocks b) (λ k. clash_free_live first b (m.free b h) (named_live b k))
+    new_unnamed b h = false_from_ne_true (has_number named.blocks b) (λ k. clash_free_live first b (m.free b h) (named_live first root named valid first_under b k))
 
     now_under : IsUnder w root named
     now_under = subst (IsUnder w root) named_same (inodes_under_root w root primary_now there_now)
@@ -178,7 +166,7 @@ module _ (root : ℕ) (first : World) (valid : IsValid first) (primary : root < 
         version = m.version;
         records = m.records;
         others = outside_twice root first w (written w b x) m.others (leads.others root primary_now write_inside);
-        keeps = both_keep w (written w b x) m.keeps (leads.keeps root named now_under (ap not (new_unnamed b new)));
+        keeps = keeps_both first w (written w b x) named m.keeps (leads.keeps root named now_under (ap not (new_unnamed b new)));
         free = m.free;
         once = m.once;
         lives = λ k h. live-with_contents w b k (filled (block_len w.geometry) x) (m.lives k h);
@@ -214,7 +202,7 @@ module _ (root : ℕ) (first : World) (valid : IsValid first) (primary : root < 
       version = version_new i fresh w ∙ m.version;
       records = records_new i fresh w ∙ m.records;
       others = outside_twice root first w (with_new_blocks w i fresh) m.others (leads.others root (primary_now i shared [] w m) (and_from (is_under w root i) true (inode_under i shared [] w m) refl));
-      keeps = both_keep w (with_new_blocks w i fresh) m.keeps (leads.keeps root named (now_under i shared [] w m) refl);
+      keeps = keeps_both first w (with_new_blocks w i fresh) named m.keeps (leads.keeps root named (now_under i shared [] w m) refl);
       free = λ b h. elim (or_cases (i == b) (has_number fresh b) h) [
         | inl here ↦ m.free b (or_left (i == b) false here)
         | inr part ↦ was_free b part
@@ -239,14 +227,6 @@ module _ (root : ℕ) (first : World) (valid : IsValid first) (primary : root < 
         turned false false true v = refl
         turned false false false v = refl
 
-        version_new : (a : ℕ) (bs : List ℕ) (w : World) → (with_new_blocks w a bs).version ≡ w.version
-        version_new a [] w = refl
-        version_new a (b ∷ bs) w = version_new a bs (with_pointer (with_contents w b (zeros w)) a b)
-
-        records_new : (a : ℕ) (bs : List ℕ) (w : World) → (with_new_blocks w a bs).records ≡ w.records
-        records_new a [] w = refl
-        records_new a (b ∷ bs) w = records_new a bs (with_pointer (with_contents w b (zeros w)) a b)
-
   -- ---- a block is shared
 
   module _ (c : Client) (i : ℕ) (shared : List ℕ) (w : World) (m : Making root first d i shared [] w) (s : ℕ) (was : is_live first s ≡ true) (reached : is_under first root s ≡ true)
@@ -259,7 +239,7 @@ module _ (root : ℕ) (first : World) (valid : IsValid first) (primary : root < 
       records = m.records;
       others = outside_twice root first w (pointed w i s) m.others (leads.others root (primary_now i shared [] w m)
           (and_from (is_under w root i) _ (inode_under i shared [] w m) (and_from (is_under w root s) true (under_still i shared [] w m s reached) refl)));
-      keeps = both_keep w (pointed w i s) m.keeps (leads.keeps root named (now_under i shared [] w m) refl);
+      keeps = keeps_both first w (pointed w i s) named m.keeps (leads.keeps root named (now_under i shared [] w m) refl);
       free = m.free;
       once = m.once;
       lives = m.lives;

@@ -1,51 +1,12 @@
--- Where there is room for blocks and pairs, and what is refused where there isn't.
-use Rattle.std.proofs.Common.{◌≡◌, ℕ, ◌+◌, ◌-◌, ◌<◌, ◌≤◌, Bool, true, false, nat_lt, [], ◌∷◌, length, refl, sym, ◌∙◌, ap, arith, Option, Some, None}
-use Rattle.std.proofs.lemmas.Bool.{ltb-true}
-use Rattle.std.proofs.lemmas.Bool.Decides.{nat_tests}
+-- Where there is room, and what is refused where there isn't, as of the time before an inode shared some blocks.
+use Rattle.std.proofs.Common.{◌≡◌, ℕ, ◌+◌, ◌-◌, ◌≤◌, length, sym, ◌∙◌, ap, arith, Option, Some, None}
 use Rattle.tsd_model.specs.World.{World, free_count}
-use Rattle.fs_trees.specs.Refusals.{when, first_of}
 use Rattle.fs_trees.specs.declared.refusal.FsRefusal.{FsRefusal}
 use Rattle.fs_trees.specs.declared.refusal.FsRefusal.TheVariants as no
 use Rattle.fs_asks.specs.Leftovers.{refusal_before}
 use Rattle.fs_steps.specs.Steps.{no_room_in}
-
-pub room_there : (w : World) (b p : ℕ) → b ≤ free_count w → length w.pairs + p ≤ w.geometry.slots → ◌≡◌ {A = Option FsRefusal} (no_room_in w b p) None
-room_there w b p h k =
-    let x : nat_lt (free_count w) b ≡ false = grind (arith, nat_tests) in
-    let y : nat_lt w.geometry.slots (length w.pairs + p) ≡ false = grind (arith, nat_tests) in
-    ap (λ t. first_of (when t (no.Full (free_count w) b) ∷ when (nat_lt w.geometry.slots (length w.pairs + p)) (no.PointersFull (length w.pairs) w.geometry.slots) ∷ [])) x
-    ∙ ap (λ t. first_of (when t (no.PointersFull (length w.pairs) w.geometry.slots) ∷ [])) y
-
-pub there_is_room : (w : World) (b p : ℕ) → ◌≡◌ {A = Option FsRefusal} (no_room_in w b p) None → (b ≤ free_count w) × (length w.pairs + p ≤ w.geometry.slots)
-there_is_room w b p h = by_tests (nat_lt (free_count w) b) (nat_lt w.geometry.slots (length w.pairs + p)) refl refl h
-  where
-    by_tests : (s t : Bool) → nat_lt (free_count w) b ≡ s → nat_lt w.geometry.slots (length w.pairs + p) ≡ t
-        → ◌≡◌ {A = Option FsRefusal} (first_of (when s (no.Full (free_count w) b) ∷ when t (no.PointersFull (length w.pairs) w.geometry.slots) ∷ [])) None → (b ≤ free_count w) × (length w.pairs + p ≤ w.geometry.slots)
-    by_tests true t e f g = absurd (cc)
-    by_tests false true e f g = absurd (cc)
-    by_tests false false e f g = (grind (arith, nat_tests), grind (arith, nat_tests))
-
--- where enough is free, it is the pairs that want room
-pub pairs_want : (w : World) (b p : ℕ) → b ≤ free_count w → w.geometry.slots < length w.pairs + p → no_room_in w b p ≡ Some (no.PointersFull (length w.pairs) w.geometry.slots)
-pairs_want w b p h k =
-    let x : nat_lt (free_count w) b ≡ false = grind (arith, nat_tests) in
-    let y : nat_lt w.geometry.slots (length w.pairs + p) ≡ true = grind (arith, nat_tests) in
-    ap (λ t. first_of (when t (no.Full (free_count w) b) ∷ when (nat_lt w.geometry.slots (length w.pairs + p)) (no.PointersFull (length w.pairs) w.geometry.slots) ∷ [])) x
-    ∙ ap (λ t. first_of (when t (no.PointersFull (length w.pairs) w.geometry.slots) ∷ [])) y
-
-pub wanted_pairs : (w : World) (b p : ℕ) (e : FsRefusal) → b ≤ free_count w → no_room_in w b p ≡ Some e → (w.geometry.slots < length w.pairs + p) × (no.PointersFull (length w.pairs) w.geometry.slots ≡ e)
-wanted_pairs w b p e h is = by_tests (nat_lt (free_count w) b) (nat_lt w.geometry.slots (length w.pairs + p)) refl refl is
-  where
-    by_tests : (s t : Bool) → nat_lt (free_count w) b ≡ s → nat_lt w.geometry.slots (length w.pairs + p) ≡ t
-        → first_of (when s (no.Full (free_count w) b) ∷ when t (no.PointersFull (length w.pairs) w.geometry.slots) ∷ []) ≡ Some e → (w.geometry.slots < length w.pairs + p) × (no.PointersFull (length w.pairs) w.geometry.slots ≡ e)
-    by_tests true t f g is = absurd (never f)
-      where
-        never : nat_lt (free_count w) b ≡ true → ⊥
-        never f = let low = ltb-true (free_count w) b f in omega (arith, low, h)
-    by_tests false true f g is = (ltb-true w.geometry.slots (length w.pairs + p) g, cc)
-    by_tests false false f g is = absurd (cc)
-
--- ---- as of the time before an inode shared some blocks
+use Rattle.fs_changing.proofs.RoomLaws.{room_there, there_is_room}
+use Rattle.fs_changing.proofs.NeedLaws.{pairs_want, wanted_pairs}
 
 -- the inode got so many pairs, and as many blocks are free
 module _ (first w : World) (n s : ℕ) (size : w.geometry ≡ first.geometry) (free : free_count w ≡ free_count first) (pairs : length w.pairs ≡ length first.pairs + s) (enough : n ≤ free_count first) where

@@ -24,14 +24,16 @@ use Rattle.fs_asks.specs.Leftovers.{refusal_before}
 use Rattle.fs_asks.specs.May.{MayWrite}
 use Rattle.fs_asks.proofs.LookLaws.{no_look}
 use Rattle.fs_steps.specs.Steps.{Leads, Steps, pointed, no_room_in}
-use Rattle.inode_changes.specs.Runs.{Runs}
-use Rattle.inode_changes.proofs.RunLaws.{runs_look, runs_step, then_runs}
+use Rattle.fs_changing.specs.Runs.{Runs}
+use Rattle.fs_changing.proofs.RunLaws.{runs_look, runs_step, then_runs}
+use Rattle.fs_changing.proofs.RoomLaws.{room_there, there_is_room}
+use Rattle.fs_changing.proofs.NeedLaws.{pairs_want, wanted_pairs}
+use Rattle.fs_changing.proofs.StepLaws.{may_after}
 use Rattle.inode_files.specs.Making.{Making}
 use Rattle.inode_files.specs.Content.{AreReached}
 use Rattle.inode_files.specs.Filling.{Stage, IsAside, AsideOf, Shared, Stopped}
 use Rattle.inode_files.proofs.MakingLaws.{making_shared}
-use Rattle.inode_files.proofs.FillLaws.{aside_now, may_after}
-use Rattle.inode_files.proofs.RoomLaws.{room_there, there_is_room, pairs_want, wanted_pairs}
+use Rattle.inode_files.proofs.FillLaws.{aside_now}
 
 -- ---- lists
 
@@ -111,6 +113,7 @@ runs_before told old new P e n h = record {
   unspent = (tt, λ ne. h.unspent.1 (λ k. ne (before_fault e n k)));
   faultless = (tt, λ ne. h.faultless.1 (λ k. ne (before_fault e n k)));
   cause = λ k. h.cause (fault_before e n k);
+  spent = λ k. h.spent (fault_before e n k);
 }
 
 -- ---- so far

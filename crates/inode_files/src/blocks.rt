@@ -9,7 +9,7 @@ ghost use Rattle.fs_port.specs.View.{state_of};
 ghost use Rattle.fs_port.specs.Calls.{IsValidNow};
 ghost use Rattle.fs_asks.specs.May.{MayWrite};
 ghost use Rattle.fs_steps.specs.Steps.{no_room_in};
-ghost use Rattle.inode_changes.specs.Runs.{Runs};
+ghost use Rattle.fs_changing.specs.Runs.{Runs};
 ghost use Rattle.inode_files.specs.Content.{new_bytes, new_count, HasRoom};
 ghost use Rattle.inode_files.specs.Filling.{AsideWith, Wrote, AsideTaking, Took};
 

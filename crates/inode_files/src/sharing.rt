@@ -7,7 +7,7 @@ ghost use Rattle.fs_port.specs.View.{state_of};
 ghost use Rattle.fs_port.specs.Calls.{IsValidNow};
 ghost use Rattle.fs_asks.specs.May.{MayWrite};
 ghost use Rattle.fs_steps.specs.Steps.{no_room_in};
-ghost use Rattle.inode_changes.specs.Runs.{Runs};
+ghost use Rattle.fs_changing.specs.Runs.{Runs};
 ghost use Rattle.inode_files.specs.Content.{shared_of, shared_count, HasRoom, IsFor};
 ghost use Rattle.inode_files.specs.Filling.{AsideOf, Shared, Stopped};
 

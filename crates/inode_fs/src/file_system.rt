@@ -1,6 +1,6 @@
 //! The file system as one value.
 
-ghost use Rattle.std.specs.Prelude.{◌≡◌, false, IfOk, IfErr, IsTrue};
+ghost use Rattle.std.specs.Prelude.{◌≡◌, true, false, IfOk, IfErr, IsTrue};
 ghost use Rattle.image_device.specs.Counts.{Rose};
 ghost use Rattle.fs_trees.specs.Names.{is_path};
 ghost use Rattle.fs_trees.specs.Answer.{done};
@@ -64,6 +64,7 @@ impl InodeFs {
         ensures same { inode_view self.new ≡ inode_view self.old }
         ensures unspent { OnAnswer result ((K.view disk.new).spent ≡ false) }
         ensures faultless { OnAnswer result ((K.view disk.new).faults ≡ (K.view disk.old).faults) }
+        ensures spent { IfErr result (λ e. e ≡ no.Device → (K.view disk.new).spent ≡ true) }
         ensures cause { IfErr result (λ e. e ≡ no.Device → Rose (K.view disk.old).faults (K.view disk.new).faults) }
     {
         if self.mounted {

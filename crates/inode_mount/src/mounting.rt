@@ -1,7 +1,7 @@
 //! Mounting.
 #![tactic(none)]
 
-ghost use Rattle.std.specs.Prelude.{◌≡◌, ◌≢◌, ◌⊎◌, false, ℕ, OnOk, IfErr, IsTrue};
+ghost use Rattle.std.specs.Prelude.{◌≡◌, ◌≢◌, ◌⊎◌, true, false, ℕ, OnOk, IfErr, IsTrue};
 ghost use Rattle.image_device.specs.Counts.{Rose};
 ghost use Rattle.fs_trees.specs.Tree.{is_there, nothing};
 ghost use Rattle.fs_trees.specs.InodeTree.{inode_tree};
@@ -83,6 +83,7 @@ pub fn mount<K: Blocks>(client: &Client, marks: &mut Marks, disk: &mut K) -> Res
     ensures counts { Counts (K.view disk.old) (K.view disk.new) }
     ensures unspent { OnAnswer result ((K.view disk.new).spent ≡ false) }
     ensures faultless { OnAnswer result ((K.view disk.new).faults ≡ (K.view disk.old).faults) }
+    ensures spent { IfErr result (λ e. e ≡ no.Device → (K.view disk.new).spent ≡ true) }
     ensures cause { IfErr result (λ e. e ≡ no.Device → Rose (K.view disk.old).faults (K.view disk.new).faults) }
 {
     match is_tree(client, disk, marks) {

@@ -11,8 +11,8 @@ use Rattle.fs_trees.specs.declared.ask.ShellAsk.TheVariants as ask
 use Rattle.fs_trees.specs.declared.ask.ShellKind.TheVariants as kind
 use Rattle.fs_trees.specs.declared.refusal.FsRefusal.{FsRefusal}
 use Rattle.fs_trees.specs.declared.refusal.FsRefusal.TheVariants as no
+use Rattle.fs_changing.proofs.AskLaws.{is_mounted}
 use Rattle.inode_walks.specs.Finding.{no_place_found}
-use Rattle.inode_changes.proofs.AskLaws.{is_mounted}
 
 -- what stands there is no directory, where it is a file
 pub file_only : (x : Tree) → is_file x ≡ true → (is_there x ≡ true) × (is_dir x ≡ false)

@@ -29,18 +29,20 @@ use Rattle.fs_port.specs.Calls.{IsValidNow, Stays}
 use Rattle.fs_asks.specs.declared.client.Client.{Client}
 use Rattle.fs_asks.specs.May.{Looked, Looks}
 use Rattle.fs_steps.specs.Steps.{no_room_in}
+use Rattle.fs_changing.specs.Changing.{refused_on}
+use Rattle.fs_changing.proofs.AskLaws.{is_mounted}
+use Rattle.inode_changes.proofs.PlaceLaws.{none_at}
 use Rattle.inode_layout.specs.declared.inode.Inode as layout
 use Rattle.inode_layout.specs.Block.{inode_of, block_len_of, body_of}
 use Rattle.inode_layout.specs.Said.{is_directory, amount_said, blocks_said, entries_said}
 use Rattle.inode_walks.specs.declared.finding.Found.{Found}
 use Rattle.inode_walks.specs.declared.finding.Place.{Place}
-use Rattle.inode_walks.specs.Asking.{tree_of, MayAsk}
+use Rattle.inode_walks.specs.Asking.{tree_of, MayAsk, mounted_by}
 use Rattle.inode_walks.specs.Finding.{IsAt, IsPlace, not_found, no_file_found, no_place_found}
 use Rattle.inode_walks.specs.Reading.{bytes_at, bytes_said}
 use Rattle.inode_walks.proofs.RefusalLaws.{refused_by, passes_by}
 use Rattle.inode_walks.proofs.FileLaws.{file_said, file_count, named_held, may_look, said_is_row, row_is_long, found_long, node_is, file_is, tree_there, stands_still}
 use Rattle.inode_walks.proofs.FoundLaws.{dir_said, names_there}
-use Rattle.inode_changes.proofs.AskLaws.{refused_on, is_mounted, none_at}
 use Rattle.inode_changes.proofs.MakeLaws.{dir_lost, dir_taken, dir_is_full, dir_room}
 use Rattle.inode_changes.proofs.SpotLaws.{said_in_order}
 use Rattle.inode_files.specs.declared.content.Content.{Content}
@@ -89,17 +91,17 @@ module _ (c : Client) (v : View) (path new : Path) (there : is_there (tree_of c 
   abbrev wanted : Need
   wanted = need_of kind.Inode v.world c.root (tree_of c v) (ask.Copy path new)
 
-  pub lost_refuses : (e : FsRefusal) → no_file_found (tree_of c v) path ≡ Some e → refused_on c v (ask.Copy path new) ≡ Some e
+  pub lost_refuses : (e : FsRefusal) → no_file_found (tree_of c v) path ≡ Some e → refused_on (mounted_by c) v (ask.Copy path new) ≡ Some e
   lost_refuses e h = copy_lost v.world.geometry (tree_of c v) (free_count v.world) (length v.world.pairs) wanted there path new e h
 
   module _ (way : ◌≡◌ {A = Option FsRefusal} (no_file_found (tree_of c v) path) None) where
-    as_dir : refused_on c v (ask.Copy path new) ≡ refusal kind.Inode v.world.geometry (tree_of c v) (free_count v.world) (length v.world.pairs) wanted (ask.MakeDir new)
+    as_dir : refused_on (mounted_by c) v (ask.Copy path new) ≡ refusal kind.Inode v.world.geometry (tree_of c v) (free_count v.world) (length v.world.pairs) wanted (ask.MakeDir new)
     as_dir = copy_way v.world.geometry (tree_of c v) (free_count v.world) (length v.world.pairs) wanted there path new way
 
-    pub place_refuses : (e : FsRefusal) → no_place_found (tree_of c v) new no.Exists ≡ Some e → refused_on c v (ask.Copy path new) ≡ Some e
+    pub place_refuses : (e : FsRefusal) → no_place_found (tree_of c v) new no.Exists ≡ Some e → refused_on (mounted_by c) v (ask.Copy path new) ≡ Some e
     place_refuses e h = as_dir ∙ dir_lost v.world.geometry (tree_of c v) (free_count v.world) (length v.world.pairs) wanted there new e h
 
-    pub taken_refuses : ◌≡◌ {A = Option FsRefusal} (no_place_found (tree_of c v) new no.Exists) None → is_there (at (tree_of c v) new) ≡ true → refused_on c v (ask.Copy path new) ≡ Some no.Exists
+    pub taken_refuses : ◌≡◌ {A = Option FsRefusal} (no_place_found (tree_of c v) new no.Exists) None → is_there (at (tree_of c v) new) ≡ true → refused_on (mounted_by c) v (ask.Copy path new) ≡ Some no.Exists
     taken_refuses h k = as_dir ∙ dir_taken v.world.geometry (tree_of c v) (free_count v.world) (length v.world.pairs) wanted there new h k
 
 -- ---- after looks
@@ -175,12 +177,12 @@ module _ (c : Client) (v : View) (path : Path) (file : Found) (new : Path) (plac
   blocks_are : length (blocks_said (inode_of place.directory.inode)) ≡ length (entries_said (inode_of place.directory.inode))
   blocks_are = ap (λ i. length (blocks_said i)) (dir_said (inode_of place.directory.inode) dir) ∙ blocks_count es
 
-  pub full_refuses : nat_le (entries_room (block_len_of place.directory.inode)) (length (blocks_said (inode_of place.directory.inode))) ≡ true → refused_on c v (ask.Copy path new) ≡ Some no.DirFull
+  pub full_refuses : nat_le (entries_room (block_len_of place.directory.inode)) (length (blocks_said (inode_of place.directory.inode))) ≡ true → refused_on (mounted_by c) v (ask.Copy path new) ≡ Some no.DirFull
   full_refuses full = as_dir c v path new x.there x.way
       ∙ dir_is_full g t (free_count v.world) (length v.world.pairs) (need_of kind.Inode v.world c.root t (ask.Copy path new)) x.there new x.new_way absent
       (ap (nat_le (entries_room (block_len g))) (names_are ∙ sym blocks_are) ∙ (ap (λ k. nat_le (entries_room k) (length (blocks_said (inode_of place.directory.inode)))) (sym x.new_place.above.stands.whole) ∙ full))
 
-  pub roomy_asks : entering.HasRoom place.directory.inode place.name.now → refused_on c v (ask.Copy path new) ≡ first_of (no_room g (free_count v.world) (length v.world.pairs) (need_of kind.Inode v.world c.root t (ask.Copy path new)))
+  pub roomy_asks : entering.HasRoom place.directory.inode place.name.now → refused_on (mounted_by c) v (ask.Copy path new) ≡ first_of (no_room g (free_count v.world) (length v.world.pairs) (need_of kind.Inode v.world c.root t (ask.Copy path new)))
   roomy_asks room = as_dir c v path new x.there x.way
       ∙ dir_room g t (free_count v.world) (length v.world.pairs) (need_of kind.Inode v.world c.root t (ask.Copy path new)) x.there new x.new_way absent
       (ap (nat_le (entries_room (block_len g))) names_are ∙ below (entries_room (block_len g)) (subst (λ k. length es < entries_room k) x.new_place.above.stands.whole (room (sym x.new_place.old ∙ x.vacant))))
@@ -300,7 +302,7 @@ module _ (c : Client) (v : View) (path : Path) (file : Found) (new : Path) (plac
   size_is = ap (λ y. length (bytes_in y)) file_at ∙ (length-take-le size (bytes_said v.world (inode_of file.inode)) (row_is_long c v x.found.more file x.found.stands no_dir now whole) ∙ sym k.size)
 
   -- what is refused for want of room
-  pub room_refuses : entering.HasRoom place.directory.inode place.name.now → refused_on c v (ask.Copy path new) ≡ no_room_in v.world (1 + new_count content) (1 + all_count content)
+  pub room_refuses : entering.HasRoom place.directory.inode place.name.now → refused_on (mounted_by c) v (ask.Copy path new) ≡ no_room_in v.world (1 + new_count content) (1 + all_count content)
   room_refuses room =
       roomy_asks c v path file new place x dir now room
       ∙ (ap (λ n. first_of (no_room v.world.geometry (free_count v.world) (length v.world.pairs) n)) (copy_need v.world.geometry (tree_of c v) path new content.size size_is)

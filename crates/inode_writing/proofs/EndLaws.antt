@@ -10,8 +10,9 @@ use Rattle.fs_trees.specs.declared.refusal.FsRefusal.{FsRefusal}
 use Rattle.fs_port.specs.View.{View}
 use Rattle.fs_port.specs.Files.{Answers, IsEitherTree, LeavesWorld}
 use Rattle.fs_asks.specs.declared.client.Client.{Client}
+use Rattle.fs_changing.specs.Changing.{refused_on}
+use Rattle.fs_changing.proofs.AskLaws.{ask_done, after_is}
 use Rattle.inode_walks.specs.Asking.{tree_of, mounted_by}
-use Rattle.inode_changes.proofs.AskLaws.{refused_on, ask_done, after_is}
 use Rattle.inode_files.specs.Filling.{IsAside}
 use Rattle.inode_entries.specs.Entering.{HasFile, HasEither}
 
@@ -19,19 +20,19 @@ use Rattle.inode_entries.specs.Entering.{HasFile, HasEither}
 pub either_aside : (c : Client) (v : View) (a : ShellAsk) (w : World) → IsAside c.root v.world w → IsEitherTree (mounted_by c) v a w
 either_aside c v a w h = (inl h.tree, record { valid = h.valid; geometry = h.geometry; others = h.others })
 
-module _ (c : Client) (v : View) (a : ShellAsk) (path : Path) (none : ◌≡◌ {A = Option FsRefusal} (refused_on c v a) None) (is_done : (change (tree_of c v) (free_count v.world) a).answer ≡ done) where
+module _ (c : Client) (v : View) (a : ShellAsk) (path : Path) (none : ◌≡◌ {A = Option FsRefusal} (refused_on (mounted_by c) v a) None) (is_done : (change (tree_of c v) (free_count v.world) a).answer ≡ done) where
   -- a stop behind it, too
   pub either_entered : (w : World) (x : List ℕ) → (change (tree_of c v) (free_count v.world) a).tree ≡ with_at path (a_file x) (tree_of c v) → HasEither c.root v.world path x w → IsEitherTree (mounted_by c) v a w
   either_entered w x is h = (
     elim h.tree [
       | inl before ↦ inl before
-      | inr after ↦ inr (after ∙ (sym is ∙ sym (after_is c v a none is_done)))
+      | inr after ↦ inr (after ∙ (sym is ∙ sym (after_is (mounted_by c) v a none is_done)))
     ],
     record { valid = h.valid; geometry = h.geometry; others = h.others },
   )
 
   pub answers_entered : (new : View) (x : List ℕ) → (change (tree_of c v) (free_count v.world) a).tree ≡ with_at path (a_file x) (tree_of c v) → HasFile c.root v.world path x new.world → Answers {X = Unit {0}} (mounted_by c) v new a (Ok tt) (λ _ answer. answer ≡ done)
-  answers_entered new x is h = ask_done c v new a tt none is_done (h.tree ∙ sym is)
+  answers_entered new x is h = ask_done (mounted_by c) v new a tt none is_done (h.tree ∙ sym is)
 
 pub left_entered : (c : Client) (v new : View) (path : Path) (x : List ℕ) → HasFile c.root v.world path x new.world → new.spent ≡ false → LeavesWorld (mounted_by c) v new
 left_entered c v new path x h unspent = record { unspent = unspent; tidy = h.tidy; others = h.others; taken = h.taken }

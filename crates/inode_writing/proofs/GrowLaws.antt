@@ -26,6 +26,7 @@ use Rattle.fs_port.specs.View.{View}
 use Rattle.fs_port.specs.Calls.{IsValidNow}
 use Rattle.fs_asks.specs.declared.client.Client.{Client}
 use Rattle.fs_steps.specs.Steps.{no_room_in}
+use Rattle.fs_changing.specs.Changing.{refused_on}
 use Rattle.inode_layout.specs.declared.inode.Inode as layout
 use Rattle.inode_layout.specs.declared.kind.InodeKind.{InodeKind}
 use Rattle.inode_layout.specs.declared.kind.InodeKind.TheVariants.{Directory, Regular}
@@ -34,12 +35,11 @@ use Rattle.inode_layout.specs.Block.{said, inode_of, bytes_of, block_len_of, bod
 use Rattle.inode_layout.specs.Said.{is_directory, amount_said, blocks_said}
 use Rattle.inode_walks.specs.declared.finding.Found.{Found}
 use Rattle.inode_walks.specs.declared.finding.Place.{Place}
-use Rattle.inode_walks.specs.Asking.{tree_of}
+use Rattle.inode_walks.specs.Asking.{tree_of, mounted_by}
 use Rattle.inode_walks.specs.Reading.{part, bytes_at, bytes_said}
 use Rattle.inode_walks.proofs.FileLaws.{file_said, file_count, named_held, named_full, may_look, said_is_row, row_is_long, found_long, node_is}
 use Rattle.inode_walks.proofs.FoundLaws.{a_file_there}
 use Rattle.inode_walks.proofs.TellLaws.{bytes_are}
-use Rattle.inode_changes.proofs.AskLaws.{refused_on}
 use Rattle.inode_changes.proofs.SpotLaws.{said_in_order}
 use Rattle.inode_files.specs.declared.content.Content.{Content}
 use Rattle.inode_files.specs.Content.{shared_count, shared_of, new_bytes, new_count, all_count, HasRoom, IsFor}
@@ -189,11 +189,11 @@ module _ (c : Client) (v : View) (path : Path) (place : Place) (file : Found) (x
   big_is : (y : List ℕ) → nat_lt (data_room len) (div_ceil (size + length y) len) ≡ nat_lt (data_room (block_len v.world.geometry)) (div_ceil (length (bytes_in (at (tree_of c v) path)) + length y) (block_len v.world.geometry))
   big_is y = ap (λ n. nat_lt (data_room n) (div_ceil (size + length y) n)) same_len ∙ ap (λ n. nat_lt (data_room (block_len v.world.geometry)) (div_ceil (n + length y) (block_len v.world.geometry))) (sym size_is)
 
-  pub big_refuses : (y : List ℕ) → nat_lt (data_room (block_len_of file.inode)) (div_ceil (amount_said (inode_of file.inode) + length y) (block_len_of file.inode)) ≡ true → refused_on c v (ask.Append path y) ≡ Some no.TooBig
+  pub big_refuses : (y : List ℕ) → nat_lt (data_room (block_len_of file.inode)) (div_ceil (amount_said (inode_of file.inode) + length y) (block_len_of file.inode)) ≡ true → refused_on (mounted_by c) v (ask.Append path y) ≡ Some no.TooBig
   big_refuses y h = append_big v.world.geometry (tree_of c v) (free_count v.world) (length v.world.pairs) (need_of kind.Inode v.world c.root (tree_of c v) (ask.Append path y)) root_dir y path x.way file_there (sym (big_is y) ∙ h)
 
   pub room_refuses : (y : List ℕ) → 1 ≤ length y → nat_lt (data_room (block_len_of file.inode)) (div_ceil (amount_said (inode_of file.inode) + length y) (block_len_of file.inode)) ≡ false
-      → refused_on c v (ask.Append path y) ≡ no_room_in v.world (1 + div_ceil (amount_said (inode_of file.inode) % block_len_of file.inode + length y) (block_len_of file.inode))
+      → refused_on (mounted_by c) v (ask.Append path y) ≡ no_room_in v.world (1 + div_ceil (amount_said (inode_of file.inode) % block_len_of file.inode + length y) (block_len_of file.inode))
       (1 + (amount_said (inode_of file.inode) / block_len_of file.inode + div_ceil (amount_said (inode_of file.inode) % block_len_of file.inode + length y) (block_len_of file.inode)))
   room_refuses y least h =
       let g = v.world.geometry in
@@ -202,7 +202,7 @@ module _ (c : Client) (v : View) (path : Path) (place : Place) (file : Found) (x
       ∙ ap (λ n. no_room_in v.world (1 + div_ceil (size % n + length y) n) (1 + (size / n + div_ceil (size % n + length y) n))) (sym same_len))
 
   -- nothing needs no room
-  pub nothing_refuses : ◌≡◌ {A = Option FsRefusal} (refused_on c v (ask.Append path [])) None
+  pub nothing_refuses : ◌≡◌ {A = Option FsRefusal} (refused_on (mounted_by c) v (ask.Append path [])) None
   nothing_refuses =
       let geo = v.world.geometry in
       let b = blocks_behind file.inode no_dir in
@@ -302,5 +302,5 @@ module _ (c : Client) (v : View) (path : Path) (place : Place) (file : Found) (x
 
     -- what refuses it, in the numbers of what is made
     pub room_is : 1 ≤ length y → nat_lt (data_room (block_len_of file.inode)) (div_ceil (amount_said (inode_of file.inode) + length y) (block_len_of file.inode)) ≡ false
-        → refused_on c v (ask.Append path y) ≡ no_room_in v.world (1 + new_count content) (1 + all_count content)
+        → refused_on (mounted_by c) v (ask.Append path y) ≡ no_room_in v.world (1 + new_count content) (1 + all_count content)
     room_is least fits = room_refuses y least fits ∙ (ap (λ n. no_room_in v.world (1 + n) (1 + (full + div_ceil (size % len + length y) len))) (sym new_is) ∙ ap (λ n. no_room_in v.world (1 + new_count content) (1 + n)) (sym all_is))

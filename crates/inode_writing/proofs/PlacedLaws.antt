@@ -15,6 +15,7 @@ use Rattle.fs_port.specs.Calls.{IsValidNow, Stays}
 use Rattle.fs_asks.specs.declared.client.Client.{Client}
 use Rattle.fs_asks.specs.May.{Looked}
 use Rattle.fs_asks.proofs.LookLaws.{may_again}
+use Rattle.inode_changes.proofs.PlaceLaws.{said_place}
 use Rattle.inode_layout.specs.declared.inode.Inode as layout
 use Rattle.inode_layout.specs.Block.{inode_of, block_len_of}
 use Rattle.inode_layout.specs.Said.{is_directory, entries_said, entry_said}
@@ -23,7 +24,6 @@ use Rattle.inode_walks.specs.declared.finding.Place.{Place}
 use Rattle.inode_walks.specs.Asking.{tree_of}
 use Rattle.inode_walks.specs.Finding.{IsAt, IsPlace, IsFurther, no_place_found}
 use Rattle.inode_walks.proofs.FurtherLaws.{may_read, further}
-use Rattle.inode_changes.proofs.AskLaws.{said_place}
 use Rattle.inode_entries.specs.Entering.{HasRoom, IsEntry}
 use Rattle.inode_entries.proofs.EntryLaws.{entry_of}
 use Rattle.inode_writing.specs.Growing.{Grows}

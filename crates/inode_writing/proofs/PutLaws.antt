@@ -24,16 +24,18 @@ use Rattle.fs_port.specs.Calls.{IsValidNow, Stays}
 use Rattle.fs_asks.specs.declared.client.Client.{Client}
 use Rattle.fs_asks.specs.May.{Looked}
 use Rattle.fs_steps.specs.Steps.{no_room_in}
+use Rattle.fs_changing.specs.Changing.{refused_on}
+use Rattle.fs_changing.proofs.AskLaws.{is_mounted}
+use Rattle.inode_changes.proofs.PlaceLaws.{none_at, old_at, there_at, said_place}
 use Rattle.inode_layout.specs.Block.{inode_of, block_len_of}
 use Rattle.inode_layout.specs.Said.{is_directory, entries_said, blocks_said, entry_said}
 use Rattle.inode_walks.specs.declared.finding.Place.{Place}
-use Rattle.inode_walks.specs.Asking.{tree_of}
+use Rattle.inode_walks.specs.Asking.{tree_of, mounted_by}
 use Rattle.inode_walks.specs.Finding.{IsPlace, no_place_found}
 use Rattle.inode_walks.proofs.FoundLaws.{dir_said, names_there, entry_by}
 use Rattle.inode_walks.proofs.FileLaws.{stands_still}
 use Rattle.inode_walks.proofs.FurtherLaws.{a_level, child_there}
 use Rattle.inode_walks.proofs.WalkLaws.{file_node, dir_node}
-use Rattle.inode_changes.proofs.AskLaws.{refused_on, is_mounted, none_at, old_at, there_at, said_place}
 use Rattle.inode_files.specs.declared.content.Content.{Content}
 use Rattle.inode_files.specs.Content.{shared_count, shared_of, new_bytes, new_count, all_count, HasRoom, IsFor}
 use Rattle.inode_files.specs.Filling.{joined}
@@ -114,7 +116,7 @@ module _ (c : Client) (v : View) (path : Path) (place : Place) (dir : is_directo
   full_is : nat_le (entries_room (block_len_of place.directory.inode)) (length (blocks_said (inode_of place.directory.inode))) ≡ nat_le (entries_room (block_len g)) (length (names_in (at t (directory_of path))))
   full_is = ap (λ k. nat_le (entries_room k) (length (blocks_said (inode_of place.directory.inode)))) s.found.above.stands.whole ∙ ap (nat_le (entries_room (block_len g))) (blocks_are ∙ sym names_are)
 
-  pub full_refuses : ◌≡◌ {A = Option ℕ} (entry_said place.name.now (inode_of place.directory.inode)) None → nat_le (entries_room (block_len_of place.directory.inode)) (length (blocks_said (inode_of place.directory.inode))) ≡ true → refused_on c v (ask.Put path x) ≡ Some no.DirFull
+  pub full_refuses : ◌≡◌ {A = Option ℕ} (entry_said place.name.now (inode_of place.directory.inode)) None → nat_le (entries_room (block_len_of place.directory.inode)) (length (blocks_said (inode_of place.directory.inode))) ≡ true → refused_on (mounted_by c) v (ask.Put path x) ≡ Some no.DirFull
   full_refuses none full =
       let absent = none_at c v path place dir s.found (s.found.old ∙ (sym (entry_by place.name.now (inode_of place.directory.inode)) ∙ none)) in
       put_full g t (free_count v.world) (length v.world.pairs) (need (1 + div_ceil (length x) (block_len g)) (1 + div_ceil (length x) (block_len g))) root x path s.way s.no_dir
@@ -148,11 +150,11 @@ module _ (c : Client) (v : View) (path : Path) (place : Place) (dir : is_directo
     big_is : nat_lt (data_room (block_len_of place.directory.inode)) (div_ceil (length x) (block_len_of place.directory.inode)) ≡ nat_lt (data_room (block_len g)) (div_ceil (length x) (block_len g))
     big_is = ap (λ n. nat_lt (data_room n) (div_ceil (length x) n)) s.found.above.stands.whole
 
-    pub big_refuses : nat_lt (data_room (block_len_of place.directory.inode)) (div_ceil (length x) (block_len_of place.directory.inode)) ≡ true → refused_on c v (ask.Put path x) ≡ Some no.TooBig
+    pub big_refuses : nat_lt (data_room (block_len_of place.directory.inode)) (div_ceil (length x) (block_len_of place.directory.inode)) ≡ true → refused_on (mounted_by c) v (ask.Put path x) ≡ Some no.TooBig
     big_refuses big = put_big g t (free_count v.world) (length v.world.pairs) (need (1 + div_ceil (length x) (block_len g)) (1 + div_ceil (length x) (block_len g))) root x path s.way s.no_dir (roomy room) (sym big_is ∙ big)
 
     pub room_refuses : nat_lt (data_room (block_len_of place.directory.inode)) (div_ceil (length x) (block_len_of place.directory.inode)) ≡ false
-        → refused_on c v (ask.Put path x) ≡ no_room_in v.world (1 + div_ceil (length x) (block_len_of place.directory.inode)) (1 + div_ceil (length x) (block_len_of place.directory.inode))
+        → refused_on (mounted_by c) v (ask.Put path x) ≡ no_room_in v.world (1 + div_ceil (length x) (block_len_of place.directory.inode)) (1 + div_ceil (length x) (block_len_of place.directory.inode))
     room_refuses small = put_room g t (free_count v.world) (length v.world.pairs) (need (1 + div_ceil (length x) (block_len g)) (1 + div_ceil (length x) (block_len g))) root x path s.way s.no_dir (roomy room) (sym big_is ∙ small)
         ∙ ap (λ n. no_room_in v.world (1 + div_ceil (length x) n) (1 + div_ceil (length x) n)) (sym s.found.above.stands.whole)
 

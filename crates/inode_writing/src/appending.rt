@@ -8,12 +8,12 @@ ghost use Rattle.fs_trees.specs.declared.refusal.FsRefusal.TheVariants as no;
 ghost use Rattle.fs_port.specs.Calls.{IsValidNow};
 ghost use Rattle.fs_port.specs.Files.{Answers};
 ghost use Rattle.fs_asks.specs.May.{Looks};
+ghost use Rattle.fs_changing.specs.Changing.{Changes};
 ghost use Rattle.inode_layout.specs.Block.{inode_of, block_len_of};
 ghost use Rattle.inode_layout.specs.Said.{is_directory, amount_said};
 ghost use Rattle.inode_walks.specs.Asking.{MayAsk, mounted_by};
 ghost use Rattle.inode_walks.specs.Finding.{IsOpenNow, IsStanding};
 ghost use Rattle.inode_walks.specs.Reading.{part, bytes_said};
-ghost use Rattle.inode_changes.specs.Changing.{Changes};
 ghost use Rattle.inode_entries.specs.Entering.{HasRoom};
 ghost use Rattle.inode_writing.specs.Growing.{Grows, IsGrown};
 
@@ -100,7 +100,7 @@ fn grow<K: Blocks>(
     requires some { 1 ≤ length bytes.now }
     requires grows { K.told → (path : Path) × Grows client.now (K.view disk.old) path place.now file.now }
     ensures answer { K.told → (path : Path) → Grows client.now (K.view disk.old) path place.now file.now → Answers (mounted_by client.now) (K.view disk.old) (K.view disk.new) (ask.Append path bytes.now) result (λ _ answer. answer ≡ done) }
-    ensures changes { (path : Path) → (K.told → Grows client.now (K.view disk.old) path place.now file.now) → Changes K.told client.now (K.view disk.old) (K.view disk.new) (ask.Append path bytes.now) result }
+    ensures changes { (path : Path) → (K.told → Grows client.now (K.view disk.old) path place.now file.now) → Changes K.told (mounted_by client.now) (K.view disk.old) (K.view disk.new) (ask.Append path bytes.now) result }
 {
     let inode = &file.inode;
     let size = inode.amount() as u64 + bytes.len() as u64;
@@ -133,7 +133,7 @@ pub fn append<K: Blocks>(
     requires may { MayAsk K.told client.now (K.view disk.old) }
     requires named { IsTrue (is_path path.now) }
     ensures answer { K.told → Answers (mounted_by client.now) (K.view disk.old) (K.view disk.new) (ask.Append path.now bytes.now) result (λ _ answer. answer ≡ done) }
-    ensures changes { Changes K.told client.now (K.view disk.old) (K.view disk.new) (ask.Append path.now bytes.now) result }
+    ensures changes { Changes K.told (mounted_by client.now) (K.view disk.old) (K.view disk.new) (ask.Append path.now bytes.now) result }
 {
     let place = match find_place(client, disk, path, FsRefusal::IsDir) {
         Ok(place) => place,

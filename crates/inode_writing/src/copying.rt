@@ -6,10 +6,10 @@ ghost use Rattle.fs_trees.specs.Answer.{done};
 ghost use Rattle.fs_trees.specs.declared.ask.ShellAsk.TheVariants as ask;
 ghost use Rattle.fs_port.specs.Calls.{IsValidNow};
 ghost use Rattle.fs_port.specs.Files.{Answers};
+ghost use Rattle.fs_changing.specs.Changing.{Changes};
 ghost use Rattle.inode_layout.specs.Block.{inode_of};
 ghost use Rattle.inode_layout.specs.Said.{is_directory};
 ghost use Rattle.inode_walks.specs.Asking.{MayAsk, mounted_by};
-ghost use Rattle.inode_changes.specs.Changing.{Changes};
 ghost use Rattle.inode_entries.specs.Entering.{HasRoom};
 ghost use Rattle.inode_writing.specs.Copying.{Copies, IsCopied};
 
@@ -53,7 +53,7 @@ fn copy_to<K: Blocks>(
     requires room { HasRoom place.now.directory.inode place.now.name.now }
     requires copies { K.told → (path : Path) × (new : Path) × Copies client.now (K.view disk.old) path file.now new place.now }
     ensures answer { K.told → (path new : Path) → Copies client.now (K.view disk.old) path file.now new place.now → Answers (mounted_by client.now) (K.view disk.old) (K.view disk.new) (ask.Copy path new) result (λ _ answer. answer ≡ done) }
-    ensures changes { (path new : Path) → (K.told → Copies client.now (K.view disk.old) path file.now new place.now) → Changes K.told client.now (K.view disk.old) (K.view disk.new) (ask.Copy path new) result }
+    ensures changes { (path new : Path) → (K.told → Copies client.now (K.view disk.old) path file.now new place.now) → Changes K.told (mounted_by client.now) (K.view disk.old) (K.view disk.new) (ask.Copy path new) result }
 {
     let content = shared_whole(&file.inode);
     let new = match make_file(client, disk, place.directory.block, &content) {
@@ -78,7 +78,7 @@ pub fn copy<K: Blocks>(
     requires named { IsTrue (is_path path.now) }
     requires new_named { IsTrue (is_path new.now) }
     ensures answer { K.told → Answers (mounted_by client.now) (K.view disk.old) (K.view disk.new) (ask.Copy path.now new.now) result (λ _ answer. answer ≡ done) }
-    ensures changes { Changes K.told client.now (K.view disk.old) (K.view disk.new) (ask.Copy path.now new.now) result }
+    ensures changes { Changes K.told (mounted_by client.now) (K.view disk.old) (K.view disk.new) (ask.Copy path.now new.now) result }
 {
     let file = match find_file(client, disk, path) {
         Ok(file) => file,

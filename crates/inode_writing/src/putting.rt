@@ -9,11 +9,11 @@ ghost use Rattle.fs_trees.specs.declared.refusal.FsRefusal.TheVariants as no;
 ghost use Rattle.fs_port.specs.Calls.{IsValidNow};
 ghost use Rattle.fs_port.specs.Files.{Answers};
 ghost use Rattle.fs_asks.specs.May.{Looks};
+ghost use Rattle.fs_changing.specs.Changing.{Changes};
 ghost use Rattle.inode_layout.specs.Block.{inode_of};
 ghost use Rattle.inode_layout.specs.Said.{is_directory};
 ghost use Rattle.inode_walks.specs.Asking.{MayAsk, mounted_by, tree_of};
 ghost use Rattle.inode_walks.specs.Finding.{IsPlace};
-ghost use Rattle.inode_changes.specs.Changing.{Changes};
 ghost use Rattle.inode_writing.specs.Putting.{Puts, IsOf};
 
 use crate::sizes::is_too_big;
@@ -78,7 +78,7 @@ fn store<K: Blocks>(
     requires short { length place.now.name.now ≤ name_max }
     requires puts { K.told → (path : Path) × Puts client.now (K.view disk.old) path place.now }
     ensures answer { K.told → (path : Path) → Puts client.now (K.view disk.old) path place.now → Answers (mounted_by client.now) (K.view disk.old) (K.view disk.new) (ask.Put path bytes.now) result (λ _ answer. answer ≡ done) }
-    ensures changes { (path : Path) → (K.told → Puts client.now (K.view disk.old) path place.now) → Changes K.told client.now (K.view disk.old) (K.view disk.new) (ask.Put path bytes.now) result }
+    ensures changes { (path : Path) → (K.told → Puts client.now (K.view disk.old) path place.now) → Changes K.told (mounted_by client.now) (K.view disk.old) (K.view disk.new) (ask.Put path bytes.now) result }
 {
     let directory = &place.directory;
     match check_entry(&directory.inode, place.name) {
@@ -111,7 +111,7 @@ pub fn put<K: Blocks>(
     requires may { MayAsk K.told client.now (K.view disk.old) }
     requires named { IsTrue (is_path path.now) }
     ensures answer { K.told → Answers (mounted_by client.now) (K.view disk.old) (K.view disk.new) (ask.Put path.now bytes.now) result (λ _ answer. answer ≡ done) }
-    ensures changes { Changes K.told client.now (K.view disk.old) (K.view disk.new) (ask.Put path.now bytes.now) result }
+    ensures changes { Changes K.told (mounted_by client.now) (K.view disk.old) (K.view disk.new) (ask.Put path.now bytes.now) result }
 {
     let place = match find_place(client, disk, path, FsRefusal::IsDir) {
         Ok(place) => place,

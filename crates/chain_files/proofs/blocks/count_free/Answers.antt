@@ -18,4 +18,5 @@ returns-in-Ok-Free-clause-looks g c =
       unspent = (e.unspent, tt);
       faultless = (e.faultless, tt);
       cause = tt;
+      spent = tt;
     }

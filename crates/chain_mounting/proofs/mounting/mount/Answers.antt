@@ -61,6 +61,7 @@ returns-in-Ok-true g c =
       unspent = runs.unspent;
       faultless = runs.faultless;
       cause = runs.cause;
+      spent = runs.spent;
     }
 
 pub returns-in-Ok-false : goal.returns-in-Ok-false
@@ -86,6 +87,7 @@ returns-in-Ok-false g c =
       unspent = runs.unspent;
       faultless = runs.faultless;
       cause = runs.cause;
+      spent = runs.spent;
     }
 
 pub returns-in-Err : goal.returns-in-Err
@@ -112,4 +114,5 @@ returns-in-Err g c =
       unspent = runs.unspent;
       faultless = runs.faultless;
       cause = runs.cause;
+      spent = runs.spent;
     }

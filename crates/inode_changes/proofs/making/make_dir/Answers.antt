@@ -18,10 +18,11 @@ use Rattle.inode_layout.specs.Block.{inode_of, block_len_of}
 use Rattle.inode_layout.specs.Said.{blocks_said, entries_said}
 use Rattle.inode_walks.specs.Asking.{tree_of, mounted_by}
 use Rattle.inode_walks.proofs.FurtherLaws.{child_there}
-use Rattle.inode_changes.specs.Changing.{the_block}
-use Rattle.inode_changes.specs.Runs.{Runs}
-use Rattle.inode_changes.proofs.RunLaws.{runs_look, runs_step, then_runs, runs_as, runs_refused, runs_but_refuses, changes_of, looks_change, as_before, leaves_refused}
-use Rattle.inode_changes.proofs.AskLaws.{ask_refuses, ask_done, said_place, there_at}
+use Rattle.fs_changing.specs.Runs.{Runs}
+use Rattle.inode_changes.specs.Blocks.{the_block}
+use Rattle.fs_changing.proofs.RunLaws.{runs_look, runs_step, then_runs, runs_as, runs_refused, runs_but_refuses, changes_of, looks_change, as_before, leaves_refused}
+use Rattle.fs_changing.proofs.AskLaws.{ask_refuses, ask_done}
+use Rattle.inode_changes.proofs.PlaceLaws.{said_place, there_at}
 use Rattle.inode_changes.proofs.MakeLaws.{Placing, dir_lost, dir_taken, full_refuses, room_refuses, stop_at_take, one_block, may_make, empty_fits, stop_at_make, may_enter, entry_fits, none_refuses, stop_at_enter, tree_fin, left_fin, list_fits}
 use Rattle.inode_changes.proofs.making.make_dir.Goals as goal
 
@@ -40,10 +41,10 @@ returns-in-Err g c =
     let a = ask.MakeDir path in
     let t0 = tree_of me first in
     record {
-      answer = λ t. ask_refuses me first mid a (λ _ answer. answer ≡ done) r
+      answer = λ t. ask_refuses (mounted_by me) first mid a (λ _ answer. answer ≡ done) r
           (λ ne. dir_lost first.world.geometry t0 (free_count first.world) (length first.world.pairs) (need 1 1) (c.requires.may.tree t) path r (e.refused t ne))
           (λ ne. ((e.looks.looked t).1 ne).world);
-      changes = looks_change told me first mid a (Err r) (λ t. (c.requires.may.valid t).valid) (looks_refused told first mid r e.looks);
+      changes = looks_change told (mounted_by me) first mid a (Err r) (λ t. (c.requires.may.valid t).valid) (looks_refused told first mid r e.looks);
     }
 
 pub returns-in-Some : goal.returns-in-Some
@@ -63,11 +64,11 @@ returns-in-Some g c =
           let i = e.found t in
           let same = (e.looks.looked t).0.world in
           let there = child_there me mid i.above.more place.directory i.above.stands place.name.now b (said_place me mid path place e.dir i b c.in-Some.is) in
-          ask_refuses me first mid a (λ _ answer. answer ≡ done) no.Exists
+          ask_refuses (mounted_by me) first mid a (λ _ answer. answer ≡ done) no.Exists
           (λ ne. dir_taken first.world.geometry t0 (free_count first.world) (length first.world.pairs) (need 1 1) (c.requires.may.tree t) path (e.none t)
           (ap (λ w. is_there (at (inode_tree w me.root) path)) (sym same) ∙ there_at me mid path place e.dir i b c.in-Some.is there))
           (λ ne. same);
-      changes = looks_change told me first mid a (Err no.Exists) (λ t. (c.requires.may.valid t).valid) (looks_but_refuses told first mid place no.Exists (λ d. cc) e.looks);
+      changes = looks_change told (mounted_by me) first mid a (Err no.Exists) (λ t. (c.requires.may.valid t).valid) (looks_but_refuses told first mid place no.Exists (λ d. cc) e.looks);
     }
 
 pub returns-then-is_full : goal.returns-then-is_full
@@ -94,8 +95,8 @@ returns-then-is_full g c =
       found = e.none t;
     } in
     record {
-      answer = λ t. ask_refuses me first mid a (λ _ answer. answer ≡ done) no.DirFull (λ ne. full_refuses me first mid path place (placing t) (sym c.is_full.ensures ∙ c.if-is_full.true)) (λ ne. (e.looks.looked t).0.world);
-      changes = looks_change told me first mid a (Err no.DirFull) (λ t. (c.requires.may.valid t).valid) (looks_but_refuses told first mid place no.DirFull (λ k. cc) e.looks);
+      answer = λ t. ask_refuses (mounted_by me) first mid a (λ _ answer. answer ≡ done) no.DirFull (λ ne. full_refuses me first mid path place (placing t) (sym c.is_full.ensures ∙ c.if-is_full.true)) (λ ne. (e.looks.looked t).0.world);
+      changes = looks_change told (mounted_by me) first mid a (Err no.DirFull) (λ t. (c.requires.may.valid t).valid) (looks_but_refuses told first mid place no.DirFull (λ k. cc) e.looks);
     }
 
 pub take_blocks-requires : goal.take_blocks-requires
@@ -134,13 +135,13 @@ returns-in-Err-take_blocks g c =
     } in
     let roomy : nat_le (entries_room (block_len_of place.directory.inode)) (length (blocks_said (inode_of place.directory.inode))) ≡ false = sym c.is_full.ensures ∙ c.if-is_full.false in
     let looks : Looks {X = Unit {0}} told first mid (Ok tt) = looks_as told first mid place tt e.looks in
-    let before = runs_look told first mid P (Ok tt) (λ t w is. as_before me first a w (c.requires.may.valid t).valid is) looks in
+    let before = runs_look told first mid P (Ok tt) (λ t w is. as_before (mounted_by me) first a w (c.requires.may.valid t).valid is) looks in
     let tk = g.K.Blocks.view c.take_blocks.new.disk in
     let h = c.in-Err-take_blocks.ensures in
     let r = c.in-Err-take_blocks.refusal in
     record {
-      answer = λ t. ask_refuses me first tk a (λ _ answer. answer ≡ done) r (λ ne. room_refuses me first mid path place (placing t) roomy ∙ h.full t ne) (λ ne. ap (λ st. st.world) (h.steps.same t ne) ∙ (e.looks.looked t).0.world);
-      changes = changes_of told me first tk a (Err r) (λ t. (tt, λ ne. leaves_refused me first mid tk (e.looks.looked t).0.world (h.steps.unspent.1 ne) (h.steps.same t ne)))
+      answer = λ t. ask_refuses (mounted_by me) first tk a (λ _ answer. answer ≡ done) r (λ ne. room_refuses me first mid path place (placing t) roomy ∙ h.full t ne) (λ ne. ap (λ st. st.world) (h.steps.same t ne) ∙ (e.looks.looked t).0.world);
+      changes = changes_of told (mounted_by me) first tk a (Err r) (λ t. (tt, λ ne. leaves_refused (mounted_by me) first mid tk (e.looks.looked t).0.world (h.steps.unspent.1 ne) (h.steps.same t ne)))
           (then_runs told first mid tk P tt (Err r) before
           (runs_refused told mid tk P r (runs_step told me mid tk (alloc_by me d 1) d (steps.taken mid d 1) P (Err r) (λ t. (e.looks.looked t).0.valid) (λ t. stop_at_take me first mid path place (placing t) roomy) h.steps)));
     }
@@ -170,7 +171,7 @@ returns-in-None-the_block g c =
     } in
     let roomy : nat_le (entries_room (block_len_of place.directory.inode)) (length (blocks_said (inode_of place.directory.inode))) ≡ false = sym c.is_full.ensures ∙ c.if-is_full.false in
     let looks : Looks {X = Unit {0}} told first mid (Ok tt) = looks_as told first mid place tt e.looks in
-    let before = runs_look told first mid P (Ok tt) (λ t w is. as_before me first a w (c.requires.may.valid t).valid is) looks in
+    let before = runs_look told first mid P (Ok tt) (λ t w is. as_before (mounted_by me) first a w (c.requires.may.valid t).valid is) looks in
     let tk = g.K.Blocks.view c.take_blocks.new.disk in
     let h = c.in-Ok-take_blocks.ensures in
     let blocks = c.in-Ok-take_blocks.blocks in
@@ -180,7 +181,7 @@ returns-in-None-the_block g c =
     let never : told → ⊥ = λ t. one_block me first mid path place (placing t) roomy tk blocks (h.steps.went t) h.steps.stays.0 (h.blocks t) (h.room t) (sym c.the_block.ensures ∙ c.in-None-the_block.is) in
     record {
       answer = λ t. absurd (never t);
-      changes = changes_of told me first tk a (Err no.NotThisFs) (λ t. absurd (never t)) (runs_but_refuses told first tk P tt no.NotThisFs (λ k. cc) so_far);
+      changes = changes_of told (mounted_by me) first tk a (Err no.NotThisFs) (λ t. absurd (never t)) (runs_but_refuses told first tk P tt no.NotThisFs (λ k. cc) so_far);
     }
 
 pub write_block-requires : goal.write_block-requires
@@ -208,7 +209,7 @@ write_block-requires g c =
     } in
     let roomy : nat_le (entries_room (block_len_of place.directory.inode)) (length (blocks_said (inode_of place.directory.inode))) ≡ false = sym c.is_full.ensures ∙ c.if-is_full.false in
     let looks : Looks {X = Unit {0}} told first mid (Ok tt) = looks_as told first mid place tt e.looks in
-    let before = runs_look told first mid P (Ok tt) (λ t w is. as_before me first a w (c.requires.may.valid t).valid is) looks in
+    let before = runs_look told first mid P (Ok tt) (λ t w is. as_before (mounted_by me) first a w (c.requires.may.valid t).valid is) looks in
     let tk = g.K.Blocks.view c.take_blocks.new.disk in
     let h = c.in-Ok-take_blocks.ensures in
     let blocks = c.in-Ok-take_blocks.blocks in
@@ -250,7 +251,7 @@ returns-in-Err-write_block g c =
     } in
     let roomy : nat_le (entries_room (block_len_of place.directory.inode)) (length (blocks_said (inode_of place.directory.inode))) ≡ false = sym c.is_full.ensures ∙ c.if-is_full.false in
     let looks : Looks {X = Unit {0}} told first mid (Ok tt) = looks_as told first mid place tt e.looks in
-    let before = runs_look told first mid P (Ok tt) (λ t w is. as_before me first a w (c.requires.may.valid t).valid is) looks in
+    let before = runs_look told first mid P (Ok tt) (λ t w is. as_before (mounted_by me) first a w (c.requires.may.valid t).valid is) looks in
     let tk = g.K.Blocks.view c.take_blocks.new.disk in
     let h = c.in-Ok-take_blocks.ensures in
     let blocks = c.in-Ok-take_blocks.blocks in
@@ -265,8 +266,8 @@ returns-in-Err-write_block g c =
     let r = c.in-Err-write_block.refusal in
     let made = subst (λ x. Steps {X = Unit {0}} told me tk wi (write_by me i x) i (written tk.world i x) (Err r)) c.empty_directory.ensures j.steps in
     record {
-      answer = λ t. ask_refuses me first wi a (λ _ answer. answer ≡ done) r (λ ne. absurd (ne (j.only t))) (λ ne. absurd (ne (j.only t)));
-      changes = changes_of told me first wi a (Err r) (λ t. (tt, λ ne. absurd (ne (j.only t))))
+      answer = λ t. ask_refuses (mounted_by me) first wi a (λ _ answer. answer ≡ done) r (λ ne. absurd (ne (j.only t))) (λ ne. absurd (ne (j.only t)));
+      changes = changes_of told (mounted_by me) first wi a (Err r) (λ t. (tt, λ ne. absurd (ne (j.only t))))
           (then_runs told first tk wi P tt (Err r) so_far
           (runs_step told me tk wi (write_by me i zero) i (written tk.world i zero) P (Err r) (λ t. (h.steps.went t).valid)
           (λ t. stop_at_make me first mid path place (placing t) roomy tk blocks (h.steps.went t) h.steps.stays.0 (h.blocks t) (h.room t) i it) made));
@@ -304,7 +305,7 @@ write_block-requires-2 g c =
     } in
     let roomy : nat_le (entries_room (block_len_of place.directory.inode)) (length (blocks_said (inode_of place.directory.inode))) ≡ false = sym c.is_full.ensures ∙ c.if-is_full.false in
     let looks : Looks {X = Unit {0}} told first mid (Ok tt) = looks_as told first mid place tt e.looks in
-    let before = runs_look told first mid P (Ok tt) (λ t w is. as_before me first a w (c.requires.may.valid t).valid is) looks in
+    let before = runs_look told first mid P (Ok tt) (λ t w is. as_before (mounted_by me) first a w (c.requires.may.valid t).valid is) looks in
     let tk = g.K.Blocks.view c.take_blocks.new.disk in
     let h = c.in-Ok-take_blocks.ensures in
     let blocks = c.in-Ok-take_blocks.blocks in
@@ -353,7 +354,7 @@ returns-in-Ok-write_block-2 g c =
     } in
     let roomy : nat_le (entries_room (block_len_of place.directory.inode)) (length (blocks_said (inode_of place.directory.inode))) ≡ false = sym c.is_full.ensures ∙ c.if-is_full.false in
     let looks : Looks {X = Unit {0}} told first mid (Ok tt) = looks_as told first mid place tt e.looks in
-    let before = runs_look told first mid P (Ok tt) (λ t w is. as_before me first a w (c.requires.may.valid t).valid is) looks in
+    let before = runs_look told first mid P (Ok tt) (λ t w is. as_before (mounted_by me) first a w (c.requires.may.valid t).valid is) looks in
     let tk = g.K.Blocks.view c.take_blocks.new.disk in
     let h = c.in-Ok-take_blocks.ensures in
     let blocks = c.in-Ok-take_blocks.blocks in
@@ -374,9 +375,9 @@ returns-in-Ok-write_block-2 g c =
     let m = c.in-Ok-write_block-2.ensures in
     let entered = subst (λ x. Steps {X = Unit {0}} told me wi fin (write_by me d x) d (written wi.world d x) (Ok tt)) c.directory_with-bytes.ensures m.steps in
     record {
-      answer = λ t. ask_done me first fin a tt (none_refuses me first mid path place (placing t) roomy tk blocks (h.steps.went t) h.steps.stays.0 (h.blocks t) (h.room t) i it wi (made.went t) made.stays.0) refl
+      answer = λ t. ask_done (mounted_by me) first fin a tt (none_refuses me first mid path place (placing t) roomy tk blocks (h.steps.went t) h.steps.stays.0 (h.blocks t) (h.room t) i it wi (made.went t) made.stays.0) refl
           (tree_fin me first mid path place (placing t) roomy tk blocks (h.steps.went t) h.steps.stays.0 (h.blocks t) (h.room t) i it wi (made.went t) made.stays.0 fin (entered.went t) entered.unspent.0);
-      changes = changes_of told me first fin a (Ok tt) (λ t. (left_fin me first mid path place (placing t) roomy tk blocks (h.steps.went t) h.steps.stays.0 (h.blocks t) (h.room t) i it wi (made.went t) made.stays.0 fin (entered.went t) entered.unspent.0, tt))
+      changes = changes_of told (mounted_by me) first fin a (Ok tt) (λ t. (left_fin me first mid path place (placing t) roomy tk blocks (h.steps.went t) h.steps.stays.0 (h.blocks t) (h.room t) i it wi (made.went t) made.stays.0 fin (entered.went t) entered.unspent.0, tt))
           (then_runs told first wi fin P tt (Ok tt) so_far_too
           (runs_step told me wi fin (write_by me d bytes) d (written wi.world d bytes) P (Ok tt) (λ t. (made.went t).valid)
           (λ t. stop_at_enter me first mid path place (placing t) roomy tk blocks (h.steps.went t) h.steps.stays.0 (h.blocks t) (h.room t) i it wi (made.went t) made.stays.0) entered));
@@ -407,7 +408,7 @@ returns-in-Err-write_block-2 g c =
     } in
     let roomy : nat_le (entries_room (block_len_of place.directory.inode)) (length (blocks_said (inode_of place.directory.inode))) ≡ false = sym c.is_full.ensures ∙ c.if-is_full.false in
     let looks : Looks {X = Unit {0}} told first mid (Ok tt) = looks_as told first mid place tt e.looks in
-    let before = runs_look told first mid P (Ok tt) (λ t w is. as_before me first a w (c.requires.may.valid t).valid is) looks in
+    let before = runs_look told first mid P (Ok tt) (λ t w is. as_before (mounted_by me) first a w (c.requires.may.valid t).valid is) looks in
     let tk = g.K.Blocks.view c.take_blocks.new.disk in
     let h = c.in-Ok-take_blocks.ensures in
     let blocks = c.in-Ok-take_blocks.blocks in
@@ -429,8 +430,8 @@ returns-in-Err-write_block-2 g c =
     let r = c.in-Err-write_block-2.refusal in
     let entered = subst (λ x. Steps {X = Unit {0}} told me wi fin (write_by me d x) d (written wi.world d x) (Err r)) c.directory_with-bytes.ensures m.steps in
     record {
-      answer = λ t. ask_refuses me first fin a (λ _ answer. answer ≡ done) r (λ ne. absurd (ne (m.only t))) (λ ne. absurd (ne (m.only t)));
-      changes = changes_of told me first fin a (Err r) (λ t. (tt, λ ne. absurd (ne (m.only t))))
+      answer = λ t. ask_refuses (mounted_by me) first fin a (λ _ answer. answer ≡ done) r (λ ne. absurd (ne (m.only t))) (λ ne. absurd (ne (m.only t)));
+      changes = changes_of told (mounted_by me) first fin a (Err r) (λ t. (tt, λ ne. absurd (ne (m.only t))))
           (then_runs told first wi fin P tt (Err r) so_far_too
           (runs_step told me wi fin (write_by me d bytes) d (written wi.world d bytes) P (Err r) (λ t. (made.went t).valid)
           (λ t. stop_at_enter me first mid path place (placing t) roomy tk blocks (h.steps.went t) h.steps.stays.0 (h.blocks t) (h.room t) i it wi (made.went t) made.stays.0) entered));

@@ -18,8 +18,9 @@ use Rattle.inode_layout.specs.Block.{inode_of}
 use Rattle.inode_layout.specs.Said.{is_directory, blocks_said, entries_said}
 use Rattle.inode_walks.specs.Asking.{tree_of, mounted_by}
 use Rattle.inode_walks.proofs.FurtherLaws.{may_read, has_inode, child_there}
-use Rattle.inode_changes.proofs.RunLaws.{runs_look, runs_step, then_runs, runs_as, runs_refused, changes_of, looks_change, as_before}
-use Rattle.inode_changes.proofs.AskLaws.{ask_refuses, ask_done, rm_lost, rm_missing, rm_full, none_at, said_place, old_there, entries_at}
+use Rattle.fs_changing.proofs.RunLaws.{runs_look, runs_step, then_runs, runs_as, runs_refused, changes_of, looks_change, as_before}
+use Rattle.fs_changing.proofs.AskLaws.{ask_refuses, ask_done, rm_lost, rm_missing, rm_full}
+use Rattle.inode_changes.proofs.PlaceLaws.{none_at, said_place, old_there, entries_at}
 use Rattle.inode_changes.proofs.RemoveLaws.{Taking, may_write, fits, none_refuses, stop_at_write, may_drop, pair_held, stop_at_drop, tree_fin, left_fin}
 use Rattle.inode_changes.proofs.removing.remove.Goals as goal
 
@@ -38,10 +39,10 @@ returns-in-Err g c =
     let a = ask.Rm path in
     let t0 = tree_of me first in
     record {
-      answer = λ t. ask_refuses me first mid a (λ _ answer. answer ≡ done) r
-          (λ ne. rm_lost first.world.geometry t0 (free_count first.world) (length first.world.pairs) (need_of kind.Inode first.world me.root t0 a) (c.requires.may.tree t) path r (e.refused t ne))
+      answer = λ t. ask_refuses (mounted_by me) first mid a (λ _ answer. answer ≡ done) r
+          (λ ne. rm_lost kind.Inode first.world.geometry t0 (free_count first.world) (length first.world.pairs) (need_of kind.Inode first.world me.root t0 a) (c.requires.may.tree t) path r (e.refused t ne))
           (λ ne. ((e.looks.looked t).1 ne).world);
-      changes = looks_change told me first mid a (Err r) (λ t. (c.requires.may.valid t).valid) (looks_refused told first mid r e.looks);
+      changes = looks_change told (mounted_by me) first mid a (Err r) (λ t. (c.requires.may.valid t).valid) (looks_refused told first mid r e.looks);
     }
 
 pub returns-in-None : goal.returns-in-None
@@ -58,11 +59,11 @@ returns-in-None g c =
     record {
       answer = λ t.
           let same = (e.looks.looked t).0.world in
-          ask_refuses me first mid a (λ _ answer. answer ≡ done) no.NoEntry
-          (λ ne. rm_missing first.world.geometry t0 (free_count first.world) (length first.world.pairs) (need_of kind.Inode first.world me.root t0 a) (c.requires.may.tree t) path (e.none t)
+          ask_refuses (mounted_by me) first mid a (λ _ answer. answer ≡ done) no.NoEntry
+          (λ ne. rm_missing kind.Inode first.world.geometry t0 (free_count first.world) (length first.world.pairs) (need_of kind.Inode first.world me.root t0 a) (c.requires.may.tree t) path (e.none t)
           (ap (λ w. is_there (at (inode_tree w me.root) path)) (sym same) ∙ none_at me mid path place e.dir (e.found t) c.in-None.is))
           (λ ne. same);
-      changes = looks_change told me first mid a (Err no.NoEntry) (λ t. (c.requires.may.valid t).valid) (looks_but_refuses told first mid place no.NoEntry (λ d. cc) e.looks);
+      changes = looks_change told (mounted_by me) first mid a (Err no.NoEntry) (λ t. (c.requires.may.valid t).valid) (looks_but_refuses told first mid place no.NoEntry (λ d. cc) e.looks);
     }
 
 pub read_inode-requires : goal.read_inode-requires
@@ -96,8 +97,8 @@ returns-in-Err-read_inode g c =
     let e = c.in-Err-read_inode.ensures in
     let r = c.in-Err-read_inode.refusal in
     record {
-      answer = λ t. ask_refuses me first rd a (λ _ answer. answer ≡ done) r (λ ne. absurd (ne (e.only t))) (λ ne. absurd (ne (e.only t)));
-      changes = looks_change told me first rd a (Err r) (λ t. (c.requires.may.valid t).valid) (then_looks told first mid rd c.in-Ok.place (Err r) c.in-Ok.ensures.looks (looks_refused told mid rd r e.looks));
+      answer = λ t. ask_refuses (mounted_by me) first rd a (λ _ answer. answer ≡ done) r (λ ne. absurd (ne (e.only t))) (λ ne. absurd (ne (e.only t)));
+      changes = looks_change told (mounted_by me) first rd a (Err r) (λ t. (c.requires.may.valid t).valid) (then_looks told first mid rd c.in-Ok.place (Err r) c.in-Ok.ensures.looks (looks_refused told mid rd r e.looks));
     }
 
 pub returns-then-has_entries : goal.returns-then-has_entries
@@ -120,14 +121,14 @@ returns-then-has_entries g c =
           let i = e.found t in
           let same = (e.looks.looked t).0.world in
           let there = child_there me mid i.above.more place.directory i.above.stands place.name.now b (said_place me mid path place e.dir i b c.in-Some.is) in
-          ask_refuses me first rd a (λ _ answer. answer ≡ done) no.NotEmpty
-          (λ ne. rm_full first.world.geometry t0 (free_count first.world) (length first.world.pairs) (need_of kind.Inode first.world me.root t0 a) (c.requires.may.tree t) path (e.none t)
+          ask_refuses (mounted_by me) first rd a (λ _ answer. answer ≡ done) no.NotEmpty
+          (λ ne. rm_full kind.Inode first.world.geometry t0 (free_count first.world) (length first.world.pairs) (need_of kind.Inode first.world me.root t0 a) (c.requires.may.tree t) path (e.none t)
           (ap (λ w. is_there (at (inode_tree w me.root) path)) (sym same) ∙ old_there me mid path place e.dir i b c.in-Some.is there k (f.says t))
           (ap (λ w. nat_lt 0 (length (names_in (at (inode_tree w me.root) path)))) (sym same) ∙ (entries_at me mid path place e.dir i b c.in-Some.is there k (f.says t) ∙ (sym c.has_entries.ensures ∙ c.if-has_entries.true))))
           (λ ne. (f.looks.looked t).0.world ∙ same);
       changes =
           let looks : Looks {X = Unit {0}} told first rd (Ok tt) = then_looks told first mid rd place (Ok tt) e.looks (looks_as told mid rd c.in-Ok-read_inode.old tt f.looks) in
-          looks_change told me first rd a (Err no.NotEmpty) (λ t. (c.requires.may.valid t).valid) (looks_but_refuses told first rd tt no.NotEmpty (λ d. cc) looks);
+          looks_change told (mounted_by me) first rd a (Err no.NotEmpty) (λ t. (c.requires.may.valid t).valid) (looks_but_refuses told first rd tt no.NotEmpty (λ d. cc) looks);
     }
 
 pub directory_without-bytes-requires : goal.directory_without-bytes-requires
@@ -195,14 +196,14 @@ returns-in-Err-write_block g c =
     let k = inode_of c.in-Ok-read_inode.old.inode in
     let empty : (is_directory k && nat_lt 0 (length (blocks_said k))) ≡ false = sym c.has_entries.ensures ∙ c.if-has_entries.false in
     let looks : Looks {X = Unit {0}} told first rd (Ok tt) = then_looks told first mid rd place (Ok tt) e.looks (looks_as told mid rd c.in-Ok-read_inode.old tt f.looks) in
-    let before = runs_look told first rd P (Ok tt) (λ t w is. as_before me first a w (c.requires.may.valid t).valid is) looks in
+    let before = runs_look told first rd P (Ok tt) (λ t w is. as_before (mounted_by me) first a w (c.requires.may.valid t).valid is) looks in
     let wr = g.K.Blocks.view c.write_block.new.disk in
     let r = c.in-Err-write_block.refusal in
     let h = c.in-Err-write_block.ensures in
     let steps = subst (λ x. Steps {X = Unit {0}} told me rd wr (write_by me d x) d (written rd.world d x) (Err r)) c.directory_without-bytes.ensures h.steps in
     record {
-      answer = λ t. ask_refuses me first wr a (λ _ answer. answer ≡ done) r (λ ne. absurd (ne (h.only t))) (λ ne. absurd (ne (h.only t)));
-      changes = changes_of told me first wr a (Err r) (λ t. (tt, λ ne. absurd (ne (h.only t))))
+      answer = λ t. ask_refuses (mounted_by me) first wr a (λ _ answer. answer ≡ done) r (λ ne. absurd (ne (h.only t))) (λ ne. absurd (ne (h.only t)));
+      changes = changes_of told (mounted_by me) first wr a (Err r) (λ t. (tt, λ ne. absurd (ne (h.only t))))
           (then_runs told first rd wr P tt (Err r) before
           (runs_step told me rd wr (write_by me d bytes) d (written rd.world d bytes) P (Err r) (λ t. (f.looks.looked t).0.valid) (λ t.
           let there = child_there me mid (e.found t).above.more place.directory (e.found t).above.stands place.name.now b (said_place me mid path place e.dir (e.found t) b c.in-Some.is) in
@@ -240,7 +241,7 @@ drop_pointer-requires g c =
     let k = inode_of c.in-Ok-read_inode.old.inode in
     let empty : (is_directory k && nat_lt 0 (length (blocks_said k))) ≡ false = sym c.has_entries.ensures ∙ c.if-has_entries.false in
     let looks : Looks {X = Unit {0}} told first rd (Ok tt) = then_looks told first mid rd place (Ok tt) e.looks (looks_as told mid rd c.in-Ok-read_inode.old tt f.looks) in
-    let before = runs_look told first rd P (Ok tt) (λ t w is. as_before me first a w (c.requires.may.valid t).valid is) looks in
+    let before = runs_look told first rd P (Ok tt) (λ t w is. as_before (mounted_by me) first a w (c.requires.may.valid t).valid is) looks in
     let wr = g.K.Blocks.view c.write_block.new.disk in
     let h = c.in-Ok-write_block.ensures in
     let steps = subst (λ x. Steps {X = Unit {0}} told me rd wr (write_by me d x) d (written rd.world d x) (Ok tt)) c.directory_without-bytes.ensures h.steps in
@@ -286,7 +287,7 @@ returns-in-Ok-drop_pointer g c =
     let k = inode_of c.in-Ok-read_inode.old.inode in
     let empty : (is_directory k && nat_lt 0 (length (blocks_said k))) ≡ false = sym c.has_entries.ensures ∙ c.if-has_entries.false in
     let looks : Looks {X = Unit {0}} told first rd (Ok tt) = then_looks told first mid rd place (Ok tt) e.looks (looks_as told mid rd c.in-Ok-read_inode.old tt f.looks) in
-    let before = runs_look told first rd P (Ok tt) (λ t w is. as_before me first a w (c.requires.may.valid t).valid is) looks in
+    let before = runs_look told first rd P (Ok tt) (λ t w is. as_before (mounted_by me) first a w (c.requires.may.valid t).valid is) looks in
     let wr = g.K.Blocks.view c.write_block.new.disk in
     let fin = g.K.Blocks.view c.drop_pointer.new.disk in
     let h = c.in-Ok-write_block.ensures in
@@ -300,9 +301,9 @@ returns-in-Ok-drop_pointer g c =
     record {
       answer = λ t.
           let there = child_there me mid (e.found t).above.more place.directory (e.found t).above.stands place.name.now b (said_place me mid path place e.dir (e.found t) b c.in-Some.is) in
-          ask_done me first fin a tt (none_refuses me first mid rd path place b (taking t) there k (f.says t) empty) refl
+          ask_done (mounted_by me) first fin a tt (none_refuses me first mid rd path place b (taking t) there k (f.says t) empty) refl
           (tree_fin me first mid rd path place b (taking t) there k (f.says t) empty wr (steps.went t) steps.stays.0 fin (j.steps.went t) j.steps.unspent.0);
-      changes = changes_of told me first fin a (Ok tt) (λ t.
+      changes = changes_of told (mounted_by me) first fin a (Ok tt) (λ t.
           let there = child_there me mid (e.found t).above.more place.directory (e.found t).above.stands place.name.now b (said_place me mid path place e.dir (e.found t) b c.in-Some.is) in
           (left_fin me first mid rd path place b (taking t) there k (f.says t) empty wr (steps.went t) steps.stays.0 fin (j.steps.went t) j.steps.unspent.0, tt))
           (then_runs told first wr fin P tt (Ok tt) so_far
@@ -342,7 +343,7 @@ returns-in-Err-drop_pointer g c =
     let k = inode_of c.in-Ok-read_inode.old.inode in
     let empty : (is_directory k && nat_lt 0 (length (blocks_said k))) ≡ false = sym c.has_entries.ensures ∙ c.if-has_entries.false in
     let looks : Looks {X = Unit {0}} told first rd (Ok tt) = then_looks told first mid rd place (Ok tt) e.looks (looks_as told mid rd c.in-Ok-read_inode.old tt f.looks) in
-    let before = runs_look told first rd P (Ok tt) (λ t w is. as_before me first a w (c.requires.may.valid t).valid is) looks in
+    let before = runs_look told first rd P (Ok tt) (λ t w is. as_before (mounted_by me) first a w (c.requires.may.valid t).valid is) looks in
     let wr = g.K.Blocks.view c.write_block.new.disk in
     let fin = g.K.Blocks.view c.drop_pointer.new.disk in
     let h = c.in-Ok-write_block.ensures in
@@ -354,8 +355,8 @@ returns-in-Err-drop_pointer g c =
     let j = c.in-Err-drop_pointer.ensures in
     let r = c.in-Err-drop_pointer.refusal in
     record {
-      answer = λ t. ask_refuses me first fin a (λ _ answer. answer ≡ done) r (λ ne. absurd (ne (j.only t))) (λ ne. absurd (ne (j.only t)));
-      changes = changes_of told me first fin a (Err r) (λ t. (tt, λ ne. absurd (ne (j.only t))))
+      answer = λ t. ask_refuses (mounted_by me) first fin a (λ _ answer. answer ≡ done) r (λ ne. absurd (ne (j.only t))) (λ ne. absurd (ne (j.only t)));
+      changes = changes_of told (mounted_by me) first fin a (Err r) (λ t. (tt, λ ne. absurd (ne (j.only t))))
           (then_runs told first wr fin P tt (Err r) so_far
           (runs_refused told wr fin P r (runs_step told me wr fin (unlink_by me d b) d (dropped wr.world d b) P (Err r) (λ t. (steps.went t).valid) (λ t.
           let there = child_there me mid (e.found t).above.more place.directory (e.found t).above.stands place.name.now b (said_place me mid path place e.dir (e.found t) b c.in-Some.is) in

@@ -2,7 +2,7 @@ use Rattle.std.proofs.Common.{◌≢◌, sym, subst, Ok, Err}
 use Rattle.fs_trees.specs.declared.refusal.FsRefusal.TheVariants as no
 use Rattle.fs_asks.specs.Client.{unlink_by}
 use Rattle.fs_steps.specs.Steps.{dropped}
-use Rattle.inode_changes.proofs.RunLaws.{runs_step, runs_refused, runs_but_refuses}
+use Rattle.fs_changing.proofs.RunLaws.{runs_step, runs_refused, runs_but_refuses}
 use Rattle.inode_entries.specs.Beginning.{AsideOr}
 use Rattle.inode_entries.proofs.BeginLaws.{is_back, stop_at_drop, no_fault}
 use Rattle.inode_entries.proofs.beginning.give_up.Goals as goal

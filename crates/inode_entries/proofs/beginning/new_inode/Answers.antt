@@ -3,10 +3,10 @@ use Rattle.tsd_model.specs.declared.requests.Hint.TheVariants.{At}
 use Rattle.fs_trees.specs.declared.refusal.FsRefusal.TheVariants as no
 use Rattle.fs_asks.specs.Client.{alloc_by}
 use Rattle.fs_steps.specs.Steps as steps
-use Rattle.inode_changes.specs.Changing.{the_block}
-use Rattle.inode_changes.proofs.RunLaws.{runs_step, runs_as, runs_refused, runs_but_refuses}
+use Rattle.fs_changing.proofs.RunLaws.{runs_step, runs_as, runs_refused, runs_but_refuses}
+use Rattle.fs_changing.proofs.RoomLaws.{there_is_room}
+use Rattle.inode_changes.specs.Blocks.{the_block}
 use Rattle.inode_files.specs.Filling.{IsAside}
-use Rattle.inode_files.proofs.RoomLaws.{there_is_room}
 use Rattle.inode_entries.proofs.BeginLaws.{began_so, stop_at_take, only_one, one_there}
 use Rattle.inode_entries.proofs.beginning.new_inode.Goals as goal
 

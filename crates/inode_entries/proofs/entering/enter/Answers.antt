@@ -5,11 +5,11 @@ use Rattle.disk_laws.proofs.ChangeLaws.{live-with_contents}
 use Rattle.fs_trees.specs.Inode.{directory, with_listed, inode_bytes}
 use Rattle.fs_asks.specs.Client.{write_by, unlink_by}
 use Rattle.fs_steps.specs.Steps.{Steps, written, dropped}
+use Rattle.fs_changing.specs.Runs.{Runs}
+use Rattle.fs_changing.proofs.RunLaws.{runs_step, runs_as, runs_refused, then_runs}
+use Rattle.fs_changing.proofs.StepLaws.{may_after}
 use Rattle.inode_layout.specs.Block.{inode_of}
 use Rattle.inode_layout.specs.Said.{entries_said}
-use Rattle.inode_changes.specs.Runs.{Runs}
-use Rattle.inode_changes.proofs.RunLaws.{runs_step, runs_as, runs_refused, then_runs}
-use Rattle.inode_files.proofs.FillLaws.{may_after}
 use Rattle.inode_entries.specs.Entering.{EntersOrNot}
 use Rattle.inode_entries.proofs.EntryLaws.{list_fits}
 use Rattle.inode_entries.proofs.EnterLaws.{short_enough, stop_at_write, enters_new, still_held, stop_at_drop, enters_old}

@@ -2,15 +2,14 @@ use Rattle.std.proofs.Common.{◌≡◌, ℕ, ◌+◌, ◌≤◌, List, [], refl
 use Rattle.tsd_model.specs.World.{free_count}
 use Rattle.fs_asks.proofs.LookLaws.{may_again}
 use Rattle.fs_steps.specs.Steps.{no_room_in}
-use Rattle.inode_changes.specs.Runs.{Runs}
-use Rattle.inode_changes.proofs.RunLaws.{runs_look, then_runs, runs_as, runs_refused}
+use Rattle.fs_changing.specs.Runs.{Runs}
+use Rattle.fs_changing.proofs.RunLaws.{runs_look, then_runs, runs_as, runs_refused, runs_more}
+use Rattle.fs_changing.proofs.NeedLaws.{refused_at_once, refused_later, room_for_both}
 use Rattle.inode_files.specs.Content.{shared_of, new_count, all_count, AreReached}
 use Rattle.inode_files.specs.Making.{Making}
 use Rattle.inode_files.specs.Filling.{Stage, IsAside, AsideOf}
-use Rattle.inode_files.proofs.FillLaws.{runs_more}
 use Rattle.inode_entries.specs.Beginning.{AsideOr}
 use Rattle.inode_entries.proofs.BeginLaws.{as_it_was}
-use Rattle.inode_entries.proofs.NeedLaws.{refused_at_once, refused_later, room_for_both}
 use Rattle.inode_entries.proofs.MadeLaws.{runs_on, files_reached, making_first, size_first, pairs_first, blocks_first, may_first, still_for, enough_left, points_nowhere, made_so, left_making, still_pointed}
 use Rattle.inode_entries.proofs.making.make_file.Goals as goal
 

@@ -4,11 +4,11 @@ use Rattle.fs_trees.specs.declared.refusal.FsRefusal.TheVariants as no
 use Rattle.fs_asks.specs.Client.{alloc_by}
 use Rattle.fs_asks.proofs.LookLaws.{no_look}
 use Rattle.fs_steps.specs.Steps.{taken}
-use Rattle.inode_changes.proofs.RunLaws.{runs_look, runs_step, runs_as, runs_but_refuses}
-use Rattle.inode_files.proofs.NewLaws.{chosen_enough}
+use Rattle.fs_changing.proofs.RunLaws.{runs_look, runs_step, runs_as, runs_but_refuses}
+use Rattle.fs_changing.proofs.RoomLaws.{room_there, there_is_room}
+use Rattle.fs_changing.proofs.NewLaws.{chosen_enough}
 use Rattle.inode_files.specs.Filling.{AsideTaking, Took}
 use Rattle.inode_files.proofs.FillLaws.{aside_taking_same, took_none, stop_at_take, took_some}
-use Rattle.inode_files.proofs.RoomLaws.{room_there, there_is_room}
 use Rattle.inode_files.proofs.blocks.take_parts.Goals as goal
 
 pub returns-then-count-eq0 : goal.returns-then-count-eq0

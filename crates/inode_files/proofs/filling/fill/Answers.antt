@@ -11,13 +11,12 @@ use Rattle.fs_asks.specs.May.{MayWrite}
 use Rattle.fs_asks.specs.Client.{write_by}
 use Rattle.fs_asks.specs.Leftovers.{refusal_before}
 use Rattle.fs_steps.specs.Steps.{Steps, written, no_room_in}
-use Rattle.inode_changes.specs.Runs.{Runs}
-use Rattle.inode_changes.proofs.RunLaws.{runs_step, then_runs, runs_refused}
+use Rattle.fs_changing.specs.Runs.{Runs}
+use Rattle.fs_changing.proofs.RunLaws.{runs_step, then_runs, runs_refused, runs_more}
 use Rattle.inode_files.specs.Content.{shared_of, shared_count, new_bytes, new_count, all_count}
 use Rattle.inode_files.specs.Filling.{AsideWith, AsideOf, AsideTaking, Wrote}
 use Rattle.inode_files.proofs.RoomLaws.{refused_then, room_then, refused_shared}
 use Rattle.inode_files.proofs.PartLaws.{shares_many, few_new, small_size}
-use Rattle.inode_files.proofs.FillLaws.{runs_more}
 use Rattle.inode_files.proofs.ShareLaws.{before_fault, runs_before, stopped_after}
 use Rattle.inode_files.proofs.FileLaws.{inode_fits, stop_at_blocks, stop_at_inode, filled_so, few_blocks, least_block}
 use Rattle.inode_files.proofs.filling.fill.Goals as goal

@@ -9,7 +9,7 @@ use Rattle.fs_port.specs.View.{state_of}
 use Rattle.fs_asks.specs.Client.{link_by}
 use Rattle.fs_asks.specs.Leftovers.{refusal_before}
 use Rattle.fs_steps.specs.Steps.{Steps, pointed}
-use Rattle.inode_changes.specs.Runs.{Runs}
+use Rattle.fs_changing.specs.Runs.{Runs}
 use Rattle.inode_files.specs.declared.content.Content.{Content}
 use Rattle.inode_files.specs.Content.{shared_of, shared_count, MayShare}
 use Rattle.inode_files.specs.Filling.{AsideOf}

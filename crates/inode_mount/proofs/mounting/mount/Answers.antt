@@ -68,6 +68,7 @@ returns-in-Ok-true g c =
       unspent = runs.unspent;
       faultless = runs.faultless;
       cause = runs.cause;
+      spent = runs.spent;
     }
 
 pub returns-in-Ok-false : goal.returns-in-Ok-false
@@ -93,6 +94,7 @@ returns-in-Ok-false g c =
       unspent = runs.unspent;
       faultless = runs.faultless;
       cause = runs.cause;
+      spent = runs.spent;
     }
 
 pub returns-in-Err : goal.returns-in-Err
@@ -119,4 +121,5 @@ returns-in-Err g c =
       unspent = runs.unspent;
       faultless = runs.faultless;
       cause = runs.cause;
+      spent = runs.spent;
     }

@@ -10,15 +10,16 @@ use Rattle.fs_trees.specs.declared.refusal.FsRefusal.TheVariants as no
 use Rattle.fs_port.specs.Files.{Answers}
 use Rattle.fs_asks.specs.May.{Looks}
 use Rattle.fs_asks.proofs.LookLaws.{looks_as, looks_refused, looks_but_refuses, then_looks}
+use Rattle.fs_changing.proofs.RunLaws.{looks_change}
+use Rattle.fs_changing.proofs.AskLaws.{ask_refuses, ask_done}
+use Rattle.fs_changing.proofs.AgainLaws.{answers_again, changes_again}
+use Rattle.inode_changes.proofs.PlaceLaws.{none_at, said_place}
 use Rattle.inode_walks.specs.Asking.{tree_of, mounted_by}
 use Rattle.inode_walks.proofs.FurtherLaws.{may_read, has_inode}
 use Rattle.inode_walks.proofs.FoundLaws.{a_dir_there}
-use Rattle.inode_changes.proofs.RunLaws.{looks_change}
-use Rattle.inode_changes.proofs.AskLaws.{ask_refuses, ask_done, none_at, said_place}
 use Rattle.inode_writing.proofs.AppendLaws.{append_lost, append_missing, append_dir}
 use Rattle.inode_writing.specs.Growing.{Grows}
 use Rattle.inode_writing.proofs.SameLaws.{file_same, file_is}
-use Rattle.inode_writing.proofs.StillLaws.{answers_before, changes_before}
 use Rattle.inode_writing.proofs.GrowLaws.{root_is_dir, file_there, nothing_refuses}
 use Rattle.inode_writing.proofs.PlacedLaws.{room_for_old, old_is, file_at, grows_so}
 use Rattle.inode_writing.proofs.appending.append.Goals as goal
@@ -39,10 +40,10 @@ returns-in-Err g c =
     let a = ask.Append path y in
     let t0 = tree_of me first in
     record {
-      answer = λ t. ask_refuses me first mid a (λ _ answer. answer ≡ done) r
+      answer = λ t. ask_refuses (mounted_by me) first mid a (λ _ answer. answer ≡ done) r
           (λ ne. append_lost first.world.geometry t0 (free_count first.world) (length first.world.pairs) (need_of kind.Inode first.world me.root t0 a) (root_is_dir first.world me.root (c.requires.may.tree t)) y path r (e.refused t ne))
           (λ ne. ((e.looks.looked t).1 ne).world);
-      changes = looks_change told me first mid a (Err r) (λ t. (c.requires.may.valid t).valid) (looks_refused told first mid r e.looks);
+      changes = looks_change told (mounted_by me) first mid a (Err r) (λ t. (c.requires.may.valid t).valid) (looks_refused told first mid r e.looks);
     }
 
 pub returns-in-None : goal.returns-in-None
@@ -60,11 +61,11 @@ returns-in-None g c =
     record {
       answer = λ t.
           let same = (e.looks.looked t).0.world in
-          ask_refuses me first mid a (λ _ answer. answer ≡ done) no.NoEntry
+          ask_refuses (mounted_by me) first mid a (λ _ answer. answer ≡ done) no.NoEntry
           (λ ne. append_missing first.world.geometry t0 (free_count first.world) (length first.world.pairs) (need_of kind.Inode first.world me.root t0 a) (root_is_dir first.world me.root (c.requires.may.tree t)) y path (e.none t)
           (ap (λ w. is_there (at (inode_tree w me.root) path)) (sym same) ∙ none_at me mid path place e.dir (e.found t) (old_is me mid path place e.dir (e.found t) None (sym c.in-None.ensures))))
           (λ ne. same);
-      changes = looks_change told me first mid a (Err no.NoEntry) (λ t. (c.requires.may.valid t).valid) (looks_but_refuses told first mid place no.NoEntry (λ d. cc) e.looks);
+      changes = looks_change told (mounted_by me) first mid a (Err no.NoEntry) (λ t. (c.requires.may.valid t).valid) (looks_but_refuses told first mid place no.NoEntry (λ d. cc) e.looks);
     }
 
 pub read_inode-requires : goal.read_inode-requires
@@ -98,8 +99,8 @@ returns-in-Err-read_inode g c =
     let e = c.in-Err-read_inode.ensures in
     let r = c.in-Err-read_inode.refusal in
     record {
-      answer = λ t. ask_refuses me first rd a (λ _ answer. answer ≡ done) r (λ ne. absurd (ne (e.only t))) (λ ne. absurd (ne (e.only t)));
-      changes = looks_change told me first rd a (Err r) (λ t. (c.requires.may.valid t).valid) (then_looks told first mid rd c.in-Ok.place (Err r) c.in-Ok.ensures.looks (looks_refused told mid rd r e.looks));
+      answer = λ t. ask_refuses (mounted_by me) first rd a (λ _ answer. answer ≡ done) r (λ ne. absurd (ne (e.only t))) (λ ne. absurd (ne (e.only t)));
+      changes = looks_change told (mounted_by me) first rd a (Err r) (λ t. (c.requires.may.valid t).valid) (then_looks told first mid rd c.in-Ok.place (Err r) c.in-Ok.ensures.looks (looks_refused told mid rd r e.looks));
     }
 
 pub returns-then-is_directory : goal.returns-then-is_directory
@@ -123,11 +124,11 @@ returns-then-is_directory g c =
     record {
       answer = λ t.
           let found = file_at me mid path place e.dir (e.found t) b (old_is me mid path place e.dir (e.found t) (Some b) (sym c.in-Some.ensures)) rd file (f.looks.looked t).0 f.looks.stays.0 (e.looks.looked t).0.valid f.block (f.says t) (f.whole t) (f.held t) in
-          ask_refuses me first rd a (λ _ answer. answer ≡ done) no.IsDir
+          ask_refuses (mounted_by me) first rd a (λ _ answer. answer ≡ done) no.IsDir
           (λ ne. append_dir first.world.geometry t0 (free_count first.world) (length first.world.pairs) (need_of kind.Inode first.world me.root t0 a) (root_is_dir first.world me.root (c.requires.may.tree t)) y path (e.none t)
           (ap (λ w. is_dir (at (inode_tree w me.root) path)) (sym (same t)) ∙ (a_dir_there me rd path file found (sym c.is_directory.ensures ∙ c.if-is_directory.true)).0))
           (λ ne. same t);
-      changes = looks_change told me first rd a (Err no.IsDir) (λ t. (c.requires.may.valid t).valid) (looks_but_refuses told first rd tt no.IsDir (λ d. cc) looks);
+      changes = looks_change told (mounted_by me) first rd a (Err no.IsDir) (λ t. (c.requires.may.valid t).valid) (looks_but_refuses told first rd tt no.IsDir (λ d. cc) looks);
     }
 
 pub returns-then-is_empty : goal.returns-then-is_empty
@@ -157,10 +158,10 @@ returns-then-is_empty g c =
       answer = λ t.
           let there = file_there me rd path place file (grows t) no_dir (f.looks.looked t).0.valid in
           subst (λ z. Answers {X = Unit {0}} (mounted_by me) first rd (ask.Append path z) (Ok tt) (λ _ answer. answer ≡ done)) (sym empty)
-          (answers_before me first rd (ask.Append path []) (same t) rd (λ _ answer. answer ≡ done) (Ok tt)
-          (ask_done me rd rd (ask.Append path []) tt (nothing_refuses me rd path place file (grows t) no_dir (f.looks.looked t).0.valid) refl
+          (answers_again (mounted_by me) first rd (ask.Append path []) (same t) rd (Ok tt) (λ _ answer. answer ≡ done)
+          (ask_done (mounted_by me) rd rd (ask.Append path []) tt (nothing_refuses me rd path place file (grows t) no_dir (f.looks.looked t).0.valid) refl
           (sym (file_same path (tree_of me rd) (bytes_in (at (tree_of me rd) path)) (file_is (at (tree_of me rd) path) there)))));
-      changes = looks_change told me first rd a (Ok tt) (λ t. (c.requires.may.valid t).valid) looks;
+      changes = looks_change told (mounted_by me) first rd a (Ok tt) (λ t. (c.requires.may.valid t).valid) looks;
     }
 
 some_bytes : (y : List ℕ) (r : Bool) → (y ≡ [] → r ≡ true) → r ≡ false → 1 ≤ length y
@@ -222,6 +223,6 @@ returns g c =
     (room_for_old place.directory.inode place.name.now b e.dir (sym c.in-Some.ensures)) in
     let gw = g.K.Blocks.view c.grow.new.disk in
     record {
-      answer = λ t. answers_before me first rd a (same t) gw (λ _ answer. answer ≡ done) c.grow.result (c.grow.ensures.answer t path (grows t));
-      changes = changes_before told me first rd gw a tt c.grow.result (λ t. (c.requires.may.valid t).valid) same looks (c.grow.ensures.changes path grows);
+      answer = λ t. answers_again (mounted_by me) first rd a (same t) gw c.grow.result (λ _ answer. answer ≡ done) (c.grow.ensures.answer t path (grows t));
+      changes = changes_again told (mounted_by me) first rd gw a tt c.grow.result (λ t. (c.requires.may.valid t).valid) looks (c.grow.ensures.changes path grows);
     }

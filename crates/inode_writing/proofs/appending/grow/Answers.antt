@@ -10,19 +10,20 @@ use Rattle.fs_trees.specs.declared.refusal.FsRefusal.TheVariants as no
 use Rattle.fs_port.specs.Calls.{IsValidNow}
 use Rattle.fs_port.specs.Files.{IsEitherTree}
 use Rattle.fs_asks.proofs.LookLaws.{no_look, looks_refused, looks_but_refuses}
+use Rattle.fs_changing.specs.Changing.{refused_on}
+use Rattle.fs_changing.proofs.RunLaws.{looks_change, then_runs, runs_refused, changes_of, leaves_same, runs_more}
+use Rattle.fs_changing.proofs.AskLaws.{ask_refuses}
+use Rattle.fs_changing.proofs.AgainLaws.{answers_again, changes_again}
 use Rattle.inode_layout.specs.Block.{inode_of, block_len_of}
 use Rattle.inode_layout.specs.Said.{amount_said}
 use Rattle.inode_walks.specs.Asking.{tree_of, mounted_by}
 use Rattle.inode_walks.specs.Reading.{part, bytes_said}
-use Rattle.inode_changes.proofs.AskLaws.{refused_on, ask_refuses}
-use Rattle.inode_changes.proofs.RunLaws.{looks_change, then_runs, runs_refused, changes_of, leaves_same}
 use Rattle.inode_files.specs.Filling.{IsAside}
-use Rattle.inode_files.proofs.FillLaws.{runs_more}
 use Rattle.inode_entries.specs.Entering.{IsMade, EntersOrNot}
 use Rattle.inode_entries.proofs.EntryLaws.{stage_of}
 use Rattle.inode_writing.specs.Growing.{Grows}
 use Rattle.inode_writing.proofs.GrowLaws.{size_is_small, big_refuses, has_room, is_for, of_files, made_bytes, room_is}
-use Rattle.inode_writing.proofs.StillLaws.{grows_still, answers_before, changes_before}
+use Rattle.inode_writing.proofs.StillLaws.{grows_still}
 use Rattle.inode_writing.proofs.EndLaws.{either_aside, either_entered, answers_entered, left_entered}
 use Rattle.inode_writing.proofs.appending.grow.Goals as goal
 
@@ -49,8 +50,8 @@ returns-then-is_too_big g c =
     let y = c.args.bytes.now in
     let big = is_big c.is_too_big.result c.amount.result c.len.result c.block_len.result (amount_said (inode_of file.inode)) (length y) (block_len_of file.inode) c.is_too_big.ensures c.amount.ensures c.len.ensures.value c.block_len.ensures.value in
     record {
-      answer = λ t path x. ask_refuses me old old (ask.Append path y) (λ _ answer. answer ≡ done) no.TooBig (λ ne. big_refuses me old path place file x c.requires.is_file (c.requires.valid t) y (big ∙ c.if-is_too_big.true)) (λ ne. refl);
-      changes = λ path x. looks_change told me old old (ask.Append path y) (Err no.TooBig) (λ t. (c.requires.valid t).valid)
+      answer = λ t path x. ask_refuses (mounted_by me) old old (ask.Append path y) (λ _ answer. answer ≡ done) no.TooBig (λ ne. big_refuses me old path place file x c.requires.is_file (c.requires.valid t) y (big ∙ c.if-is_too_big.true)) (λ ne. refl);
+      changes = λ path x. looks_change told (mounted_by me) old old (ask.Append path y) (Err no.TooBig) (λ t. (c.requires.valid t).valid)
           (looks_but_refuses told old old tt no.TooBig (λ d. cc) (no_look told old c.requires.unspent (λ t. g.met.K.Blocks.sound c.args.disk.now t c.requires.unspent) c.requires.valid));
     }
 
@@ -73,8 +74,8 @@ returns-in-Err g c =
     let e = c.in-Err.ensures in
     let r = c.in-Err.refusal in
     record {
-      answer = λ t path x. ask_refuses me old lb (ask.Append path y) (λ _ answer. answer ≡ done) r (λ ne. absurd (ne (e.only t))) (λ ne. absurd (ne (e.only t)));
-      changes = λ path x. looks_change told me old lb (ask.Append path y) (Err r) (λ t. (c.requires.valid t).valid) (looks_refused told old lb r e.looks);
+      answer = λ t path x. ask_refuses (mounted_by me) old lb (ask.Append path y) (λ _ answer. answer ≡ done) r (λ ne. absurd (ne (e.only t))) (λ ne. absurd (ne (e.only t)));
+      changes = λ path x. looks_change told (mounted_by me) old lb (ask.Append path y) (Err r) (λ t. (c.requires.valid t).valid) (looks_refused told old lb r e.looks);
     }
 
 pub grown-content-requires : goal.grown-content-requires
@@ -142,12 +143,12 @@ returns-in-Err-make_file g c =
     let r = c.in-Err-make_file.refusal in
     let m = c.in-Err-make_file.ensures in
     record {
-      answer = λ t path x. answers_before me old lb (ask.Append path y) (e.looks.looked t).0.world mk (λ _ answer. answer ≡ done) (Err r)
-          (ask_refuses me lb mk (ask.Append path y) (λ _ answer. answer ≡ done) r
+      answer = λ t path x. answers_again (mounted_by me) old lb (ask.Append path y) (e.looks.looked t).0.world mk (Err r) (λ _ answer. answer ≡ done)
+          (ask_refuses (mounted_by me) lb mk (ask.Append path y) (λ _ answer. answer ≡ done) r
           (λ ne. room_is me lb path place file (still t path x) no_dir (now t) front y content h (front_is t) c.requires.some (big ∙ c.if-is_too_big.false) ∙ m.full t ne)
           (λ ne. m.same t ne));
-      changes = λ path x. changes_before told me old lb mk (ask.Append path y) front (Err r) (λ t. (c.requires.valid t).valid) (λ t. (e.looks.looked t).0.world) e.looks
-          (changes_of told me lb mk (ask.Append path y) (Err r) (λ t. (tt, λ ne. leaves_same me lb mk (m.same t ne) (m.runs.unspent.1 ne)))
+      changes = λ path x. changes_again told (mounted_by me) old lb mk (ask.Append path y) front (Err r) (λ t. (c.requires.valid t).valid) e.looks
+          (changes_of told (mounted_by me) lb mk (ask.Append path y) (Err r) (λ t. (tt, λ ne. leaves_same (mounted_by me) lb mk (m.same t ne) (m.runs.unspent.1 ne)))
           (runs_refused told lb mk (IsEitherTree (mounted_by me) lb (ask.Append path y)) r
           (runs_more told lb mk (IsAside me.root lb.world) (IsEitherTree (mounted_by me) lb (ask.Append path y)) (Err r) (λ t w k. either_aside me lb (ask.Append path y) w k) m.runs)));
     }
@@ -218,14 +219,14 @@ returns-in-Ok-enter g c =
     let n = c.in-Ok-enter.ensures in
     let made : (t : told) (path : Path) (x : Grows me old path place file) → IsMade me.root lb.world place.directory.block new (bytes_in (at (tree_of me lb) path) ++ y) mk.world =
     λ t path x. subst (λ xs. IsMade me.root lb.world place.directory.block new xs mk.world) (made_bytes me lb path place file (still t path x) no_dir (now t) front y content h (front_is t)) (m.made t) in
-    let none : (t : told) (path : Path) (x : Grows me old path place file) → ◌≡◌ {A = Option FsRefusal} (refused_on me lb (ask.Append path y)) None =
+    let none : (t : told) (path : Path) (x : Grows me old path place file) → ◌≡◌ {A = Option FsRefusal} (refused_on (mounted_by me) lb (ask.Append path y)) None =
     λ t path x. room_is me lb path place file (still t path x) no_dir (now t) front y content h (front_is t) c.requires.some (big ∙ c.if-is_too_big.false) ∙ m.room t in
     record {
-      answer = λ t path x. answers_before me old lb (ask.Append path y) (e.looks.looked t).0.world fin (λ _ answer. answer ≡ done) (Ok tt)
+      answer = λ t path x. answers_again (mounted_by me) old lb (ask.Append path y) (e.looks.looked t).0.world fin (Ok tt) (λ _ answer. answer ≡ done)
           (answers_entered me lb (ask.Append path y) path (none t path x) refl fin (bytes_in (at (tree_of me lb) path) ++ y) refl
           (n.entered t lb.world path (bytes_in (at (tree_of me lb) path) ++ y) (still t path x).grounds (made t path x)));
-      changes = λ path x. changes_before told me old lb fin (ask.Append path y) front (Ok tt) (λ t. (c.requires.valid t).valid) (λ t. (e.looks.looked t).0.world) e.looks
-          (changes_of told me lb fin (ask.Append path y) (Ok tt) (λ t. (
+      changes = λ path x. changes_again told (mounted_by me) old lb fin (ask.Append path y) front (Ok tt) (λ t. (c.requires.valid t).valid) e.looks
+          (changes_of told (mounted_by me) lb fin (ask.Append path y) (Ok tt) (λ t. (
             left_entered me lb fin path (bytes_in (at (tree_of me lb) path) ++ y)
                 (n.entered t lb.world path (bytes_in (at (tree_of me lb) path) ++ y) (still t path (x t)).grounds (made t path (x t))) n.runs.unspent.0,
             tt,
@@ -264,12 +265,12 @@ returns-in-Err-enter g c =
     let n = c.in-Err-enter.ensures in
     let made : (t : told) (path : Path) (x : Grows me old path place file) → IsMade me.root lb.world place.directory.block new (bytes_in (at (tree_of me lb) path) ++ y) mk.world =
     λ t path x. subst (λ xs. IsMade me.root lb.world place.directory.block new xs mk.world) (made_bytes me lb path place file (still t path x) no_dir (now t) front y content h (front_is t)) (m.made t) in
-    let none : (t : told) (path : Path) (x : Grows me old path place file) → ◌≡◌ {A = Option FsRefusal} (refused_on me lb (ask.Append path y)) None =
+    let none : (t : told) (path : Path) (x : Grows me old path place file) → ◌≡◌ {A = Option FsRefusal} (refused_on (mounted_by me) lb (ask.Append path y)) None =
     λ t path x. room_is me lb path place file (still t path x) no_dir (now t) front y content h (front_is t) c.requires.some (big ∙ c.if-is_too_big.false) ∙ m.room t in
     record {
-      answer = λ t path x. ask_refuses me old fin (ask.Append path y) (λ _ answer. answer ≡ done) r (λ ne. absurd (ne (n.only t))) (λ ne. absurd (ne (n.only t)));
-      changes = λ path x. changes_before told me old lb fin (ask.Append path y) front (Err r) (λ t. (c.requires.valid t).valid) (λ t. (e.looks.looked t).0.world) e.looks
-          (changes_of told me lb fin (ask.Append path y) (Err r) (λ t. (tt, λ ne. absurd (ne (n.only t))))
+      answer = λ t path x. ask_refuses (mounted_by me) old fin (ask.Append path y) (λ _ answer. answer ≡ done) r (λ ne. absurd (ne (n.only t))) (λ ne. absurd (ne (n.only t)));
+      changes = λ path x. changes_again told (mounted_by me) old lb fin (ask.Append path y) front (Err r) (λ t. (c.requires.valid t).valid) e.looks
+          (changes_of told (mounted_by me) lb fin (ask.Append path y) (Err r) (λ t. (tt, λ ne. absurd (ne (n.only t))))
           (then_runs told lb mk fin (IsEitherTree (mounted_by me) lb (ask.Append path y)) new (Err r)
           (runs_more told lb mk (IsAside me.root lb.world) (IsEitherTree (mounted_by me) lb (ask.Append path y)) (Ok new) (λ t w k. either_aside me lb (ask.Append path y) w k) m.runs)
           (runs_more told mk fin (EntersOrNot me.root place new mk.world) (IsEitherTree (mounted_by me) lb (ask.Append path y)) (Err r)

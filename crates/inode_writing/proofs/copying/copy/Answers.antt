@@ -5,12 +5,14 @@ use Rattle.fs_trees.specs.Answer.{done}
 use Rattle.fs_trees.specs.declared.ask.ShellAsk.TheVariants as ask
 use Rattle.fs_trees.specs.declared.refusal.FsRefusal.TheVariants as no
 use Rattle.fs_asks.proofs.LookLaws.{then_looks, looks_refused, looks_but_refuses}
+use Rattle.fs_changing.proofs.RunLaws.{looks_change}
+use Rattle.fs_changing.proofs.AskLaws.{ask_refuses}
+use Rattle.fs_changing.proofs.AgainLaws.{answers_again, changes_again}
+use Rattle.inode_walks.specs.Asking.{mounted_by}
+use Rattle.inode_changes.proofs.PlaceLaws.{said_place, there_at}
 use Rattle.inode_walks.specs.Finding.{no_place_found}
 use Rattle.inode_walks.proofs.FurtherLaws.{child_there}
-use Rattle.inode_changes.proofs.RunLaws.{looks_change}
-use Rattle.inode_changes.proofs.AskLaws.{ask_refuses, said_place, there_at}
 use Rattle.inode_writing.specs.Copying.{Copies}
-use Rattle.inode_writing.proofs.StillLaws.{answers_before, changes_before}
 use Rattle.inode_writing.proofs.CopyLaws.{asks_still, copies_now, lost_refuses, place_refuses, taken_refuses, full_refuses}
 use Rattle.inode_writing.proofs.copying.copy.Goals as goal
 
@@ -29,8 +31,8 @@ returns-in-Err g c =
     let e = c.in-Err.ensures in
     let r = c.in-Err.refusal in
     record {
-      answer = λ t. ask_refuses me first mid a (λ _ answer. answer ≡ done) r (λ ne. lost_refuses me first path new (c.requires.may.tree t) r (e.refused t ne)) (λ ne. ((e.looks.looked t).1 ne).world);
-      changes = looks_change told me first mid a (Err r) (λ t. (c.requires.may.valid t).valid) (looks_refused told first mid r e.looks);
+      answer = λ t. ask_refuses (mounted_by me) first mid a (λ _ answer. answer ≡ done) r (λ ne. lost_refuses me first path new (c.requires.may.tree t) r (e.refused t ne)) (λ ne. ((e.looks.looked t).1 ne).world);
+      changes = looks_change told (mounted_by me) first mid a (Err r) (λ t. (c.requires.may.valid t).valid) (looks_refused told first mid r e.looks);
     }
 
 pub find_place-requires : goal.find_place-requires
@@ -54,10 +56,10 @@ returns-in-Err-find_place g c =
     let e = c.in-Err-find_place.ensures in
     let r = c.in-Err-find_place.refusal in
     record {
-      answer = λ t. ask_refuses me first v a (λ _ answer. answer ≡ done) r
+      answer = λ t. ask_refuses (mounted_by me) first v a (λ _ answer. answer ≡ done) r
           (λ ne. place_refuses me first path new (c.requires.may.tree t) (f.none t) r (ap (λ w. no_place_found (inode_tree w me.root) new no.Exists) (sym (f.looks.looked t).0.world) ∙ e.refused t ne))
           (λ ne. ((e.looks.looked t).1 ne).world ∙ (f.looks.looked t).0.world);
-      changes = looks_change told me first v a (Err r) (λ t. (c.requires.may.valid t).valid) (looks_refused told first v r (then_looks told first mid v file (Err r) f.looks e.looks));
+      changes = looks_change told (mounted_by me) first v a (Err r) (λ t. (c.requires.may.valid t).valid) (looks_refused told first v r (then_looks told first mid v file (Err r) f.looks e.looks));
     }
 
 pub returns-in-Some : goal.returns-in-Some
@@ -81,11 +83,11 @@ returns-in-Some g c =
       answer = λ t.
           let i = e.found t in
           let there = child_there me v i.above.more place.directory i.above.stands place.name.now b (said_place me v new place e.dir i b c.in-Some.is) in
-          ask_refuses me first v a (λ _ answer. answer ≡ done) no.Exists
+          ask_refuses (mounted_by me) first v a (λ _ answer. answer ≡ done) no.Exists
           (λ ne. taken_refuses me first path new (c.requires.may.tree t) (f.none t) (ap (λ w. no_place_found (inode_tree w me.root) new no.Exists) (sym (f.looks.looked t).0.world) ∙ e.none t)
           (ap (λ w. is_there (at (inode_tree w me.root) new)) (sym (same t)) ∙ there_at me v new place e.dir i b c.in-Some.is there))
           (λ ne. same t);
-      changes = looks_change told me first v a (Err no.Exists) (λ t. (c.requires.may.valid t).valid) (looks_but_refuses told first v place no.Exists (λ d. cc) looks);
+      changes = looks_change told (mounted_by me) first v a (Err no.Exists) (λ t. (c.requires.may.valid t).valid) (looks_but_refuses told first v place no.Exists (λ d. cc) looks);
     }
 
 pub check_entry-requires : goal.check_entry-requires
@@ -114,9 +116,9 @@ returns-in-Err-check_entry g c =
     let h = c.in-Err-check_entry.ensures in
     let other : r ≡ no.Device → ⊥ = λ k. never (sym h.only ∙ k) in
     record {
-      answer = λ t. answers_before me first v a (same t) v (λ _ answer. answer ≡ done) (Err r)
-          (ask_refuses me v v a (λ _ answer. answer ≡ done) r (λ ne. full_refuses me v path file new place (copies t) e.dir (looks.looked t).0.valid h.full ∙ ap (λ x. Some x) (sym h.only)) (λ ne. refl));
-      changes = looks_change told me first v a (Err r) (λ t. (c.requires.may.valid t).valid) (looks_but_refuses told first v place r other looks);
+      answer = λ t. answers_again (mounted_by me) first v a (same t) v (Err r) (λ _ answer. answer ≡ done)
+          (ask_refuses (mounted_by me) v v a (λ _ answer. answer ≡ done) r (λ ne. full_refuses me v path file new place (copies t) e.dir (looks.looked t).0.valid h.full ∙ ap (λ x. Some x) (sym h.only)) (λ ne. refl));
+      changes = looks_change told (mounted_by me) first v a (Err r) (λ t. (c.requires.may.valid t).valid) (looks_but_refuses told first v place r other looks);
     }
   where
     never : no.DirFull ≡ no.Device → ⊥
@@ -174,6 +176,6 @@ returns g c =
     let result = c.copy_to.result in
     let h = c.copy_to.ensures in
     record {
-      answer = λ t. answers_before me first v a (same t) end (λ _ answer. answer ≡ done) result (h.answer t path new (copies t));
-      changes = changes_before told me first v end a place result (λ t. (c.requires.may.valid t).valid) same looks (h.changes path new copies);
+      answer = λ t. answers_again (mounted_by me) first v a (same t) end result (λ _ answer. answer ≡ done) (h.answer t path new (copies t));
+      changes = changes_again told (mounted_by me) first v end a place result (λ t. (c.requires.may.valid t).valid) looks (h.changes path new copies);
     }

@@ -5,12 +5,12 @@ use Rattle.fs_trees.specs.declared.ask.ShellAsk.TheVariants as ask
 use Rattle.fs_trees.specs.declared.refusal.FsRefusal.{FsRefusal}
 use Rattle.fs_port.specs.Calls.{IsValidNow}
 use Rattle.fs_port.specs.Files.{IsEitherTree}
+use Rattle.fs_changing.specs.Runs.{Runs}
+use Rattle.fs_changing.specs.Changing.{refused_on}
+use Rattle.fs_changing.proofs.RunLaws.{then_runs, runs_as, runs_refused, changes_of, leaves_same, runs_more}
+use Rattle.fs_changing.proofs.AskLaws.{ask_refuses}
 use Rattle.inode_walks.specs.Asking.{mounted_by}
-use Rattle.inode_changes.specs.Runs.{Runs}
-use Rattle.inode_changes.proofs.RunLaws.{then_runs, runs_as, runs_refused, changes_of, leaves_same}
-use Rattle.inode_changes.proofs.AskLaws.{refused_on, ask_refuses}
 use Rattle.inode_files.specs.Filling.{IsAside}
-use Rattle.inode_files.proofs.FillLaws.{runs_more}
 use Rattle.inode_entries.specs.Entering.{EntersOrNot}
 use Rattle.inode_entries.specs.Making.{bytes_of}
 use Rattle.inode_entries.proofs.EntryLaws.{stage_of}
@@ -62,8 +62,8 @@ returns-in-Err g c =
     let r = c.in-Err.refusal in
     let e = c.in-Err.ensures in
     record {
-      answer = λ t path new x. ask_refuses me v m (ask.Copy path new) (λ _ answer. answer ≡ done) r (λ ne. room_refuses me v path file new place x no_dir dir (now t) content k room ∙ e.full t ne) (e.same t);
-      changes = λ path new x. changes_of told me v m (ask.Copy path new) (Err r) (λ t. (tt, λ ne. leaves_same me v m (e.same t ne) (e.runs.unspent.1 ne)))
+      answer = λ t path new x. ask_refuses (mounted_by me) v m (ask.Copy path new) (λ _ answer. answer ≡ done) r (λ ne. room_refuses me v path file new place x no_dir dir (now t) content k room ∙ e.full t ne) (e.same t);
+      changes = λ path new x. changes_of told (mounted_by me) v m (ask.Copy path new) (Err r) (λ t. (tt, λ ne. leaves_same (mounted_by me) v m (e.same t ne) (e.runs.unspent.1 ne)))
           (runs_refused told v m (IsEitherTree (mounted_by me) v (ask.Copy path new)) r (runs_more told v m (IsAside me.root v.world) (IsEitherTree (mounted_by me) v (ask.Copy path new)) (Err r) (λ t w h. either_aside me v (ask.Copy path new) w h) e.runs));
     }
 
@@ -107,7 +107,7 @@ returns-in-Ok-enter g c =
     let m = g.K.Blocks.view c.make_file.new.disk in
     let i = c.in-Ok.new in
     let made = c.in-Ok.ensures in
-    let none : told → (path new : Path) → Copies me v path file new place → ◌≡◌ {A = Option FsRefusal} (refused_on me v (ask.Copy path new)) None = λ t path new x. room_refuses me v path file new place x no_dir dir (now t) content k room ∙ made.room t in
+    let none : told → (path new : Path) → Copies me v path file new place → ◌≡◌ {A = Option FsRefusal} (refused_on (mounted_by me) v (ask.Copy path new)) None = λ t path new x. room_refuses me v path file new place x no_dir dir (now t) content k room ∙ made.room t in
     let aside : (path new : Path) → Runs {X = Unit {0}} told v m (IsEitherTree (mounted_by me) v (ask.Copy path new)) (Ok tt) = λ path new.
     runs_as told v m (IsEitherTree (mounted_by me) v (ask.Copy path new)) i tt (runs_more told v m (IsAside me.root v.world) (IsEitherTree (mounted_by me) v (ask.Copy path new)) (Ok i) (λ t w h. either_aside me v (ask.Copy path new) w h) made.runs) in
     let n = g.K.Blocks.view c.enter.new.disk in
@@ -115,7 +115,7 @@ returns-in-Ok-enter g c =
     record {
       answer = λ t path new x. answers_entered me v (ask.Copy path new) new (none t path new x) refl n (bytes_of v.world content) (changed me v path file new place x no_dir dir (now t) content k)
           (h.entered t v.world new (bytes_of v.world content) (grounds me v path file new place x dir (now t) room) (made.made t));
-      changes = λ path new x. changes_of told me v n (ask.Copy path new) (Ok tt)
+      changes = λ path new x. changes_of told (mounted_by me) v n (ask.Copy path new) (Ok tt)
           (λ t. (left_entered me v n new (bytes_of v.world content) (h.entered t v.world new (bytes_of v.world content) (grounds me v path file new place (x t) dir (now t) room) (made.made t)) h.runs.unspent.0, tt))
           (then_runs told v m n (IsEitherTree (mounted_by me) v (ask.Copy path new)) tt (Ok tt) (aside path new)
           (runs_more told m n (EntersOrNot me.root place i m.world) (IsEitherTree (mounted_by me) v (ask.Copy path new)) (Ok tt)
@@ -139,15 +139,15 @@ returns-in-Err-enter g c =
     let m = g.K.Blocks.view c.make_file.new.disk in
     let i = c.in-Ok.new in
     let made = c.in-Ok.ensures in
-    let none : told → (path new : Path) → Copies me v path file new place → ◌≡◌ {A = Option FsRefusal} (refused_on me v (ask.Copy path new)) None = λ t path new x. room_refuses me v path file new place x no_dir dir (now t) content k room ∙ made.room t in
+    let none : told → (path new : Path) → Copies me v path file new place → ◌≡◌ {A = Option FsRefusal} (refused_on (mounted_by me) v (ask.Copy path new)) None = λ t path new x. room_refuses me v path file new place x no_dir dir (now t) content k room ∙ made.room t in
     let aside : (path new : Path) → Runs {X = Unit {0}} told v m (IsEitherTree (mounted_by me) v (ask.Copy path new)) (Ok tt) = λ path new.
     runs_as told v m (IsEitherTree (mounted_by me) v (ask.Copy path new)) i tt (runs_more told v m (IsAside me.root v.world) (IsEitherTree (mounted_by me) v (ask.Copy path new)) (Ok i) (λ t w h. either_aside me v (ask.Copy path new) w h) made.runs) in
     let n = g.K.Blocks.view c.enter.new.disk in
     let h = c.in-Err-enter.ensures in
     let r = c.in-Err-enter.refusal in
     record {
-      answer = λ t path new x. ask_refuses me v n (ask.Copy path new) (λ _ answer. answer ≡ done) r (λ ne. absurd (ne (h.only t))) (λ ne. absurd (ne (h.only t)));
-      changes = λ path new x. changes_of told me v n (ask.Copy path new) (Err r) (λ t. (tt, λ ne. absurd (ne (h.only t))))
+      answer = λ t path new x. ask_refuses (mounted_by me) v n (ask.Copy path new) (λ _ answer. answer ≡ done) r (λ ne. absurd (ne (h.only t))) (λ ne. absurd (ne (h.only t)));
+      changes = λ path new x. changes_of told (mounted_by me) v n (ask.Copy path new) (Err r) (λ t. (tt, λ ne. absurd (ne (h.only t))))
           (then_runs told v m n (IsEitherTree (mounted_by me) v (ask.Copy path new)) tt (Err r) (aside path new)
           (runs_more told m n (EntersOrNot me.root place i m.world) (IsEitherTree (mounted_by me) v (ask.Copy path new)) (Err r)
           (λ t w j. either_entered me v (ask.Copy path new) new (none t path new (x t)) refl w (bytes_of v.world content) (changed me v path file new place (x t) no_dir dir (now t) content k)

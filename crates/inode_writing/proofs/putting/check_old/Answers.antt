@@ -2,10 +2,10 @@ use Rattle.std.proofs.Common.{refl, sym, ◌∙◌}
 use Rattle.fs_trees.specs.Tree.{at}
 use Rattle.fs_trees.specs.declared.refusal.FsRefusal.TheVariants as no
 use Rattle.fs_asks.proofs.LookLaws.{no_look, looks_as, looks_refused, looks_but_refuses}
+use Rattle.inode_changes.proofs.PlaceLaws.{none_at, said_place}
 use Rattle.inode_layout.specs.Block.{inode_of}
 use Rattle.inode_walks.specs.Asking.{tree_of}
 use Rattle.inode_walks.proofs.FurtherLaws.{may_read, has_inode}
-use Rattle.inode_changes.proofs.AskLaws.{none_at, said_place}
 use Rattle.inode_writing.proofs.PutLaws.{nothing_no_dir, kind_at}
 use Rattle.inode_writing.proofs.putting.check_old.Goals as goal
 

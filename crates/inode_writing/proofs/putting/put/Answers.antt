@@ -7,12 +7,12 @@ use Rattle.fs_trees.specs.Answer.{done}
 use Rattle.fs_trees.specs.declared.ask.ShellAsk.TheVariants as ask
 use Rattle.fs_trees.specs.declared.ask.ShellKind.TheVariants as kind
 use Rattle.fs_asks.proofs.LookLaws.{looks_refused, then_looks}
-use Rattle.inode_walks.specs.Asking.{tree_of}
-use Rattle.inode_changes.proofs.RunLaws.{looks_change}
-use Rattle.inode_changes.proofs.AskLaws.{ask_refuses}
+use Rattle.fs_changing.proofs.RunLaws.{looks_change}
+use Rattle.fs_changing.proofs.AskLaws.{ask_refuses}
+use Rattle.fs_changing.proofs.AgainLaws.{answers_again, changes_again}
+use Rattle.inode_walks.specs.Asking.{tree_of, mounted_by}
 use Rattle.inode_writing.specs.Putting.{Puts}
 use Rattle.inode_writing.proofs.GrowLaws.{root_is_dir}
-use Rattle.inode_writing.proofs.StillLaws.{answers_before, changes_before}
 use Rattle.inode_writing.proofs.PutLaws.{put_lost, put_dir, puts_now}
 use Rattle.inode_writing.proofs.putting.put.Goals as goal
 
@@ -31,10 +31,10 @@ returns-in-Err g c =
     let a = ask.Put path c.args.bytes.now in
     let t0 = tree_of me first in
     record {
-      answer = λ t. ask_refuses me first mid a (λ _ answer. answer ≡ done) r
+      answer = λ t. ask_refuses (mounted_by me) first mid a (λ _ answer. answer ≡ done) r
           (λ ne. put_lost first.world.geometry t0 (free_count first.world) (length first.world.pairs) (need_of kind.Inode first.world me.root t0 a) (root_is_dir first.world me.root (c.requires.may.tree t)) c.args.bytes.now path r (e.refused t ne))
           (λ ne. ((e.looks.looked t).1 ne).world);
-      changes = looks_change told me first mid a (Err r) (λ t. (c.requires.may.valid t).valid) (looks_refused told first mid r e.looks);
+      changes = looks_change told (mounted_by me) first mid a (Err r) (λ t. (c.requires.may.valid t).valid) (looks_refused told first mid r e.looks);
     }
 
 pub check_old-requires : goal.check_old-requires
@@ -61,11 +61,11 @@ returns-in-Err-check_old g c =
     let a = ask.Put path c.args.bytes.now in
     let t0 = tree_of me first in
     record {
-      answer = λ t. ask_refuses me first rd a (λ _ answer. answer ≡ done) r
+      answer = λ t. ask_refuses (mounted_by me) first rd a (λ _ answer. answer ≡ done) r
           (λ ne. put_dir first.world.geometry t0 (free_count first.world) (length first.world.pairs) (need_of kind.Inode first.world me.root t0 a) (root_is_dir first.world me.root (c.requires.may.tree t)) c.args.bytes.now path (e.none t)
           (ap (λ w. is_dir (at (inode_tree w me.root) path)) (sym (e.looks.looked t).0.world) ∙ k.is_dir t ne path (e.found t)) ∙ ap (λ x. Some x) (sym (k.only t ne)))
           (λ ne. ((k.looks.looked t).1 ne).world ∙ (e.looks.looked t).0.world);
-      changes = looks_change told me first rd a (Err r) (λ t. (c.requires.may.valid t).valid) (then_looks told first mid rd c.in-Ok.place (Err r) e.looks (looks_refused told mid rd r k.looks));
+      changes = looks_change told (mounted_by me) first rd a (Err r) (λ t. (c.requires.may.valid t).valid) (then_looks told first mid rd c.in-Ok.place (Err r) e.looks (looks_refused told mid rd r k.looks));
     }
 
 pub store-requires : goal.store-requires
@@ -108,8 +108,8 @@ returns-in-Ok-store g c =
     let puts : told → Puts me rd path place = λ t. puts_now me first mid rd path place (subst (λ x. me.root < x.primaries) (sym (g.met.K.Blocks.sound c.args.disk.now t c.requires.may.ready.unspent).geometry) c.requires.may.ready.primary)
     (c.requires.may.tree t) c.requires.named (e.none t) (e.looks.looked t).0 (e.found t) (k.looks.looked t).0 k.looks.stays.0 (k.no_dir t path (e.found t)) in
     record {
-      answer = λ t. answers_before me first rd a (same t) new (λ _ answer. answer ≡ done) (Ok tt) (h.answer t path (puts t));
-      changes = changes_before told me first rd new a tt (Ok tt) (λ t. (c.requires.may.valid t).valid) same (then_looks told first mid rd place (Ok tt) e.looks k.looks) (h.changes path puts);
+      answer = λ t. answers_again (mounted_by me) first rd a (same t) new (Ok tt) (λ _ answer. answer ≡ done) (h.answer t path (puts t));
+      changes = changes_again told (mounted_by me) first rd new a tt (Ok tt) (λ t. (c.requires.may.valid t).valid) (then_looks told first mid rd place (Ok tt) e.looks k.looks) (h.changes path puts);
     }
 
 pub returns-in-Err-store : goal.returns-in-Err-store
@@ -131,6 +131,6 @@ returns-in-Err-store g c =
     let puts : told → Puts me rd path place = λ t. puts_now me first mid rd path place (subst (λ x. me.root < x.primaries) (sym (g.met.K.Blocks.sound c.args.disk.now t c.requires.may.ready.unspent).geometry) c.requires.may.ready.primary)
     (c.requires.may.tree t) c.requires.named (e.none t) (e.looks.looked t).0 (e.found t) (k.looks.looked t).0 k.looks.stays.0 (k.no_dir t path (e.found t)) in
     record {
-      answer = λ t. answers_before me first rd a (same t) new (λ _ answer. answer ≡ done) (Err r) (h.answer t path (puts t));
-      changes = changes_before told me first rd new a tt (Err r) (λ t. (c.requires.may.valid t).valid) same (then_looks told first mid rd place (Ok tt) e.looks k.looks) (h.changes path puts);
+      answer = λ t. answers_again (mounted_by me) first rd a (same t) new (Err r) (λ _ answer. answer ≡ done) (h.answer t path (puts t));
+      changes = changes_again told (mounted_by me) first rd new a tt (Err r) (λ t. (c.requires.may.valid t).valid) (then_looks told first mid rd place (Ok tt) e.looks k.looks) (h.changes path puts);
     }

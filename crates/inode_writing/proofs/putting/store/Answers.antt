@@ -10,13 +10,13 @@ use Rattle.fs_trees.specs.declared.refusal.FsRefusal.TheVariants as no
 use Rattle.fs_port.specs.Files.{IsEitherTree}
 use Rattle.fs_asks.proofs.LookLaws.{no_look, looks_but_refuses}
 use Rattle.fs_steps.specs.Steps.{no_room_in}
+use Rattle.fs_changing.specs.Changing.{refused_on}
+use Rattle.fs_changing.proofs.RunLaws.{looks_change, then_runs, runs_refused, changes_of, leaves_same, runs_more}
+use Rattle.fs_changing.proofs.AskLaws.{ask_refuses}
 use Rattle.inode_layout.specs.Block.{block_len_of}
 use Rattle.inode_walks.specs.Asking.{tree_of, mounted_by}
-use Rattle.inode_changes.proofs.RunLaws.{looks_change, then_runs, runs_refused, changes_of, leaves_same}
-use Rattle.inode_changes.proofs.AskLaws.{refused_on, ask_refuses}
 use Rattle.inode_files.specs.Content.{new_count, all_count}
 use Rattle.inode_files.specs.Filling.{IsAside}
-use Rattle.inode_files.proofs.FillLaws.{runs_more}
 use Rattle.inode_entries.specs.Entering.{Grounds, EntersOrNot}
 use Rattle.inode_entries.specs.Making.{bytes_of}
 use Rattle.inode_entries.proofs.EntryLaws.{stage_of}
@@ -38,9 +38,9 @@ returns-in-Err g c =
     let e = c.in-Err.ensures in
     let r = c.in-Err.refusal in
     record {
-      answer = λ t path s. ask_refuses me old old (ask.Put path x) (λ _ answer. answer ≡ done) r
+      answer = λ t path s. ask_refuses (mounted_by me) old old (ask.Put path x) (λ _ answer. answer ≡ done) r
           (λ ne. full_refuses me old path place c.requires.dir (c.requires.valid t) s x e.new e.full ∙ ap (λ k. Some k) (sym e.only)) (λ ne. refl);
-      changes = λ path s. looks_change told me old old (ask.Put path x) (Err r) (λ t. (c.requires.valid t).valid)
+      changes = λ path s. looks_change told (mounted_by me) old old (ask.Put path x) (Err r) (λ t. (c.requires.valid t).valid)
           (looks_but_refuses told old old tt r (λ d. let both : no.DirFull ≡ no.Device = sym e.only ∙ d in cc)
           (no_look told old c.requires.unspent (λ t. g.met.K.Blocks.sound c.args.disk.now t c.requires.unspent) c.requires.valid));
     }
@@ -61,9 +61,9 @@ returns-then-is_too_big g c =
     let x = c.args.bytes.now in
     let is_big = big c.is_too_big.result c.len.result c.block_len-block_len.result (length x) (block_len_of place.directory.inode) c.is_too_big.ensures c.len.ensures.value c.block_len-block_len.ensures.value in
     record {
-      answer = λ t path s. ask_refuses me old old (ask.Put path x) (λ _ answer. answer ≡ done) no.TooBig
+      answer = λ t path s. ask_refuses (mounted_by me) old old (ask.Put path x) (λ _ answer. answer ≡ done) no.TooBig
           (λ ne. big_refuses me old path place c.requires.dir (c.requires.valid t) s x c.in-Ok.ensures.room (is_big ∙ c.if-is_too_big.true)) (λ ne. refl);
-      changes = λ path s. looks_change told me old old (ask.Put path x) (Err no.TooBig) (λ t. (c.requires.valid t).valid)
+      changes = λ path s. looks_change told (mounted_by me) old old (ask.Put path x) (Err no.TooBig) (λ t. (c.requires.valid t).valid)
           (looks_but_refuses told old old tt no.TooBig (λ d. cc) (no_look told old c.requires.unspent (λ t. g.met.K.Blocks.sound c.args.disk.now t c.requires.unspent) c.requires.valid));
     }
 
@@ -108,11 +108,11 @@ returns-in-Err-make_file g c =
     let new : new_count content ≡ div_ceil (length x) inner = new_is x len content of ∙ ap (div_ceil (length x)) same_len in
     let all : all_count content ≡ div_ceil (length x) inner = all_is x len content of ∙ ap (div_ceil (length x)) same_len in
     record {
-      answer = λ t path s. ask_refuses me old mk (ask.Put path x) (λ _ answer. answer ≡ done) r
+      answer = λ t path s. ask_refuses (mounted_by me) old mk (ask.Put path x) (λ _ answer. answer ≡ done) r
           (λ ne. room_refuses me old path place c.requires.dir (c.requires.valid t) s x c.in-Ok.ensures.room (is_big ∙ c.if-is_too_big.false)
           ∙ subst (λ n. no_room_in old.world (1 + div_ceil (length x) inner) (1 + n) ≡ Some r) all (subst (λ n. no_room_in old.world (1 + n) (1 + all_count content) ≡ Some r) new (e.full t ne)))
           (λ ne. e.same t ne);
-      changes = λ path s. changes_of told me old mk (ask.Put path x) (Err r) (λ t. (tt, λ ne. leaves_same me old mk (e.same t ne) (e.runs.unspent.1 ne)))
+      changes = λ path s. changes_of told (mounted_by me) old mk (ask.Put path x) (Err r) (λ t. (tt, λ ne. leaves_same (mounted_by me) old mk (e.same t ne) (e.runs.unspent.1 ne)))
           (runs_refused told old mk (IsEitherTree (mounted_by me) old (ask.Put path x)) r
           (runs_more told old mk (IsAside me.root old.world) (IsEitherTree (mounted_by me) old (ask.Put path x)) (Err r) (λ t w k. either_aside me old (ask.Put path x) w k) e.runs));
     }
@@ -158,7 +158,7 @@ returns-in-Ok-enter g c =
     let new : new_count content ≡ div_ceil (length x) inner = new_is x len content of ∙ ap (div_ceil (length x)) same_len in
     let all : all_count content ≡ div_ceil (length x) inner = all_is x len content of ∙ ap (div_ceil (length x)) same_len in
     let ground : told → (path : Path) → Puts me old path place → Grounds me.root old.world path place = λ t path s. grounds me old path place c.requires.dir (c.requires.valid t) s x c.in-Ok.ensures.room in
-    let none : told → (path : Path) → Puts me old path place → ◌≡◌ {A = Option FsRefusal} (refused_on me old (ask.Put path x)) None = λ t path s.
+    let none : told → (path : Path) → Puts me old path place → ◌≡◌ {A = Option FsRefusal} (refused_on (mounted_by me) old (ask.Put path x)) None = λ t path s.
     room_refuses me old path place c.requires.dir (c.requires.valid t) s x c.in-Ok.ensures.room (is_big ∙ c.if-is_too_big.false)
     ∙ subst (λ n. ◌≡◌ {A = Option FsRefusal} (no_room_in old.world (1 + div_ceil (length x) inner) (1 + n)) None) all (subst (λ n. ◌≡◌ {A = Option FsRefusal} (no_room_in old.world (1 + n) (1 + all_count content)) None) new (e.room t)) in
     let is : (path : Path) → with_at path (a_file x) (tree_of me old) ≡ with_at path (a_file all_bytes) (tree_of me old) = λ path. ap (λ y. with_at path (a_file y) (tree_of me old)) (sym (made_bytes x len content of old.world)) in
@@ -166,7 +166,7 @@ returns-in-Ok-enter g c =
       answer = λ t path s. answers_entered me old (ask.Put path x) path (none t path s) refl fin all_bytes (is path) (h.entered t old.world path all_bytes (ground t path s) (e.made t));
       changes = λ path s.
           let P = IsEitherTree (mounted_by me) old (ask.Put path x) in
-          changes_of told me old fin (ask.Put path x) (Ok tt) (λ t. (left_entered me old fin path all_bytes (h.entered t old.world path all_bytes (ground t path (s t)) (e.made t)) h.runs.unspent.0, tt))
+          changes_of told (mounted_by me) old fin (ask.Put path x) (Ok tt) (λ t. (left_entered me old fin path all_bytes (h.entered t old.world path all_bytes (ground t path (s t)) (e.made t)) h.runs.unspent.0, tt))
           (then_runs told old mk fin P i (Ok tt) (runs_more told old mk (IsAside me.root old.world) P (Ok i) (λ t w k. either_aside me old (ask.Put path x) w k) e.runs)
           (runs_more told mk fin (EntersOrNot me.root place i mk.world) P (Ok tt)
           (λ t w k. either_entered me old (ask.Put path x) path (none t path (s t)) refl w all_bytes (is path) (k old.world path all_bytes (ground t path (s t)) (e.made t))) h.runs));
@@ -195,15 +195,15 @@ returns-in-Err-enter g c =
     let new : new_count content ≡ div_ceil (length x) inner = new_is x len content of ∙ ap (div_ceil (length x)) same_len in
     let all : all_count content ≡ div_ceil (length x) inner = all_is x len content of ∙ ap (div_ceil (length x)) same_len in
     let ground : told → (path : Path) → Puts me old path place → Grounds me.root old.world path place = λ t path s. grounds me old path place c.requires.dir (c.requires.valid t) s x c.in-Ok.ensures.room in
-    let none : told → (path : Path) → Puts me old path place → ◌≡◌ {A = Option FsRefusal} (refused_on me old (ask.Put path x)) None = λ t path s.
+    let none : told → (path : Path) → Puts me old path place → ◌≡◌ {A = Option FsRefusal} (refused_on (mounted_by me) old (ask.Put path x)) None = λ t path s.
     room_refuses me old path place c.requires.dir (c.requires.valid t) s x c.in-Ok.ensures.room (is_big ∙ c.if-is_too_big.false)
     ∙ subst (λ n. ◌≡◌ {A = Option FsRefusal} (no_room_in old.world (1 + div_ceil (length x) inner) (1 + n)) None) all (subst (λ n. ◌≡◌ {A = Option FsRefusal} (no_room_in old.world (1 + n) (1 + all_count content)) None) new (e.room t)) in
     let is : (path : Path) → with_at path (a_file x) (tree_of me old) ≡ with_at path (a_file all_bytes) (tree_of me old) = λ path. ap (λ y. with_at path (a_file y) (tree_of me old)) (sym (made_bytes x len content of old.world)) in
     record {
-      answer = λ t path s. ask_refuses me old fin (ask.Put path x) (λ _ answer. answer ≡ done) r (λ ne. absurd (ne (h.only t))) (λ ne. absurd (ne (h.only t)));
+      answer = λ t path s. ask_refuses (mounted_by me) old fin (ask.Put path x) (λ _ answer. answer ≡ done) r (λ ne. absurd (ne (h.only t))) (λ ne. absurd (ne (h.only t)));
       changes = λ path s.
           let P = IsEitherTree (mounted_by me) old (ask.Put path x) in
-          changes_of told me old fin (ask.Put path x) (Err r) (λ t. (tt, λ ne. absurd (ne (h.only t))))
+          changes_of told (mounted_by me) old fin (ask.Put path x) (Err r) (λ t. (tt, λ ne. absurd (ne (h.only t))))
           (then_runs told old mk fin P i (Err r) (runs_more told old mk (IsAside me.root old.world) P (Ok i) (λ t w k. either_aside me old (ask.Put path x) w k) e.runs)
           (runs_more told mk fin (EntersOrNot me.root place i mk.world) P (Err r)
           (λ t w k. either_entered me old (ask.Put path x) path (none t path (s t)) refl w all_bytes (is path) (k old.world path all_bytes (ground t path (s t)) (e.made t))) h.runs));

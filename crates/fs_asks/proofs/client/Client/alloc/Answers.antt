@@ -39,4 +39,4 @@ returns-in-Err-clause-once g c =
     let s = c.args.self.now.session in
     let a = c.args.source in
     subst (λ q. AsksOnce {X = List ℕ} told old new q (Err no.Device)) (ap (λ x. ask.Alloc s a x (At a) c.args.count) c.shown.ensures)
-    (failed {X = List ℕ} told old new (ask.Alloc s a c.shown.result (At a) c.args.count) c.in-Err.ensures.crash c.in-Err.ensures.counts c.in-Err.ensures.cause)
+    (failed {X = List ℕ} told old new (ask.Alloc s a c.shown.result (At a) c.args.count) c.in-Err.ensures.crash c.in-Err.ensures.counts c.in-Err.ensures.cause c.in-Err.ensures.spent)

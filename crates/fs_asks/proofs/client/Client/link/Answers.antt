@@ -38,4 +38,4 @@ returns-in-Err-clause-once g c =
     let s = c.args.self.now.session in
     let a = c.args.source in
     subst (λ q. AsksOnce {X = Unit {0}} told old new q (Err no.Device)) (ap (λ x. ask.Create s a x c.args.target) c.shown.ensures)
-    (failed {X = Unit {0}} told old new (ask.Create s a c.shown.result c.args.target) c.in-Err.ensures.crash c.in-Err.ensures.counts c.in-Err.ensures.cause)
+    (failed {X = Unit {0}} told old new (ask.Create s a c.shown.result c.args.target) c.in-Err.ensures.crash c.in-Err.ensures.counts c.in-Err.ensures.cause c.in-Err.ensures.spent)

@@ -38,4 +38,4 @@ returns-in-Err-clause-once g c =
     let s = c.args.self.now.session in
     let a = c.args.block in
     subst (λ q. AsksOnce {X = List ℕ} told old new q (Err no.Device)) (ap (λ x. ask.Read s a x) c.shown.ensures)
-    (failed {X = List ℕ} told old new (ask.Read s a c.shown.result) c.in-Err.ensures.crash c.in-Err.ensures.counts c.in-Err.ensures.cause)
+    (failed {X = List ℕ} told old new (ask.Read s a c.shown.result) c.in-Err.ensures.crash c.in-Err.ensures.counts c.in-Err.ensures.cause c.in-Err.ensures.spent)

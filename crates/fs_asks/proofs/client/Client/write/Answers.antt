@@ -38,4 +38,4 @@ returns-in-Err-clause-once g c =
     let s = c.args.self.now.session in
     let a = c.args.block in
     subst (λ q. AsksOnce {X = Unit {0}} told old new q (Err no.Device)) (ap (λ x. ask.Write s a x c.args.bytes) c.shown.ensures)
-    (failed {X = Unit {0}} told old new (ask.Write s a c.shown.result c.args.bytes) c.in-Err.ensures.crash c.in-Err.ensures.counts c.in-Err.ensures.cause)
+    (failed {X = Unit {0}} told old new (ask.Write s a c.shown.result c.args.bytes) c.in-Err.ensures.crash c.in-Err.ensures.counts c.in-Err.ensures.cause c.in-Err.ensures.spent)
