@@ -1,6 +1,7 @@
 //! The file system as one value.
 
-ghost use Rattle.std.specs.Prelude.{◌≡◌, IfOk};
+ghost use Rattle.std.specs.Prelude.{◌≡◌, IfOk, IfErr, OnOk};
+ghost use Rattle.fs_trees.specs.declared.refusal.FsRefusal.TheVariants as no;
 
 use fs_asks::Client;
 use fs_looking::BlockSet;
@@ -75,7 +76,13 @@ impl Files for ChainFs {
         }
     }
 
-    fn make_dir<K: Blocks>(&mut self, _disk: &mut K, _path: &Path) -> Result<(), FsRefusal> {
+    /// Chains have no directory but the root: nothing is made, and nothing is changed.
+    fn make_dir<K: Blocks>(&mut self, disk: &mut K, path: &Path) -> Result<(), FsRefusal>
+        ensures refused { IfErr result (λ e. e ≡ no.NotThisFs) }
+        ensures never { OnOk result ⊥ }
+        ensures same { self.new ≡ self.old }
+        ensures unasked { disk.new ≡ disk.old }
+    {
         Err(FsRefusal::NotThisFs)
     }
 
