@@ -59,7 +59,7 @@ pub fn chain_replies(alloc: Global, blocks: u32) -> Result<String, AllocError> {
 }
 
 /// The requests that the lines of a text spell.
-fn requests(alloc: Global, text: &str) -> Result<Vec<Request>, AllocError> {
+pub fn requests(alloc: Global, text: &str) -> Result<Vec<Request>, AllocError> {
     let bytes = spelled(alloc, text)?;
     let mut requests = Vec::new(alloc);
     for line in bytes.as_slice().split(|byte| *byte == b'\n') {

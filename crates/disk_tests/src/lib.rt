@@ -18,6 +18,8 @@ mod plain;
 #[cfg(test)]
 mod rows;
 #[cfg(test)]
+mod sectors;
+#[cfg(test)]
 mod stops;
 #[cfg(test)]
 mod worlds;

@@ -1,13 +1,16 @@
-//! Requests and what is done between them, stopped at each call. The image that is left is opened, and shows the disk before or
-//! after.
+//! Requests and what is done between them, stopped at each call. The image that is left shows the world before or after, by its
+//! sectors alone; and opened it answers as the disk before or after does.
 
 ghost use Rattle.std.specs.Prelude.{IfOk};
 ghost use Rattle.tsd_core.specs.Core.{IsReady, IsAt};
 
-use crate::asking::{ask_all, chain, replies_at, spelled, spelled_lines};
+use crate::asking::{ask_all, chain, replies_at, requests, spelled, spelled_lines};
 use crate::disks::{EIGHT, MANY, TIGHT, formatted, opened, placement, upgrade};
+use crate::plain::Plain;
+use crate::sectors::shows;
 use image_device::{Device, Failed, FuseStation, MemStation, Pick};
 use place_policy::Placement;
+use plain_disk::World;
 use script_text::parse_line;
 use std::alloc::Global;
 use std::process::Abort;
@@ -280,40 +283,83 @@ fn judge(
     ))
 }
 
-/// Stops after so many calls. Where nothing was done the disk is the one before, and where all was done the one after.
+/// The world that the plain program has after what comes before.
+fn world_before(alloc: Global, kind: PlaceKind, case: &Case) -> Result<Plain, Fail> {
+    let mut plain = Plain::formatted(alloc, &case.size, false, 0)?;
+    for request in &requests(alloc, case.before)? {
+        plain.step(alloc, kind, request)?;
+    }
+    Ok(plain)
+}
+
+/// The world that it has after what is stopped.
+fn world_after(alloc: Global, kind: PlaceKind, case: &Case) -> Result<World, Fail> {
+    let mut plain = world_before(alloc, kind, case)?;
+    match case.then {
+        Stopped::Ask(text) => {
+            let line = spelled(alloc, text)?;
+            plain.step(alloc, kind, &parse_line(line.as_slice()))?;
+        }
+        Stopped::Settle | Stopped::Close => {}
+        Stopped::Upgrade => return Ok(World::upgraded(alloc, &plain.world)?),
+    }
+    Ok(plain.world)
+}
+
+/// What a case is judged by: how many calls come before what is stopped, and how many there are in all; and the worlds then.
+#[derive(Drop)]
+struct Ends {
+    calls: (u64, u64),
+    old: World,
+    new: World,
+}
+
+impl Ends {
+    /// Of a case.
+    fn of(alloc: Global, place: &Placement, case: &Case) -> Result<Ends, Fail> {
+        Ok(Ends {
+            calls: calls(alloc, place, case)?,
+            old: world_before(alloc, place.kind(), case)?.world,
+            new: world_after(alloc, place.kind(), case)?,
+        })
+    }
+}
+
+/// Stops after so many calls. Where nothing was done the disk is the one before, and where all was done the one after: by the
+/// image's sectors, and by what it answers once it is opened.
 fn try_call(
     rt: &impl Abort,
     alloc: Global,
     place: &Placement,
     case: &Case,
-    ends: (u64, u64),
+    ends: &Ends,
     passes: u64,
     pick: Pick,
 ) -> Result<(), Fail> {
     let (is_done, mut image) = stop(alloc, place, case, passes, pick)?;
+    let shows_old = shows(alloc, &mut image, &ends.old)?;
+    let shows_new = shows(alloc, &mut image, &ends.new)?;
     let (is_old, is_new) = judge(alloc, place, case, &mut image)?;
-    assert_eq!(rt; is_done, passes == ends.1);
-    assert!(rt; is_old || is_new, "{} then {passes} {pick:?}", case.before);
-    assert!(rt;
-        is_old || passes != ends.0,
-        "{} then {passes} {pick:?}",
-        case.before
-    );
-    assert!(rt;
-        is_new || !is_done,
-        "{} then {passes} {pick:?}",
-        case.before
-    );
+    assert_eq!(rt; is_done, passes == ends.calls.1);
+    for (is_old, is_new) in [(shows_old, shows_new), (is_old, is_new)] {
+        let is_right = if is_done {
+            is_new
+        } else {
+            is_old || is_new && passes != ends.calls.0
+        };
+        assert!(rt; is_right, "{} then {passes} {pick:?}", case.before);
+    }
     Ok(())
 }
 
 /// Stops at each call, with each pick.
 fn try_all(rt: &impl Abort, alloc: Global, place: &Placement, case: &Case) -> Result<(), Fail> {
-    let ends = calls(alloc, place, case)?;
-    assert!(rt; ends.0 < ends.1);
-    for passes in ends.0..=ends.1 {
+    let ends = Ends::of(alloc, place, case)?;
+    let (first, last) = ends.calls;
+    assert!(rt; first < last);
+    for passes in first..=last {
         for pick in PICKS {
-            try_call(rt, alloc, place, case, ends, passes, pick)?;
+            try_call(rt, alloc, place, case, &ends, passes, pick)?;
         }
     }
     Ok(())
@@ -321,11 +367,12 @@ fn try_all(rt: &impl Abort, alloc: Global, place: &Placement, case: &Case) -> Re
 
 /// Stops at each call, with the picks by turns.
 fn try_turns(rt: &impl Abort, alloc: Global, place: &Placement, case: &Case) -> Result<(), Fail> {
-    let ends = calls(alloc, place, case)?;
-    assert!(rt; ends.0 < ends.1);
-    for passes in ends.0..=ends.1 {
+    let ends = Ends::of(alloc, place, case)?;
+    let (first, last) = ends.calls;
+    assert!(rt; first < last);
+    for passes in first..=last {
         let pick = PICKS[(passes % 5) as usize];
-        try_call(rt, alloc, place, case, ends, passes, pick)?;
+        try_call(rt, alloc, place, case, &ends, passes, pick)?;
     }
     Ok(())
 }

@@ -1,4 +1,4 @@
-//! What is doomed, told through changes of disks of 8 to 40 blocks, and found again by the plain rule after each change.
+//! What is doomed, told through changes of disks of 8 to 40 blocks, and found again by the plain program after each change.
 
 ghost use Rattle.std.specs.Prelude.{◌≡◌, ◌<◌, OnOk};
 ghost use Rattle.reclaim.specs.Ahead.{IsAheadOf};
@@ -6,82 +6,23 @@ ghost use Rattle.reclaim.specs.Tables.{graph_of};
 
 use crate::disk::{Disk, disk_with};
 use crate::draws::draw;
+use crate::plain::{is_among, raw_of, told, told_again};
 use crate::told::{ahead_of, allocate, create, delete, hides, step};
-use pointer_table::PointerTable;
+use plain_disk::{World, plain_doomed};
 use reclaim::Ahead;
-use std::alloc::{AllocError, Global};
+use std::alloc::Global;
 use std::process::Abort;
 use std::test::Fail;
 
-/// The pairs of a table.
-fn pairs_of(alloc: Global, pointers: &PointerTable) -> Result<Vec<(u32, u32)>, AllocError> {
-    let mut pairs = Vec::new(alloc);
-    for source in 0..pointers.geometry().blocks {
-        push_pairs(&mut pairs, pointers, source)?;
-    }
-    Ok(pairs)
-}
-
-/// Pushes the pairs of a table from this source.
-fn push_pairs(
-    pairs: &mut Vec<(u32, u32)>,
-    pointers: &PointerTable,
-    source: u32,
-) -> Result<(), AllocError> {
-    for target in 0..pointers.geometry().blocks {
-        if pointers.has(source, target) {
-            pairs.push((source, target))?;
-        }
-    }
-    Ok(())
-}
-
-/// Whether a block is one of these.
-fn is_among(block: u32, blocks: &[u32]) -> bool {
-    blocks.iter().any(|other| *other == block)
-}
-
-/// The live blocks but block 0 to which only doomed blocks lead, found in rounds until no round can find more.
-fn plain_doomed(alloc: Global, live: &[u32], pairs: &[(u32, u32)]) -> Result<Vec<u32>, AllocError> {
-    let mut doomed = Vec::new(alloc);
-    for _round in live {
-        push_doomed(&mut doomed, live, pairs)?;
-    }
-    Ok(doomed)
-}
-
-/// A round: pushes the live blocks but block 0 to which only doomed blocks lead.
-fn push_doomed(
-    doomed: &mut Vec<u32>,
-    live: &[u32],
-    pairs: &[(u32, u32)],
-) -> Result<(), AllocError> {
-    for block in live {
-        let held = pairs.iter().any(|pair| pair.1 == *block
-            && !is_among(pair.0, doomed.as_slice()));
-        if *block != 0 && !held && !is_among(*block, doomed.as_slice()) {
-            doomed.push(*block)?;
-        }
-    }
-    Ok(())
-}
-
-/// The live blocks.
-fn live_of(alloc: Global, disk: &Disk) -> Result<Vec<u32>, AllocError> {
-    let mut live = Vec::new(alloc);
-    for block in 0..disk.live.geometry().blocks {
-        if disk.live.raw_live(block) {
-            live.push(block)?;
-        }
-    }
-    Ok(live)
-}
-
-/// Compares what is kept ahead with the plain rule, and gives how many blocks are doomed.
-fn compare(rt: &impl Abort, alloc: Global, disk: &Disk, ahead: &Ahead) -> Result<u32, Fail> {
-    let live = live_of(alloc, disk)?;
-    let pairs = pairs_of(alloc, &disk.pointers)?;
-    let doomed = plain_doomed(alloc, live.as_slice(), pairs.as_slice())?;
+/// Compares what is kept ahead with what the plain program says of the same graph, and gives how many blocks are doomed.
+fn compare(
+    rt: &impl Abort,
+    alloc: Global,
+    disk: &Disk,
+    ahead: &Ahead,
+    raw: &World,
+) -> Result<u32, Fail> {
+    let doomed = plain_doomed(alloc, raw)?;
     for block in 0..disk.live.geometry().blocks {
         assert_eq!(rt;
             ahead.is_doomed(block),
@@ -89,6 +30,7 @@ fn compare(rt: &impl Abort, alloc: Global, disk: &Disk, ahead: &Ahead) -> Result
             "block {block}"
         );
     }
+    let pairs = raw.pairs();
     let from_doomed = pairs
         .iter()
         .filter(|pair| is_among(pair.0, doomed.as_slice()))
@@ -157,6 +99,7 @@ fn run(
 ) -> Result<u32, Fail> {
     let mut disk = disk_with(rt, alloc, blocks, 3, &[(0, 1), (1, 2)])?;
     let mut ahead = ahead_of(rt, alloc, &disk)?;
+    let mut plain = told(rt, alloc, &disk);
     let mut often: u32 = 0;
     for _turn in 0..changes {
         let kind = draw(seed, 6);
@@ -166,7 +109,9 @@ fn run(
             target = near(&disk, source, target);
         }
         change(rt, alloc, &mut disk, &mut ahead, kind, source, target)?;
-        if compare(rt, alloc, &disk, &ahead)? > 0 {
+        plain = told_again(rt, alloc, plain, &disk);
+        let raw = raw_of(rt, alloc, &plain, &disk);
+        if compare(rt, alloc, &disk, &ahead, &raw)? > 0 {
             often = often.saturating_add(1);
         }
     }

@@ -15,6 +15,8 @@ mod disk;
 #[cfg(test)]
 mod draws;
 #[cfg(test)]
+mod plain;
+#[cfg(test)]
 mod random_tests;
 #[cfg(test)]
 mod reclaim_tests;

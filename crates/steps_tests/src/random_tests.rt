@@ -1,6 +1,7 @@
 //! Thousands of graphs of 8 to 40 blocks that look random, of which the plain program tells what must be left.
 
 use crate::disk::{Disk, disk_with, take, test_tables};
+use crate::plain::{Forecast, raw_of, told, told_again};
 use crate::steps::{Sum, reclaim_by_guesses, reclaim_by_work};
 use crate::sweeps::sweep;
 use crate::worlds::{Plain, WRITE, after, cut, disk_of, follow, fresh, grown, is_of};
@@ -44,7 +45,8 @@ fn reclaim(rt: &impl Abort, alloc: Global, disk: &mut Disk, by_work: bool) -> Re
     }
 }
 
-/// Graphs of a disk of so many blocks, each reclaimed by steps and compared with the world that the plain program has then.
+/// Graphs of a disk of so many blocks, each reclaimed by steps and compared with the world that the plain program has then, and with
+/// what it says before of the blocks that are doomed.
 /// Gives what the steps did.
 fn reclaim_graphs(
     rt: &impl Abort,
@@ -55,13 +57,19 @@ fn reclaim_graphs(
 ) -> Result<Sum, Fail> {
     let mut plain = fresh(rt, alloc, blocks);
     let mut disk = disk_with(rt, alloc, blocks, 1, &[])?;
+    let mut kept = told(rt, alloc, &disk);
     let mut all = Sum::none();
     for graph in 0..graphs {
         plain = grown(rt, alloc, plain, seed, 6);
         follow(rt, &mut disk, &plain.world)?;
         plain = cut_some(rt, alloc, plain, &mut disk, seed)?;
+        kept = told_again(rt, alloc, kept, &disk);
+        let raw = raw_of(rt, alloc, &kept, &disk);
+        let forecast = Forecast::of(alloc, &disk, &raw)?;
         let sum = reclaim(rt, alloc, &mut disk, graph % 2 == 0)?;
         assert!(rt; is_of(&disk, &plain.world), "graph {graph} of {blocks}");
+        assert_eq!(rt; sum.freed as usize, forecast.doomed());
+        forecast.has_come(rt, &disk);
         all = all.with(&sum);
     }
     Ok(all)

@@ -1,6 +1,7 @@
 //! Steps carried out until none is left, on graphs of which it is known what must go.
 
 use crate::disk::{Disk, carry_out, disk_with, found, next};
+use crate::plain::{Forecast, raw_of, told};
 use reclaim::Guesses;
 use std::alloc::Global;
 use std::process::Abort;
@@ -23,7 +24,8 @@ fn steps_of(
     Err(Fail::from("the steps don't end"))
 }
 
-/// Compares the steps that are left on a disk with these pairs, on which so many blocks are live, and how many pairs are left.
+/// Compares the steps that are left on a disk with these pairs, on which so many blocks are live, and how many pairs are left. Exactly
+/// those blocks go of which the plain program says that they are doomed.
 fn check(
     rt: &impl Abort,
     alloc: Global,
@@ -33,9 +35,12 @@ fn check(
     left: u32,
 ) -> Result<(), Fail> {
     let mut disk = disk_with(rt, alloc, 64, live, pairs)?;
+    let raw = raw_of(rt, alloc, &told(rt, alloc, &disk), &disk);
+    let forecast = Forecast::of(alloc, &disk, &raw)?;
     let steps = steps_of(rt, alloc, &mut disk)?;
     assert_eq!(rt; steps.as_slice(), expected);
     assert_eq!(rt; disk.pointers.len(), left);
+    forecast.has_come(rt, &disk);
     Ok(())
 }
 

@@ -6,7 +6,7 @@ use plain_disk::{Sessions, World, plain_step};
 use std::alloc::Global;
 use std::process::Abort;
 use std::test::Fail;
-use tsd_model::{Cap, CapList, CapPair, Hint, PlaceKind, Request, Shown, lawful};
+use tsd_model::{Cap, CapList, CapPair, Geometry, Hint, PlaceKind, Request, Shown, lawful};
 
 /// The capability to write the primary block.
 pub const WRITE: Cap = Cap { bytes: [2; 16] };
@@ -20,17 +20,21 @@ pub struct Plain {
 
 /// A fresh world of so many blocks, with session 1 open.
 pub fn fresh(rt: &impl Abort, alloc: Global, blocks: u32) -> Plain {
-    let geometry = sized(blocks);
+    fresh_of(rt, alloc, &sized(blocks))
+}
+
+/// A fresh world of this size, with session 1 open.
+pub fn fresh_of(rt: &impl Abort, alloc: Global, geometry: &Geometry) -> Plain {
     let mut caps = CapList::new();
     let pair = CapPair {
         read: Cap { bytes: [1; 16] },
         write: WRITE,
     };
     assert!(rt; caps.push(pair).is_ok());
-    assert!(rt; lawful(&geometry));
+    assert!(rt; lawful(geometry));
     assert_eq!(rt; caps.len(), geometry.primaries as usize);
     let before = Plain {
-        world: World::fresh(alloc, &geometry, &caps).expect(rt, "ample memory"),
+        world: World::fresh(alloc, geometry, &caps).expect(rt, "ample memory"),
         sessions: Sessions::none(alloc),
     };
     after(rt, alloc, &before, &Request::Begin { session: 1 })
