@@ -1,32 +1,28 @@
 //! Mounting worlds laid by hand, which are a tree or none.
 
-use crate::disks::{CLIENT, Untold, fresh};
 use crate::laying::{Said, free, has_pairs, lay};
+use fs_port::Blocks;
 use fs_trees::FsRefusal;
-use inode_mount::{Marks, mount};
+use inode_site::{Site, again, begun};
 use std::alloc::Global;
 use std::process::Abort;
 
-/// Mounts and asserts what is answered and what is left.
-fn mounts(
+/// A disk of sixteen blocks on which these are laid.
+fn laid(
     rt: &impl Abort,
     alloc: Global,
-    disk: &mut Untold,
-    is_tree: bool,
+    blocks: u32,
     pairs: &[(u32, u32)],
+    said: &[(u32, Said<'_>)],
     case: &str,
-) {
-    let mut marks = Marks::new(alloc).expect(rt, "ample memory");
-    disk.ready(rt);
-    match mount(&CLIENT, &mut marks, disk) {
-        Ok(()) => assert!(rt; is_tree, "{case}"),
-        Err(FsRefusal::NotThisFs) => assert!(rt; !is_tree, "{case}"),
-        Err(_) => rt.abort(),
-    }
-    has_pairs(rt, disk, pairs, case);
+) -> Site {
+    let mut site = begun(alloc, 1, 16, 64).expect(rt, "ample memory");
+    lay(rt, alloc, &mut site.disk, blocks, pairs, said, case);
+    site
 }
 
-/// Lays a tree, mounts it, and asserts that just these pairs are left and just so many blocks are free.
+/// Lays a tree, mounts it, and asserts that just these pairs are left and just so many blocks are free, also where mounting is
+/// stopped behind so many requests and begun again.
 fn tidied(
     rt: &impl Abort,
     alloc: Global,
@@ -37,11 +33,25 @@ fn tidied(
     unused: u32,
     case: &str,
 ) {
-    let mut disk = fresh(rt, alloc, 16, 64);
-    lay(rt, &mut disk, blocks, pairs, said, case);
-    mounts(rt, alloc, &mut disk, true, left, case);
-    assert_eq!(rt; free(rt, &mut disk), unused, "{case}");
-    mounts(rt, alloc, &mut disk, true, left, case);
+    for asks in 0..60 {
+        let mut site = laid(rt, alloc, blocks, pairs, said, case);
+        site.disk.left = asks;
+        let answered = site.mount();
+        assert_eq!(rt;
+            answered == Err(FsRefusal::Device),
+            site.disk.is_spent(),
+            "{case}"
+        );
+        let mut site = again(alloc, site).expect(rt, "ample memory");
+        assert_eq!(rt; site.mount(), Ok(()), "{case}: behind {asks}");
+        has_pairs(rt, &mut site.disk, left, case);
+        assert_eq!(rt; free(rt, &mut site.disk), unused, "{case}: behind {asks}");
+        if answered.is_ok() {
+            assert!(rt; asks > 0, "{case}");
+            return;
+        }
+    }
+    rt.abort()
 }
 
 /// Lays a world that is no tree, and asserts that it is left alone.
@@ -53,11 +63,11 @@ fn left_alone(
     said: &[(u32, Said<'_>)],
     case: &str,
 ) {
-    let mut disk = fresh(rt, alloc, 16, 64);
-    lay(rt, &mut disk, blocks, pairs, said, case);
-    let before = free(rt, &mut disk);
-    mounts(rt, alloc, &mut disk, false, pairs, case);
-    assert_eq!(rt; free(rt, &mut disk), before, "{case}");
+    let mut site = laid(rt, alloc, blocks, pairs, said, case);
+    let before = free(rt, &mut site.disk);
+    assert_eq!(rt; site.mount(), Err(FsRefusal::NotThisFs), "{case}");
+    has_pairs(rt, &mut site.disk, pairs, case);
+    assert_eq!(rt; free(rt, &mut site.disk), before, "{case}");
 }
 
 /// A file of 600 bytes in blocks 2 and 3, and a directory in block 4.

@@ -1,16 +1,25 @@
 //! Worlds laid by hand, by the tables of the documents.
 
-use crate::disks::{CLIENT, Untold};
-use fs_port::Blocks;
+use fs_asks::Client;
+use fs_port::{Blocks, free_blocks};
+use inode_site::{Untold, WRITE, bytes_of};
+use std::alloc::Global;
 use std::process::Abort;
-use tsd_model::{Data, Reply, Request};
+use tsd_model::Data;
 
-/// What a block says: a directory's entries, a file's size and blocks, or a file's bytes from a place to another.
+/// Session 1, which hangs its tree from block 0.
+const CLIENT: Client = Client {
+    root: 0,
+    cap: WRITE,
+    session: 1,
+};
+
+/// What a block says: a directory's entries, a file's size and blocks, or these digits.
 #[derive(Drop)]
 pub enum Said<'a> {
     Dir(&'a [(u32, &'a str)]),
     File(u32, &'a [u32]),
-    Part(u32, u32),
+    Digits(&'a str),
 }
 
 fn add_number(bytes: &mut Data, number: u32) {
@@ -23,24 +32,6 @@ fn add_entry(bytes: &mut Data, block: u32, name: &str) {
     for _ in name.len()..28 {
         let _ = bytes.push(0);
     }
-}
-
-/// The bytes of the files of these tests from a place to another.
-pub fn part(first: u32, last: u32) -> Data {
-    let mut bytes = Data::new();
-    for place in first..last {
-        let _ = bytes.push((place % 251) as u8);
-    }
-    bytes
-}
-
-/// These bytes, and what is ignored behind them.
-fn filled(bytes: Data) -> Data {
-    let mut bytes = bytes;
-    for _ in bytes.len()..512 {
-        let _ = bytes.push(0xff);
-    }
-    bytes
 }
 
 /// The bytes of a directory's inode. A directory of these tests has at most fifteen entries.
@@ -72,23 +63,23 @@ fn file(size: u32, blocks: &[u32]) -> Data {
     bytes
 }
 
-fn block_bytes(said: &Said<'_>) -> Data {
+fn block_bytes(rt: &impl Abort, alloc: Global, said: &Said<'_>) -> Data {
     match said {
         Said::Dir(entries) => directory(entries),
         Said::File(size, blocks) => file(*size, blocks),
-        Said::Part(first, last) => filled(part(*first, *last)),
+        Said::Digits(digits) => bytes_of(alloc, digits).expect(rt, "digits"),
     }
 }
 
 /// Takes so many blocks, all of which hang from the root, and comes to hold each.
 fn take_blocks(rt: &impl Abort, disk: &mut Untold, blocks: u32, case: &str) {
-    disk.ready(rt);
+    assert!(rt; !disk.is_spent());
     assert!(rt;
         blocks == 0 || CLIENT.alloc(disk, 0, blocks).is_ok(),
         "{case}"
     );
     for block in 0..=blocks {
-        disk.ready(rt);
+        assert!(rt; !disk.is_spent());
         assert!(rt; CLIENT.read(disk, block).is_ok(), "{case}: block {block}");
     }
 }
@@ -96,7 +87,7 @@ fn take_blocks(rt: &impl Abort, disk: &mut Untold, blocks: u32, case: &str) {
 /// Makes the pairs that don't begin at the root.
 fn link_blocks(rt: &impl Abort, disk: &mut Untold, pairs: &[(u32, u32)], case: &str) {
     for (source, target) in pairs {
-        disk.ready(rt);
+        assert!(rt; !disk.is_spent());
         if *source != 0 {
             assert!(rt;
                 CLIENT.link(disk, *source, *target).is_ok(),
@@ -109,6 +100,7 @@ fn link_blocks(rt: &impl Abort, disk: &mut Untold, pairs: &[(u32, u32)], case: &
 /// Takes so many blocks, leaves just these pairs, and writes what each block says.
 pub fn lay(
     rt: &impl Abort,
+    alloc: Global,
     disk: &mut Untold,
     blocks: u32,
     pairs: &[(u32, u32)],
@@ -118,14 +110,16 @@ pub fn lay(
     take_blocks(rt, disk, blocks, case);
     link_blocks(rt, disk, pairs, case);
     for (block, what) in said {
-        disk.ready(rt);
+        assert!(rt; !disk.is_spent());
         assert!(rt;
-            CLIENT.write(disk, *block, block_bytes(what)).is_ok(),
+            CLIENT
+                .write(disk, *block, block_bytes(rt, alloc, what))
+                .is_ok(),
             "{case}: block {block}"
         );
     }
     for block in 1..=blocks {
-        disk.ready(rt);
+        assert!(rt; !disk.is_spent());
         if !pairs.contains(&(0, block)) {
             assert!(rt;
                 CLIENT.unlink(disk, 0, block).is_ok(),
@@ -139,7 +133,7 @@ pub fn lay(
 pub fn has_pairs(rt: &impl Abort, disk: &mut Untold, pairs: &[(u32, u32)], case: &str) {
     let mut count = 0usize;
     for source in 0..16 {
-        disk.ready(rt);
+        assert!(rt; !disk.is_spent());
         if let Ok(targets) = CLIENT.list(disk, source, 0) {
             for target in targets.as_slice() {
                 assert!(rt;
@@ -155,9 +149,6 @@ pub fn has_pairs(rt: &impl Abort, disk: &mut Untold, pairs: &[(u32, u32)], case:
 
 /// How many blocks are free.
 pub fn free(rt: &impl Abort, disk: &mut Untold) -> u32 {
-    disk.ready(rt);
-    match disk.ask(&Request::GetFree) {
-        Ok(Reply::Free(free)) => free,
-        _ => rt.abort(),
-    }
+    assert!(rt; !disk.is_spent());
+    free_blocks(disk).expect(rt, "no fault")
 }
