@@ -158,18 +158,19 @@ pub fn answer(rt: &impl Abort, site: &mut Site, tree: &Tree, ask: &Ask) -> Resul
     }
 }
 
-/// Gives an ask to both and compares the answers; gives whether it was done.
+/// Gives an ask to both and compares the answers; gives the answer.
 pub fn step(
     rt: &impl Abort,
     site: &mut Site,
     tree: &mut Tree,
     ask: &Ask,
-) -> Result<bool, AllocError> {
+) -> Result<Result<(), FsRefusal>, AllocError> {
     let wanted = expected(tree, ask)?;
-    assert_eq!(rt; answer(rt, site, tree, ask), wanted, "{ask:?}");
+    let answered = answer(rt, site, tree, ask);
+    assert_eq!(rt; answered, wanted, "{ask:?}");
     if wanted.is_ok() {
         apply(tree, ask)?;
     }
     assert_eq!(rt; free(rt, site), tree.free()?, "{ask:?}");
-    Ok(wanted.is_ok())
+    Ok(wanted)
 }
