@@ -430,37 +430,34 @@ fn parts_of_a_file(rt: HostRuntime) {
     }
 }
 
+/// Asserts that a line, or mounting, fails on a disk that answers nothing more, and that the disk is spent then.
+fn fails(rt: &impl Abort, alloc: Global, line: &str) {
+    let mut site = fresh(rt, alloc, 1, 16, 32);
+    assert!(rt; site.files.has_dirs());
+    answers(rt, alloc, &mut site, "mkfs", "ok");
+    answers(rt, alloc, &mut site, "put /a 01", "ok");
+    site.disk.left = 0;
+    let is_fault = if line == "mount" {
+        site.mount() == Err(FsRefusal::Device)
+    } else {
+        matches!(answer_to(alloc, &mut site, line), Err(FsRefusal::Device))
+    };
+    assert!(rt; is_fault, "{line}");
+    assert!(rt; site.disk.is_spent(), "{line}");
+    assert_eq!(rt; site.disk.faults, 1, "{line}");
+}
+
 /// A fault of the disk is told by each call, and then the disk is spent.
 #[test]
 fn faults(rt: HostRuntime) {
-    let alloc = rt.alloc();
-    for line in [
-        "mkfs",
-        "put /b 01",
-        "append /a 01",
-        "mkdir /b",
-        "rm /a",
-        "cp /a /b",
-        "cat /a",
-        "ls /",
-        "mount",
-    ] {
-        let mut site = fresh(&rt, alloc, 1, 16, 32);
-        assert!(rt; site.files.has_dirs());
-        run(
-            &rt,
-            alloc,
-            &mut site,
-            [("mkfs", "ok"), ("put /a 01", "ok")].as_slice(),
-        );
-        site.disk.left = 0;
-        let answered = if line == "mount" {
-            site.mount()
-        } else {
-            answer_to(alloc, &mut site, line).map(|_text| ())
-        };
-        assert_eq!(rt; answered, Err(FsRefusal::Device), "{line}");
-        assert!(rt; site.disk.is_spent(), "{line}");
-        assert_eq!(rt; site.disk.faults, 1, "{line}");
-    }
+    fails(&rt, rt.alloc(), "mkfs");
+    fails(&rt, rt.alloc(), "mount");
+    fails(&rt, rt.alloc(), "put /b 01");
+    fails(&rt, rt.alloc(), "append /a 01");
+    fails(&rt, rt.alloc(), "mkdir /b");
+    fails(&rt, rt.alloc(), "rm /a");
+    fails(&rt, rt.alloc(), "cp /a /b");
+    fails(&rt, rt.alloc(), "cat /a");
+    fails(&rt, rt.alloc(), "ls /");
+    fails(&rt, rt.alloc(), "df");
 }
