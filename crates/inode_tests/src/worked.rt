@@ -403,12 +403,12 @@ fn parts_of_a_file(rt: HostRuntime) {
     assert_eq!(rt; site.make(), Ok(()));
     let path = path_of(&rt, b"/a");
     let mut bytes = Data::new();
-    for place in 0..4096 {
+    for place in 0..4096u32 {
         assert!(rt; bytes.push((place % 256) as u8).is_ok());
     }
     assert_eq!(rt; site.put(&path, &bytes), Ok(()));
     let mut rest = Data::new();
-    for place in 0..904 {
+    for place in 0..904u32 {
         assert!(rt; rest.push((place % 256) as u8).is_ok());
     }
     assert_eq!(rt; site.append(&path, &rest), Ok(()));
