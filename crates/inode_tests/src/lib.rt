@@ -1,19 +1,19 @@
-//! Tests of the calls of the file system of inodes over the plain disk: lines of the shell, each with the answer that it is to
-//! have, and worlds laid by hand.
+//! Tests of the file system of inodes over a plain disk: worked asks by lines of the shell, random asks against a plain tree, and
+//! each ask stopped at each of its requests.
 //!
 //! They use public calls alone and show what no clause says. They stand in a crate of their own, so that a change of a test
 //! proves no other crate again. Nothing stands on it, and it promises nothing.
 #![tactic(auto)]
 
 #[cfg(test)]
-mod calls;
+mod asks;
 #[cfg(test)]
-mod disks;
+mod lines;
 #[cfg(test)]
-mod files;
+mod random;
 #[cfg(test)]
-mod laying;
+mod stops;
 #[cfg(test)]
-mod shell;
+mod tree;
 #[cfg(test)]
-mod worlds;
+mod worked;
