@@ -2,7 +2,6 @@
 use Rattle.std.proofs.Common.{◌≡◌, ◌⊎◌, ℕ, Bool, true, sym, ◌∙◌, subst, inl, inr, Option, Result, Ok, Err}
 use Rattle.std.proofs.lemmas.Bool.{or_left, or_right}
 use Rattle.std.specs.Prelude.{IfOk}
-use Rattle.tsd_model.specs.declared.requests.Level.TheVariants as level
 use Rattle.tsd_model.specs.World.{has_number}
 use Rattle.fs_trees.specs.declared.refusal.FsRefusal.{FsRefusal}
 use Rattle.inode_mount.specs.Marked.{is_inode, is_data_block}
