@@ -10,8 +10,6 @@ use Rattle.tsd_model.specs.Step.{zeros, with_new_blocks}
 use Rattle.tsd_model.specs.Valid.{IsValid}
 use Rattle.tsd_model.specs.declared.requests.Hint.TheVariants.{At}
 use Rattle.tsd_model.specs.declared.requests.Request.{Request}
-use Rattle.tsd_model.specs.declared.requests.Request.TheVariants as ask
-use Rattle.tsd_model.specs.declared.replies.Reply.TheVariants as reply
 use Rattle.tsd_model.proofs.PairLaws.{length-with_new_pair}
 use Rattle.disk_laws.proofs.ChangeLaws.{free_may}
 use Rattle.disk_laws.proofs.StayLaws.{live-new_blocks, holds-new_blocks}
