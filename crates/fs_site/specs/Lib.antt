@@ -1,0 +1,3 @@
+pub mod Ours
+pub mod Said
+pub mod Untold
