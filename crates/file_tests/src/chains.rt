@@ -7,13 +7,13 @@ use std::process::Abort;
 use tsd_model::Data;
 
 /// How many clusters the long file has, each of 496 bytes.
-const CLUSTERS: u32 = 50;
+const CLUSTERS: u32 = 5_000;
 
 /// How many bytes it has.
 const LEN: u32 = CLUSTERS * 496;
 
 /// How many names a directory has at most.
-const NAMES: u32 = 40;
+const NAMES: u32 = 4_096;
 
 /// The bytes of the long file from a place to another.
 fn part(first: u32, last: u32) -> Data {
@@ -67,7 +67,10 @@ fn long_file(rt: HostRuntime) {
         held: CLUSTERS,
         max: CLUSTERS,
     };
-    assert_eq!(rt; site.append(&path_of(&rt, b"/long"), &part(0, 1)), Err(refusal));
+    assert_eq!(rt;
+        site.append(&path_of(&rt, b"/long"), &part(0, 1)),
+        Err(refusal)
+    );
     let mut site = opened_again(&rt, alloc, site);
     is_whole(&rt, &mut site);
     run(&rt, alloc, &mut site, [("rm /long", "ok")].as_slice());
@@ -88,21 +91,21 @@ fn numbered(number: u32) -> [u8; 6] {
 fn full_directory(rt: HostRuntime) {
     let alloc = rt.alloc();
     // A cluster of eight sectors has room for 127 entries, so the directory has 32 of them beside its root.
-    let mut site = made::<ChainFs>(&rt, alloc, 8, NAMES + 63, NAMES + 40);
+    let mut site = made::<ChainFs>(&rt, alloc, 8, NAMES + 63, NAMES + 62);
     for number in 0..NAMES {
         let path = path_of(&rt, numbered(number).as_slice());
         assert_eq!(rt; site.put(&path, &part(0, 0)), Ok(()), "{number}");
     }
     let table = [
-        ("df", "free 62"),
+        ("df", "free 30"),
         ("put /more -", "no dir-full"),
         ("put /n0017 6869", "ok"),
         ("cat /n0017", "data 6869"),
-        ("rm /n0030", "ok"),
+        ("rm /n4000", "ok"),
         ("df", "free 31"),
         ("put /more 21", "ok"),
-        ("put /n0030 -", "no dir-full"),
-        ("cat /n0030", "no no-entry"),
+        ("put /n4000 -", "no dir-full"),
+        ("cat /n4000", "no no-entry"),
         ("df", "free 30"),
     ];
     run(&rt, alloc, &mut site, table.as_slice());
@@ -110,9 +113,9 @@ fn full_directory(rt: HostRuntime) {
     let table = [
         ("cat /more", "data 21"),
         ("cat /n0017", "data 6869"),
-        ("cat /n0039", "data -"),
-        ("put /n0030 -", "no dir-full"),
-        ("append /n0030 22", "ok"),
+        ("cat /n4095", "data -"),
+        ("put /n4000 -", "no dir-full"),
+        ("append /n4000 22", "ok"),
         ("df", "free 30"),
     ];
     run(&rt, alloc, &mut site, table.as_slice());

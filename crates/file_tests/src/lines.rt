@@ -75,11 +75,7 @@ pub fn closed<F: Tested>(rt: &impl Abort, site: OnStation<F>) -> MemStation {
 }
 
 /// The image closed, opened again, and mounted by a file system that knows nothing of it.
-pub fn opened_again<F: Tested>(
-    rt: &impl Abort,
-    alloc: Global,
-    site: OnStation<F>,
-) -> OnStation<F> {
+pub fn opened_again<F: Tested>(rt: &impl Abort, alloc: Global, site: OnStation<F>) -> OnStation<F> {
     let mut site = opened(rt, alloc, closed(rt, site));
     assert_eq!(rt; site.mount(), Ok(()));
     site

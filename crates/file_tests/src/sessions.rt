@@ -86,7 +86,12 @@ fn same_on_both<F: Tested, G: Tested>(
     let mut other = opened::<G, _>(rt, alloc, closed(rt, site));
     assert_eq!(rt; other.mount(), Err(FsRefusal::NotThisFs));
     let mut site = opened::<F, _>(rt, alloc, closed(rt, other));
-    run(rt, alloc, &mut site, [("ls /", "no not-this-fs")].as_slice());
+    run(
+        rt,
+        alloc,
+        &mut site,
+        [("ls /", "no not-this-fs")].as_slice(),
+    );
     assert_eq!(rt; site.mount(), Ok(()));
     run(rt, alloc, &mut site, left);
 }

@@ -134,12 +134,7 @@ fn shows<F: Tested>(
 }
 
 /// Opens and mounts what is left, and tells whether it has the tree before, and whether the one after.
-fn look<F: Tested>(
-    rt: &impl Abort,
-    alloc: Global,
-    image: MemStation,
-    case: &Case,
-) -> (bool, bool) {
+fn look<F: Tested>(rt: &impl Abort, alloc: Global, image: MemStation, case: &Case) -> (bool, bool) {
     let mut site = opened::<F, _>(rt, alloc, image);
     assert_eq!(rt; site.mount(), Ok(()), "{}", case.then);
     (
@@ -190,7 +185,11 @@ fn stop_at<F: Tested>(
     let is_done = is_done(rt, alloc, &mut site, case.then);
     assert_eq!(rt; is_done, number == ends.1, "{}", case.then);
     let (is_old, is_new) = look::<F>(rt, alloc, image_of(site).into_image(), case);
-    let is_right = if is_done { is_new } else { is_old || is_new && number > ends.0 };
+    let is_right = if is_done {
+        is_new
+    } else {
+        is_old || is_new && number > ends.0
+    };
     assert!(rt; is_right, "{} stopped at {number}", case.then);
 }
 
