@@ -1,17 +1,16 @@
-//! The file system over a disk, call by call.
+//! A file system over a disk, call by call.
 
-ghost use Rattle.std.specs.Prelude.{◌≡◌, IsTrue, IfSome};
+ghost use Rattle.std.specs.Prelude.{◌≡◌, IsTrue, IfOk};
 ghost use Rattle.fs_trees.specs.Names.{is_path};
-ghost use Rattle.fs_port.specs.Files.{mounted_now};
-ghost use Rattle.inode_fs.specs.View.{inode_view};
-ghost use Rattle.inode_site.specs.Ours.{ours};
+ghost use Rattle.fs_site.specs.Ours.{IsOurs};
 
-use crate::disks::{Untold, WRITE, fresh, going};
-use fs_port::{Blocks, Files, free_blocks};
-use fs_trees::{FsRefusal, Name, Path};
+use crate::disks::{Answering, Untold, WRITE, fresh};
+use chain_fs::ChainFs;
+use fs_port::{Blocks, Files, PlainBlocks, free_blocks};
+use fs_trees::{FsRefusal, Name, Path, ShellKind};
 use inode_fs::InodeFs;
 use std::alloc::Global;
-use tsd_model::Data;
+use tsd_model::{Data, NoMemory};
 
 /// A path whose names are names.
 #[derive(Drop)]
@@ -22,45 +21,100 @@ pub struct Named {
 
 /// A file system and its disk.
 #[derive(Drop)]
-pub struct Site {
-    pub files: InodeFs,
-    pub disk: Untold,
-    ghost is_ours: { mounted_now (inode_view files) ≡ ours },
+pub struct Site<F: Files + Drop, A: Answering> {
+    pub files: F,
+    pub disk: Untold<A>,
+    ghost is_ours: { IsOurs (F.view files) },
 }
 
-/// A file system for session 1 at block 0, of which nothing is mounted.
-fn unmounted(alloc: Global) -> Option<InodeFs>
-    ensures { IfSome result (λ f. mounted_now (inode_view f) ≡ ours) }
-{
-    InodeFs::new(alloc, 0, &WRITE, 1).ok()
+/// A file system over a plain disk.
+pub type PlainSite<F> = Site<F, PlainBlocks>;
+
+/// A file system that tests try.
+pub trait Tested: Files + Drop {
+    /// Its layout, by which lines of the shell are read.
+    fn kind(&self) -> ShellKind
+        ensures { result ≡ (Self.view self.now).kind };
+
+    /// A file system for session 1 at block 0, of which nothing is mounted.
+    fn unmounted(alloc: Global) -> Result<Self, NoMemory>
+        ensures { IfOk result (λ f. IsOurs (Self.view f)) };
+
+    /// A new file with the bytes of another; NotThisFs where the layout has no copies.
+    fn copy_in<A: Answering>(
+        site: &mut Site<Self, A>,
+        path: &Named,
+        new: &Named,
+    ) -> Result<(), FsRefusal>;
 }
 
-/// A fresh disk of so many blocks with so many slots, and a file system of which nothing is mounted; None where there is no
+impl Tested for InodeFs {
+    fn kind(&self) -> ShellKind {
+        ShellKind::Inode
+    }
+
+    fn unmounted(alloc: Global) -> Result<InodeFs, NoMemory> {
+        InodeFs::new(alloc, 0, &WRITE, 1)
+    }
+
+    fn copy_in<A: Answering>(
+        site: &mut Site<InodeFs, A>,
+        path: &Named,
+        new: &Named,
+    ) -> Result<(), FsRefusal> {
+        site.copy(path, new)
+    }
+}
+
+impl Tested for ChainFs {
+    fn kind(&self) -> ShellKind {
+        ShellKind::Chain
+    }
+
+    fn unmounted(alloc: Global) -> Result<ChainFs, NoMemory> {
+        ChainFs::new(alloc, 0, &WRITE, 1)
+    }
+
+    fn copy_in<A: Answering>(
+        _site: &mut Site<ChainFs, A>,
+        _path: &Named,
+        _new: &Named,
+    ) -> Result<(), FsRefusal> {
+        Err(FsRefusal::NotThisFs)
+    }
+}
+
+/// A file system that knows nothing of this disk, over it; None where there is no memory.
+pub fn over<F: Tested, A: Answering>(alloc: Global, disk: Untold<A>) -> Option<Site<F, A>> {
+    let files = F::unmounted(alloc).ok()?;
+    Some(Site { files, disk })
+}
+
+/// A fresh plain disk of so many blocks with so many slots, and a file system of which nothing is mounted; None where there is no
 /// such disk or no memory.
-pub fn begun(alloc: Global, sectors: u32, blocks: u32, slots: u32) -> Option<Site> {
-    Some(Site {
-        files: unmounted(alloc)?,
-        disk: fresh(alloc, sectors, blocks, slots)?,
-    })
+pub fn begun<F: Tested>(
+    alloc: Global,
+    sectors: u32,
+    blocks: u32,
+    slots: u32,
+) -> Option<Site<F, PlainBlocks>> {
+    over(alloc, fresh(alloc, sectors, blocks, slots)?)
 }
 
 /// The same disk, which goes on, and a file system that knows nothing of it; None where there is no memory.
-pub fn again(alloc: Global, site: Site) -> Option<Site> {
+pub fn again<F: Tested, A: Answering>(alloc: Global, site: Site<F, A>) -> Option<Site<F, A>> {
     let Site { files: _, disk } = site;
-    Some(Site {
-        files: unmounted(alloc)?,
-        disk: going(disk.inner),
-    })
+    over(alloc, disk.mended())
 }
 
-impl Site {
+impl<F: Files + Drop, A: Answering> Site<F, A> {
     ghost use Rattle.fs_port.specs.Files.{IsReady};
-    ghost use Rattle.inode_site.specs.Untold.{untold_view};
+    ghost use Rattle.fs_site.specs.Untold.{untold_view};
 
     /// Whether the file system may be called.
     #[tactic(auto, using(crate::proofs::SiteLaws::is_ready))]
     fn is_ready(&self) -> bool
-        ensures { IsTrue result → IsReady (inode_view self.now.files) (untold_view self.now.disk.inner self.now.disk.faults self.now.disk.is_stopped) }
+        ensures { IsTrue result → IsReady (F.view self.now.files) (untold_view self.now.disk.geometry self.now.disk.faults self.now.disk.is_stopped) }
     {
         !self.disk.is_spent() && self.disk.geometry().primaries > 0
     }
@@ -97,10 +151,13 @@ impl Site {
         self.files.append(&mut self.disk, &path.path, bytes)
     }
 
-    /// A new directory.
+    /// A new directory; NotThisFs where the layout has none.
     pub fn make_dir(&mut self, path: &Named) -> Result<(), FsRefusal> {
         if !self.is_ready() {
             return Err(FsRefusal::Device);
+        }
+        if !self.files.has_dirs() {
+            return Err(FsRefusal::NotThisFs);
         }
         self.files.make_dir(&mut self.disk, &path.path)
     }
@@ -111,14 +168,6 @@ impl Site {
             return Err(FsRefusal::Device);
         }
         self.files.remove(&mut self.disk, &path.path)
-    }
-
-    /// A new file with the bytes of another.
-    pub fn copy(&mut self, path: &Named, new: &Named) -> Result<(), FsRefusal> {
-        if !self.is_ready() {
-            return Err(FsRefusal::Device);
-        }
-        self.files.copy(&mut self.disk, &path.path, &new.path)
     }
 
     /// How many bytes a file has.
@@ -174,5 +223,15 @@ impl Site {
             }
         }
         Err(FsRefusal::Device)
+    }
+}
+
+impl<A: Answering> Site<InodeFs, A> {
+    /// A new file with the bytes of another.
+    pub fn copy(&mut self, path: &Named, new: &Named) -> Result<(), FsRefusal> {
+        if !self.is_ready() {
+            return Err(FsRefusal::Device);
+        }
+        self.files.copy(&mut self.disk, &path.path, &new.path)
     }
 }

@@ -1,6 +1,6 @@
 //! Texts that stand for long ones, and what lines say.
 
-ghost use Rattle.inode_site.specs.Said.{ArePaths};
+ghost use Rattle.fs_site.specs.Said.{ArePaths};
 
 use crate::site::Named;
 use fs_trees::{ShellAsk, ShellKind};
@@ -49,11 +49,11 @@ pub fn expanded(alloc: Global, text: &str) -> Result<Vec<u8>, AllocError> {
     Ok(all)
 }
 
-/// What a line asks.
-pub fn ask_in(line: &[u8]) -> ShellAsk
+/// What a line asks of a layout.
+pub fn ask_in(kind: ShellKind, line: &[u8]) -> ShellAsk
     ensures { ArePaths result }
 {
-    parse_shell(ShellKind::Inode, line)
+    parse_shell(kind, line)
 }
 
 /// The path that a word spells; None where it is none.
@@ -61,7 +61,7 @@ pub fn name_path(word: &[u8]) -> Option<Named> {
     let mut line = Data::new();
     line.extend_from_slice(b"ls ").ok()?;
     line.extend_from_slice(word).ok()?;
-    match ask_in(line.as_slice()) {
+    match ask_in(ShellKind::Inode, line.as_slice()) {
         ShellAsk::Ls { path } => Some(Named { path }),
         _ => None,
     }
@@ -73,7 +73,7 @@ pub fn bytes_of(alloc: Global, digits: &str) -> Option<Data> {
     line.extend_from_slice(b"put / ").ok()?;
     line.extend_from_slice(expanded(alloc, digits).ok()?.as_slice())
         .ok()?;
-    match ask_in(line.as_slice()) {
+    match ask_in(ShellKind::Inode, line.as_slice()) {
         ShellAsk::Put { path: _, bytes } => Some(bytes),
         _ => None,
     }

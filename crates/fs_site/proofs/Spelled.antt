@@ -6,7 +6,7 @@ use Rattle.fs_trees.specs.declared.ask.ShellAsk.{ShellAsk}
 use Rattle.fs_trees.specs.declared.ask.ShellAsk.TheVariants as ask
 use Rattle.fs_trees.specs.declared.ask.ShellKind.TheVariants.{Inode}
 use Rattle.shell_text.specs.Grammar.{Field, Command, Place, Bytes, AreFields, IsShellLine, fields}
-use Rattle.inode_site.specs.Said.{ArePaths}
+use Rattle.fs_site.specs.Said.{ArePaths}
 
 -- the words of a command with a path
 in_words : (c : List ℕ) (p : Path) (fs : List Field) (ws : List (List ℕ)) → AreFields (Command c ∷ Place p ∷ fs) ws → IsTrue (is_path p)

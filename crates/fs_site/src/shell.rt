@@ -1,8 +1,9 @@
-//! The file system as the shell asks it.
+//! A file system as the shell asks it.
 
-ghost use Rattle.inode_site.specs.Said.{ArePaths};
+ghost use Rattle.fs_site.specs.Said.{ArePaths};
 
-use crate::site::{Named, Site};
+use crate::disks::Answering;
+use crate::site::{Named, Site, Tested};
 use crate::words::{ask_in, expanded};
 use fs_trees::{FsRefusal, Name, ShellAsk};
 use shell_text::{
@@ -20,7 +21,11 @@ fn add(said: &mut Vec<u8>, text: &ShellBuf) -> Result<(), FsRefusal> {
 }
 
 /// The names in a directory, one by one, and the line's end.
-fn list(site: &mut Site, path: &Named, said: &mut Vec<u8>) -> Result<(), FsRefusal> {
+fn list<F: Tested, A: Answering>(
+    site: &mut Site<F, A>,
+    path: &Named,
+    said: &mut Vec<u8>,
+) -> Result<(), FsRefusal> {
     let mut text = ShellBuf::new();
     let mut last = Name::new();
     for at in 0..129 {
@@ -45,7 +50,12 @@ fn list(site: &mut Site, path: &Named, said: &mut Vec<u8>) -> Result<(), FsRefus
 }
 
 /// The bytes of a file, and the line's end.
-fn read(alloc: Global, site: &mut Site, path: &Named, said: &mut Vec<u8>) -> Result<(), FsRefusal> {
+fn read<F: Tested, A: Answering>(
+    alloc: Global,
+    site: &mut Site<F, A>,
+    path: &Named,
+    said: &mut Vec<u8>,
+) -> Result<(), FsRefusal> {
     let bytes = site.cat(alloc, path)?;
     let mut text = ShellBuf::new();
     print_data_head(bytes.is_empty(), &mut text);
@@ -59,7 +69,7 @@ fn read(alloc: Global, site: &mut Site, path: &Named, said: &mut Vec<u8>) -> Res
 }
 
 /// Carries out an ask whose answer is one word.
-fn change(site: &mut Site, ask: ShellAsk) -> Result<(), FsRefusal>
+fn change<F: Tested, A: Answering>(site: &mut Site<F, A>, ask: ShellAsk) -> Result<(), FsRefusal>
     requires { ArePaths ask }
 {
     match ask {
@@ -68,20 +78,20 @@ fn change(site: &mut Site, ask: ShellAsk) -> Result<(), FsRefusal>
         ShellAsk::Append { path, bytes } => site.append(&Named { path }, &bytes),
         ShellAsk::MakeDir { path } => site.make_dir(&Named { path }),
         ShellAsk::Rm { path } => site.remove(&Named { path }),
-        ShellAsk::Copy { path, new } => site.copy(&Named { path }, &Named { path: new }),
+        ShellAsk::Copy { path, new } => F::copy_in(site, &Named { path }, &Named { path: new }),
         _ => Err(FsRefusal::Device),
     }
 }
 
 /// Carries out a line and adds its answer where it isn't refused.
-fn carry_out(
+fn carry_out<F: Tested, A: Answering>(
     alloc: Global,
-    site: &mut Site,
+    site: &mut Site<F, A>,
     line: &[u8],
     said: &mut Vec<u8>,
 ) -> Result<(), FsRefusal> {
     let mut text = ShellBuf::new();
-    match ask_in(line) {
+    match ask_in(site.files.kind(), line) {
         ShellAsk::Bad => print_bad(&mut text),
         ShellAsk::Df => print_free(site.free()?, &mut text),
         ShellAsk::Cat { path } => return read(alloc, site, &Named { path }, said),
@@ -95,7 +105,11 @@ fn carry_out(
 }
 
 /// What is answered to a line, with its line feed; Device where the disk failed. In the line `61*3` stands for `616161`.
-pub fn answer_to(alloc: Global, site: &mut Site, line: &str) -> Result<Vec<u8>, FsRefusal> {
+pub fn answer_to<F: Tested, A: Answering>(
+    alloc: Global,
+    site: &mut Site<F, A>,
+    line: &str,
+) -> Result<Vec<u8>, FsRefusal> {
     let mut said = Vec::new(alloc);
     let asked = match expanded(alloc, line) {
         Ok(asked) => asked,

@@ -1,5 +1,5 @@
-use Rattle.inode_site.proofs.Spelled.{are_paths}
-use Rattle.inode_site.proofs.words.ask_in.Goals as goal
+use Rattle.fs_site.proofs.Spelled.{are_paths}
+use Rattle.fs_site.proofs.words.ask_in.Goals as goal
 
 -- src/words.rt:53:1
 pub returns : goal.returns
