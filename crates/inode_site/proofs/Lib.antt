@@ -1,2 +1,0 @@
-pub mod SiteLaws
-pub mod Spelled

@@ -1,3 +1,0 @@
-pub mod Ours
-pub mod Said
-pub mod Untold
