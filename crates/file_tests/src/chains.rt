@@ -86,6 +86,19 @@ fn numbered(number: u32) -> [u8; 6] {
     [b'/', b'n', digit(1000), digit(100), digit(10), digit(1)]
 }
 
+/// Asserts that each name is there but the one that was removed, the file in place of an old one with its two bytes.
+fn has_names(rt: &impl Abort, site: &mut OnStation<ChainFs>) {
+    for number in 0..NAMES {
+        let wanted = match number {
+            17 => Ok(2),
+            4_000 => Err(FsRefusal::NoEntry),
+            _ => Ok(0),
+        };
+        let path = path_of(rt, numbered(number).as_slice());
+        assert_eq!(rt; site.size(&path), wanted, "{number}");
+    }
+}
+
 /// The directory takes 4,096 entries, a new one only after another has gone; an old entry changes all the same.
 #[test]
 fn full_directory(rt: HostRuntime) {
@@ -110,12 +123,14 @@ fn full_directory(rt: HostRuntime) {
     ];
     run(&rt, alloc, &mut site, table.as_slice());
     let mut site = opened_again(&rt, alloc, site);
+    has_names(&rt, &mut site);
     let table = [
         ("cat /more", "data 21"),
         ("cat /n0017", "data 6869"),
-        ("cat /n4095", "data -"),
         ("put /n4000 -", "no dir-full"),
-        ("append /n4000 22", "ok"),
+        ("append /n4000 22", "no no-entry"),
+        ("append /n4095 22", "ok"),
+        ("cat /n4095", "data 22"),
         ("df", "free 30"),
     ];
     run(&rt, alloc, &mut site, table.as_slice());

@@ -13,7 +13,13 @@ use std::alloc::Global;
 use std::process::Abort;
 
 /// What a stop leaves in the sectors that are loose.
-const PICKS: [Pick; 4] = [Pick::Old, Pick::New, Pick::Torn(0), Pick::Torn(255)];
+const PICKS: [Pick; 5] = [
+    Pick::Old,
+    Pick::New,
+    Pick::Torn(0),
+    Pick::Torn(1),
+    Pick::Torn(255),
+];
 
 /// What is stopped, and what the tree shows before and after.
 #[derive(Drop)]
@@ -23,78 +29,145 @@ struct Case<'a> {
     new: [(&'a str, &'a str); 2],
 }
 
-/// Over inodes. The two files take two blocks each.
-const INODES: [Case<'static>; 6] = [
+/// What comes before over inodes. The blocks of the file that is removed are still to be reclaimed.
+const INODES_FIRST: [(&str, &str); 6] = [
+    ("mkfs", "ok"),
+    ("put /a 6869", "ok"),
+    ("put /b 7a", "ok"),
+    ("mkdir /d", "ok"),
+    ("put /c 61*1000", "ok"),
+    ("rm /c", "ok"),
+];
+
+/// What is stopped then. The two files take two blocks each, and the directory one, of 32 with the root.
+const INODES: [Case<'static>; 8] = [
     Case {
         then: "put /a 21",
-        old: [("cat /a", "data 6869"), ("df", "free 11")],
-        new: [("cat /a", "data 21"), ("df", "free 11")],
+        old: [("cat /a", "data 6869"), ("df", "free 26")],
+        new: [("cat /a", "data 21"), ("df", "free 26")],
     },
     Case {
-        then: "append /a 21",
-        old: [("cat /a", "data 6869"), ("df", "free 11")],
-        new: [("cat /a", "data 686921"), ("df", "free 11")],
+        then: "append /a 61*600",
+        old: [("cat /a", "data 6869"), ("df", "free 26")],
+        new: [("cat /a", "data 6869,61*600"), ("df", "free 25")],
     },
     Case {
-        then: "put /c 21",
-        old: [("ls /", "names a b"), ("df", "free 11")],
-        new: [("ls /", "names a b c"), ("df", "free 9")],
+        then: "put /d/c 21",
+        old: [("ls /d", "names -"), ("df", "free 26")],
+        new: [("ls /d", "names c"), ("df", "free 24")],
     },
     Case {
-        then: "cp /a /c",
-        old: [("ls /", "names a b"), ("df", "free 11")],
-        new: [("ls /", "names a b c"), ("df", "free 10")],
+        then: "cp /a /d/c",
+        old: [("ls /d", "names -"), ("df", "free 26")],
+        new: [("ls /d", "names c"), ("df", "free 25")],
     },
     Case {
-        then: "mkdir /c",
-        old: [("ls /", "names a b"), ("df", "free 11")],
-        new: [("ls /", "names a b c"), ("df", "free 10")],
+        then: "mkdir /d/e",
+        old: [("ls /d", "names -"), ("df", "free 26")],
+        new: [("ls /d", "names e"), ("df", "free 25")],
     },
     Case {
         then: "rm /a",
-        old: [("ls /", "names a b"), ("df", "free 11")],
-        new: [("ls /", "names b"), ("df", "free 13")],
+        old: [("ls /", "names a b d"), ("df", "free 26")],
+        new: [("ls /", "names b d"), ("df", "free 28")],
+    },
+    Case {
+        then: "rm /d",
+        old: [("ls /", "names a b d"), ("df", "free 26")],
+        new: [("ls /", "names a b"), ("df", "free 27")],
+    },
+    Case {
+        then: "mkfs",
+        old: [("ls /", "names a b d"), ("df", "free 26")],
+        new: [("ls /", "names -"), ("df", "free 31")],
     },
 ];
 
-/// Over chains. The two files take one block each.
-const CHAINS: [Case<'static>; 4] = [
+/// What comes before over chains.
+const CHAINS_FIRST: [(&str, &str); 5] = [
+    ("mkfs", "ok"),
+    ("put /a 6869", "ok"),
+    ("put /b 7a", "ok"),
+    ("put /c 61*1000", "ok"),
+    ("rm /c", "ok"),
+];
+
+/// What is stopped then. The two files take one block each.
+const CHAINS: [Case<'static>; 5] = [
     Case {
         then: "put /a 21",
-        old: [("cat /a", "data 6869"), ("df", "free 13")],
-        new: [("cat /a", "data 21"), ("df", "free 13")],
+        old: [("cat /a", "data 6869"), ("df", "free 29")],
+        new: [("cat /a", "data 21"), ("df", "free 29")],
     },
     Case {
         then: "append /a 61*500",
-        old: [("cat /a", "data 6869"), ("df", "free 13")],
-        new: [("cat /a", "data 6869,61*500"), ("df", "free 12")],
+        old: [("cat /a", "data 6869"), ("df", "free 29")],
+        new: [("cat /a", "data 6869,61*500"), ("df", "free 28")],
     },
     Case {
-        then: "put /c 21",
-        old: [("ls /", "names a b"), ("df", "free 13")],
-        new: [("ls /", "names a b c"), ("df", "free 12")],
+        then: "put /c 61*600",
+        old: [("ls /", "names a b"), ("df", "free 29")],
+        new: [("ls /", "names a b c"), ("df", "free 27")],
     },
     Case {
         then: "rm /a",
-        old: [("ls /", "names a b"), ("df", "free 13")],
-        new: [("ls /", "names b"), ("df", "free 14")],
+        old: [("ls /", "names a b"), ("df", "free 29")],
+        new: [("ls /", "names b"), ("df", "free 30")],
+    },
+    Case {
+        then: "mkfs",
+        old: [("ls /", "names a b"), ("df", "free 29")],
+        new: [("ls /", "names -"), ("df", "free 31")],
     },
 ];
 
-/// A device of sixteen blocks that was just formatted. Of its calls those with these numbers fail.
+/// The root is full.
+const FULL_FIRST: [(&str, &str); 16] = [
+    ("mkfs", "ok"),
+    ("put /a -", "ok"),
+    ("put /b -", "ok"),
+    ("put /c -", "ok"),
+    ("put /d -", "ok"),
+    ("put /e -", "ok"),
+    ("put /f -", "ok"),
+    ("put /g -", "ok"),
+    ("put /h -", "ok"),
+    ("put /i -", "ok"),
+    ("put /j -", "ok"),
+    ("put /k -", "ok"),
+    ("put /l -", "ok"),
+    ("put /m -", "ok"),
+    ("put /n -", "ok"),
+    ("put /o -", "ok"),
+];
+
+/// So the directory gets a cluster more.
+const FULL: Case<'static> = Case {
+    then: "put /p 21",
+    old: [
+        ("ls /", "names a b c d e f g h i j k l m n o"),
+        ("df", "free 16"),
+    ],
+    new: [
+        ("ls /", "names a b c d e f g h i j k l m n o p"),
+        ("df", "free 14"),
+    ],
+};
+
+/// A device of 32 blocks that was just formatted. Of its calls those with these numbers fail.
 fn fresh(rt: &impl Abort, alloc: Global, fail: Vec<u64>) -> MemStation {
-    formatted(alloc, 1, 16, 64, fail).expect(rt, "a lawful size")
+    formatted(alloc, 1, 32, 64, fail).expect(rt, "a lawful size")
 }
 
-/// Two files on this device.
+/// The disk of this device, after what comes before.
 fn begun<F: Tested, D: Device + Drop>(
     rt: &impl Abort,
     alloc: Global,
     dev: D,
+    first: &[(&str, &str)],
 ) -> Site<F, OnImage<D>> {
     let mut site = opened(rt, alloc, dev);
-    let lines = [("mkfs", "ok"), ("put /a 6869", "ok"), ("put /b 7a", "ok")];
-    run(rt, alloc, &mut site, lines.as_slice());
+    run(rt, alloc, &mut site, first);
     site
 }
 
@@ -116,6 +189,13 @@ fn is_done<F: Tested, D: Device + Drop>(
             false
         }
     }
+}
+
+/// The image that is left of a disk.
+fn image_of<F: Tested, D: Device + Drop>(site: Site<F, OnImage<D>>) -> D {
+    let Site { disk, .. } = site;
+    let Untold { inner, .. } = disk;
+    inner.into_image()
 }
 
 /// Whether all lines are answered so.
@@ -143,28 +223,32 @@ fn look<F: Tested>(rt: &impl Abort, alloc: Global, image: MemStation, case: &Cas
     )
 }
 
-/// The image that is left of a disk.
-fn image_of<F: Tested, D: Device + Drop>(site: Site<F, OnImage<D>>) -> D {
-    let Site { disk, .. } = site;
-    let Untold { inner, .. } = disk;
-    inner.into_image()
-}
-
 /// The first call of a change, and how many calls there are once it is done.
-fn ends<F: Tested>(rt: &impl Abort, alloc: Global, then: &str) -> (u64, u64) {
-    let mut site = begun::<F, _>(rt, alloc, fresh(rt, alloc, Vec::new(alloc)));
-    let first = site.disk.inner.dev().calls();
+fn ends<F: Tested>(
+    rt: &impl Abort,
+    alloc: Global,
+    first: &[(&str, &str)],
+    then: &str,
+) -> (u64, u64) {
+    let mut site = begun::<F, _>(rt, alloc, fresh(rt, alloc, Vec::new(alloc)), first);
+    let start = site.disk.inner.dev().calls();
     assert!(rt; is_done(rt, alloc, &mut site, then), "{then}");
     let end = site.disk.inner.dev().calls();
-    assert!(rt; first < end, "{then}");
-    (first, end)
+    assert!(rt; start < end, "{then}");
+    (start, end)
 }
 
 /// Fails one call of a change.
-fn fail_at<F: Tested>(rt: &impl Abort, alloc: Global, case: &Case, number: u64) {
+fn fail_at<F: Tested>(
+    rt: &impl Abort,
+    alloc: Global,
+    first: &[(&str, &str)],
+    case: &Case,
+    number: u64,
+) {
     let mut fail = Vec::new(alloc);
     assert!(rt; fail.push(number).is_ok());
-    let mut site = begun::<F, _>(rt, alloc, fresh(rt, alloc, fail));
+    let mut site = begun::<F, _>(rt, alloc, fresh(rt, alloc, fail), first);
     assert!(rt; !is_done(rt, alloc, &mut site, case.then), "{}", case.then);
     let (is_old, is_new) = look::<F>(rt, alloc, image_of(site), case);
     assert!(rt; is_old || is_new, "{} failed at {number}", case.then);
@@ -174,6 +258,7 @@ fn fail_at<F: Tested>(rt: &impl Abort, alloc: Global, case: &Case, number: u64) 
 fn stop_at<F: Tested>(
     rt: &impl Abort,
     alloc: Global,
+    first: &[(&str, &str)],
     case: &Case,
     ends: (u64, u64),
     number: u64,
@@ -181,27 +266,24 @@ fn stop_at<F: Tested>(
 ) {
     let station = fresh(rt, alloc, Vec::new(alloc));
     let passes = number.saturating_sub(station.calls());
-    let mut site = begun::<F, _>(rt, alloc, FuseStation::new(station, passes, pick));
+    let fuse = FuseStation::new(station, passes, pick);
+    let mut site = begun::<F, _>(rt, alloc, fuse, first);
     let is_done = is_done(rt, alloc, &mut site, case.then);
     assert_eq!(rt; is_done, number == ends.1, "{}", case.then);
     let (is_old, is_new) = look::<F>(rt, alloc, image_of(site).into_image(), case);
-    let is_right = if is_done {
-        is_new
-    } else {
-        is_old || is_new && number > ends.0
-    };
+    let is_right = is_new && number > ends.0 || is_old && !is_done;
     assert!(rt; is_right, "{} stopped at {number}", case.then);
 }
 
 /// Fails each call of a change, and stops the change there with each pick.
-fn try_each<F: Tested>(rt: &impl Abort, alloc: Global, case: &Case) {
-    let ends = ends::<F>(rt, alloc, case.then);
+fn try_each<F: Tested>(rt: &impl Abort, alloc: Global, first: &[(&str, &str)], case: &Case) {
+    let ends = ends::<F>(rt, alloc, first, case.then);
     for number in ends.0..ends.1 {
-        fail_at::<F>(rt, alloc, case, number);
+        fail_at::<F>(rt, alloc, first, case, number);
     }
     for number in ends.0..=ends.1 {
         for pick in PICKS {
-            stop_at::<F>(rt, alloc, case, ends, number, pick);
+            stop_at::<F>(rt, alloc, first, case, ends, number, pick);
         }
     }
 }
@@ -209,13 +291,14 @@ fn try_each<F: Tested>(rt: &impl Abort, alloc: Global, case: &Case) {
 #[test]
 fn changes_of_inodes(rt: HostRuntime) {
     for case in &INODES {
-        try_each::<InodeFs>(&rt, rt.alloc(), case);
+        try_each::<InodeFs>(&rt, rt.alloc(), INODES_FIRST.as_slice(), case);
     }
 }
 
 #[test]
 fn changes_of_chains(rt: HostRuntime) {
     for case in &CHAINS {
-        try_each::<ChainFs>(&rt, rt.alloc(), case);
+        try_each::<ChainFs>(&rt, rt.alloc(), CHAINS_FIRST.as_slice(), case);
     }
+    try_each::<ChainFs>(&rt, rt.alloc(), FULL_FIRST.as_slice(), &FULL);
 }
