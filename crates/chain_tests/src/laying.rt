@@ -1,16 +1,15 @@
 //! Worlds laid by hand.
 
-use crate::disks::Untold;
-use crate::shell::part;
 use fs_asks::Client;
-use fs_port::Blocks;
+use fs_port::{Blocks, PlainBlocks};
+use fs_site::{Untold, WRITE};
 use std::process::Abort;
-use tsd_model::{Data, Reply, Request};
+use tsd_model::Data;
 
 /// Session 1, which hangs its tree from block 0.
 const CLIENT: Client = Client {
     root: 0,
-    cap: crate::disks::WRITE,
+    cap: WRITE,
     session: 1,
 };
 
@@ -19,6 +18,15 @@ const CLIENT: Client = Client {
 pub enum Said<'a> {
     Dir(Option<u32>, &'a [(u32, &'a str)]),
     Part(Option<u32>, u64, u64),
+}
+
+/// The bytes of the files of these tests from a place to another, at most 4,096.
+fn part(first: u64, last: u64) -> Data {
+    let mut bytes = Data::new();
+    for place in first..last {
+        let _ = bytes.push((place % 251) as u8);
+    }
+    bytes
 }
 
 fn add_number(bytes: &mut Data, number: u32) {
@@ -80,22 +88,22 @@ fn block_bytes(said: &Said<'_>) -> Data {
 }
 
 /// Takes so many blocks, all of which hang from the root, and comes to hold each.
-fn take_blocks(rt: &impl Abort, disk: &mut Untold, blocks: u32, case: &str) {
-    disk.ready(rt);
+fn take_blocks(rt: &impl Abort, disk: &mut Untold<PlainBlocks>, blocks: u32, case: &str) {
+    assert!(rt; !disk.is_spent());
     assert!(rt;
         blocks == 0 || CLIENT.alloc(disk, 0, blocks).is_ok(),
         "{case}"
     );
     for block in 0..=blocks {
-        disk.ready(rt);
+        assert!(rt; !disk.is_spent());
         assert!(rt; CLIENT.read(disk, block).is_ok(), "{case}: block {block}");
     }
 }
 
 /// Makes the pairs that don't begin at the root.
-fn link_blocks(rt: &impl Abort, disk: &mut Untold, pairs: &[(u32, u32)], case: &str) {
+fn link_blocks(rt: &impl Abort, disk: &mut Untold<PlainBlocks>, pairs: &[(u32, u32)], case: &str) {
     for (source, target) in pairs {
-        disk.ready(rt);
+        assert!(rt; !disk.is_spent());
         if *source != 0 {
             assert!(rt;
                 CLIENT.link(disk, *source, *target).is_ok(),
@@ -108,7 +116,7 @@ fn link_blocks(rt: &impl Abort, disk: &mut Untold, pairs: &[(u32, u32)], case: &
 /// Takes so many blocks, leaves just these pairs, and writes what each block says.
 pub fn lay(
     rt: &impl Abort,
-    disk: &mut Untold,
+    disk: &mut Untold<PlainBlocks>,
     blocks: u32,
     pairs: &[(u32, u32)],
     said: &[(u32, Said<'_>)],
@@ -117,14 +125,14 @@ pub fn lay(
     take_blocks(rt, disk, blocks, case);
     link_blocks(rt, disk, pairs, case);
     for (block, what) in said {
-        disk.ready(rt);
+        assert!(rt; !disk.is_spent());
         assert!(rt;
             CLIENT.write(disk, *block, block_bytes(what)).is_ok(),
             "{case}: block {block}"
         );
     }
     for block in 1..=blocks {
-        disk.ready(rt);
+        assert!(rt; !disk.is_spent());
         if !pairs.contains(&(0, block)) {
             assert!(rt;
                 CLIENT.unlink(disk, 0, block).is_ok(),
@@ -135,10 +143,15 @@ pub fn lay(
 }
 
 /// Asserts that the pairs out of a disk of sixteen blocks are these, by their sources and targets.
-pub fn has_pairs(rt: &impl Abort, disk: &mut Untold, pairs: &[(u32, u32)], case: &str) {
+pub fn has_pairs(
+    rt: &impl Abort,
+    disk: &mut Untold<PlainBlocks>,
+    pairs: &[(u32, u32)],
+    case: &str,
+) {
     let mut count = 0usize;
     for source in 0..16 {
-        disk.ready(rt);
+        assert!(rt; !disk.is_spent());
         if let Ok(targets) = CLIENT.list(disk, source, 0) {
             for target in targets.as_slice() {
                 assert!(rt;
@@ -150,13 +163,4 @@ pub fn has_pairs(rt: &impl Abort, disk: &mut Untold, pairs: &[(u32, u32)], case:
         }
     }
     assert_eq!(rt; count, pairs.len(), "{case}");
-}
-
-/// How many blocks are free.
-pub fn free(rt: &impl Abort, disk: &mut Untold) -> u32 {
-    disk.ready(rt);
-    match disk.ask(&Request::GetFree) {
-        Ok(Reply::Free(free)) => free,
-        _ => rt.abort(),
-    }
 }

@@ -1,139 +1,169 @@
-//! Rows of asks on fresh disks of blocks of 512 bytes. A cluster there has room for 496 bytes, or 15 entries.
+//! Worked asks, each with its answer, on fresh disks of blocks of 512 bytes. A cluster there has room for 496 bytes, or 15 entries.
 
-use crate::disks::fresh;
-use crate::ours::ours;
-use crate::shell::run;
+use crate::lines::{fresh, path_of, run};
+use fs_trees::FsRefusal;
 
 /// Files are made, read, listed, replaced and removed.
 #[test]
 fn files_of_a_directory(rt: HostRuntime) {
-    let mut disk = fresh(&rt, rt.alloc(), 16, 32);
-    let mut files = ours(&rt, rt.alloc());
-    let rows = [
-        ("mount", "", 0, "no not-this-fs\n"),
-        ("ls", "/", 0, "no not-this-fs\n"),
-        ("put", "/a", 1, "no not-this-fs\n"),
-        ("mkfs", "", 0, "ok\n"),
-        ("df", "", 0, "free 15\n"),
-        ("ls", "/", 0, "ok\n"),
-        ("put", "/b", 0, "ok\n"),
-        ("put", "/a", 497, "ok\n"),
-        ("ls", "/", 0, "a b"),
-        ("cat", "/a", 0, "free 497\n"),
-        ("cat", "/b", 0, "free 0\n"),
-        ("df", "", 0, "free 12\n"),
-        ("put", "/a", 3, "ok\n"),
-        ("cat", "/a", 0, "free 3\n"),
-        ("df", "", 0, "free 13\n"),
-        ("append", "/b", 992, "ok\n"),
-        ("append", "/b", 1, "ok\n"),
-        ("append", "/b", 0, "ok\n"),
-        ("cat", "/b", 0, "free 993\n"),
-        ("df", "", 0, "free 11\n"),
-        ("mount", "", 0, "ok\n"),
-        ("ls", "/", 0, "a b"),
-        ("rm", "/b", 0, "ok\n"),
-        ("ls", "/", 0, "a"),
-        ("df", "", 0, "free 14\n"),
-        ("mkfs", "", 0, "ok\n"),
-        ("df", "", 0, "free 15\n"),
-        ("ls", "/", 0, "ok\n"),
+    let mut site = fresh(&rt, rt.alloc(), 1, 16, 32);
+    assert_eq!(rt; site.mount(), Err(FsRefusal::NotThisFs));
+    let table = [
+        ("ls /", "no not-this-fs"),
+        ("put /a 00", "no not-this-fs"),
+        ("mkfs", "ok"),
+        ("df", "free 15"),
+        ("ls /", "names -"),
+        ("put /b -", "ok"),
+        ("put /a 11*496,22", "ok"),
+        ("ls /", "names a b"),
+        ("cat /a", "data 11*496,22"),
+        ("cat /b", "data -"),
+        ("df", "free 12"),
+        ("put /a 010203", "ok"),
+        ("cat /a", "data 010203"),
+        ("df", "free 13"),
+        ("append /b 11*496,22*496", "ok"),
+        ("append /b 33", "ok"),
+        ("append /b -", "ok"),
+        ("cat /b", "data 11*496,22*496,33"),
+        ("df", "free 11"),
     ];
-    run(&rt, &mut files, &mut disk, rows.as_slice());
+    run(&rt, rt.alloc(), &mut site, table.as_slice());
+    assert_eq!(rt; site.mount(), Ok(()));
+    let table = [
+        ("ls /", "names a b"),
+        ("rm /b", "ok"),
+        ("ls /", "names a"),
+        ("df", "free 14"),
+        ("mkfs", "ok"),
+        ("df", "free 15"),
+        ("ls /", "names -"),
+    ];
+    run(&rt, rt.alloc(), &mut site, table.as_slice());
 }
 
 /// Refusals, each where the ones before it don't apply.
 #[test]
 fn refusals(rt: HostRuntime) {
-    let mut disk = fresh(&rt, rt.alloc(), 8, 4);
-    let mut files = ours(&rt, rt.alloc());
-    let rows = [
-        ("mkfs", "", 0, "ok\n"),
-        ("put", "/", 1, "no is-dir\n"),
-        ("append", "/", 1, "no is-dir\n"),
-        ("cat", "/", 0, "no is-dir\n"),
-        ("rm", "/", 0, "no is-dir\n"),
-        ("cat", "/a", 0, "no no-entry\n"),
-        ("append", "/a", 1, "no no-entry\n"),
-        ("rm", "/a", 0, "no no-entry\n"),
-        ("ls", "/a", 0, "no no-entry\n"),
-        ("put", "/a/b", 1, "no no-entry\n"),
-        ("put", "/a", 1, "ok\n"),
-        ("ls", "/a", 0, "no not-dir\n"),
-        ("put", "/a/b", 1, "no not-dir\n"),
-        ("rm", "/a/b", 0, "no not-dir\n"),
-        ("put", "/b", 1489, "no pointers-full 1 4\n"),
-        ("put", "/b", 2976, "no pointers-full 1 4\n"),
-        ("put", "/b", 2977, "no full 6 7\n"),
-        ("put", "/b", 1488, "ok\n"),
-        ("append", "/b", 1, "no pointers-full 4 4\n"),
-        ("put", "/b", 1, "no pointers-full 4 4\n"),
-        ("append", "/b", 0, "ok\n"),
-        ("cat", "/b", 0, "free 1488\n"),
-        ("rm", "/a", 0, "ok\n"),
-        ("append", "/b", 496, "ok\n"),
-        ("cat", "/b", 0, "free 1984\n"),
-        ("df", "", 0, "free 3\n"),
+    let mut site = fresh(&rt, rt.alloc(), 1, 8, 4);
+    let table = [
+        ("mkfs", "ok"),
+        ("put / 00", "no is-dir"),
+        ("append / 00", "no is-dir"),
+        ("cat /", "no is-dir"),
+        ("rm /", "no is-dir"),
+        ("cat /a", "no no-entry"),
+        ("append /a 00", "no no-entry"),
+        ("rm /a", "no no-entry"),
+        ("ls /a", "no no-entry"),
+        ("put /a/b 00", "no no-entry"),
+        ("put /a 00", "ok"),
+        ("ls /a", "no not-dir"),
+        ("put /a/b 00", "no not-dir"),
+        ("rm /a/b", "no not-dir"),
+        ("put /b 11*1489", "no pointers-full 1 4"),
+        ("put /b 11*2976", "no pointers-full 1 4"),
+        ("put /b 11*2977", "no full 6 7"),
+        ("put /b 11*496,22*496,33*496", "ok"),
+        ("append /b 44", "no pointers-full 4 4"),
+        ("put /b 44", "no pointers-full 4 4"),
+        ("append /b -", "ok"),
+        ("cat /b", "data 11*496,22*496,33*496"),
+        ("rm /a", "ok"),
+        ("append /b 44*496", "ok"),
+        ("cat /b", "data 11*496,22*496,33*496,44*496"),
+        ("df", "free 3"),
+        ("mkdir /d", "no bad-request"),
+        ("cp /b /c", "no bad-request"),
     ];
-    run(&rt, &mut files, &mut disk, rows.as_slice());
+    run(&rt, rt.alloc(), &mut site, table.as_slice());
+    assert_eq!(rt;
+        site.make_dir(&path_of(&rt, b"/d")),
+        Err(FsRefusal::NotThisFs)
+    );
+    run(
+        &rt,
+        rt.alloc(),
+        &mut site,
+        [("ls /", "names b"), ("df", "free 3")].as_slice(),
+    );
 }
 
 /// A file of 30 clusters, made by four appends.
 #[test]
 fn a_long_file(rt: HostRuntime) {
-    let mut disk = fresh(&rt, rt.alloc(), 64, 64);
-    let mut files = ours(&rt, rt.alloc());
-    let rows = [
-        ("mkfs", "", 0, "ok\n"),
-        ("put", "/b", 0, "ok\n"),
-        ("append", "/b", 4096, "ok\n"),
-        ("append", "/b", 4096, "ok\n"),
-        ("append", "/b", 4096, "ok\n"),
-        ("append", "/b", 2592, "ok\n"),
-        ("cat", "/b", 0, "free 14880\n"),
-        ("df", "", 0, "free 33\n"),
-        ("mount", "", 0, "ok\n"),
-        ("rm", "/b", 0, "ok\n"),
-        ("df", "", 0, "free 63\n"),
+    let mut site = fresh(&rt, rt.alloc(), 1, 64, 64);
+    let table = [
+        ("mkfs", "ok"),
+        ("put /b -", "ok"),
+        (
+            "append /b 01*600,02*600,03*600,04*600,05*600,06*600,07*496",
+            "ok",
+        ),
+        (
+            "append /b 08*600,09*600,0a*600,0b*600,0c*600,0d*600,0e*496",
+            "ok",
+        ),
+        (
+            "append /b 0f*600,10*600,11*600,12*600,13*600,14*600,15*496",
+            "ok",
+        ),
+        ("append /b 16*600,17*600,18*600,19*600,1a*192", "ok"),
+        (
+            "cat /b",
+            "data 01*600,02*600,03*600,04*600,05*600,06*600,07*496,08*600,09*600,0a*600,0b*600,0c*600,0d*600,0e*496,0f*600,10*600,11*600,12*600,13*600,14*600,15*496,16*600,17*600,18*600,19*600,1a*192",
+        ),
+        ("df", "free 33"),
     ];
-    run(&rt, &mut files, &mut disk, rows.as_slice());
+    run(&rt, rt.alloc(), &mut site, table.as_slice());
+    assert_eq!(rt; site.mount(), Ok(()));
+    assert_eq!(rt; site.size(&path_of(&rt, b"/b")), Ok(14_880));
+    run(
+        &rt,
+        rt.alloc(),
+        &mut site,
+        [("rm /b", "ok"), ("df", "free 63")].as_slice(),
+    );
 }
 
 /// The directory grows by a cluster with the sixteenth name, keeps it, and uses the first place again.
 #[test]
 fn a_wide_directory(rt: HostRuntime) {
-    let mut disk = fresh(&rt, rt.alloc(), 32, 64);
-    let mut files = ours(&rt, rt.alloc());
-    let rows = [
-        ("mkfs", "", 0, "ok\n"),
-        ("put", "/d", 0, "ok\n"),
-        ("put", "/o", 0, "ok\n"),
-        ("put", "/n", 0, "ok\n"),
-        ("put", "/m", 0, "ok\n"),
-        ("put", "/l", 0, "ok\n"),
-        ("put", "/k", 0, "ok\n"),
-        ("put", "/j", 0, "ok\n"),
-        ("put", "/i", 0, "ok\n"),
-        ("put", "/h", 0, "ok\n"),
-        ("put", "/g", 0, "ok\n"),
-        ("put", "/f", 0, "ok\n"),
-        ("put", "/e", 0, "ok\n"),
-        ("put", "/c", 0, "ok\n"),
-        ("put", "/b", 0, "ok\n"),
-        ("put", "/p", 0, "ok\n"),
-        ("df", "", 0, "free 16\n"),
-        ("put", "/a", 0, "ok\n"),
-        ("df", "", 0, "free 14\n"),
-        ("ls", "/", 0, "a b c d e f g h i j k l m n o p"),
-        ("rm", "/d", 0, "ok\n"),
-        ("put", "/q", 0, "ok\n"),
-        ("df", "", 0, "free 14\n"),
-        ("rm", "/a", 0, "ok\n"),
-        ("df", "", 0, "free 15\n"),
-        ("mount", "", 0, "ok\n"),
-        ("ls", "/", 0, "b c e f g h i j k l m n o p q"),
-        ("put", "/a", 0, "ok\n"),
-        ("df", "", 0, "free 14\n"),
+    let mut site = fresh(&rt, rt.alloc(), 1, 32, 64);
+    let table = [
+        ("mkfs", "ok"),
+        ("put /d -", "ok"),
+        ("put /o -", "ok"),
+        ("put /n -", "ok"),
+        ("put /m -", "ok"),
+        ("put /l -", "ok"),
+        ("put /k -", "ok"),
+        ("put /j -", "ok"),
+        ("put /i -", "ok"),
+        ("put /h -", "ok"),
+        ("put /g -", "ok"),
+        ("put /f -", "ok"),
+        ("put /e -", "ok"),
+        ("put /c -", "ok"),
+        ("put /b -", "ok"),
+        ("put /p -", "ok"),
+        ("df", "free 16"),
+        ("put /a -", "ok"),
+        ("df", "free 14"),
+        ("ls /", "names a b c d e f g h i j k l m n o p"),
+        ("rm /d", "ok"),
+        ("put /q -", "ok"),
+        ("df", "free 14"),
+        ("rm /a", "ok"),
+        ("df", "free 15"),
     ];
-    run(&rt, &mut files, &mut disk, rows.as_slice());
+    run(&rt, rt.alloc(), &mut site, table.as_slice());
+    assert_eq!(rt; site.mount(), Ok(()));
+    let table = [
+        ("ls /", "names b c e f g h i j k l m n o p q"),
+        ("put /a -", "ok"),
+        ("df", "free 14"),
+    ];
+    run(&rt, rt.alloc(), &mut site, table.as_slice());
 }

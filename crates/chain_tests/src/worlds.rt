@@ -1,31 +1,27 @@
 //! Mounting worlds laid by hand, which are a tree or none.
 
-use crate::disks::{Untold, fresh};
-use crate::laying::{Said, free, has_pairs, lay};
-use crate::ours::ours;
+use crate::laying::{Said, has_pairs, lay};
+use crate::lines::{ChainSite, free, fresh, mounted_again};
 use fs_trees::FsRefusal;
 use std::alloc::Global;
 use std::process::Abort;
 
-/// Mounts and asserts what is answered and what is left.
-fn mounts(
+/// A disk of sixteen blocks on which these are laid.
+fn laid(
     rt: &impl Abort,
     alloc: Global,
-    disk: &mut Untold,
-    is_tree: bool,
+    blocks: u32,
     pairs: &[(u32, u32)],
+    said: &[(u32, Said<'_>)],
     case: &str,
-) {
-    let mut files = ours(rt, alloc);
-    match crate::asks::mount(rt, &mut files, disk) {
-        Ok(()) => assert!(rt; is_tree, "{case}"),
-        Err(FsRefusal::NotThisFs) => assert!(rt; !is_tree, "{case}"),
-        Err(_) => rt.abort(),
-    }
-    has_pairs(rt, disk, pairs, case);
+) -> ChainSite {
+    let mut site = fresh(rt, alloc, 1, 16, 64);
+    lay(rt, &mut site.disk, blocks, pairs, said, case);
+    site
 }
 
-/// Lays a tree, mounts it, and asserts that just these pairs are left and just so many blocks are free.
+/// Lays a tree, mounts it, and asserts that just these pairs are left and just so many blocks are free, also where mounting is
+/// stopped behind so many requests and begun again.
 fn tidied(
     rt: &impl Abort,
     alloc: Global,
@@ -33,14 +29,27 @@ fn tidied(
     pairs: &[(u32, u32)],
     said: &[(u32, Said<'_>)],
     left: &[(u32, u32)],
-    unused: u32,
+    unused: usize,
     case: &str,
 ) {
-    let mut disk = fresh(rt, alloc, 16, 64);
-    lay(rt, &mut disk, blocks, pairs, said, case);
-    mounts(rt, alloc, &mut disk, true, left, case);
-    assert_eq!(rt; free(rt, &mut disk), unused, "{case}");
-    mounts(rt, alloc, &mut disk, true, left, case);
+    for asks in 0..60 {
+        let mut site = laid(rt, alloc, blocks, pairs, said, case);
+        site.disk.left = asks;
+        let answered = site.mount();
+        assert_eq!(rt;
+            answered == Err(FsRefusal::Device),
+            site.disk.is_stopped,
+            "{case}"
+        );
+        let mut site = mounted_again(rt, alloc, site);
+        has_pairs(rt, &mut site.disk, left, case);
+        assert_eq!(rt; free(rt, &mut site), unused, "{case}: behind {asks}");
+        if answered.is_ok() {
+            assert!(rt; asks > 0, "{case}");
+            return;
+        }
+    }
+    rt.abort()
 }
 
 /// Lays a world that is no tree, and asserts that it is left alone.
@@ -52,11 +61,11 @@ fn left_alone(
     said: &[(u32, Said<'_>)],
     case: &str,
 ) {
-    let mut disk = fresh(rt, alloc, 16, 64);
-    lay(rt, &mut disk, blocks, pairs, said, case);
-    let before = free(rt, &mut disk);
-    mounts(rt, alloc, &mut disk, false, pairs, case);
-    assert_eq!(rt; free(rt, &mut disk), before, "{case}");
+    let mut site = laid(rt, alloc, blocks, pairs, said, case);
+    let before = free(rt, &mut site);
+    assert_eq!(rt; site.mount(), Err(FsRefusal::NotThisFs), "{case}");
+    has_pairs(rt, &mut site.disk, pairs, case);
+    assert_eq!(rt; free(rt, &mut site), before, "{case}");
 }
 
 /// A directory of one cluster, and a file of 497 bytes in blocks 1 and 2.

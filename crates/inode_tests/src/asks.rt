@@ -1,9 +1,9 @@
 //! Asks in short, each given to the file system and to the plain tree.
 
-use crate::lines::{free, path_of};
+use crate::lines::{InodeSite, free, path_of};
 use crate::tree::{Item, Tree};
 use fs_trees::{FsRefusal, Name};
-use inode_site::{Named, Site};
+use fs_site::Named;
 use std::alloc::{AllocError, Global};
 use std::process::Abort;
 use tsd_model::Data;
@@ -80,7 +80,7 @@ pub fn apply(tree: &mut Tree, ask: &Ask) -> Result<(), AllocError> {
 }
 
 /// Lists a directory; asserts that just the plain tree's names come, in order.
-fn list(rt: &impl Abort, site: &mut Site, tree: &Tree, path: &[u8]) -> Result<bool, FsRefusal> {
+fn list(rt: &impl Abort, site: &mut InodeSite, tree: &Tree, path: &[u8]) -> Result<bool, FsRefusal> {
     let named = spelled(rt, path);
     let mut last = Name::new();
     let mut count = 0usize;
@@ -106,7 +106,7 @@ fn list(rt: &impl Abort, site: &mut Site, tree: &Tree, path: &[u8]) -> Result<bo
 }
 
 /// Whether the file system has the bytes of the plain tree.
-fn reads(rt: &impl Abort, site: &mut Site, tree: &Tree, path: &[u8]) -> Result<bool, FsRefusal> {
+fn reads(rt: &impl Abort, site: &mut InodeSite, tree: &Tree, path: &[u8]) -> Result<bool, FsRefusal> {
     let all = site.cat(tree.alloc, &spelled(rt, path))?;
     Ok(match tree.body(path) {
         Some(body) => body.bytes.as_slice() == all.as_slice(),
@@ -115,7 +115,7 @@ fn reads(rt: &impl Abort, site: &mut Site, tree: &Tree, path: &[u8]) -> Result<b
 }
 
 /// Whether it is there as the plain tree has it.
-fn is_item_same(rt: &impl Abort, site: &mut Site, tree: &Tree, item: &Item) -> bool {
+fn is_item_same(rt: &impl Abort, site: &mut InodeSite, tree: &Tree, item: &Item) -> bool {
     let path = item.path.as_slice();
     match item.body {
         Some(_) => reads(rt, site, tree, path) == Ok(true),
@@ -124,7 +124,7 @@ fn is_item_same(rt: &impl Abort, site: &mut Site, tree: &Tree, item: &Item) -> b
 }
 
 /// Whether the tree as it is read by the file system is the plain one, and no block is lost.
-pub fn is_same(rt: &impl Abort, site: &mut Site, tree: &Tree) -> Result<bool, AllocError> {
+pub fn is_same(rt: &impl Abort, site: &mut InodeSite, tree: &Tree) -> Result<bool, AllocError> {
     let mut is_same = list(rt, site, tree, &[]) == Ok(true);
     for item in tree.items.as_slice() {
         is_same = is_same && is_item_same(rt, site, tree, item);
@@ -133,7 +133,7 @@ pub fn is_same(rt: &impl Abort, site: &mut Site, tree: &Tree) -> Result<bool, Al
 }
 
 /// The answer of the file system, which is asserted to have the plain tree's names and bytes.
-pub fn answer(rt: &impl Abort, site: &mut Site, tree: &Tree, ask: &Ask) -> Result<(), FsRefusal> {
+pub fn answer(rt: &impl Abort, site: &mut InodeSite, tree: &Tree, ask: &Ask) -> Result<(), FsRefusal> {
     let path = spelled(rt, ask.path.as_slice());
     let mut bytes = Data::new();
     assert!(rt; bytes.extend_from_slice(ask.bytes.as_slice()).is_ok());
@@ -161,7 +161,7 @@ pub fn answer(rt: &impl Abort, site: &mut Site, tree: &Tree, ask: &Ask) -> Resul
 /// Gives an ask to both and compares the answers; gives the answer.
 pub fn step(
     rt: &impl Abort,
-    site: &mut Site,
+    site: &mut InodeSite,
     tree: &mut Tree,
     ask: &Ask,
 ) -> Result<Result<(), FsRefusal>, AllocError> {

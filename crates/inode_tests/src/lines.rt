@@ -1,17 +1,21 @@
 //! Lines of the shell, each with its answer, and what tests need of a site.
 
-use inode_site::{Named, Site, again, answer_to, begun, bytes_of, expanded, name_path};
+use fs_site::{Named, PlainSite, again, answer_to, begun, bytes_of, expanded, name_path};
+use inode_fs::InodeFs;
 use std::alloc::Global;
 use std::process::Abort;
 use tsd_model::Data;
 
+/// The file system of inodes over a plain disk.
+pub type InodeSite = PlainSite<InodeFs>;
+
 /// A fresh disk of so many blocks with so many slots, and a file system of which nothing is mounted.
-pub fn fresh(rt: &impl Abort, alloc: Global, sectors: u32, blocks: u32, slots: u32) -> Site {
+pub fn fresh(rt: &impl Abort, alloc: Global, sectors: u32, blocks: u32, slots: u32) -> InodeSite {
     begun(alloc, sectors, blocks, slots).expect(rt, "ample memory")
 }
 
 /// The same disk, mounted by a file system that knows nothing of it.
-pub fn mounted_again(rt: &impl Abort, alloc: Global, site: Site) -> Site {
+pub fn mounted_again(rt: &impl Abort, alloc: Global, site: InodeSite) -> InodeSite {
     let mut site = again(alloc, site).expect(rt, "ample memory");
     assert_eq!(rt; site.mount(), Ok(()));
     site
@@ -28,12 +32,12 @@ pub fn data_of(rt: &impl Abort, alloc: Global, digits: &str) -> Data {
 }
 
 /// How many blocks are free.
-pub fn free(rt: &impl Abort, site: &mut Site) -> usize {
+pub fn free(rt: &impl Abort, site: &mut InodeSite) -> usize {
     site.free().expect(rt, "no fault") as usize
 }
 
 /// Asserts that a line is answered so. In both texts `61*3` stands for `616161`.
-pub fn answers(rt: &impl Abort, alloc: Global, site: &mut Site, line: &str, wanted: &str) {
+pub fn answers(rt: &impl Abort, alloc: Global, site: &mut InodeSite, line: &str, wanted: &str) {
     let mut text = expanded(alloc, wanted).expect(rt, "ample memory");
     assert!(rt; text.push(b'\n').is_ok());
     match answer_to(alloc, site, line) {
@@ -43,7 +47,7 @@ pub fn answers(rt: &impl Abort, alloc: Global, site: &mut Site, line: &str, want
 }
 
 /// Asserts that each line is answered so, one after the other.
-pub fn run(rt: &impl Abort, alloc: Global, site: &mut Site, rows: &[(&str, &str)]) {
+pub fn run(rt: &impl Abort, alloc: Global, site: &mut InodeSite, rows: &[(&str, &str)]) {
     for (line, wanted) in rows {
         answers(rt, alloc, site, line, wanted);
     }

@@ -1,11 +1,10 @@
 //! Each ask stopped at each of its requests: the disk has the tree before it or the one after it, and no block is lost.
 
 use crate::asks::{Ask, Kind, answer, apply, expected, is_same, step};
-use crate::lines::{fresh, mounted_again};
+use crate::lines::{InodeSite, fresh, mounted_again};
 use crate::random::draw_ask;
 use crate::tree::{Room, Tree};
 use fs_trees::FsRefusal;
-use inode_site::Site;
 use std::alloc::{AllocError, Global};
 use std::process::Abort;
 use std::test::Fail;
@@ -21,7 +20,7 @@ fn replay(
     alloc: Global,
     tree: &mut Tree,
     asks: &[Ask],
-) -> Result<Site, AllocError> {
+) -> Result<InodeSite, AllocError> {
     let mut site = fresh(rt, alloc, 1, ROOM.blocks, ROOM.slots);
     assert_eq!(rt; site.make(), Ok(()));
     for ask in asks {

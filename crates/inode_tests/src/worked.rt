@@ -1,9 +1,9 @@
 //! Worked asks, each with its answer.
 
-use crate::lines::{answers, data_of, fresh, mounted_again, path_of, run};
+use crate::lines::{InodeSite, answers, data_of, fresh, mounted_again, path_of, run};
 use fs_port::{Blocks, Files};
 use fs_trees::FsRefusal;
-use inode_site::{Site, answer_to};
+use fs_site::answer_to;
 use std::alloc::Global;
 use std::process::Abort;
 use tsd_model::Data;
@@ -383,7 +383,7 @@ fn longest_file(rt: HostRuntime) {
 }
 
 /// Asserts that a part of a file of the bytes 0 to 255, over and over, goes from the first place to the last.
-fn reads(rt: &impl Abort, site: &mut Site, first: u32, last: u32) {
+fn reads(rt: &impl Abort, site: &mut InodeSite, first: u32, last: u32) {
     let mut part = Data::new();
     let mut wanted = Data::new();
     for place in first..last {

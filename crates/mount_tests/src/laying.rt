@@ -1,8 +1,8 @@
 //! Worlds laid by hand, by the tables of the documents.
 
 use fs_asks::Client;
-use fs_port::{Blocks, free_blocks};
-use inode_site::{Untold, WRITE, bytes_of};
+use fs_port::{Blocks, PlainBlocks, free_blocks};
+use fs_site::{Untold, WRITE, bytes_of};
 use std::alloc::Global;
 use std::process::Abort;
 use tsd_model::Data;
@@ -72,7 +72,7 @@ fn block_bytes(rt: &impl Abort, alloc: Global, said: &Said<'_>) -> Data {
 }
 
 /// Takes so many blocks, all of which hang from the root, and comes to hold each.
-fn take_blocks(rt: &impl Abort, disk: &mut Untold, blocks: u32, case: &str) {
+fn take_blocks(rt: &impl Abort, disk: &mut Untold<PlainBlocks>, blocks: u32, case: &str) {
     assert!(rt; !disk.is_spent());
     assert!(rt;
         blocks == 0 || CLIENT.alloc(disk, 0, blocks).is_ok(),
@@ -85,7 +85,7 @@ fn take_blocks(rt: &impl Abort, disk: &mut Untold, blocks: u32, case: &str) {
 }
 
 /// Makes the pairs that don't begin at the root.
-fn link_blocks(rt: &impl Abort, disk: &mut Untold, pairs: &[(u32, u32)], case: &str) {
+fn link_blocks(rt: &impl Abort, disk: &mut Untold<PlainBlocks>, pairs: &[(u32, u32)], case: &str) {
     for (source, target) in pairs {
         assert!(rt; !disk.is_spent());
         if *source != 0 {
@@ -101,7 +101,7 @@ fn link_blocks(rt: &impl Abort, disk: &mut Untold, pairs: &[(u32, u32)], case: &
 pub fn lay(
     rt: &impl Abort,
     alloc: Global,
-    disk: &mut Untold,
+    disk: &mut Untold<PlainBlocks>,
     blocks: u32,
     pairs: &[(u32, u32)],
     said: &[(u32, Said<'_>)],
@@ -130,7 +130,12 @@ pub fn lay(
 }
 
 /// Asserts that the pairs out of a disk of sixteen blocks are these, by their sources and targets.
-pub fn has_pairs(rt: &impl Abort, disk: &mut Untold, pairs: &[(u32, u32)], case: &str) {
+pub fn has_pairs(
+    rt: &impl Abort,
+    disk: &mut Untold<PlainBlocks>,
+    pairs: &[(u32, u32)],
+    case: &str,
+) {
     let mut count = 0usize;
     for source in 0..16 {
         assert!(rt; !disk.is_spent());
@@ -148,7 +153,7 @@ pub fn has_pairs(rt: &impl Abort, disk: &mut Untold, pairs: &[(u32, u32)], case:
 }
 
 /// How many blocks are free.
-pub fn free(rt: &impl Abort, disk: &mut Untold) -> u32 {
+pub fn free(rt: &impl Abort, disk: &mut Untold<PlainBlocks>) -> u32 {
     assert!(rt; !disk.is_spent());
     free_blocks(disk).expect(rt, "no fault")
 }

@@ -1,8 +1,9 @@
 //! Worlds whose trees an independent program computed from their blocks and pointers, some with an ask and its answer there.
 
 use crate::laying::{Said, has_pairs, lay};
+use fs_site::{answer_to, begun, expanded};
 use fs_trees::FsRefusal;
-use inode_site::{answer_to, begun, expanded};
+use inode_fs::InodeFs;
 use std::alloc::Global;
 use std::process::Abort;
 
@@ -19,7 +20,7 @@ struct World<'a> {
 
 /// Lays it, mounts it, and asserts that it is a tree or none and that lines are answered so.
 fn is_as_told(rt: &impl Abort, alloc: Global, world: &World<'_>, place: usize) {
-    let mut site = begun(alloc, 1, world.blocks, world.slots).expect(rt, "ample memory");
+    let mut site = begun::<InodeFs>(alloc, 1, world.blocks, world.slots).expect(rt, "ample memory");
     let mut last = 0;
     let mut all = Vec::new(alloc);
     for (block, digits) in world.said {

@@ -2,8 +2,9 @@
 
 use crate::laying::{Said, free, has_pairs, lay};
 use fs_port::Blocks;
+use fs_site::{PlainSite, again, begun};
 use fs_trees::FsRefusal;
-use inode_site::{Site, again, begun};
+use inode_fs::InodeFs;
 use std::alloc::Global;
 use std::process::Abort;
 
@@ -15,7 +16,7 @@ fn laid(
     pairs: &[(u32, u32)],
     said: &[(u32, Said<'_>)],
     case: &str,
-) -> Site {
+) -> PlainSite<InodeFs> {
     let mut site = begun(alloc, 1, 16, 64).expect(rt, "ample memory");
     lay(rt, alloc, &mut site.disk, blocks, pairs, said, case);
     site
