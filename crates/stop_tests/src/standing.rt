@@ -123,13 +123,13 @@ impl Standing {
 
     /// Whether the pointers out of the blocks that stay are those of the world. No pointer is here twice.
     fn has_pairs(&self, world: &World) -> bool {
-        let mut count = 0;
+        let mut count: usize = 0;
         for pair in &self.tables.pairs {
             if is_among(self.stays.as_slice(), pair.0) {
                 if !world.holds(pair.0, pair.1) {
                     return false;
                 }
-                count += 1;
+                count = count.saturating_add(1);
             }
         }
         count == world.pairs().len()
