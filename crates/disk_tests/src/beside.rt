@@ -3,11 +3,10 @@
 ghost use Rattle.std.specs.Prelude.{OnOk};
 ghost use Rattle.tsd_core.specs.Core.{IsReady, IsAt};
 
-use crate::disks::{opened, placement};
 use crate::drawing::{draw, draw_request};
-use crate::plain::{Plain, image_formatted};
-use crate::stops::PICKS;
+use crate::placing::placement;
 use crate::worlds::{copied, opens_as, tells};
+use disk_site::{PICKS, Plain, image_formatted, opened};
 use image_device::{Device, FuseStation, MemStation};
 use place_policy::Placement;
 use plain_disk::Sessions;

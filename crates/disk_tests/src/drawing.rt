@@ -2,7 +2,7 @@
 
 ghost use Rattle.std.specs.Prelude.{◌<◌};
 
-use crate::disks::{BYTES, pair};
+use disk_site::{BYTES, pair};
 use plain_disk::{World, shown_level};
 use tsd_model::{CapPair, Data, Hint, Level, Request, Shown};
 

@@ -1,7 +1,8 @@
 //! Worked runs of requests through a core, and what is answered after the disk was opened again.
 
-use crate::asking::{chain, chain_replies, expect_at};
-use crate::disks::{EIGHT, MANY, MORE, TIGHT, TWICE, formatted, placement, upgrade};
+use crate::expecting::expect_at;
+use crate::placing::placement;
+use disk_site::{EIGHT, MANY, MORE, TIGHT, TWICE, chain, chain_replies, formatted, upgrade};
 use place_policy::Placement;
 use std::alloc::Global;
 use std::process::Abort;

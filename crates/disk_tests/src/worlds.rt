@@ -4,7 +4,7 @@ ghost use Rattle.std.specs.Prelude.{◌≡◌, ◌<◌, false, OnOk};
 ghost use Rattle.tsd_core.specs.Core.{IsReady as IsCoreReady};
 ghost use Rattle.volume_laws.specs.Volume.{IsReady, IsAt};
 
-use crate::disks::{BYTES, pair};
+use disk_site::{BYTES, pair};
 use image_device::{Device, Failed, MemStation};
 use plain_disk::{World, shown_level};
 use recovery::{OpenFault, open_image};

@@ -1,7 +1,8 @@
 //! How often the disk is written.
 
-use crate::asking::{chain, chain_replies, expect_at};
-use crate::disks::{EIGHT, MANY, formatted, placement};
+use crate::expecting::expect_at;
+use crate::placing::placement;
+use disk_site::{EIGHT, MANY, chain, chain_replies, formatted};
 use image_device::MemStation;
 use place_policy::Placement;
 use std::alloc::Global;

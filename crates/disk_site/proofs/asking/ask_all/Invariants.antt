@@ -1,5 +1,5 @@
 use Rattle.tsd_core.specs.Core.{IsReady, IsAt}
-use Rattle.disk_tests.proofs.asking.ask_all.Given as goal
+use Rattle.disk_site.proofs.asking.ask_all.Given as goal
 
 abbrev pub invariant-loop-request : goal.invariant-loop-request
 invariant-loop-request g l = record {

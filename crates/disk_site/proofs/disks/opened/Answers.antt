@@ -2,7 +2,7 @@ use Rattle.std.proofs.Common.{sym, subst}
 use Rattle.volume_laws.specs.Volume.{Volume}
 use Rattle.volume_laws.specs.Volume.{IsAt as IsVolumeAt}
 use Rattle.tsd_core.proofs.AtLaws.{at_core}
-use Rattle.disk_tests.proofs.disks.opened.Goals as goal
+use Rattle.disk_site.proofs.disks.opened.Goals as goal
 
 pub returns-in-Ok-clause-at : goal.returns-in-Ok-clause-at
 returns-in-Ok-clause-at g c told =

@@ -1,17 +1,14 @@
-//! Disks in memory, and placements.
+//! Disks in memory, formatted and opened.
 
-ghost use Rattle.std.specs.Prelude.{◌≡◌, ◌+◌, ◌*◌, ◌^◌, IfOk, slice_index};
+ghost use Rattle.std.specs.Prelude.{IfOk};
 ghost use Rattle.tsd_core.specs.Core.{IsReady, IsAt};
-ghost use Rattle.tsd_model.specs.Rank.{rank_of, zones_after};
-ghost use Rattle.tsd_model.specs.declared.requests.PlaceKind.TheVariants.{Low, Near, Spread};
 
-use image_device::{Device, MemStation};
-use place_policy::{Placement, ZONE_TURNS, low_rank, near_rank, spread_rank, zone_rank};
+use image_device::{Device, MemStation, Pick};
 use recovery::{OpenFault, format, open_image};
-use std::alloc::{AllocError, Global};
+use std::alloc::Global;
 use std::test::Fail;
 use tsd_core::Core;
-use tsd_model::{Cap, CapList, CapPair, Geometry, PlaceKind, lawful};
+use tsd_model::{Cap, CapList, CapPair, Geometry, lawful};
 
 /// The bytes of the capabilities R and W, and of C and D.
 pub const BYTES: [(u8, u8); 2] = [(0xaa, 0xbb), (0xcc, 0xdd)];
@@ -55,6 +52,15 @@ pub const MORE: Geometry = Geometry {
     primaries: 1,
     slots: 2400,
 };
+
+/// What a stop leaves in the sectors that are loose.
+pub const PICKS: [Pick; 5] = [
+    Pick::Old,
+    Pick::New,
+    Pick::Torn(0),
+    Pick::Torn(1),
+    Pick::Torn(255),
+];
 
 /// A pair of capabilities, each of sixteen equal bytes.
 pub fn pair(bytes: (u8, u8)) -> CapPair {
@@ -104,55 +110,4 @@ pub fn upgrade<D: Device>(alloc: Global, dev: &mut D) -> Result<(), OpenFault> {
     let mut volume = open_image(alloc, dev)?;
     volume.upgrade(dev)?;
     Ok(())
-}
-
-/// A placement of this kind.
-pub fn placement(alloc: Global, kind: PlaceKind) -> Result<Placement, AllocError> {
-    match kind {
-        PlaceKind::Low => low(alloc),
-        PlaceKind::Near => near(alloc),
-        PlaceKind::Spread => spread(alloc),
-        PlaceKind::Zone => zone(alloc),
-    }
-}
-
-fn low(alloc: Global) -> Result<Placement, AllocError> {
-    let ranks = Box::new(
-        alloc,
-        |hint: u32, block: u32| -> u64
-            ensures { result ≡ rank_of Low hint block }
-        { low_rank(hint, block) },
-    )?;
-    Ok(Placement::new(PlaceKind::Low, ranks))
-}
-
-fn near(alloc: Global) -> Result<Placement, AllocError> {
-    let ranks = Box::new(
-        alloc,
-        |hint: u32, block: u32| -> u64
-            ensures { result ≡ rank_of Near hint block }
-        { near_rank(hint, block) },
-    )?;
-    Ok(Placement::new(PlaceKind::Near, ranks))
-}
-
-fn spread(alloc: Global) -> Result<Placement, AllocError> {
-    let ranks = Box::new(
-        alloc,
-        |hint: u32, block: u32| -> u64
-            ensures { result ≡ rank_of Spread hint block }
-        { spread_rank(hint, block) },
-    )?;
-    Ok(Placement::new(PlaceKind::Spread, ranks))
-}
-
-fn zone(alloc: Global) -> Result<Placement, AllocError> {
-    let turns = ZONE_TURNS;
-    let ranks = Box::new(
-        alloc,
-        move |hint: u32, block: u32| -> u64
-            ensures { result ≡ 2 ^ 32 * slice_index turns (zones_after hint block) + block }
-        { zone_rank(&turns, hint, block) },
-    )?;
-    Ok(Placement::new(PlaceKind::Zone, ranks))
 }

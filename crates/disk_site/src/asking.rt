@@ -10,7 +10,6 @@ use image_device::Device;
 use place_policy::Placement;
 use script_text::{OutBuf, parse_line, print_reply};
 use std::alloc::{AllocError, Global};
-use std::process::Abort;
 use std::test::Fail;
 use tsd_core::Core;
 use tsd_model::{Reply, Request};
@@ -59,7 +58,7 @@ pub fn chain_replies(alloc: Global, blocks: u32) -> Result<String, AllocError> {
 }
 
 /// The requests that the lines of a text spell.
-fn requests(alloc: Global, text: &str) -> Result<Vec<Request>, AllocError> {
+pub(crate) fn requests(alloc: Global, text: &str) -> Result<Vec<Request>, AllocError> {
     let bytes = spelled(alloc, text)?;
     let mut requests = Vec::new(alloc);
     for line in bytes.as_slice().split(|byte| *byte == b'\n') {
@@ -121,52 +120,19 @@ pub fn ask_all<D: Device>(
     Ok(replies)
 }
 
-/// Asks what the lines of a text spell, and compares the replies with those of another text.
-fn expect<D: Device>(
-    rt: &impl Abort,
-    alloc: Global,
-    core: &mut Core,
-    dev: &mut D,
-    place: &Placement,
-    texts: (&str, &str),
-    settles: bool,
-) -> Result<(), Fail>
-    requires ready { IsReady core.old }
-    requires at { D.told → IsAt core.old (D.view dev.old) }
-    ensures ready { OnOk result (IsReady core.new) }
-    ensures at { D.told → OnOk result (IsAt core.new (D.view dev.new)) }
-{
-    let replies = ask_all(alloc, core, dev, place, texts.0, settles)?;
-    let wanted = spelled_lines(alloc, texts.1)?;
-    assert_eq!(rt; replies.as_slice(), wanted.as_slice(), "{}", texts.0);
-    Ok(())
-}
-
-/// Opens the disk, asks what the lines of a text spell, compares the replies with those of another text, and may close the disk.
-pub fn expect_at<D: Device>(
-    rt: &impl Abort,
-    alloc: Global,
-    dev: &mut D,
-    place: &Placement,
-    texts: (&str, &str),
-    settles: bool,
-    closes: bool,
-) -> Result<(), Fail> {
-    let mut core = opened(alloc, dev)?;
-    expect(rt, alloc, &mut core, dev, place, texts, settles)?;
-    if closes {
-        core.close(dev)?;
-    }
-    Ok(())
-}
-
-/// Opens the disk and asks what the lines of a text spell. Gives the lines of the replies.
-pub fn replies_at<D: Device>(
+/// Opens the disk, asks what the lines of a text spell, and may close the disk. Gives the lines of the replies.
+pub fn replies_in_run<D: Device>(
     alloc: Global,
     dev: &mut D,
     place: &Placement,
     text: &str,
+    settles: bool,
+    closes: bool,
 ) -> Result<Vec<u8>, Fail> {
     let mut core = opened(alloc, dev)?;
-    ask_all(alloc, &mut core, dev, place, text, false)
+    let replies = ask_all(alloc, &mut core, dev, place, text, settles)?;
+    if closes {
+        core.close(dev)?;
+    }
+    Ok(replies)
 }

@@ -1,5 +1,6 @@
 //! The disk of the plain program, beside which a core is asked.
 
+use crate::asking::requests;
 use crate::disks::{caps_of, formatted, upgrade};
 use image_device::MemStation;
 use plain_disk::{Sessions, World, plain_step};
@@ -51,6 +52,21 @@ impl Plain {
             stops: 0,
             seed,
         })
+    }
+
+    /// A disk that was just formatted, and then asked what the lines of a text spell.
+    pub fn asked(
+        alloc: Global,
+        size: &Geometry,
+        kind: PlaceKind,
+        text: &str,
+    ) -> Result<Plain, Fail> {
+        let requests = requests(alloc, text)?;
+        let mut plain = Plain::formatted(alloc, size, false, 0)?;
+        for request in &requests {
+            plain.step(alloc, kind, request)?;
+        }
+        Ok(plain)
     }
 
     /// Carries out a request, and keeps the world before it.
