@@ -1,13 +1,12 @@
 -- The calls that make the blocks of a chain.
-use Rattle.std.proofs.Common.{◌≡◌, ◌≢◌, ℕ, ◌+◌, ◌-◌, ◌^◌, ◌<◌, ◌≤◌, Bool, true, false, ◌==◌, nat_lt, List, [], ◌∷◌, ◌++◌, length, length-append, refl, sym, ◌∙◌, ap, subst, arith, inl, inr, ◌⊎◌, Option, Some, None, Result, Ok, Err}
-use Rattle.std.proofs.lemmas.Bool.{and_from, lt-ltb, or_cases, or_left, or_right, eq-eqb, eqb-true, false_from_ne_true}
+use Rattle.std.proofs.Common.{◌≡◌, ◌≢◌, ℕ, ◌+◌, ◌-◌, ◌^◌, ◌<◌, ◌≤◌, true, false, ◌==◌, List, [], ◌∷◌, ◌++◌, length, length-append, refl, sym, ◌∙◌, ap, subst, arith, inl, inr, ◌⊎◌, Option, Some, None, Result, Ok, Err}
+use Rattle.std.proofs.lemmas.Bool.{and_from, or_cases, or_left, or_right, eq-eqb, eqb-true, false_from_ne_true}
 use Rattle.std.specs.Prelude.{slice_index_or}
 use Rattle.tsd_model.specs.World.{World, is_live, is_free, free_count, has_number}
 use Rattle.tsd_model.specs.Pairs.{holds, is_pair}
 use Rattle.tsd_model.specs.Placing.{chosen}
-use Rattle.tsd_model.specs.Sessions.{is_open, Fits}
+use Rattle.tsd_model.specs.Sessions.{is_open}
 use Rattle.tsd_model.specs.Step.{zeros, with_new_blocks}
-use Rattle.tsd_model.specs.Run.{answer}
 use Rattle.tsd_model.specs.Valid.{IsValid}
 use Rattle.tsd_model.specs.declared.requests.Hint.TheVariants.{At}
 use Rattle.tsd_model.specs.declared.requests.Request.{Request}
@@ -16,18 +15,16 @@ use Rattle.tsd_model.specs.declared.replies.Reply.TheVariants as reply
 use Rattle.tsd_model.proofs.PairLaws.{length-with_new_pair}
 use Rattle.disk_laws.proofs.ChangeLaws.{free_may}
 use Rattle.disk_laws.proofs.StayLaws.{live-new_blocks, holds-new_blocks}
-use Rattle.disk_laws.proofs.RunLaws.{answer_valid, answer_fits}
-use Rattle.fs_trees.specs.Refusals.{when, first_of}
 use Rattle.fs_trees.specs.declared.refusal.FsRefusal.{FsRefusal}
 use Rattle.fs_trees.specs.declared.refusal.FsRefusal.TheVariants as no
-use Rattle.fs_laws.specs.Ways.{HoldsWrite, attains_write}
-use Rattle.fs_laws.proofs.WayLaws.{ways_lead_on, ways_stay}
+use Rattle.fs_laws.specs.Ways.{attains_write}
+use Rattle.fs_laws.proofs.WayLaws.{ways_lead_on}
 use Rattle.fs_port.specs.View.{View, state_of}
-use Rattle.fs_port.specs.Calls.{IsCarriedOut, IsValidNow}
+use Rattle.fs_port.specs.Calls.{IsValidNow}
 use Rattle.fs_asks.specs.declared.client.Client.{Client}
 use Rattle.fs_asks.specs.Client.{shown_at, unlink_by, alloc_by}
 use Rattle.fs_asks.specs.Leftovers.{refusal_before}
-use Rattle.fs_asks.specs.May.{MayWrite, Looked, Looks}
+use Rattle.fs_asks.specs.May.{MayWrite, Looks}
 use Rattle.fs_asks.proofs.LookLaws.{may_again}
 use Rattle.fs_steps.specs.Steps.{Leads, Steps, taken, dropped, no_room_in}
 use Rattle.fs_changing.specs.Runs.{Runs}
@@ -35,34 +32,12 @@ use Rattle.fs_changing.proofs.RunLaws.{runs_look, runs_step, then_runs, runs_as,
 use Rattle.fs_changing.proofs.NewLaws.{chosen_free, chosen_enough, lives_new, holds_new, version_new, records_new}
 use Rattle.fs_changing.proofs.RoomLaws.{room_there, there_is_room}
 use Rattle.fs_changing.proofs.NeedLaws.{free_count_new, pairs_want, wanted_pairs}
-use Rattle.fs_changing.proofs.StepLaws.{held_live, may_after}
+use Rattle.fs_changing.proofs.StepLaws.{may_after}
 use Rattle.chain_files.specs.Making.{Stage, Making, IsAside}
 use Rattle.chain_files.specs.Filling.{AreLinkable, NewChain, IsInMaking, AsideOf}
 use Rattle.chain_files.proofs.LinkLaws.{last_of, last_more, in_more, along_last}
 use Rattle.chain_files.proofs.MakingLaws.{making_begins, aside_now, making_grows}
 use Rattle.chain_files.proofs.BackLaws.{is_back}
-
--- ---- the free blocks are counted
-
-pub free_same : (v : View) (want : Bool) → (answer v.kind (state_of v) ask.GetFree want).state.world ≡ v.world
-free_same v true = refl
-free_same v false = refl
-
-pub free_looked : (old new : View) (n : ℕ) → IsValidNow old → IsCarriedOut old new ask.GetFree (reply.Free n) → Looked old new
-free_looked old new n now done = record {
-  world = ap (λ st. st.world) (sym done.1) ∙ free_same old done.0;
-  valid = record {
-    valid = subst (λ st. IsValid st.world) done.1 (answer_valid old.kind (state_of old) ask.GetFree done.0 now.valid);
-    fits = subst (λ st. Fits st.world st.sessions) done.1 (answer_fits old.kind (state_of old) ask.GetFree done.0 now.valid now.fits);
-  };
-  ways = λ s a held. subst (λ st. HoldsWrite st s a) done.1
-      (ways_stay old.kind (state_of old) ask.GetFree done.0 s a now.valid now.fits held refl (ap (λ w. is_live w a) (free_same old done.0) ∙ held_live old now s a held));
-}
-
--- too few are free
-pub too_few : (w : World) (wanted : ℕ) → free_count w < wanted → no_room_in w wanted wanted ≡ Some (no.Full (free_count w) wanted)
-too_few w wanted h =
-    ap (λ t. first_of (when t (no.Full (free_count w) wanted) ∷ when (nat_lt w.geometry.slots (length w.pairs + wanted)) (no.PointersFull (length w.pairs) w.geometry.slots) ∷ [])) (lt-ltb (free_count w) wanted h)
 
 -- ---- one block
 

@@ -1,14 +1,13 @@
 //! The blocks of a new chain.
 
 ghost use Rattle.std.specs.Prelude.{◌≡◌, ◌≢◌, ◌≤◌, ◌+◌, ◌<◌, ◌^◌, ℕ, length, false, None, Some, [], ◌∷◌, IsTrue, ◌↔◌, IfSome, IfOk, IfErr, OnOk};
-ghost use Rattle.tsd_model.specs.World.{free_count};
 ghost use Rattle.tsd_model.specs.Placing.{chosen};
 ghost use Rattle.tsd_model.specs.declared.requests.Hint.TheVariants.{At};
 ghost use Rattle.fs_trees.specs.declared.refusal.FsRefusal.TheVariants as no;
 ghost use Rattle.fs_port.specs.View.{state_of};
 ghost use Rattle.fs_port.specs.Calls.{IsValidNow};
 ghost use Rattle.fs_asks.specs.Client.{alloc_by};
-ghost use Rattle.fs_asks.specs.May.{MayWrite, Looks};
+ghost use Rattle.fs_asks.specs.May.{MayWrite};
 ghost use Rattle.fs_steps.specs.Steps.{Steps, taken, no_room_in};
 ghost use Rattle.fs_changing.specs.Runs.{Runs};
 ghost use Rattle.chain_files.specs.Making.{Stage, IsAside};
@@ -16,42 +15,10 @@ ghost use Rattle.chain_files.specs.Filling.{AreLinkable, NewChain, IsInMaking, A
 
 use fs_asks::{Client, held_before};
 use fs_port::Blocks;
+use fs_room::check_free;
 use fs_steps::{drop_pointer, take_blocks};
 use fs_trees::FsRefusal;
-use tsd_model::{BlockList, Reply, Request};
-
-/// How many blocks are free. Only a fault refuses it.
-fn count_free<K: Blocks>(disk: &mut K) -> Result<u32, FsRefusal>
-    requires unspent { (K.view disk.old).spent ≡ false }
-    requires valid { K.told → IsValidNow (K.view disk.old) }
-    ensures value { K.told → IfOk result (λ n. n ≡ free_count (K.view disk.old).world) }
-    ensures only { K.told → IfErr result (λ e. e ≡ no.Device) }
-    ensures looks { Looks K.told (K.view disk.old) (K.view disk.new) result }
-{
-    match disk.ask(&Request::GetFree) {
-        Err(_) => Err(FsRefusal::Device),
-        Ok(Reply::Free(count)) => Ok(count),
-        Ok(_) => Err(FsRefusal::NotThisFs),
-    }
-}
-
-/// Refuses where fewer blocks are free than are wanted.
-fn check_free<K: Blocks>(disk: &mut K, wanted: u32) -> Result<(), FsRefusal>
-    requires unspent { (K.view disk.old).spent ≡ false }
-    requires valid { K.told → IsValidNow (K.view disk.old) }
-    ensures enough { K.told → OnOk result (wanted ≤ free_count (K.view disk.old).world) }
-    ensures full { K.told → IfErr result (λ e. e ≢ no.Device → no_room_in (K.view disk.old).world wanted wanted ≡ Some e) }
-    ensures looks { Looks K.told (K.view disk.old) (K.view disk.new) result }
-{
-    let free = match count_free(disk) {
-        Ok(free) => free,
-        Err(refusal) => return Err(refusal),
-    };
-    if free < wanted {
-        return Err(FsRefusal::Full { free, wanted });
-    }
-    Ok(())
-}
+use tsd_model::BlockList;
 
 /// The block, where it is one that the head of a cluster can name.
 fn the_block(blocks: &BlockList) -> Option<u32>

@@ -1,8 +1,9 @@
 -- Names of which each stands once, in parts.
-use Rattle.std.proofs.Common.{◌≡◌, Bool, true, false, not, ◌&&◌, ◌||◌, List, [], ◌∷◌, ◌++◌, refl, sym, ◌∙◌, ap, bytes_eq, Result, Ok, Err}
+use Rattle.std.proofs.Common.{◌≡◌, Bool, true, false, not, ◌&&◌, ◌||◌, List, [], ◌∷◌, ◌++◌, length, refl, sym, ◌∙◌, ap, arith, bytes_eq, Result, Ok, Err}
 use Rattle.std.specs.Prelude.{IfOk}
 use Rattle.std.specs.List.{list_any}
 use Rattle.fs_trees.specs.Names.{Name, are_distinct}
+use Rattle.fs_trees.specs.Fields.{Entry, entry_names}
 use Rattle.fs_trees.specs.declared.refusal.FsRefusal.{FsRefusal}
 use Rattle.fs_laws.proofs.ListLaws.{any-append}
 use Rattle.chain_layout.specs.Listed.{is_among}
@@ -67,6 +68,11 @@ first_twice xs all ns parts h = (ns, parts, sym (ap (λ t. t && are_apart_from x
 
 pub first_alone : (xs all ns : List Name) → all ≡ xs ++ ns → ns ≡ [] → are_distinct xs ≡ true → AreFirstDistinct xs all true
 first_alone xs all ns parts none h = (ns, parts, both_tests (are_distinct xs) (are_apart_from xs ns) true h (sym (ap (are_apart_from xs) none ∙ apart_from_none xs)))
+
+-- none comes first
+pub first_none : (es : List Entry) (all ns : List Name) → all ≡ entry_names es ++ ns → length es ≡ 0 → AreFirstDistinct (entry_names es) all true
+first_none [] all ns parts none = (ns, parts, refl)
+first_none (e ∷ es) all ns parts none = absurd (omega (arith, none))
 
 -- ---- what the first ones decide
 

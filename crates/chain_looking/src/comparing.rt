@@ -53,7 +53,7 @@ fn is_apart_from<K: Blocks>(
     Err(FsRefusal::NotThisFs)
 }
 
-/// Whether each name of a cluster stands once in it, and in none behind it.
+/// Whether each name of a cluster stands once in it, and in none behind it. None is read behind one without entries.
 fn is_page_distinct<K: Blocks>(
     client: &Client,
     disk: &mut K,
@@ -68,6 +68,9 @@ fn is_page_distinct<K: Blocks>(
     ensures only { K.told → IfErr result (λ e. e ≡ no.Device) }
     ensures looks { Looks K.told (K.view disk.old) (K.view disk.new) result }
 {
+    if page.cluster.count() == 0 {
+        return Ok(true);
+    }
     if !page.cluster.has_distinct_names() {
         return Ok(false);
     }

@@ -1,6 +1,6 @@
 //! Random asks on small disks.
 
-ghost use Rattle.std.specs.Prelude.{◌<◌};
+ghost use Rattle.std.specs.Prelude.{◌≡◌, ◌<◌};
 
 use crate::lines::{ChainSite, fresh, mounted_again};
 use crate::steps::{Ask, Kind, asked, is_same, step};
@@ -105,6 +105,19 @@ struct Plan {
     first: &'static [u8],
 }
 
+impl Plan {
+    fn new(blocks: u32, slots: u32, letters: u32, first: &'static [u8]) -> Plan
+        ensures { result.letters ≡ letters }
+    {
+        let room = Room { blocks, slots };
+        Plan {
+            room,
+            letters,
+            first,
+        }
+    }
+}
+
 /// How many asks were answered so, and how many clusters the directory had at most.
 #[derive(Clone, Copy, Default, Debug)]
 struct Met {
@@ -181,12 +194,12 @@ fn run(
 }
 
 /// Runs from three seeds on; asserts that many asks were done and that each refusal of a path came.
-fn run_all(rt: &impl Abort, alloc: Global, plan: Plan, first: u32) -> Result<Met, AllocError>
+fn run_all(rt: &impl Abort, alloc: Global, plan: Plan, seed: u32) -> Result<Met, AllocError>
     requires { 0 < plan.letters }
 {
     let mut met = Met::default();
     for more in 0..3 {
-        run(rt, alloc, plan, first.saturating_add(more), &mut met)?;
+        run(rt, alloc, plan, seed.saturating_add(more), &mut met)?;
     }
     assert!(rt; met.done > 70, "{met:?}");
     assert!(rt; met.not_this_fs > 0, "{met:?}");
@@ -198,31 +211,16 @@ fn run_all(rt: &impl Abort, alloc: Global, plan: Plan, first: u32) -> Result<Met
 
 #[test]
 fn asks_on_a_roomy_disk(rt: HostRuntime) -> Result<(), Fail> {
-    let room = Room {
-        blocks: 40,
-        slots: 60,
-    };
-    let plan = Plan {
-        room,
-        letters: 6,
-        first: b"",
-    };
+    let plan = Plan::new(40, 60, 6, b"");
     let met = run_all(&rt, rt.alloc(), plan, 0)?;
     assert_eq!(rt; met.full, 0, "{met:?}");
+    assert_eq!(rt; met.pointers_full, 0, "{met:?}");
     Ok(())
 }
 
 #[test]
 fn asks_on_a_disk_that_gets_full(rt: HostRuntime) -> Result<(), Fail> {
-    let room = Room {
-        blocks: 12,
-        slots: 40,
-    };
-    let plan = Plan {
-        room,
-        letters: 8,
-        first: b"",
-    };
+    let plan = Plan::new(12, 40, 8, b"");
     let met = run_all(&rt, rt.alloc(), plan, 100)?;
     assert!(rt; met.full > 9, "{met:?}");
     Ok(())
@@ -230,15 +228,7 @@ fn asks_on_a_disk_that_gets_full(rt: HostRuntime) -> Result<(), Fail> {
 
 #[test]
 fn asks_on_a_disk_with_few_pointers(rt: HostRuntime) -> Result<(), Fail> {
-    let room = Room {
-        blocks: 30,
-        slots: 9,
-    };
-    let plan = Plan {
-        room,
-        letters: 8,
-        first: b"",
-    };
+    let plan = Plan::new(30, 9, 8, b"");
     let met = run_all(&rt, rt.alloc(), plan, 200)?;
     assert!(rt; met.pointers_full > 9, "{met:?}");
     Ok(())
@@ -246,15 +236,7 @@ fn asks_on_a_disk_with_few_pointers(rt: HostRuntime) -> Result<(), Fail> {
 
 #[test]
 fn asks_on_a_directory_that_grows(rt: HostRuntime) -> Result<(), Fail> {
-    let room = Room {
-        blocks: 40,
-        slots: 60,
-    };
-    let plan = Plan {
-        room,
-        letters: 26,
-        first: b"abcdefghijklmno",
-    };
+    let plan = Plan::new(40, 60, 26, b"abcdefghijklmno");
     let met = run_all(&rt, rt.alloc(), plan, 300)?;
     assert!(rt; met.pages > 1, "{met:?}");
     Ok(())

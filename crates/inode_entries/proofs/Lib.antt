@@ -3,5 +3,4 @@ pub mod BackLaws
 pub mod DecideLaws
 pub mod EntryLaws
 pub mod EnterLaws
-pub mod FreeLaws
 pub mod MadeLaws

@@ -12,9 +12,9 @@ ghost use Rattle.inode_entries.specs.Entering.{AreOfFiles, IsMade};
 ghost use Rattle.inode_entries.specs.Making.{bytes_of};
 
 use crate::beginning::{give_up, new_inode};
-use crate::free::check_free;
 use fs_asks::Client;
 use fs_port::Blocks;
+use fs_room::check_free;
 use fs_trees::FsRefusal;
 use inode_files::{Content, fill};
 

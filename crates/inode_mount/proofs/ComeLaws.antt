@@ -1,6 +1,6 @@
 -- A look comes to what the tree names, where all is right, and to nothing else.
 use Rattle.std.proofs.Common.{◌≡◌, ℕ, zero, suc, Bool, true, false, cond, ◌||◌, ◌==◌, List, [], ◌∷◌, ◌++◌, refl, sym, ◌∙◌, ap, subst, inl, inr, Option, Some, None}
-use Rattle.std.proofs.lemmas.Bool.{and_parts, and_from, or_cases, or_left, or_right, eq-eqb, eqb-true}
+use Rattle.std.proofs.lemmas.Bool.{and_parts, or_cases, or_left, or_right, eq-eqb, eqb-true}
 use Rattle.std.specs.Prelude.{map}
 use Rattle.std.specs.List.{list_all}
 use Rattle.std.specs.Option.{option_and_then}
@@ -18,8 +18,10 @@ use Rattle.inode_walks.specs.Finding.{node_pairs}
 use Rattle.inode_walks.proofs.WalkLaws.{block_is}
 use Rattle.fs_laws.proofs.InodeLaws.{node_blocks}
 use Rattle.fs_laws.proofs.ListLaws.{held_append}
-use Rattle.inode_mount.specs.Looking.{Come, is_come, with_inode, with_data, come_data, come_each, come_on, come_by, come_from, are_held, if_held, held_at}
-use Rattle.inode_mount.proofs.FitLaws.{yes_no, Fits, Adds, fits_none, adds_none, fits_one, adds_one, fits_both, adds_both}
+use Rattle.fs_looking.proofs.ApartLaws.{yes_no}
+use Rattle.fs_looking.specs.Held.{are_held}
+use Rattle.inode_mount.specs.Looking.{Come, is_come, with_inode, with_data, come_data, come_each, come_on, come_by, come_from, if_held, held_at}
+use Rattle.inode_mount.proofs.FitLaws.{Fits, Adds, fits_none, adds_none, fits_one, adds_one, fits_both, adds_both}
 
 abbrev pub node_data : InodeNode → List ℕ
 node_data nothing = []
@@ -60,16 +62,6 @@ pub is_held : (w : World) (b : ℕ) (i : Inode) → inode_at w b ≡ Some i → 
 is_held w b i e h = ap (option_and_then (if_held w b)) e ∙ ap (λ t. only_if t (λ _. Some i)) h
 
 -- ---- a file's blocks
-
-pub all_in : (P : ℕ → Bool) (xs : List ℕ) (c : ℕ) → list_all P xs ≡ true → has_number xs c ≡ true → P c ≡ true
-all_in P [] c h m = absurd (cc)
-all_in P (x ∷ xs) c h m =
-    let parts = and_parts (P x) (list_all P xs) h in
-    elim (or_cases (x == c) (has_number xs c) m) [ inl e ↦ ap P (sym (eqb-true x c e)) ∙ parts.0 | inr later ↦ all_in P xs c parts.1 later ]
-
-pub each_in : (P : ℕ → Bool) (xs : List ℕ) → ((c : ℕ) → has_number xs c ≡ true → P c ≡ true) → list_all P xs ≡ true
-each_in P [] h = refl
-each_in P (x ∷ xs) h = and_from (P x) (list_all P xs) (h x (or_left (x == x) _ (eq-eqb x x refl))) (each_in P xs (λ c m. h c (or_right (x == c) _ m)))
 
 pub data_right : (bs : List ℕ) (s t : Come) → come_data bs s ≡ Some t → Fits s [] bs × Adds s t [] bs
 data_right [] s t h = let same : s ≡ t = cc in (fits_none s, subst (λ u. Adds s u [] []) same (adds_none s))

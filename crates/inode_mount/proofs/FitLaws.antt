@@ -1,45 +1,13 @@
 -- What fits to what a look has come to, and what is then come to.
-use Rattle.std.proofs.Common.{◌≡◌, ℕ, Bool, true, false, not, ◌||◌, ◌==◌, List, [], ◌∷◌, ◌++◌, refl, sym, ◌∙◌, ap, inl, inr}
-use Rattle.std.proofs.lemmas.Bool.{and_parts, and_from, or_cases, or_left, or_right, eq-eqb, eqb-true}
+use Rattle.std.proofs.Common.{◌≡◌, ℕ, Bool, true, false, ◌||◌, ◌==◌, List, [], ◌∷◌, ◌++◌, refl, sym, ◌∙◌, ap, inl, inr}
+use Rattle.std.proofs.lemmas.Bool.{or_cases, or_left, or_right, eq-eqb, eqb-true}
 use Rattle.tsd_model.specs.World.{has_number}
 use Rattle.fs_trees.specs.Inode.{are_apart}
 use Rattle.fs_laws.proofs.ListLaws.{any-append, number_left, number_right, in_append}
+use Rattle.fs_looking.proofs.ApartLaws.{yes_no, is_false, or_no, no_or, apart_first, apart_with}
 use Rattle.inode_mount.specs.Looking.{Come, is_come, with_inode}
 
--- ---- tests
-
-pub yes_no : (t : Bool) → t ≡ true → t ≡ false → ⊥
-yes_no t p q = cc
-
-pub is_false : (t : Bool) → (t ≡ true → ⊥) → t ≡ false
-is_false true h = absurd (h refl)
-is_false false h = refl
-
-pub or_no : (s t : Bool) → (s || t) ≡ false → (s ≡ false) × (t ≡ false)
-or_no false false h = (refl, refl)
-or_no true t h = absurd (cc)
-or_no false true h = absurd (cc)
-
-pub no_or : (s t : Bool) → s ≡ false → t ≡ false → (s || t) ≡ false
-no_or false false p q = refl
-no_or true t p q = absurd (cc)
-no_or s true p q = absurd (cc)
-
-pub not_yes : (t : Bool) → not t ≡ true → t ≡ false
-not_yes true h = absurd (cc)
-not_yes false h = refl
-
-pub yes_not : (t : Bool) → t ≡ false → not t ≡ true
-yes_not true h = absurd (cc)
-yes_not false h = refl
-
--- ---- lists none of which stands twice
-
-pub apart_first : (b : ℕ) (bs : List ℕ) → are_apart (b ∷ bs) ≡ true → (has_number bs b ≡ false) × (are_apart bs ≡ true)
-apart_first b bs h = let parts = and_parts (not (has_number bs b)) (are_apart bs) h in (not_yes (has_number bs b) parts.0, parts.1)
-
-pub apart_with : (b : ℕ) (bs : List ℕ) → has_number bs b ≡ false → are_apart bs ≡ true → are_apart (b ∷ bs) ≡ true
-apart_with b bs p q = and_from (not (has_number bs b)) (are_apart bs) (yes_not (has_number bs b) p) q
+-- ---- lists none of whose blocks stands twice
 
 not_in_append : (xs ys : List ℕ) (c : ℕ) → has_number (xs ++ ys) c ≡ false → (has_number xs c ≡ false) × (has_number ys c ≡ false)
 not_in_append xs ys c h = or_no (has_number xs c) (has_number ys c) (sym (any-append (λ x. x == c) xs ys) ∙ h)

@@ -3,7 +3,6 @@ pub mod ComeLaws
 pub mod WrongLaws
 pub mod SaysLaws
 pub mod RootLaws
-pub mod CountLaws
 pub mod SeeLaws
 pub mod SeenLaws
 pub mod LoopLaws

@@ -8,12 +8,13 @@ use Rattle.fs_port.specs.Calls.{IsValidNow}
 use Rattle.fs_asks.specs.declared.client.Client.{Client}
 use Rattle.fs_asks.specs.May.{MayWrite, Looked, Looks}
 use Rattle.fs_asks.proofs.LookLaws.{may_again}
+use Rattle.fs_looking.proofs.PlaceLaws.{drop_at, drop_end}
 use Rattle.inode_mount.specs.Marked.{is_inode, MarksInode}
 use Rattle.inode_mount.specs.declared.looking.Seen.{Seen}
 use Rattle.tsd_model.specs.Pairs.{holds}
 use Rattle.inode_mount.specs.declared.marks.Marks.{Marks}
 use Rattle.inode_mount.specs.Looking.{Come, with_data, come_data, come_each, come_from, Agrees, Comes, NamesData, Noted, IsSeen, names_at}
-use Rattle.inode_mount.proofs.SeeLaws.{drop_at, drop_end, comes_none, comes_some, none_of, some_of, agrees_data, noted_on, noted_inode}
+use Rattle.inode_mount.proofs.SeeLaws.{comes_none, comes_some, none_of, some_of, agrees_data, noted_on, noted_inode}
 
 -- after i of these blocks: so they are looked at, where `come` tells what the others come to
 pub record Looping (told : Type 0) (c : Client) (first now : View) (bs : List ℕ) (come : List ℕ → Come → Option Come) (i : ℕ) (begun m : Marks) : Type 0 where

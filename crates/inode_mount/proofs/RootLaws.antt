@@ -13,11 +13,11 @@ use Rattle.fs_trees.specs.Layouts.{by_inodes}
 use Rattle.inode_walks.specs.Finding.{node_pairs}
 use Rattle.fs_laws.proofs.InodeLaws.{node_blocks, HasRoot, found, under_is, from_inode}
 use Rattle.fs_laws.proofs.ListLaws.{any-append, all_held}
+use Rattle.fs_looking.proofs.ApartLaws.{is_false, not_yes, yes_not, each_in, all_in}
 use Rattle.inode_mount.specs.Marked.{is_inode, is_data_block}
 use Rattle.inode_mount.specs.declared.marks.Marks.{Marks}
 use Rattle.inode_mount.specs.Looking.{Come, come_from, come_under, nothing_yet, is_dir_in, names_at, Agrees, Comes, MarksTree, TellsTree}
-use Rattle.inode_mount.proofs.FitLaws.{is_false, not_yes, yes_not}
-use Rattle.inode_mount.proofs.ComeLaws.{node_data, each_in, all_in, NodeRight, node_right}
+use Rattle.inode_mount.proofs.ComeLaws.{node_data, NodeRight, node_right}
 use Rattle.inode_mount.proofs.WrongLaws.{dir_of, NodeGood, node_wrong}
 use Rattle.inode_mount.proofs.SaysLaws.{Says, node_says}
 

@@ -1,11 +1,9 @@
 -- What a look at one block more comes to.
-use Rattle.std.proofs.Common.{◌≡◌, ℕ, zero, suc, ◌+◌, ◌<◌, ◌≤◌, Bool, true, false, cond, ◌&&◌, ◌||◌, ◌==◌, List, [], ◌∷◌, length, refl, sym, ◌∙◌, ap, subst, arith, inl, inr, Option, Some, None}
-use Rattle.std.proofs.lemmas.Bool.{and_parts, and_from, or_cases, or_left, or_right, eq-eqb, eqb-true}
-use Rattle.std.specs.Prelude.{drop, slice_index}
+use Rattle.std.proofs.Common.{◌≡◌, ℕ, zero, suc, ◌<◌, Bool, true, false, cond, ◌&&◌, ◌||◌, ◌==◌, List, [], length, refl, sym, ◌∙◌, ap, subst, arith, inl, inr, Option, Some, None}
+use Rattle.std.proofs.lemmas.Bool.{and_parts, and_from, or_cases, or_left, eq-eqb, eqb-true}
 use Rattle.std.specs.Option.{option_and_then, option_map}
-use Rattle.tsd_model.specs.World.{World, is_live, has_number}
+use Rattle.tsd_model.specs.World.{World, has_number}
 use Rattle.tsd_model.specs.Pairs.{holds}
-use Rattle.disk_laws.proofs.DoomLaws.{live_below}
 use Rattle.fs_trees.specs.Fields.{only_if}
 use Rattle.fs_trees.specs.Inode.{Inode, directory, regular, inode_in, are_apart}
 use Rattle.fs_trees.specs.InodeTree.{inode_at}
@@ -20,11 +18,11 @@ use Rattle.fs_port.specs.Calls.{IsValidNow, Stays}
 use Rattle.fs_asks.specs.declared.client.Client.{Client}
 use Rattle.fs_asks.specs.Client.{shown_at}
 use Rattle.fs_asks.specs.May.{MayWrite, Looked}
+use Rattle.fs_looking.proofs.ApartLaws.{yes_no, is_false, no_or, all_in}
 use Rattle.inode_mount.specs.Marked.{is_inode, is_data_block, has_leftovers, MarksInode, MarksData, NoMarks}
 use Rattle.inode_mount.specs.declared.marks.Marks.{Marks}
 use Rattle.inode_mount.specs.Looking.{held_at, names_at, Come, is_come, with_inode, with_data, come_data, come_each, come_on, come_by, come_from, come_as, is_dir_in, nothing_yet, Agrees, Comes, NamesData, Noted}
-use Rattle.inode_mount.proofs.FitLaws.{yes_no, is_false, no_or}
-use Rattle.inode_mount.proofs.ComeLaws.{all_in, held_is}
+use Rattle.inode_mount.proofs.ComeLaws.{held_is}
 
 -- ---- what a block is read as
 
@@ -40,24 +38,6 @@ module _ (bytes : List ℕ) (o : Option block.Inode) (said : option_map inode_of
 
   pub read_none : ◌≡◌ {A = Option block.Inode} o None → ◌≡◌ {A = Option Inode} (inode_in (length bytes) bytes) None
   read_none e = read_is ∙ ap (λ x. option_and_then in_order (option_map inode_of x)) e
-
--- ---- a list from a place on
-
-pub drop_at : (xs : List ℕ) (i : ℕ) → i < length xs → drop i xs ≡ slice_index xs i ∷ drop (i + 1) xs
-drop_at [] i h = absurd (omega arith)
-drop_at (x ∷ xs) zero h = refl
-drop_at (x ∷ xs) (suc i) h = drop_at xs i (omega arith) ∙ (let on : suc (i + 1) ≡ suc i + 1 = omega arith in ap (λ j. slice_index xs i ∷ drop j (x ∷ xs)) on)
-
-pub drop_end : (xs : List ℕ) (i : ℕ) → length xs ≤ i → drop i xs ≡ []
-drop_end [] zero h = refl
-drop_end [] (suc i) h = refl
-drop_end (x ∷ xs) zero h = absurd (omega arith)
-drop_end (x ∷ xs) (suc i) h = drop_end xs i (omega arith)
-
-pub place_in : (xs : List ℕ) (i : ℕ) → i < length xs → has_number xs (slice_index xs i) ≡ true
-place_in [] i h = absurd (omega arith)
-place_in (x ∷ xs) zero h = or_left (x == x) _ (eq-eqb x x refl)
-place_in (x ∷ xs) (suc i) h = or_right (x == slice_index xs i) _ (place_in xs i (omega arith))
 
 -- ---- what is come to
 
@@ -128,13 +108,6 @@ module _ (is_entry : Bool) (w : World) (b : ℕ) (s : Come) where
           by_entry false = ap (λ t. cond t (come_from w levels b s) None) (ap is_dir_in (held_is w b i is).0 ∙ h)
 
 -- ---- marks
-
-pub on_disk : (v : View) (b : ℕ) → IsValidNow v → is_live v.world b ≡ true → b < 1048576
-on_disk v b now live =
-    let below = live_below v.world.blocks b live in
-    let many = now.valid.raw.sized.each_block in
-    let most = now.valid.raw.sized.lawful.blocks.1 in
-    omega (arith, below, many, most)
 
 pub not_come : (m : Marks) (s : Come) (b : ℕ) → Agrees m s → is_inode m b ≡ false → is_data_block m b ≡ false → is_come s b ≡ false
 not_come m s b agrees p q = no_or (has_number s.inodes b) (has_number s.bytes b) (sym (agrees.inodes b) ∙ p) (sym (agrees.bytes b) ∙ q)

@@ -1,6 +1,8 @@
 -- An inode that is right by itself.
-use Rattle.std.proofs.Common.{◌≡◌, ◌≢◌, ℕ, zero, suc, ◌≤◌, true, false, List, [], length, refl, sym, ◌∙◌, ap, arith, Option, Some, None, nat_lt}
+use Rattle.std.proofs.Common.{◌≡◌, ◌≢◌, ℕ, zero, suc, ◌≤◌, Bool, true, false, not, cond, ◌==◌, List, [], ◌∷◌, length, refl, sym, ◌∙◌, ap, arith, ◌⊎◌, inl, inr, Option, Some, None, nat_lt}
+use Rattle.std.proofs.lemmas.Bool.{or_cases, eqb-true}
 use Rattle.std.proofs.lemmas.Bool.Decides.{nat_tests}
+use Rattle.std.specs.Prelude.{filter}
 use Rattle.std.specs.Option.{option_and_then}
 use Rattle.tsd_model.specs.Geometry.{block_len}
 use Rattle.tsd_model.specs.World.{World, contents, has_number}
@@ -15,12 +17,28 @@ use Rattle.inode_walks.proofs.ReadLaws.{block_full, block_long}
 use Rattle.fs_laws.specs.Ways.{HoldsWrite}
 use Rattle.fs_port.specs.View.{View, state_of}
 use Rattle.fs_asks.specs.declared.client.Client.{Client}
-use Rattle.fs_asks.specs.Leftovers.{named_targets, other_targets}
+use Rattle.fs_asks.specs.Leftovers.{targets_of, named_targets, other_targets}
+use Rattle.fs_looking.proofs.ApartLaws.{is_false, yes_no}
+use Rattle.fs_looking.proofs.CountLaws.{in_targets, counted_held, held_counted}
 use Rattle.inode_mount.specs.declared.looking.Seen.{Seen}
-use Rattle.inode_mount.specs.Looking.{are_held, if_held, held_at, blocks_in, IsSeen}
-use Rattle.inode_mount.proofs.FitLaws.{is_false, yes_no}
+use Rattle.fs_looking.specs.Held.{are_held}
+use Rattle.inode_mount.specs.Looking.{if_held, held_at, blocks_in, IsSeen}
 use Rattle.inode_mount.proofs.ComeLaws.{is_held}
-use Rattle.inode_mount.proofs.CountLaws.{counted_held, held_counted, no_others}
+
+-- where no pair leads elsewhere
+none_other : (P : ℕ → Bool) (xs : List ℕ) (d : ℕ) → length (filter (λ x. not (P x)) xs) ≡ 0 → has_number xs d ≡ true → P d ≡ true
+none_other P [] d e m = absurd (cc)
+none_other P (x ∷ xs) d e m = by_first (P x) refl e (elim (or_cases (x == d) (has_number xs d) m) [
+  | inl here ↦ inl (eqb-true x d here)
+  | inr later ↦ inr (λ k. none_other P xs d k later)
+])
+  where
+    by_first : (t : Bool) → P x ≡ t → length (cond (not t) (x ∷ filter (λ y. not (P y)) xs) (filter (λ y. not (P y)) xs)) ≡ 0 → (x ≡ d) ⊎ (length (filter (λ y. not (P y)) xs) ≡ 0 → P d ≡ true) → P d ≡ true
+    by_first true p k side = elim side [ inl same ↦ ap P (sym same) ∙ p | inr later ↦ later k ]
+    by_first false p k side = absurd (omega (arith, k))
+
+pub no_others : (w : World) (b : ℕ) (bs : List ℕ) → length (other_targets w b bs) ≡ 0 → (d : ℕ) → holds w.pairs b d ≡ true → has_number bs d ≡ true
+no_others w b bs e d h = none_other (has_number bs) (targets_of w b) d e (in_targets b w.pairs d ∙ h)
 
 -- the inode in a block is the one in its bytes
 pub inode_is : (w : World) (b : ℕ) (bytes : List ℕ) (o : Option Inode) → IsValid w → contents w b ≡ Some bytes → (16 ≤ length bytes → inode_in (length bytes) bytes ≡ o) → inode_at w b ≡ o

@@ -26,12 +26,12 @@ use Rattle.fs_changing.specs.Trimming.{IsWay, MayTrim, Trimmed, Trims, IsClean}
 use Rattle.fs_changing.proofs.RunLaws.{ready_still}
 use Rattle.fs_changing.proofs.TidyLaws.{both_ways, same_tree, still_clean}
 use Rattle.inode_walks.specs.Asking.{mounted_by}
+use Rattle.fs_looking.proofs.ApartLaws.{is_false, yes_no}
+use Rattle.fs_looking.proofs.RootLaws.{root_may}
 use Rattle.inode_mount.specs.Marked.{is_inode, is_data_block, has_leftovers}
 use Rattle.inode_mount.specs.declared.marks.Marks.{Marks}
 use Rattle.inode_mount.specs.Looking.{blocks_in, names_at, Noted, MarksTree}
 use Rattle.inode_mount.specs.Tidying.{MayTidy}
-use Rattle.inode_mount.proofs.FitLaws.{is_false, yes_no}
-use Rattle.inode_mount.proofs.RightLaws.{root_may}
 
 -- ---- marks stay what they are
 
@@ -91,7 +91,7 @@ module _ (told : Type 0) (c : Client) (n : Named) (v : View) (m : Marks) (t : to
 
   pub may_named : (b : ℕ) → has_number n.blocks b ≡ true → MayWrite c v b
   may_named b k =
-      each_named (MayWrite c v) c.root n.pairs n.blocks under.order (root_may c v may.ready (may.valid t) sound)
+      each_named (MayWrite c v) c.root n.pairs n.blocks under.order (root_may kind.Inode c v may.ready (may.valid t) sound)
       (λ a d h before.
       let pair = under.held a d h in
       record {

@@ -15,9 +15,11 @@ use Rattle.inode_walks.specs.Finding.{node_pairs}
 use Rattle.inode_walks.proofs.WalkLaws.{block_is, node_block}
 use Rattle.fs_laws.proofs.InodeLaws.{node_blocks}
 use Rattle.fs_laws.proofs.ListLaws.{number_right, held_left, held_right}
-use Rattle.inode_mount.specs.Looking.{Come, is_come, with_inode, come_each, come_on, come_by, come_from, are_held, held_at}
-use Rattle.inode_mount.proofs.FitLaws.{yes_no, is_false, apart_first, apart_with, apart_right, Fits, Adds, adds_one, first_fits, second_fits}
-use Rattle.inode_mount.proofs.ComeLaws.{node_data, file_apart, held_is, is_held, each_in, data_wrong, NodeRight, node_right}
+use Rattle.fs_looking.proofs.ApartLaws.{yes_no, is_false, apart_first, apart_with, each_in}
+use Rattle.fs_looking.specs.Held.{are_held}
+use Rattle.inode_mount.specs.Looking.{Come, is_come, with_inode, come_each, come_on, come_by, come_from, held_at}
+use Rattle.inode_mount.proofs.FitLaws.{apart_right, Fits, Adds, adds_one, first_fits, second_fits}
+use Rattle.inode_mount.proofs.ComeLaws.{node_data, file_apart, held_is, is_held, data_wrong, NodeRight, node_right}
 
 -- a node that would be right
 pub record NodeGood (w : World) (s : Come) (x : InodeNode) : Type 0 where

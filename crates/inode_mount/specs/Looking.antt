@@ -1,13 +1,12 @@
 -- What a look at a tree of inodes comes to, block by block, as the call goes.
 use Rattle.std.specs.Prelude.{◌≡◌, ℕ, zero, suc, ◌≤◌, ◌==◌, Bool, true, false, cond, ◌&&◌, ◌||◌, List, [], ◌∷◌, length, Option, Some, None, IsTrue, is_some}
-use Rattle.std.specs.List.{list_all}
 use Rattle.std.specs.Option.{option_and_then}
 use Rattle.tsd_model.specs.World.{World, has_number}
 use Rattle.tsd_model.specs.Pairs.{holds}
 use Rattle.fs_trees.specs.Names.{path_max}
 use Rattle.fs_trees.specs.Tree.{is_there}
 use Rattle.fs_trees.specs.Fields.{only_if}
-use Rattle.fs_trees.specs.Inode.{Inode, directory, regular, are_apart, inode_in}
+use Rattle.fs_trees.specs.Inode.{Inode, directory, regular, inode_in}
 use Rattle.fs_trees.specs.InodeTree.{inode_at, inode_tree}
 use Rattle.fs_trees.specs.Layouts.{named_at}
 use Rattle.fs_trees.specs.declared.ask.ShellKind.TheVariants as kind
@@ -17,15 +16,12 @@ use Rattle.inode_walks.specs.declared.finding.Found.{Found}
 use Rattle.fs_laws.specs.Ways.{HoldsWrite}
 use Rattle.fs_port.specs.View.{View, state_of}
 use Rattle.fs_asks.specs.declared.client.Client.{Client}
+use Rattle.fs_looking.specs.Held.{are_held}
 use Rattle.inode_mount.specs.Marked.{is_inode, is_data_block, has_leftovers}
 use Rattle.inode_mount.specs.declared.marks.Marks.{Marks}
 use Rattle.inode_mount.specs.declared.looking.Seen.{Seen}
 
 -- ---- one inode
-
--- each of these blocks is pointed to from there, and none stands twice
-abbrev pub are_held : World → ℕ → List ℕ → Bool
-are_held w b names = are_apart names && list_all (holds w.pairs b) names
 
 abbrev pub if_held : World → ℕ → Inode → Option Inode
 if_held w b i = only_if (are_held w b (blocks_said i)) (λ _. Some i)

@@ -1,34 +1,17 @@
 //! Marks on the blocks that a tree names.
 
-ghost use Rattle.std.specs.Prelude.{◌≡◌, ◌≤◌, ◌||◌, ◌==◌, ℕ, Bool, false, length, slice_index_or, IfOk};
+ghost use Rattle.std.specs.Prelude.{◌≡◌, IfOk};
 
-use bit_array::BitArray;
+use fs_looking::BlockSet;
 use std::alloc::Global;
 use tsd_model::NoMemory;
-
-/// How many blocks the longest disk has.
-const BLOCKS_MOST: u32 = 1_048_576;
 
 /// Marks on the blocks of a disk, however long.
 #[derive(Drop)]
 pub struct Marks {
-    inodes: BitArray,
-    data_blocks: BitArray,
-    with_leftovers: BitArray,
-    ghost inodes_fit: { 1048576 ≤ length inodes },
-    ghost data_fits: { 1048576 ≤ length data_blocks },
-    ghost leftovers_fit: { 1048576 ≤ length with_leftovers },
-}
-
-/// A row of so many marks, none of them set.
-fn row(alloc: Global, len: u32) -> Result<BitArray, NoMemory>
-    ensures long { IfOk result (λ bits. length bits ≡ len) }
-    ensures none { IfOk result (λ bits. (b : ℕ) → slice_index_or bits b false ≡ false) }
-{
-    match BitArray::new(alloc, len) {
-        Ok(bits) => Ok(bits),
-        Err(error) => Err(error),
-    }
+    inodes: BlockSet,
+    data_blocks: BlockSet,
+    with_leftovers: BlockSet,
 }
 
 impl Marks {
@@ -38,9 +21,9 @@ impl Marks {
     pub fn new(alloc: Global) -> Result<Marks, NoMemory>
         ensures { IfOk result NoMarks }
     {
-        let inodes = row(alloc, BLOCKS_MOST)?;
-        let data_blocks = row(alloc, BLOCKS_MOST)?;
-        let with_leftovers = row(alloc, BLOCKS_MOST)?;
+        let inodes = BlockSet::new(alloc)?;
+        let data_blocks = BlockSet::new(alloc)?;
+        let with_leftovers = BlockSet::new(alloc)?;
         Ok(Marks {
             inodes,
             data_blocks,
@@ -61,30 +44,30 @@ impl Marks {
     pub fn is_inode(&self, block: u32) -> bool
         ensures { result ≡ is_inode self.now block }
     {
-        self.inodes.get(block)
+        self.inodes.contains(block)
     }
 
     /// Whether a block is marked as one of a file's bytes.
     pub fn is_data_block(&self, block: u32) -> bool
         ensures { result ≡ is_data_block self.now block }
     {
-        self.data_blocks.get(block)
+        self.data_blocks.contains(block)
     }
 
     /// Whether pairs out of a block lead to more than it names.
     pub fn has_leftovers(&self, block: u32) -> bool
         ensures { result ≡ has_leftovers self.now block }
     {
-        self.with_leftovers.get(block)
+        self.with_leftovers.contains(block)
     }
 
     /// Marks an inode.
     pub fn mark_inode(&mut self, block: u32, has_leftovers: bool)
         ensures { MarksInode self.old self.new block has_leftovers }
     {
-        self.inodes.set(block, true);
+        self.inodes.insert(block);
         if has_leftovers {
-            self.with_leftovers.set(block, true);
+            self.with_leftovers.insert(block);
         }
     }
 
@@ -92,9 +75,9 @@ impl Marks {
     pub fn mark_data_block(&mut self, block: u32, has_leftovers: bool)
         ensures { MarksData self.old self.new block has_leftovers }
     {
-        self.data_blocks.set(block, true);
+        self.data_blocks.insert(block);
         if has_leftovers {
-            self.with_leftovers.set(block, true);
+            self.with_leftovers.insert(block);
         }
     }
 }

@@ -9,11 +9,12 @@ use Rattle.fs_asks.proofs.LookLaws.{looks_as, looks_refused, then_looks}
 use Rattle.fs_changing.specs.Changing.{Changes}
 use Rattle.fs_changing.proofs.AskLaws.{ask_refuses, ask_done}
 use Rattle.fs_changing.proofs.RunLaws.{looks_change}
+use Rattle.fs_changing.proofs.AgainLaws.{answers_again, changes_again}
 use Rattle.chain_reading.specs.Asking.{tree_of, mounted_by}
 use Rattle.chain_changes.specs.Growing.{IsLastOf}
 use Rattle.chain_changes.proofs.GrowthLaws.{append_lost}
 use Rattle.chain_changes.proofs.AppendLaws.{nothing_needed, nothing_added, some_bytes}
-use Rattle.chain_changes.proofs.AgainLaws.{may_ask_again, last_of_file, answers_again, changes_again}
+use Rattle.chain_changes.proofs.AgainLaws.{may_ask_again, last_of_file}
 use Rattle.chain_changes.proofs.appending.append.Goals as goal
 
 pub find_file-requires : goal.find_file-requires

@@ -10,13 +10,14 @@ use Rattle.fs_asks.proofs.LookLaws.{looks_refused, looks_but_refuses}
 use Rattle.fs_changing.specs.Changing.{Changes, refused_on}
 use Rattle.fs_changing.proofs.AskLaws.{ask_refuses}
 use Rattle.fs_changing.proofs.RunLaws.{looks_change}
+use Rattle.fs_changing.proofs.AgainLaws.{answers_again, changes_again}
 use Rattle.chain_layout.specs.Block.{cluster_of, block_len_of}
 use Rattle.chain_layout.specs.Held.{cluster_in, entries_in}
 use Rattle.chain_reading.specs.Asking.{MayAsk, mounted_by}
 use Rattle.chain_reading.specs.Finding.{IsWithin}
 use Rattle.chain_changes.specs.Places.{IsAt}
 use Rattle.chain_changes.proofs.PlacedLaws.{entries_used, new_count, new_entry, refused_full, refused_lost, refused_since, name_of_path}
-use Rattle.chain_changes.proofs.AgainLaws.{may_ask_again, answers_again, changes_again}
+use Rattle.chain_changes.proofs.AgainLaws.{may_ask_again}
 use Rattle.chain_changes.proofs.putting.put.Goals as goal
 
 pub find_place-requires : goal.find_place-requires

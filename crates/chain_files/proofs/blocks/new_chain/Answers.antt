@@ -23,7 +23,7 @@ returns-in-Err g c =
       many = tt;
       linkable = tt;
       room = λ t. tt;
-      full = e.full;
+      full = λ t ne. e.full t ne c.args.count;
       same = λ t ne. ((e.looks.looked t).1 ne).world;
       runs = runs_refused told first new (IsAside root first.world) c.in-Err.refusal
           (runs_look told first new (IsAside root first.world) (Err c.in-Err.refusal) (λ t w is. subst (IsAside root first.world) (sym is) (aside_first root first.world c.args.source (c.requires.stage t))) e.looks);

@@ -3,9 +3,22 @@ use Rattle.fs_trees.specs.Fields.{entry_names}
 use Rattle.fs_asks.proofs.LookLaws.{no_look, looks_as}
 use Rattle.chain_layout.specs.Block.{cluster_of}
 use Rattle.chain_layout.specs.Held.{cluster_in, entries_in}
-use Rattle.chain_looking.proofs.NameLaws.{first_distinct, first_twice, first_alone}
+use Rattle.chain_looking.proofs.NameLaws.{first_none, first_distinct, first_twice, first_alone}
 use Rattle.chain_looking.proofs.PageLaws.{first_page, pages_on, none_behind}
 use Rattle.chain_looking.proofs.comparing.is_page_distinct.Goals as goal
+
+pub returns-then-count-eq0-clause-distinct : goal.returns-then-count-eq0-clause-distinct
+returns-then-count-eq0-clause-distinct g c = λ t ls ps pages.
+    let v = g.K.Blocks.view c.args.disk.now in
+    let page = c.args.page.now in
+    let read = c.requires.read t in
+    let first = first_page c.args.client.now v page.block ls ps pages (cluster_of (cluster_in page.cluster)) (entries_in page.cluster) read.read.says read.entries in
+    first_none (entries_in page.cluster) _ _ first.names (sym c.count.ensures.value ∙ c.if-count-eq0.true)
+
+pub returns-then-count-eq0-clause-looks : goal.returns-then-count-eq0-clause-looks
+returns-then-count-eq0-clause-looks g c =
+    let v = g.K.Blocks.view c.args.disk.now in
+    looks_as g.K.Blocks.told v v tt _ (no_look g.K.Blocks.told v c.requires.unspent (λ t. g.met.K.Blocks.sound c.args.disk.now t c.requires.unspent) c.requires.valid)
 
 pub returns-then-not-has_distinct_names-clause-distinct :
     goal.returns-then-not-has_distinct_names-clause-distinct

@@ -3,8 +3,10 @@ use Rattle.inode_layout.specs.Block.{inode_of}
 use Rattle.inode_layout.specs.Said.{blocks_said}
 use Rattle.fs_asks.specs.May.{MayWrite}
 use Rattle.fs_asks.proofs.LookLaws.{no_look, looks_as, looks_refused, then_looks}
+use Rattle.fs_looking.proofs.PlaceLaws.{place_in}
+use Rattle.fs_looking.proofs.SetLaws.{on_disk}
 use Rattle.inode_mount.specs.Looking.{Comes, IsSeenAt, with_inode, come_as, come_data, come_from}
-use Rattle.inode_mount.proofs.SeeLaws.{place_in, comes_none, no_level, come_before, none_held, no_file, come_file, come_dir, on_disk, not_come, agrees_inode, noted_on, named_may}
+use Rattle.inode_mount.proofs.SeeLaws.{comes_none, no_level, come_before, none_held, no_file, come_file, come_dir, not_come, agrees_inode, noted_on, named_may}
 use Rattle.inode_mount.proofs.LoopLaws.{may_still, each_on, each_stops, each_ends, noted_seen, told_as}
 use Rattle.inode_mount.proofs.RightLaws.{seen_before, when_right}
 use Rattle.inode_mount.proofs.looking.+is_right.Goals.{then-levels-eq0-via-then-levels-eq0, then-levels-eq0-via-else-levels-eq0+then-is_inode, then-levels-eq0-via-else-levels-eq0+else-is_inode+then-is_data_block}

@@ -3,9 +3,9 @@ use Rattle.inode_layout.specs.Block.{inode_of}
 use Rattle.inode_layout.specs.Said.{blocks_said}
 use Rattle.fs_asks.specs.May.{MayWrite}
 use Rattle.fs_asks.proofs.LookLaws.{no_look, looks_as, looks_refused, then_looks}
+use Rattle.fs_looking.proofs.PlaceLaws.{place_in}
 use Rattle.inode_mount.specs.Marked.{is_inode}
 use Rattle.inode_mount.specs.Looking.{NamesData}
-use Rattle.inode_mount.proofs.SeeLaws.{place_in}
 use Rattle.inode_mount.proofs.LoopLaws.{may_still, data_on, data_stops, data_ends}
 use Rattle.inode_mount.proofs.looking.is_file_right.Goals as goal
 

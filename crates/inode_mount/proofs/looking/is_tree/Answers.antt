@@ -1,7 +1,8 @@
 use Rattle.std.proofs.Common.{refl}
+use Rattle.fs_trees.specs.declared.ask.ShellKind.TheVariants.{Inode}
+use Rattle.fs_looking.proofs.RootLaws.{root_may}
 use Rattle.inode_mount.specs.Looking.{come_under, nothing_yet}
 use Rattle.inode_mount.proofs.SeeLaws.{agrees_none, noted_none}
-use Rattle.inode_mount.proofs.RightLaws.{root_may}
 use Rattle.inode_mount.proofs.RootLaws.{tells_tree}
 use Rattle.inode_mount.proofs.looking.is_tree.Goals as goal
 
@@ -12,7 +13,7 @@ pub is_right-requires-clause-valid : goal.is_right-requires-clause-valid
 is_right-requires-clause-valid g c = c.requires.valid
 
 pub is_right-requires-clause-may : goal.is_right-requires-clause-may
-is_right-requires-clause-may g c = λ t. root_may c.args.client.now (g.K.Blocks.view c.args.disk.now) c.requires.ready (c.requires.valid t) (g.met.K.Blocks.sound c.args.disk.now t c.requires.ready.unspent)
+is_right-requires-clause-may g c = λ t. root_may Inode c.args.client.now (g.K.Blocks.view c.args.disk.now) c.requires.ready (c.requires.valid t) (g.met.K.Blocks.sound c.args.disk.now t c.requires.ready.unspent)
 
 pub is_right-requires-clause-noted : goal.is_right-requires-clause-noted
 is_right-requires-clause-noted g c = λ t. noted_none c.args.client.now (g.K.Blocks.view c.args.disk.now) c.clear.new.self c.clear.ensures

@@ -1,6 +1,7 @@
 use Rattle.std.proofs.Common.{sym, ◌∙◌, nat_lt}
 use Rattle.fs_asks.proofs.LookLaws.{no_look, looks_as, looks_refused}
-use Rattle.inode_mount.proofs.SeeLaws.{named_again, names_data, noted_on, noted_data, on_disk}
+use Rattle.fs_looking.proofs.SetLaws.{on_disk}
+use Rattle.inode_mount.proofs.SeeLaws.{named_again, names_data, noted_on, noted_data}
 use Rattle.inode_mount.proofs.SeenLaws.{no_pairs}
 use Rattle.inode_mount.proofs.looking.see_data_block.Goals as goal
 

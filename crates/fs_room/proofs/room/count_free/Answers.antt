@@ -2,8 +2,8 @@ use Rattle.std.proofs.Common.{◌≡◌, false, refl, ◌∙◌, subst, inl, inr
 use Rattle.tsd_model.specs.declared.requests.Request.TheVariants as ask
 use Rattle.fs_port.specs.Calls.{IsCarriedOut, IsEitherSide}
 use Rattle.fs_port.proofs.RunLaws.{leaves_more}
-use Rattle.chain_files.proofs.ChainLaws.{free_looked, free_same}
-use Rattle.chain_files.proofs.blocks.count_free.Goals as goal
+use Rattle.fs_room.proofs.FreeLaws.{free_looked, free_same}
+use Rattle.fs_room.proofs.room.count_free.Goals as goal
 
 pub returns-in-Ok-Free-clause-looks : goal.returns-in-Ok-Free-clause-looks
 returns-in-Ok-Free-clause-looks g c =
