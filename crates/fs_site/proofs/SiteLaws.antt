@@ -8,7 +8,6 @@ use Rattle.tsd_model.specs.declared.caps.Cap.{Cap}
 use Rattle.tsd_model.specs.declared.geometry.Geometry.{Geometry}
 use Rattle.tsd_model.specs.declared.requests.Level.TheVariants as level
 use Rattle.fs_port.specs.Files.{FilesView, IsReady}
-use Rattle.fs_port.specs.View.{View}
 use Rattle.fs_site.specs.Ours.{IsOurs, cap_of}
 use Rattle.fs_site.specs.Untold.{untold_view}
 
