@@ -2,8 +2,8 @@
 
 ghost use Rattle.std.specs.Prelude.{◌≡◌, ◌<◌};
 
-use crate::lines::{ChainSite, fresh, mounted_again};
-use crate::steps::{Ask, Kind, asked, is_same, step};
+use crate::lines::{fresh, mounted_again};
+use crate::steps::{Ask, Kind, does, does_each, is_same, step};
 use crate::tree::{Room, Tree};
 use fs_trees::FsRefusal;
 use std::alloc::{AllocError, Global};
@@ -146,22 +146,6 @@ fn note(met: &mut Met, answered: Result<(), FsRefusal>) {
     *count = count.saturating_add(1);
 }
 
-/// Makes a tree, and so many files there.
-fn begin(
-    rt: &impl Abort,
-    site: &mut ChainSite,
-    tree: &mut Tree,
-    first: &[u8],
-) -> Result<(), AllocError> {
-    let make = asked(tree.alloc, Kind::Make, b"", 0)?;
-    let _answered = step(rt, site, tree, &make)?;
-    for name in first {
-        let put = asked(tree.alloc, Kind::Put, &[*name], 0)?;
-        let _answered = step(rt, site, tree, &put)?;
-    }
-    Ok(())
-}
-
 /// Runs sixty random asks on a fresh disk, compares each answer, and now and then the trees, also mounted anew. The first three
 /// are asked where no tree is yet.
 fn run(
@@ -181,7 +165,10 @@ fn run(
         note(met, step(rt, &mut site, &mut tree, &ask)?);
         met.pages = met.pages.max(tree.pages);
         match round {
-            2 => begin(rt, &mut site, &mut tree, plan.first)?,
+            2 => {
+                does(rt, &mut site, &mut tree, Kind::Make, b"", 0)?;
+                does_each(rt, &mut site, &mut tree, Kind::Put, plan.first)?;
+            }
             12 | 42 => assert!(rt; is_same(rt, &mut site, &tree)),
             27 | 59 => {
                 site = mounted_again(rt, alloc, site);

@@ -181,3 +181,32 @@ pub fn step(
     assert_eq!(rt; free(rt, site), tree.free(), "{:?}", ask.kind);
     Ok(wanted)
 }
+
+/// Asks both, by a path of letters, with so many bytes; asserts that it isn't refused.
+pub fn does(
+    rt: &impl Abort,
+    site: &mut ChainSite,
+    tree: &mut Tree,
+    kind: Kind,
+    path: &[u8],
+    len: u32,
+) -> Result<(), AllocError> {
+    let ask = asked(tree.alloc, kind, path, len)?;
+    let answered = step(rt, site, tree, &ask)?;
+    assert_eq!(rt; answered, Ok(()));
+    Ok(())
+}
+
+/// The same of each of these names.
+pub fn does_each(
+    rt: &impl Abort,
+    site: &mut ChainSite,
+    tree: &mut Tree,
+    kind: Kind,
+    names: &[u8],
+) -> Result<(), AllocError> {
+    for name in names {
+        does(rt, site, tree, kind, &[*name], 0)?;
+    }
+    Ok(())
+}

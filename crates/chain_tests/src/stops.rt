@@ -23,13 +23,6 @@ struct Stop {
     mount_left: u64,
 }
 
-/// Whether an ask was stopped, and whether the mount after it was.
-#[derive(Clone, Copy)]
-struct Found {
-    is_stopped: bool,
-    is_mount_stopped: bool,
-}
-
 /// How many asks and mounts were stopped, how often the tree was as it is after a stopped ask, and not before it, and how often
 /// mounting made blocks free.
 #[derive(Clone, Copy, Default, Debug)]
@@ -85,7 +78,7 @@ fn mounted(rt: &impl Abort, alloc: Global, site: ChainSite, left: u64) -> (Chain
     (site, is_stopped)
 }
 
-/// Does these asks and stops another one and the mount after it, as told. The tree is asserted to be the one before it, where
+/// Does these asks and stops another one and the mount after it, as told; gives whether each of the two was stopped. The tree is asserted to be the one before it, where
 /// nothing was asked of the disk, the one after it, where it isn't stopped, or one of them.
 fn cut(
     rt: &impl Abort,
@@ -94,7 +87,7 @@ fn cut(
     ask: &Ask,
     stop: Stop,
     met: &mut Met,
-) -> Result<Found, AllocError> {
+) -> Result<(bool, bool), AllocError> {
     let mut tree = Tree::new(alloc, ROOM);
     let mut site = replay(rt, alloc, &mut tree, asks)?;
     site.disk.left = stop.left;
@@ -124,10 +117,7 @@ fn cut(
     count(&mut met.mounts_stopped, is_mount_stopped);
     count(&mut met.after, is_stopped && !is_old);
     count(&mut met.freed, free(rt, &mut site) > before);
-    Ok(Found {
-        is_stopped,
-        is_mount_stopped,
-    })
+    Ok((is_stopped, is_mount_stopped))
 }
 
 /// Stops an ask behind each of its requests, after these asks.
@@ -140,8 +130,8 @@ fn stop_one(
 ) -> Result<(), AllocError> {
     let mount_left = u64::MAX;
     for left in 0..60 {
-        let found = cut(rt, alloc, asks, ask, Stop { left, mount_left }, met)?;
-        if !found.is_stopped {
+        let (is_stopped, _) = cut(rt, alloc, asks, ask, Stop { left, mount_left }, met)?;
+        if !is_stopped {
             return Ok(());
         }
     }
@@ -167,8 +157,8 @@ fn stop_mount(
     met: &mut Met,
 ) -> Result<(), AllocError> {
     for mount_left in 0..60 {
-        let found = cut(rt, alloc, asks, ask, Stop { left, mount_left }, met)?;
-        if !found.is_mount_stopped {
+        let (_, is_mount_stopped) = cut(rt, alloc, asks, ask, Stop { left, mount_left }, met)?;
+        if !is_mount_stopped {
             return Ok(());
         }
     }
