@@ -1,0 +1,245 @@
+//! Each ask stopped at each of its requests: the disk has the tree before it or the one after it, and no block is lost.
+
+use crate::lines::{ChainSite, free, fresh};
+use crate::random::draw_ask;
+use crate::steps::{Ask, Kind, answer, apply, asked, expected, is_same, step};
+use crate::tree::{Room, Tree};
+use fs_port::Blocks;
+use fs_site::again;
+use fs_trees::FsRefusal;
+use std::alloc::{AllocError, Global};
+use std::process::Abort;
+use std::test::Fail;
+
+const ROOM: Room = Room {
+    blocks: 24,
+    slots: 40,
+};
+
+/// Behind how many requests an ask is stopped, and behind how many the mount after it.
+#[derive(Clone, Copy, Debug)]
+struct Stop {
+    left: u64,
+    mount_left: u64,
+}
+
+/// How many asks and mounts were stopped, how often the tree was as it is after a stopped ask, and not before it, and how often
+/// mounting made blocks free.
+#[derive(Clone, Copy, Default, Debug)]
+struct Met {
+    stopped: u32,
+    mounts_stopped: u32,
+    after: u32,
+    freed: u32,
+}
+
+/// Counts a case where it is one.
+fn count(number: &mut u32, is_one: bool) {
+    *number = number.saturating_add(u32::from(is_one));
+}
+
+/// A fresh disk on which these asks are done.
+fn replay(
+    rt: &impl Abort,
+    alloc: Global,
+    tree: &mut Tree,
+    asks: &[Ask],
+) -> Result<ChainSite, AllocError> {
+    let mut site = fresh(rt, alloc, 1, ROOM.blocks, ROOM.slots);
+    for ask in asks {
+        let _answered = step(rt, &mut site, tree, ask)?;
+    }
+    Ok(site)
+}
+
+/// Whether an ask was stopped: its answer is asserted to be Device exactly where the disk is spent.
+fn is_cut(rt: &impl Abort, site: &ChainSite, answered: Result<(), FsRefusal>) -> bool {
+    let is_spent = site.disk.is_spent();
+    assert_eq!(rt; answered == Err(FsRefusal::Device), is_spent);
+    is_spent
+}
+
+/// The same disk, which goes on, and a file system that knows nothing of it.
+fn unmounted(rt: &impl Abort, alloc: Global, site: ChainSite) -> ChainSite {
+    again(alloc, site).expect(rt, "ample memory")
+}
+
+/// Mounts the disk, stopped behind so many requests, and once more where it was stopped; gives whether it was.
+fn mounted(rt: &impl Abort, alloc: Global, site: ChainSite, left: u64) -> (ChainSite, bool) {
+    let mut site = site;
+    site.disk.left = left;
+    let answered = site.mount();
+    let is_stopped = is_cut(rt, &site, answered);
+    if is_stopped {
+        site = unmounted(rt, alloc, site);
+        let _answered = site.mount();
+    }
+    site.disk.left = u64::MAX;
+    (site, is_stopped)
+}
+
+/// Does these asks and stops another one and the mount after it, as told; gives whether each of the two was stopped. The tree is asserted to be the one before it, where
+/// nothing was asked of the disk, the one after it, where it isn't stopped, or one of them.
+fn cut(
+    rt: &impl Abort,
+    alloc: Global,
+    asks: &[Ask],
+    ask: &Ask,
+    stop: Stop,
+    met: &mut Met,
+) -> Result<(bool, bool), AllocError> {
+    let mut tree = Tree::new(alloc, ROOM);
+    let mut site = replay(rt, alloc, &mut tree, asks)?;
+    site.disk.left = stop.left;
+    let wanted = expected(&tree, ask);
+    let answered = answer(rt, &mut site, &tree, ask);
+    let is_stopped = is_cut(rt, &site, answered);
+    assert!(rt;
+        is_stopped || answered == wanted,
+        "{:?} at {stop:?}",
+        ask.kind
+    );
+    let mut site = unmounted(rt, alloc, site);
+    let before = free(rt, &mut site);
+    let (mut site, is_mount_stopped) = mounted(rt, alloc, site, stop.mount_left);
+    let is_old = is_same(rt, &mut site, &tree);
+    if wanted.is_ok() {
+        apply(&mut tree, ask)?;
+    }
+    let is_new = is_same(rt, &mut site, &tree);
+    assert!(rt;
+        is_new || (is_old && is_stopped),
+        "{:?} at {stop:?}",
+        ask.kind
+    );
+    assert!(rt; is_old || stop.left > 0, "{:?} at {stop:?}", ask.kind);
+    count(&mut met.stopped, is_stopped);
+    count(&mut met.mounts_stopped, is_mount_stopped);
+    count(&mut met.after, is_stopped && !is_old);
+    count(&mut met.freed, free(rt, &mut site) > before);
+    Ok((is_stopped, is_mount_stopped))
+}
+
+/// Stops an ask behind each of its requests, after these asks.
+fn stop_one(
+    rt: &impl Abort,
+    alloc: Global,
+    asks: &[Ask],
+    ask: &Ask,
+    met: &mut Met,
+) -> Result<(), AllocError> {
+    let mount_left = u64::MAX;
+    for left in 0..60 {
+        let (is_stopped, _) = cut(rt, alloc, asks, ask, Stop { left, mount_left }, met)?;
+        if !is_stopped {
+            return Ok(());
+        }
+    }
+    rt.abort()
+}
+
+/// Stops each of these asks from a place on behind each of its requests, after the asks before it.
+fn stop_each(rt: &impl Abort, alloc: Global, asks: &[Ask], from: usize) -> Result<Met, AllocError> {
+    let mut met = Met::default();
+    for place in from..asks.len() {
+        stop_one(rt, alloc, &asks[..place], &asks[place], &mut met)?;
+    }
+    Ok(met)
+}
+
+/// Stops an ask behind so many requests, and the mount after it behind each of its requests.
+fn stop_mount(
+    rt: &impl Abort,
+    alloc: Global,
+    asks: &[Ask],
+    ask: &Ask,
+    left: u64,
+    met: &mut Met,
+) -> Result<(), AllocError> {
+    for mount_left in 0..60 {
+        let (_, is_mount_stopped) = cut(rt, alloc, asks, ask, Stop { left, mount_left }, met)?;
+        if !is_mount_stopped {
+            return Ok(());
+        }
+    }
+    rt.abort()
+}
+
+#[test]
+fn each_kind_is_whole_or_not_at_all(rt: HostRuntime) -> Result<(), Fail> {
+    let alloc = rt.alloc();
+    let mut asks = Vec::new(alloc);
+    asks.push(asked(alloc, Kind::Mount, b"", 0)?)?;
+    asks.push(asked(alloc, Kind::Make, b"", 0)?)?;
+    asks.push(asked(alloc, Kind::Put, b"a", 600)?)?;
+    asks.push(asked(alloc, Kind::Append, b"a", 800)?)?;
+    asks.push(asked(alloc, Kind::Append, b"a", 50)?)?;
+    asks.push(asked(alloc, Kind::Put, b"b", 0)?)?;
+    asks.push(asked(alloc, Kind::Put, b"a", 500)?)?;
+    asks.push(asked(alloc, Kind::Read, b"a", 490)?)?;
+    asks.push(asked(alloc, Kind::List, b"", 0)?)?;
+    asks.push(asked(alloc, Kind::Mount, b"", 0)?)?;
+    asks.push(asked(alloc, Kind::Remove, b"a", 0)?)?;
+    asks.push(asked(alloc, Kind::Make, b"", 0)?)?;
+    let met = stop_each(&rt, alloc, asks.as_slice(), 0)?;
+    assert!(rt; met.stopped > 60 && met.after > 3, "{met:?}");
+    Ok(())
+}
+
+#[test]
+fn a_directory_grows_or_stays(rt: HostRuntime) -> Result<(), Fail> {
+    let alloc = rt.alloc();
+    let mut asks = Vec::new(alloc);
+    asks.push(asked(alloc, Kind::Make, b"", 0)?)?;
+    for letter in b"abcdefghijklmno" {
+        asks.push(asked(alloc, Kind::Put, &[*letter], 0)?)?;
+    }
+    asks.push(asked(alloc, Kind::Put, b"p", 600)?)?;
+    asks.push(asked(alloc, Kind::Put, b"p", 3)?)?;
+    asks.push(asked(alloc, Kind::Remove, b"p", 0)?)?;
+    let met = stop_each(&rt, alloc, asks.as_slice(), 16)?;
+    assert!(rt; met.stopped > 15 && met.freed > 5, "{met:?}");
+    Ok(())
+}
+
+/// A make and fourteen random asks.
+fn draw_asks(alloc: Global, seed: u32) -> Result<Vec<Ask>, AllocError> {
+    let mut seed = seed;
+    let mut tree = Tree::new(alloc, ROOM);
+    let mut asks = Vec::new(alloc);
+    asks.push(asked(alloc, Kind::Make, b"", 0)?)?;
+    tree.make();
+    for _ in 0..14 {
+        let ask = draw_ask(&tree, &mut seed, 3)?;
+        if expected(&tree, &ask).is_ok() {
+            apply(&mut tree, &ask)?;
+        }
+        asks.push(ask)?;
+    }
+    Ok(asks)
+}
+
+#[test]
+fn random_asks_are_whole_or_not_at_all(rt: HostRuntime) -> Result<(), Fail> {
+    for seed in [188, 189] {
+        let asks = draw_asks(rt.alloc(), seed)?;
+        let met = stop_each(&rt, rt.alloc(), asks.as_slice(), 1)?;
+        assert!(rt; met.stopped > 40 && met.after > 2, "{met:?}");
+    }
+    Ok(())
+}
+
+#[test]
+fn a_mount_that_deletes_is_stopped(rt: HostRuntime) -> Result<(), Fail> {
+    let alloc = rt.alloc();
+    let mut asks = Vec::new(alloc);
+    asks.push(asked(alloc, Kind::Make, b"", 0)?)?;
+    asks.push(asked(alloc, Kind::Put, b"a", 600)?)?;
+    let ask = asked(alloc, Kind::Put, b"a", 900)?;
+    let mut met = Met::default();
+    for left in 0..12 {
+        stop_mount(&rt, alloc, asks.as_slice(), &ask, left, &mut met)?;
+    }
+    assert!(rt; met.mounts_stopped > 100 && met.freed > 50, "{met:?}");
+    Ok(())
+}
