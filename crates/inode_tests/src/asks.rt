@@ -2,8 +2,8 @@
 
 use crate::lines::{InodeSite, free, path_of};
 use crate::tree::{Item, Tree};
-use fs_trees::{FsRefusal, Name};
 use fs_site::Named;
+use fs_trees::{FsRefusal, Name};
 use std::alloc::{AllocError, Global};
 use std::process::Abort;
 use tsd_model::Data;
@@ -80,7 +80,12 @@ pub fn apply(tree: &mut Tree, ask: &Ask) -> Result<(), AllocError> {
 }
 
 /// Lists a directory; asserts that just the plain tree's names come, in order.
-fn list(rt: &impl Abort, site: &mut InodeSite, tree: &Tree, path: &[u8]) -> Result<bool, FsRefusal> {
+fn list(
+    rt: &impl Abort,
+    site: &mut InodeSite,
+    tree: &Tree,
+    path: &[u8],
+) -> Result<bool, FsRefusal> {
     let named = spelled(rt, path);
     let mut last = Name::new();
     let mut count = 0usize;
@@ -106,7 +111,12 @@ fn list(rt: &impl Abort, site: &mut InodeSite, tree: &Tree, path: &[u8]) -> Resu
 }
 
 /// Whether the file system has the bytes of the plain tree.
-fn reads(rt: &impl Abort, site: &mut InodeSite, tree: &Tree, path: &[u8]) -> Result<bool, FsRefusal> {
+fn reads(
+    rt: &impl Abort,
+    site: &mut InodeSite,
+    tree: &Tree,
+    path: &[u8],
+) -> Result<bool, FsRefusal> {
     let all = site.cat(tree.alloc, &spelled(rt, path))?;
     Ok(match tree.body(path) {
         Some(body) => body.bytes.as_slice() == all.as_slice(),
@@ -133,7 +143,12 @@ pub fn is_same(rt: &impl Abort, site: &mut InodeSite, tree: &Tree) -> Result<boo
 }
 
 /// The answer of the file system, which is asserted to have the plain tree's names and bytes.
-pub fn answer(rt: &impl Abort, site: &mut InodeSite, tree: &Tree, ask: &Ask) -> Result<(), FsRefusal> {
+pub fn answer(
+    rt: &impl Abort,
+    site: &mut InodeSite,
+    tree: &Tree,
+    ask: &Ask,
+) -> Result<(), FsRefusal> {
     let path = spelled(rt, ask.path.as_slice());
     let mut bytes = Data::new();
     assert!(rt; bytes.extend_from_slice(ask.bytes.as_slice()).is_ok());

@@ -2,8 +2,8 @@
 
 use crate::lines::{InodeSite, answers, data_of, fresh, mounted_again, path_of, run};
 use fs_port::{Blocks, Files};
-use fs_trees::FsRefusal;
 use fs_site::answer_to;
+use fs_trees::FsRefusal;
 use std::alloc::Global;
 use std::process::Abort;
 use tsd_model::Data;
