@@ -74,29 +74,57 @@ const SAME: [(u32, usize, u8); 20] = [
     (144, 511, 128),
 ];
 
-/// The same for a disk that was then brought to version 2, whose open record has the header and the digests.
-const OTHER_UPGRADED: [(u32, usize, u8); 8] = [
-    // The gate and the descriptor of the record: its count, and two homes.
+/// The same where the disk wasn't closed, so that the journal holds a record of each request but the first.
+const OTHER_OPEN: [(u32, usize, u8); 11] = [
+    // The gates of the records, and of one that was never written.
     (2, 0, 1),
+    (117, 0, 1),
+    (121, 0, 1),
+    (123, 0, 1),
+    // A descriptor: how many homes there are, and the first of them.
     (3, 0, 255),
+    (118, 0, 255),
     (3, 4, 128),
-    (3, 8, 128),
-    // The bodies.
-    (4, 0, 1),
-    (5, 0, 1),
-    (5, 63, 128),
+    // The home of the last write becomes that of block 2.
+    (122, 4, 1),
+    // The bodies of the two writes, behind five others.
+    (9, 0, 1),
+    (10, 1, 128),
     // What no record has.
+    (132, 0, 1),
+];
+
+const SAME_OPEN: [(u32, usize, u8); 10] = [
+    // The homes of the bodies.
+    (134, 4, 1),
+    (135, 0, 2),
+    (136, 0, 1),
+    (137, 0, 1),
+    (138, 1, 128),
+    // The rest of a gate and of a descriptor.
+    (2, 1, 1),
+    (3, 511, 1),
+    // What stands behind the records.
+    (11, 0, 1),
+    (124, 0, 1),
+    (125, 0, 1),
+];
+
+/// The same where the disk was brought to version 2.
+const OTHER_UPGRADED: [(u32, usize, u8); 4] = [
+    // The version.
+    (0, 8, 3),
+    // The digests of block 0.
+    (132, 0, 1),
+    (132, 63, 128),
+    // The bytes of block 0.
     (137, 0, 1),
 ];
 
-const SAME_UPGRADED: [(u32, usize, u8); 5] = [
-    // The homes of the bodies.
-    (0, 0, 1),
-    (132, 0, 1),
-    // The rest of the descriptor, and of the bodies.
-    (3, 511, 1),
-    (4, 28, 1),
-    (5, 64, 1),
+const SAME_UPGRADED: [(u32, usize, u8); 2] = [
+    // Digests of blocks that aren't primary.
+    (132, 64, 1),
+    (133, 0, 1),
 ];
 
 /// Turns a bit.
@@ -135,29 +163,43 @@ fn check_bits(
     Ok(())
 }
 
-/// The image after what is asked.
-fn asked_image(alloc: Global) -> Result<MemStation, Fail> {
+/// The image after what is asked, and after the end of the run.
+fn asked_image(alloc: Global, closes: bool) -> Result<MemStation, Fail> {
     let place = near(alloc)?;
     let mut image = formatted(alloc, &EIGHT)?;
-    replies_in_run(alloc, &mut image, &place, ASKED, false, true)?;
+    replies_in_run(alloc, &mut image, &place, ASKED, false, closes)?;
     Ok(image)
+}
+
+/// The world after what is asked.
+fn asked_world(alloc: Global) -> Result<World, Fail> {
+    let plain = Plain::asked(alloc, &EIGHT, PlaceKind::Near, ASKED)?;
+    Ok(plain.world)
 }
 
 #[test]
 fn bits_of_an_image(rt: HostRuntime) -> Result<(), Fail> {
     let alloc = rt.alloc();
-    let world = Plain::asked(alloc, &EIGHT, PlaceKind::Near, ASKED)?.world;
-    let mut image = asked_image(alloc)?;
+    let world = asked_world(alloc)?;
+    let mut image = asked_image(alloc, true)?;
     check_bits(&rt, alloc, &mut image, &world, &OTHER, false)?;
     check_bits(&rt, alloc, &mut image, &world, &SAME, true)
 }
 
 #[test]
-fn bits_of_an_open_record(rt: HostRuntime) -> Result<(), Fail> {
+fn bits_of_open_records(rt: HostRuntime) -> Result<(), Fail> {
     let alloc = rt.alloc();
-    let plain = Plain::asked(alloc, &EIGHT, PlaceKind::Near, ASKED)?;
-    let world = World::upgraded(alloc, &plain.world)?;
-    let mut image = asked_image(alloc)?;
+    let world = asked_world(alloc)?;
+    let mut image = asked_image(alloc, false)?;
+    check_bits(&rt, alloc, &mut image, &world, &OTHER_OPEN, false)?;
+    check_bits(&rt, alloc, &mut image, &world, &SAME_OPEN, true)
+}
+
+#[test]
+fn bits_of_digests(rt: HostRuntime) -> Result<(), Fail> {
+    let alloc = rt.alloc();
+    let world = World::upgraded(alloc, &asked_world(alloc)?)?;
+    let mut image = asked_image(alloc, true)?;
     upgrade(alloc, &mut image)?;
     check_bits(&rt, alloc, &mut image, &world, &OTHER_UPGRADED, false)?;
     check_bits(&rt, alloc, &mut image, &world, &SAME_UPGRADED, true)
