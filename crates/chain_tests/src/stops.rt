@@ -172,7 +172,7 @@ fn each_kind_is_whole_or_not_at_all(rt: HostRuntime) -> Result<(), Fail> {
     asks.push(asked(alloc, Kind::Mount, b"", 0)?)?;
     asks.push(asked(alloc, Kind::Make, b"", 0)?)?;
     asks.push(asked(alloc, Kind::Put, b"a", 600)?)?;
-    asks.push(asked(alloc, Kind::Append, b"a", 800)?)?;
+    asks.push(asked(alloc, Kind::Append, b"a", 900)?)?;
     asks.push(asked(alloc, Kind::Append, b"a", 50)?)?;
     asks.push(asked(alloc, Kind::Put, b"b", 0)?)?;
     asks.push(asked(alloc, Kind::Put, b"a", 500)?)?;

@@ -1,4 +1,5 @@
-//! A plain tree of chains, which says what each ask answers. A path is a row of letters, each of them a name.
+//! A plain tree of chains, which says what each ask answers. A path is a row of letters, each of them a name, so that no directory
+//! gets full.
 
 use fs_trees::FsRefusal;
 use std::alloc::{AllocError, Global};
