@@ -1,7 +1,7 @@
 //! Files that end beside the end of a cluster, and directories that grow, are emptied and are filled again.
 
-use crate::lines::{free, fresh, mounted_again};
-use crate::steps::{Kind, asked, does, does_each, is_same, step};
+use crate::lines::{ChainSite, free, fresh};
+use crate::steps::{Kind, asked, compared, does, does_each, is_same, step};
 use crate::tree::{Room, Tree};
 use fs_trees::FsRefusal;
 use std::alloc::{AllocError, Global};
@@ -33,28 +33,47 @@ const APPENDS: [(u32, u32, usize, usize); 16] = [
     (992, 1, 2, 3),
 ];
 
+/// Puts a file of so many bytes in place of the one before, and so many more behind them; asserts how many clusters it has before and
+/// then.
+fn grows(
+    rt: &impl Abort,
+    site: &mut ChainSite,
+    tree: &mut Tree,
+    (old, more): (u32, u32),
+    (before, then): (usize, usize),
+) -> Result<(), AllocError> {
+    does(rt, site, tree, Kind::Put, b"a", old)?;
+    let used = free(rt, site).saturating_add(before);
+    assert_eq!(rt; used, 39, "{old} and {more}");
+    does(rt, site, tree, Kind::Append, b"a", more)?;
+    let used = free(rt, site).saturating_add(then);
+    assert_eq!(rt; used, 39, "{old} and {more}");
+    assert!(rt; is_same(rt, site, tree), "{old} and {more}");
+    Ok(())
+}
+
 #[test]
 fn appends_end_beside_the_end_of_a_cluster(rt: HostRuntime) -> Result<(), Fail> {
     let mut tree = Tree::new(rt.alloc(), ROOM);
     let mut site = fresh(&rt, rt.alloc(), 1, ROOM.blocks, ROOM.slots);
     does(&rt, &mut site, &mut tree, Kind::Make, b"", 0)?;
     for (old, more, before, then) in APPENDS {
-        does(&rt, &mut site, &mut tree, Kind::Put, b"a", old)?;
-        assert_eq!(rt;
-            free(&rt, &mut site).saturating_add(before),
-            39,
-            "{old} and {more}"
-        );
-        does(&rt, &mut site, &mut tree, Kind::Append, b"a", more)?;
-        assert_eq!(rt;
-            free(&rt, &mut site).saturating_add(then),
-            39,
-            "{old} and {more}"
-        );
-        assert!(rt; is_same(&rt, &mut site, &tree), "{old} and {more}");
+        grows(&rt, &mut site, &mut tree, (old, more), (before, then))?;
     }
     Ok(())
 }
+
+/// What is asked of each of these names, and how many blocks are free then.
+const STEPS: [(Kind, &[u8], usize); 8] = [
+    (Kind::Put, b"abcdefghijklmno", 24),
+    (Kind::Put, b"p", 22),
+    (Kind::Put, b"ABCDEFGHIJKLMN", 8),
+    (Kind::Put, b"O", 6),
+    (Kind::Remove, b"pABCDEFGHIJKLMN", 21),
+    (Kind::Put, b"qrs", 18),
+    (Kind::Remove, b"abcdefghijklmnoqrsO", 37),
+    (Kind::Put, b"ABCDEFGHIJKLMNOPQRSTUVWXYZabcde", 6),
+];
 
 #[test]
 fn a_directory_is_emptied_and_filled_again(rt: HostRuntime) -> Result<(), Fail> {
@@ -62,21 +81,10 @@ fn a_directory_is_emptied_and_filled_again(rt: HostRuntime) -> Result<(), Fail> 
     let mut tree = Tree::new(alloc, ROOM);
     let mut site = fresh(&rt, alloc, 1, ROOM.blocks, ROOM.slots);
     does(&rt, &mut site, &mut tree, Kind::Make, b"", 0)?;
-    let steps = [
-        (Kind::Put, b"abcdefghijklmno".as_slice(), 24),
-        (Kind::Put, b"p".as_slice(), 22),
-        (Kind::Put, b"ABCDEFGHIJKLMN".as_slice(), 8),
-        (Kind::Put, b"O".as_slice(), 6),
-        (Kind::Remove, b"pABCDEFGHIJKLMN".as_slice(), 21),
-        (Kind::Put, b"qrs".as_slice(), 18),
-        (Kind::Remove, b"abcdefghijklmnoqrsO".as_slice(), 37),
-        (Kind::Put, b"ABCDEFGHIJKLMNOPQRSTUVWXYZabcde".as_slice(), 6),
-    ];
-    for (kind, names, unused) in steps {
+    for (kind, names, unused) in STEPS {
         does_each(&rt, &mut site, &mut tree, kind, names)?;
         assert_eq!(rt; free(&rt, &mut site), unused);
-        site = mounted_again(&rt, alloc, site);
-        assert!(rt; is_same(&rt, &mut site, &tree));
+        site = compared(&rt, alloc, site, &tree);
     }
     assert_eq!(rt; tree.pages, 3);
     Ok(())
@@ -93,16 +101,35 @@ fn sixteenth(
 ) -> Result<Result<(), FsRefusal>, AllocError> {
     let mut tree = Tree::new(alloc, room);
     let mut site = fresh(rt, alloc, 1, room.blocks, room.slots);
-    does(rt, &mut site, &mut tree, Kind::Make, b"", 0)?;
-    does_each(rt, &mut site, &mut tree, Kind::Put, b"abcdefghijklmno")?;
-    let ask = asked(alloc, Kind::Put, path, len)?;
-    step(rt, &mut site, &mut tree, &ask)
+    put_sixteenth(rt, &mut site, &mut tree, path, len)
+}
+
+/// Does that on a fresh disk.
+fn put_sixteenth(
+    rt: &impl Abort,
+    site: &mut ChainSite,
+    tree: &mut Tree,
+    path: &[u8],
+    len: u32,
+) -> Result<Result<(), FsRefusal>, AllocError> {
+    does(rt, site, tree, Kind::Make, b"", 0)?;
+    does_each(rt, site, tree, Kind::Put, b"abcdefghijklmno")?;
+    let ask = asked(tree.alloc, Kind::Put, path, len)?;
+    step(rt, site, tree, &ask)
+}
+
+/// The refusal for want of blocks.
+fn full(free: u32, wanted: u32) -> Result<(), FsRefusal> {
+    Err(FsRefusal::Full { free, wanted })
+}
+
+/// The refusal for want of pointers.
+fn held(held: u32, max: u32) -> Result<(), FsRefusal> {
+    Err(FsRefusal::PointersFull { held, max })
 }
 
 #[test]
 fn a_directory_grows_where_there_is_room(rt: HostRuntime) -> Result<(), Fail> {
-    let full = |free, wanted| Err(FsRefusal::Full { free, wanted });
-    let held = |held, max| Err(FsRefusal::PointersFull { held, max });
     let table = [
         (17, 40, b"p", 0, full(1, 2)),
         (18, 40, b"p", 0, Ok(())),

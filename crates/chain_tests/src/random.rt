@@ -2,21 +2,26 @@
 
 ghost use Rattle.std.specs.Prelude.{◌≡◌, ◌<◌};
 
-use crate::lines::{fresh, mounted_again};
-use crate::steps::{Ask, Kind, does, does_each, is_same, step};
+use crate::lines::{ChainSite, fresh};
+use crate::steps::{Ask, Kind, compared, does, does_each, is_same, step};
 use crate::tree::{Room, Tree};
 use fs_trees::FsRefusal;
 use std::alloc::{AllocError, Global};
 use std::process::Abort;
 use std::test::Fail;
 
-/// The next number of a row that looks random, below a bound.
+/// The next number of a row that looks random.
+fn next(seed: &mut u32) -> u32 {
+    *seed = seed.wrapping_mul(1_664_525).wrapping_add(1_013_904_223);
+    *seed >> 8
+}
+
+/// The next number of the row, below a bound.
 fn draw(seed: &mut u32, bound: u32) -> u32
     requires { 0 < bound }
     ensures { result < bound }
 {
-    *seed = seed.wrapping_mul(1_664_525).wrapping_add(1_013_904_223);
-    (*seed >> 8) % bound
+    next(seed) % bound
 }
 
 /// One of so many letters.
@@ -146,8 +151,43 @@ fn note(met: &mut Met, answered: Result<(), FsRefusal>) {
     *count = count.saturating_add(1);
 }
 
-/// Runs sixty random asks on a fresh disk, compares each answer, and now and then the trees, also mounted anew. The first three
-/// are asked where no tree is yet.
+/// So many random asks, of which each answer is compared.
+fn ask_some(
+    rt: &impl Abort,
+    site: &mut ChainSite,
+    tree: &mut Tree,
+    letters: u32,
+    seed: &mut u32,
+    count: u32,
+    met: &mut Met,
+) -> Result<(), AllocError>
+    requires { 0 < letters }
+{
+    for _ in 0..count {
+        let ask = draw_ask(tree, seed, letters)?;
+        note(met, step(rt, site, tree, &ask)?);
+        met.pages = met.pages.max(tree.pages);
+    }
+    Ok(())
+}
+
+/// Three random asks where no tree is yet; then one is made, with a file by each of these letters.
+fn begin(
+    rt: &impl Abort,
+    site: &mut ChainSite,
+    tree: &mut Tree,
+    plan: Plan,
+    seed: &mut u32,
+    met: &mut Met,
+) -> Result<(), AllocError>
+    requires { 0 < plan.letters }
+{
+    ask_some(rt, site, tree, plan.letters, seed, 3, met)?;
+    does(rt, site, tree, Kind::Make, b"", 0)?;
+    does_each(rt, site, tree, Kind::Put, plan.first)
+}
+
+/// Runs sixty random asks on a fresh disk, compares each answer, and now and then the trees, also mounted anew.
 fn run(
     rt: &impl Abort,
     alloc: Global,
@@ -160,22 +200,28 @@ fn run(
     let mut seed = seed;
     let mut tree = Tree::new(alloc, plan.room);
     let mut site = fresh(rt, alloc, 1, plan.room.blocks, plan.room.slots);
-    for round in 0..60u32 {
-        let ask = draw_ask(&tree, &mut seed, plan.letters)?;
-        note(met, step(rt, &mut site, &mut tree, &ask)?);
-        met.pages = met.pages.max(tree.pages);
-        match round {
-            2 => {
-                does(rt, &mut site, &mut tree, Kind::Make, b"", 0)?;
-                does_each(rt, &mut site, &mut tree, Kind::Put, plan.first)?;
-            }
-            12 | 42 => assert!(rt; is_same(rt, &mut site, &tree)),
-            27 | 59 => {
-                site = mounted_again(rt, alloc, site);
-                assert!(rt; is_same(rt, &mut site, &tree));
-            }
-            _ => {}
-        }
+    begin(rt, &mut site, &mut tree, plan, &mut seed, met)?;
+    for counts in [(10, 15), (15, 17)] {
+        ask_some(
+            rt,
+            &mut site,
+            &mut tree,
+            plan.letters,
+            &mut seed,
+            counts.0,
+            met,
+        )?;
+        assert!(rt; is_same(rt, &mut site, &tree));
+        ask_some(
+            rt,
+            &mut site,
+            &mut tree,
+            plan.letters,
+            &mut seed,
+            counts.1,
+            met,
+        )?;
+        site = compared(rt, alloc, site, &tree);
     }
     Ok(())
 }

@@ -1,7 +1,9 @@
 //! Worked asks, each with its answer, on fresh disks of blocks of 512 bytes. A cluster there has room for 496 bytes, or 15 entries.
 
-use crate::lines::{fresh, path_of, run};
+use crate::lines::{ChainSite, fresh, path_of, run};
 use fs_trees::FsRefusal;
+use std::alloc::Global;
+use std::process::Abort;
 
 /// Files are made, read, listed, replaced and removed.
 #[test]
@@ -90,10 +92,8 @@ fn refusals(rt: HostRuntime) {
     );
 }
 
-/// A file of 30 clusters, made by four appends.
-#[test]
-fn a_long_file(rt: HostRuntime) {
-    let mut site = fresh(&rt, rt.alloc(), 1, 64, 64);
+/// Makes a file of 30 clusters by four appends, and looks at it.
+fn make_long(rt: &impl Abort, alloc: Global, site: &mut ChainSite) {
     let table = [
         ("mkfs", "ok"),
         ("put /b -", "ok"),
@@ -116,15 +116,21 @@ fn a_long_file(rt: HostRuntime) {
         ),
         ("df", "free 33"),
     ];
-    run(&rt, rt.alloc(), &mut site, table.as_slice());
+    run(rt, alloc, site, table.as_slice());
     assert_eq!(rt; site.mount(), Ok(()));
-    assert_eq!(rt; site.size(&path_of(&rt, b"/b")), Ok(14_880));
+    assert_eq!(rt; site.size(&path_of(rt, b"/b")), Ok(14_880));
     run(
-        &rt,
-        rt.alloc(),
-        &mut site,
+        rt,
+        alloc,
+        site,
         [("rm /b", "ok"), ("df", "free 63")].as_slice(),
     );
+}
+
+#[test]
+fn a_long_file(rt: HostRuntime) {
+    let mut site = fresh(&rt, rt.alloc(), 1, 64, 64);
+    make_long(&rt, rt.alloc(), &mut site);
 }
 
 /// The directory grows by a cluster with the sixteenth name, keeps it, and uses the first place again.

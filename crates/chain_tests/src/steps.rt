@@ -1,6 +1,6 @@
 //! Asks in short, each given to the file system and to the plain tree.
 
-use crate::lines::{ChainSite, free, path_of};
+use crate::lines::{ChainSite, free, mounted_again, path_of};
 use crate::tree::Tree;
 use fs_site::Named;
 use fs_trees::{FsRefusal, Name};
@@ -134,6 +134,13 @@ pub fn is_same(rt: &impl Abort, site: &mut ChainSite, tree: &Tree) -> bool {
         is_same = is_same && reads(rt, site, tree, &[file.name], 1) == Ok(true);
     }
     is_same
+}
+
+/// The same disk, mounted anew, of which the tree is compared.
+pub fn compared(rt: &impl Abort, alloc: Global, site: ChainSite, tree: &Tree) -> ChainSite {
+    let mut site = mounted_again(rt, alloc, site);
+    assert!(rt; is_same(rt, &mut site, tree));
+    site
 }
 
 /// The answer of the file system, which is asserted to have the plain tree's names and bytes.

@@ -17,7 +17,7 @@ const ROOM: Room = Room {
 };
 
 /// Behind how many requests an ask is stopped, and behind how many the mount after it.
-#[derive(Clone, Copy, Debug)]
+#[derive(Clone, Copy)]
 struct Stop {
     left: u64,
     mount_left: u64,
@@ -78,8 +78,41 @@ fn mounted(rt: &impl Abort, alloc: Global, site: ChainSite, left: u64) -> (Chain
     (site, is_stopped)
 }
 
-/// Does these asks and stops another one and the mount after it, as told; gives whether each of the two was stopped. The tree is asserted to be the one before it, where
-/// nothing was asked of the disk, the one after it, where it isn't stopped, or one of them.
+/// Asks, and stops that behind so many requests; gives whether it was stopped. Where it wasn't, the answer is asserted to be the plain
+/// tree's.
+fn ask_within(rt: &impl Abort, site: &mut ChainSite, tree: &Tree, ask: &Ask, left: u64) -> bool {
+    site.disk.left = left;
+    let wanted = expected(tree, ask);
+    let answered = answer(rt, site, tree, ask);
+    let is_stopped = is_cut(rt, site, answered);
+    let is_right = is_stopped || answered == wanted;
+    assert!(rt; is_right, "{:?} behind {left}", ask.kind);
+    is_stopped
+}
+
+/// Gives whether the tree is the one before an ask. It is asserted to be that where nothing was asked of the disk, the one after it
+/// where it wasn't stopped, and else one of the two.
+fn is_old(
+    rt: &impl Abort,
+    site: &mut ChainSite,
+    tree: &mut Tree,
+    ask: &Ask,
+    left: u64,
+    is_stopped: bool,
+) -> Result<bool, AllocError> {
+    let is_old = is_same(rt, site, tree);
+    if expected(tree, ask).is_ok() {
+        apply(tree, ask)?;
+    }
+    let is_new = is_same(rt, site, tree);
+    let is_one = is_new || (is_old && is_stopped);
+    assert!(rt; is_one, "{:?} behind {left}", ask.kind);
+    assert!(rt; is_old || left > 0, "{:?}", ask.kind);
+    Ok(is_old)
+}
+
+/// Does these asks and stops another one and the mount after it, as told; gives whether each of the two was stopped. The tree is
+/// asserted to be the one before it or the one after it, as above.
 fn cut(
     rt: &impl Abort,
     alloc: Global,
@@ -90,29 +123,11 @@ fn cut(
 ) -> Result<(bool, bool), AllocError> {
     let mut tree = Tree::new(alloc, ROOM);
     let mut site = replay(rt, alloc, &mut tree, asks)?;
-    site.disk.left = stop.left;
-    let wanted = expected(&tree, ask);
-    let answered = answer(rt, &mut site, &tree, ask);
-    let is_stopped = is_cut(rt, &site, answered);
-    assert!(rt;
-        is_stopped || answered == wanted,
-        "{:?} at {stop:?}",
-        ask.kind
-    );
+    let is_stopped = ask_within(rt, &mut site, &tree, ask, stop.left);
     let mut site = unmounted(rt, alloc, site);
     let before = free(rt, &mut site);
     let (mut site, is_mount_stopped) = mounted(rt, alloc, site, stop.mount_left);
-    let is_old = is_same(rt, &mut site, &tree);
-    if wanted.is_ok() {
-        apply(&mut tree, ask)?;
-    }
-    let is_new = is_same(rt, &mut site, &tree);
-    assert!(rt;
-        is_new || (is_old && is_stopped),
-        "{:?} at {stop:?}",
-        ask.kind
-    );
-    assert!(rt; is_old || stop.left > 0, "{:?} at {stop:?}", ask.kind);
+    let is_old = is_old(rt, &mut site, &mut tree, ask, stop.left, is_stopped)?;
     count(&mut met.stopped, is_stopped);
     count(&mut met.mounts_stopped, is_mount_stopped);
     count(&mut met.after, is_stopped && !is_old);

@@ -20,6 +20,21 @@ fn laid(
     site
 }
 
+/// Mounts, which is stopped behind so many requests; gives whether it was done.
+fn mounts_within(rt: &impl Abort, site: &mut ChainSite, asks: u64, case: &str) -> bool {
+    site.disk.left = asks;
+    let answered = site.mount();
+    let is_fault = answered == Err(FsRefusal::Device);
+    assert_eq!(rt; is_fault, site.disk.is_stopped, "{case}");
+    answered.is_ok()
+}
+
+/// Asserts that just these pairs are left and just so many blocks are free.
+fn is_tidy(rt: &impl Abort, site: &mut ChainSite, left: &[(u32, u32)], unused: usize, case: &str) {
+    has_pairs(rt, &mut site.disk, left, case);
+    assert_eq!(rt; free(rt, site), unused, "{case}");
+}
+
 /// Lays a tree, mounts it, and asserts that just these pairs are left and just so many blocks are free, also where mounting is
 /// stopped behind so many requests and begun again.
 fn tidied(
@@ -34,22 +49,22 @@ fn tidied(
 ) {
     for asks in 0..60 {
         let mut site = laid(rt, alloc, blocks, pairs, said, case);
-        site.disk.left = asks;
-        let answered = site.mount();
-        assert_eq!(rt;
-            answered == Err(FsRefusal::Device),
-            site.disk.is_stopped,
-            "{case}"
-        );
+        let is_done = mounts_within(rt, &mut site, asks, case);
         let mut site = mounted_again(rt, alloc, site);
-        has_pairs(rt, &mut site.disk, left, case);
-        assert_eq!(rt; free(rt, &mut site), unused, "{case}: behind {asks}");
-        if answered.is_ok() {
+        is_tidy(rt, &mut site, left, unused, case);
+        if is_done {
             assert!(rt; asks > 0, "{case}");
             return;
         }
     }
     rt.abort()
+}
+
+/// Asserts that a world is left alone by a mount, which finds no tree.
+fn is_left_alone(rt: &impl Abort, site: &mut ChainSite, pairs: &[(u32, u32)], case: &str) {
+    let before = free(rt, site);
+    assert_eq!(rt; site.mount(), Err(FsRefusal::NotThisFs), "{case}");
+    is_tidy(rt, site, pairs, before, case);
 }
 
 /// Lays a world that is no tree, and asserts that it is left alone.
@@ -62,10 +77,7 @@ fn left_alone(
     case: &str,
 ) {
     let mut site = laid(rt, alloc, blocks, pairs, said, case);
-    let before = free(rt, &mut site);
-    assert_eq!(rt; site.mount(), Err(FsRefusal::NotThisFs), "{case}");
-    has_pairs(rt, &mut site.disk, pairs, case);
-    assert_eq!(rt; free(rt, &mut site), before, "{case}");
+    is_left_alone(rt, &mut site, pairs, case);
 }
 
 /// A directory of one cluster, and a file of 497 bytes in blocks 1 and 2.

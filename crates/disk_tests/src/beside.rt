@@ -130,22 +130,58 @@ fn watched_turns<D: Device>(
     Ok(())
 }
 
-/// Opens the disk, begins all sessions, asks both for random things, and may close the disk.
-fn watched_run<D: Device>(
+/// Ends all sessions of the plain program.
+fn end_all(alloc: Global, plain: &mut Plain) {
+    plain.sessions = Sessions::none(alloc);
+}
+
+/// Closes the disk or leaves it as it is, by what is drawn.
+fn may_close<D: Device>(core: &mut Core, dev: &mut D, plain: &mut Plain) -> Result<(), OpenFault>
+    requires ready { IsReady core.old }
+    requires at { D.told → IsAt core.old (D.view dev.old) }
+{
+    if draw(&mut plain.seed, 2) == 0 {
+        core.close(dev)?;
+    }
+    Ok(())
+}
+
+/// Begins so many sessions, asks both for random things, and may close the disk. The worlds are compared after each where that is
+/// watched.
+fn asks<D: Device>(
+    rt: &impl Abort,
+    alloc: Global,
+    core: &mut Core,
+    dev: &mut D,
+    place: &Placement,
+    plain: &mut Plain,
+    is_watched: bool,
+) -> Result<(), OpenFault>
+    requires ready { IsReady core.old }
+    requires at { D.told → IsAt core.old (D.view dev.old) }
+{
+    if is_watched {
+        begin(rt, alloc, core, dev, place, plain, 64)?;
+        watched_turns(rt, alloc, core, dev, place, plain, 200)?;
+    } else {
+        begin(rt, alloc, core, dev, place, plain, 8)?;
+        turns(rt, alloc, core, dev, place, plain, 60)?;
+    }
+    may_close(core, dev, plain)
+}
+
+/// Opens the disk, with no session open, and does that.
+fn run<D: Device>(
     rt: &impl Abort,
     alloc: Global,
     dev: &mut D,
     place: &Placement,
     plain: &mut Plain,
+    is_watched: bool,
 ) -> Result<(), OpenFault> {
-    plain.sessions = Sessions::none(alloc);
+    end_all(alloc, plain);
     let mut core = opened(alloc, dev)?;
-    begin(rt, alloc, &mut core, dev, place, plain, 64)?;
-    watched_turns(rt, alloc, &mut core, dev, place, plain, 200)?;
-    if draw(&mut plain.seed, 2) == 0 {
-        core.close(dev)?;
-    }
-    Ok(())
+    asks(rt, alloc, &mut core, dev, place, plain, is_watched)
 }
 
 /// Runs over one image, each opened again after the one before.
@@ -160,31 +196,13 @@ fn try_runs(
     let mut station = image_formatted(alloc, size, upgrades)?;
     let mut plain = Plain::formatted(alloc, size, upgrades, seed)?;
     for round in 0..4 {
-        watched_run(rt, alloc, &mut station, place, &mut plain)?;
+        run(rt, alloc, &mut station, place, &mut plain, true)?;
         assert!(rt;
             opens_as(alloc, &mut station, &plain.world)?,
             "after {round}"
         );
     }
     assert!(rt; plain.granted > 400, "{} granted", plain.granted);
-    Ok(())
-}
-
-/// Opens the disk, begins sessions, asks both for random things, and may close the disk.
-fn run<D: Device>(
-    rt: &impl Abort,
-    alloc: Global,
-    dev: &mut D,
-    place: &Placement,
-    plain: &mut Plain,
-) -> Result<(), OpenFault> {
-    plain.sessions = Sessions::none(alloc);
-    let mut core = opened(alloc, dev)?;
-    begin(rt, alloc, &mut core, dev, place, plain, 8)?;
-    turns(rt, alloc, &mut core, dev, place, plain, 60)?;
-    if draw(&mut plain.seed, 2) == 0 {
-        core.close(dev)?;
-    }
     Ok(())
 }
 
@@ -200,7 +218,7 @@ fn stop(
     let pick = PICKS[draw(&mut plain.seed, 5) as usize];
     let passes = u64::from(draw(&mut plain.seed, 240));
     let mut fuse = FuseStation::new(image, passes, pick);
-    match run(rt, alloc, &mut fuse, place, plain) {
+    match run(rt, alloc, &mut fuse, place, plain, false) {
         Ok(()) => {}
         Err(OpenFault::Device) => plain.stops = plain.stops.saturating_add(1),
         Err(fault) => return Err(Fail::from(fault)),

@@ -6,13 +6,18 @@ use disk_site::{BYTES, pair};
 use plain_disk::{World, shown_level};
 use tsd_model::{CapPair, Data, Hint, Level, Request, Shown};
 
-/// The next number of a row that looks random, below a bound.
+/// The next number of a row that looks random.
+fn next(seed: &mut u32) -> u32 {
+    *seed = seed.wrapping_mul(1_664_525).wrapping_add(1_013_904_223);
+    *seed >> 8
+}
+
+/// The next number of the row, below a bound.
 pub fn draw(seed: &mut u32, bound: u32) -> u32
     requires { 0 < bound }
     ensures { result < bound }
 {
-    *seed = seed.wrapping_mul(1_664_525).wrapping_add(1_013_904_223);
-    (*seed >> 8) % bound
+    next(seed) % bound
 }
 
 /// The capabilities R and W, or C and D.

@@ -3,6 +3,7 @@
 use crate::lines::{OnStation, made, opened_again, path_of, run};
 use chain_fs::ChainFs;
 use fs_trees::FsRefusal;
+use std::alloc::Global;
 use std::process::Abort;
 use tsd_model::Data;
 
@@ -53,31 +54,43 @@ fn is_whole(rt: &impl Abort, site: &mut OnStation<ChainFs>) {
     }
 }
 
+/// Makes the long file, which takes each pointer that the disk has.
+fn make_long(rt: &impl Abort, alloc: Global, site: &mut OnStation<ChainFs>) {
+    run(rt, alloc, site, [("put /long -", "ok")].as_slice());
+    write_all(rt, site);
+    is_whole(rt, site);
+    assert_eq!(rt; site.free(), Ok(199));
+    let refusal = FsRefusal::PointersFull {
+        held: CLUSTERS,
+        max: CLUSTERS,
+    };
+    let answered = site.append(&path_of(rt, b"/long"), &part(0, 1));
+    assert_eq!(rt; answered, Err(refusal));
+}
+
+/// Removes the long file, whose blocks are free then.
+fn remove_long(rt: &impl Abort, alloc: Global, site: &mut OnStation<ChainFs>) {
+    is_whole(rt, site);
+    run(rt, alloc, site, [("rm /long", "ok")].as_slice());
+    assert_eq!(rt; site.free(), Ok(CLUSTERS + 199));
+}
+
 /// A file of as many clusters as the disk has pointers grows by 4,096 bytes at a time. Once it is removed each of its blocks is
 /// free again, on the image too.
 #[test]
 fn long_file(rt: HostRuntime) {
     let alloc = rt.alloc();
     let mut site = made::<ChainFs>(&rt, alloc, 1, CLUSTERS + 200, CLUSTERS);
-    run(&rt, alloc, &mut site, [("put /long -", "ok")].as_slice());
-    write_all(&rt, &mut site);
-    is_whole(&rt, &mut site);
-    assert_eq!(rt; site.free(), Ok(199));
-    let refusal = FsRefusal::PointersFull {
-        held: CLUSTERS,
-        max: CLUSTERS,
-    };
-    assert_eq!(rt;
-        site.append(&path_of(&rt, b"/long"), &part(0, 1)),
-        Err(refusal)
+    make_long(&rt, alloc, &mut site);
+    let mut site = opened_again(&rt, alloc, site);
+    remove_long(&rt, alloc, &mut site);
+    let mut site = opened_again(&rt, alloc, site);
+    run(
+        &rt,
+        alloc,
+        &mut site,
+        [("df", "free 5199"), ("ls /", "names -")].as_slice(),
     );
-    let mut site = opened_again(&rt, alloc, site);
-    is_whole(&rt, &mut site);
-    run(&rt, alloc, &mut site, [("rm /long", "ok")].as_slice());
-    assert_eq!(rt; site.free(), Ok(CLUSTERS + 199));
-    let mut site = opened_again(&rt, alloc, site);
-    assert_eq!(rt; site.free(), Ok(CLUSTERS + 199));
-    run(&rt, alloc, &mut site, [("ls /", "names -")].as_slice());
 }
 
 /// The path of a file of this number.
@@ -99,39 +112,48 @@ fn has_names(rt: &impl Abort, site: &mut OnStation<ChainFs>) {
     }
 }
 
+/// Makes a file without bytes of each number.
+fn make_each(rt: &impl Abort, site: &mut OnStation<ChainFs>) {
+    for number in 0..NAMES {
+        let path = path_of(rt, numbered(number).as_slice());
+        assert_eq!(rt; site.put(&path, &part(0, 0)), Ok(()), "{number}");
+    }
+}
+
+/// What is asked of the full directory.
+const FULL: [(&str, &str); 10] = [
+    ("df", "free 30"),
+    ("put /more -", "no dir-full"),
+    ("put /n0017 6869", "ok"),
+    ("cat /n0017", "data 6869"),
+    ("rm /n4000", "ok"),
+    ("df", "free 31"),
+    ("put /more 21", "ok"),
+    ("put /n4000 -", "no dir-full"),
+    ("cat /n4000", "no no-entry"),
+    ("df", "free 30"),
+];
+
+/// What is asked once the disk was opened again.
+const AGAIN: [(&str, &str); 7] = [
+    ("cat /more", "data 21"),
+    ("cat /n0017", "data 6869"),
+    ("put /n4000 -", "no dir-full"),
+    ("append /n4000 22", "no no-entry"),
+    ("append /n4095 22", "ok"),
+    ("cat /n4095", "data 22"),
+    ("df", "free 30"),
+];
+
 /// The directory takes 4,096 entries, a new one only after another has gone; an old entry changes all the same.
 #[test]
 fn full_directory(rt: HostRuntime) {
     let alloc = rt.alloc();
     // A cluster of eight sectors has room for 127 entries, so the directory has 32 of them beside its root.
     let mut site = made::<ChainFs>(&rt, alloc, 8, NAMES + 63, NAMES + 62);
-    for number in 0..NAMES {
-        let path = path_of(&rt, numbered(number).as_slice());
-        assert_eq!(rt; site.put(&path, &part(0, 0)), Ok(()), "{number}");
-    }
-    let table = [
-        ("df", "free 30"),
-        ("put /more -", "no dir-full"),
-        ("put /n0017 6869", "ok"),
-        ("cat /n0017", "data 6869"),
-        ("rm /n4000", "ok"),
-        ("df", "free 31"),
-        ("put /more 21", "ok"),
-        ("put /n4000 -", "no dir-full"),
-        ("cat /n4000", "no no-entry"),
-        ("df", "free 30"),
-    ];
-    run(&rt, alloc, &mut site, table.as_slice());
+    make_each(&rt, &mut site);
+    run(&rt, alloc, &mut site, FULL.as_slice());
     let mut site = opened_again(&rt, alloc, site);
     has_names(&rt, &mut site);
-    let table = [
-        ("cat /more", "data 21"),
-        ("cat /n0017", "data 6869"),
-        ("put /n4000 -", "no dir-full"),
-        ("append /n4000 22", "no no-entry"),
-        ("append /n4095 22", "ok"),
-        ("cat /n4095", "data 22"),
-        ("df", "free 30"),
-    ];
-    run(&rt, alloc, &mut site, table.as_slice());
+    run(&rt, alloc, &mut site, AGAIN.as_slice());
 }

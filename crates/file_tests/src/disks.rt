@@ -83,19 +83,13 @@ impl<D: Device + Drop> OnImage<D> {
         inner
     }
 
-    /// The image, closed: all steps of reclamation are made, and the journal is empty. None where the disk fails or has failed.
-    pub fn into_closed(self) -> Option<D> {
-        let OnImage {
-            mut core,
-            mut dev,
-            is_stopped,
-            ..
-        } = self;
-        if is_stopped || core.close(&mut dev).is_err() {
-            return None;
+    /// Makes all steps of reclamation and empties the journal; tells whether that was done. Nothing is answered from now on.
+    pub fn close(&mut self) -> bool {
+        if self.is_stopped {
+            return false;
         }
-        let Quiet { inner } = dev;
-        Some(inner)
+        self.is_stopped = true;
+        self.core.close(&mut self.dev).is_ok()
     }
 }
 

@@ -70,8 +70,9 @@ pub fn made<F: Tested>(
 /// The image of a disk, closed.
 pub fn closed<F: Tested>(rt: &impl Abort, site: OnStation<F>) -> MemStation {
     let Site { disk, .. } = site;
-    let Untold { inner, .. } = disk;
-    inner.into_closed().expect(rt, "no fault")
+    let Untold { mut inner, .. } = disk;
+    assert!(rt; inner.close());
+    inner.into_image()
 }
 
 /// The image closed, opened again, and mounted by a file system that knows nothing of it.

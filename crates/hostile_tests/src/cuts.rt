@@ -24,13 +24,26 @@ const CUTS: [(u32, u32, &str); 5] = [
     (145, 150, "clean 4 4 3/"),
 ];
 
+/// Asserts what a check says of a disk of which just the sectors before this one are left.
+fn check_cut(
+    rt: &impl Abort,
+    alloc: Global,
+    book: &PlaceBook,
+    saved: &Saved,
+    cut: u32,
+    line: &str,
+) -> Result<(), Fail> {
+    let mut disk = saved.cut(cut)?;
+    assert!(rt; puts_line(alloc, book, &mut disk, line)?, "{cut} {line}");
+    Ok(())
+}
+
 /// Each cut of the disk of eight blocks.
 pub fn small_cuts(rt: &impl Abort, alloc: Global, book: &PlaceBook) -> Result<(), Fail> {
     let saved = made(rt, alloc, book, &ALLOCATED)?;
     for (first, end, line) in CUTS {
         for cut in first..end {
-            let mut disk = saved.cut(cut)?;
-            assert!(rt; puts_line(alloc, book, &mut disk, line)?, "{cut} {line}");
+            check_cut(rt, alloc, book, &saved, cut, line)?;
         }
     }
     Ok(())
@@ -71,15 +84,19 @@ fn place_pointers(alloc: Global, disk: &mut MemStation) -> Result<(), Fail> {
     Ok(())
 }
 
+/// The sectors of the wide disk.
+fn wide(rt: &impl Abort, alloc: Global, book: &PlaceBook) -> Result<Saved, Fail> {
+    let mut disk = MemStation::new(alloc, Vec::new(alloc));
+    assert_eq!(rt; run_over(alloc, book, WIDE, &mut disk)?, Status::Done);
+    place_pointers(alloc, &mut disk)?;
+    Saved::of(alloc, &mut disk, WIDE_DATA)
+}
+
 /// Each cut of the wide disk, whose areas have several sectors each.
 pub fn wide_cuts(rt: &impl Abort, alloc: Global, book: &PlaceBook) -> Result<(), Fail> {
-    let mut wide = MemStation::new(alloc, Vec::new(alloc));
-    assert_eq!(rt; run_over(alloc, book, WIDE, &mut wide)?, Status::Done);
-    place_pointers(alloc, &mut wide)?;
-    let saved = Saved::of(alloc, &mut wide, WIDE_DATA)?;
+    let saved = wide(rt, alloc, book)?;
     for (cut, line) in WIDE_CUTS {
-        let mut disk = saved.cut(cut)?;
-        assert!(rt; puts_line(alloc, book, &mut disk, line)?, "{cut} {line}");
+        check_cut(rt, alloc, book, &saved, cut, line)?;
     }
     Ok(())
 }

@@ -203,28 +203,48 @@ const EXTREMES: [(Harm, &str); 2] = [
     (Set(0, &[TSDI, SK01, 1, 1, 8, 1, 4194304]), "clean 4 4 3/"),
 ];
 
-/// Each of them, and a disk of the greatest size.
-pub fn extremes(rt: &impl Abort, alloc: Global, book: &PlaceBook) -> Result<(), Fail> {
-    let saved = made(rt, alloc, book, &ALLOCATED)?;
-    for (damage, line) in EXTREMES {
-        let mut disk = saved.disk(NEVER)?;
-        do_harm(alloc, &mut disk, SLOTS)?;
-        do_harm(alloc, &mut disk, damage)?;
-        assert!(rt; puts_line(alloc, book, &mut disk, line)?, "{line}");
-    }
-    let mut largest = MemStation::new(alloc, Vec::new(alloc));
+/// Asserts what a check says of the disk with three allocated blocks and this damage.
+fn check_harmed(
+    rt: &impl Abort,
+    alloc: Global,
+    book: &PlaceBook,
+    disk: &mut MemStation,
+    damage: Harm,
+    line: &str,
+) -> Result<(), Fail> {
+    do_harm(alloc, disk, SLOTS)?;
+    do_harm(alloc, disk, damage)?;
+    assert!(rt; puts_line(alloc, book, disk, line)?, "{line}");
+    Ok(())
+}
+
+/// A disk of the greatest size.
+fn check_largest(
+    rt: &impl Abort,
+    alloc: Global,
+    book: &PlaceBook,
+    disk: &mut MemStation,
+) -> Result<(), Fail> {
     let texts = (
         "fresh 1048576 8 R W near",
         "open 1/alloc 1 0 W 1048575 2/free/",
     );
-    let status = run_over(alloc, book, texts, &mut largest)?;
+    let status = run_over(alloc, book, texts, disk)?;
     assert_eq!(rt; status.code(), 0);
-    assert_eq!(rt;
-        largest.sent(),
-        b"ok\nblocks 1048575 1048574\nfree 1048573\n".as_slice()
-    );
-    assert!(rt; puts_line(alloc, book, &mut largest, "clean 3 1048573 2/")?);
+    let sent = b"ok\nblocks 1048575 1048574\nfree 1048573\n";
+    assert_eq!(rt; disk.sent(), sent.as_slice());
+    assert!(rt; puts_line(alloc, book, disk, "clean 3 1048573 2/")?);
     Ok(())
+}
+
+/// Each of them, and a disk of the greatest size.
+pub fn extremes(rt: &impl Abort, alloc: Global, book: &PlaceBook) -> Result<(), Fail> {
+    let saved = made(rt, alloc, book, &ALLOCATED)?;
+    for (damage, line) in EXTREMES {
+        check_harmed(rt, alloc, book, &mut saved.disk(NEVER)?, damage, line)?;
+    }
+    let mut largest = MemStation::new(alloc, Vec::new(alloc));
+    check_largest(rt, alloc, book, &mut largest)
 }
 
 /// A damage for each test, in the order of the tests, with a bit of its own. None of them mends another.
@@ -267,15 +287,26 @@ fn first_line(choice: u32) -> &'static str {
     "clean 4 4 3/"
 }
 
+/// Asserts what a check says of a disk with these damages.
+fn check_chosen(
+    rt: &impl Abort,
+    alloc: Global,
+    book: &PlaceBook,
+    disk: &mut MemStation,
+    choice: u32,
+) -> Result<(), Fail> {
+    let line = first_line(choice);
+    do_harm(alloc, disk, SLOTS)?;
+    do_chosen(alloc, disk, choice)?;
+    assert!(rt; puts_line(alloc, book, disk, line)?, "{choice} {line}");
+    Ok(())
+}
+
 /// Any of these damages together.
 pub fn together(rt: &impl Abort, alloc: Global, book: &PlaceBook) -> Result<(), Fail> {
     let saved = made(rt, alloc, book, &ALLOCATED)?;
     for choice in 0..256 {
-        let line = first_line(choice);
-        let mut disk = saved.disk(NEVER)?;
-        do_harm(alloc, &mut disk, SLOTS)?;
-        do_chosen(alloc, &mut disk, choice)?;
-        assert!(rt; puts_line(alloc, book, &mut disk, line)?, "{choice} {line}");
+        check_chosen(rt, alloc, book, &mut saved.disk(NEVER)?, choice)?;
     }
     Ok(())
 }
@@ -316,32 +347,55 @@ fn with_rubbish(saved: &Saved, rubbish: u8) -> Result<MemStation, Fail> {
     Ok(disk)
 }
 
+/// What is asked of the disk that has rubbish everywhere.
+const ASKED: (&str, &str) = (
+    "run near",
+    "open 1/read 1 0 R/list 1 0 R 0/read 1 3 -/alloc 1 0 W 7 4/read 1 7 -/free/delete 1 0 W 7/",
+);
+
+/// What is answered.
+const ANSWERED: &str = "ok/data -/list 1 2 3/data -/blocks 7 6 5 4/data -/free 0/gone 1/";
+
+/// Asserts that this disk answers so, and is clean before and afterwards.
+fn check_rubbish(
+    rt: &impl Abort,
+    alloc: Global,
+    book: &PlaceBook,
+    disk: &mut MemStation,
+    byte: u8,
+) -> Result<(), Fail> {
+    let wanted = spelled(alloc, ANSWERED)?;
+    assert!(rt; puts_line(alloc, book, disk, "clean 4 4 3/")?, "{byte}");
+    let before = disk.sent().len();
+    let status = run_over(alloc, book, ASKED, disk)?;
+    assert_eq!(rt; status.code(), 0, "{byte}");
+    let is_answered = disk.sent().get(before..) == Some(wanted.as_slice());
+    assert!(rt; is_answered, "{byte}");
+    assert!(rt; puts_line(alloc, book, disk, "clean 7 1 6/")?, "{byte}");
+    Ok(())
+}
+
 /// Rubbish in every byte that no rule names, all at once.
 pub fn rubbish(rt: &impl Abort, alloc: Global, book: &PlaceBook) -> Result<(), Fail> {
     let saved = made(rt, alloc, book, &ALLOCATED)?;
-    let input =
-        "open 1/read 1 0 R/list 1 0 R 0/read 1 3 -/alloc 1 0 W 7 4/read 1 7 -/free/delete 1 0 W 7/";
-    let output = "ok/data -/list 1 2 3/data -/blocks 7 6 5 4/data -/free 0/gone 1/";
     for byte in [1, 0xee, 0xff] {
-        let mut disk = with_rubbish(&saved, byte)?;
-        assert!(rt;
-            puts_line(alloc, book, &mut disk, "clean 4 4 3/")?,
-            "{byte}"
-        );
-        let before = disk.sent().len();
-        let status = run_over(alloc, book, ("run near", input), &mut disk)?;
-        let wanted = spelled(alloc, output)?;
-        assert_eq!(rt; status.code(), 0, "{byte}");
-        assert_eq!(rt;
-            disk.sent().get(before..),
-            Some(wanted.as_slice()),
-            "{byte}"
-        );
-        assert!(rt;
-            puts_line(alloc, book, &mut disk, "clean 7 1 6/")?,
-            "{byte}"
-        );
+        check_rubbish(rt, alloc, book, &mut with_rubbish(&saved, byte)?, byte)?;
     }
+    Ok(())
+}
+
+/// Asserts that of the bits behind those of ten blocks none counts.
+fn check_more_bits(
+    rt: &impl Abort,
+    alloc: Global,
+    book: &PlaceBook,
+    disk: &mut MemStation,
+) -> Result<(), Fail> {
+    assert!(rt; puts_line(alloc, book, disk, "clean 3 7 2/")?);
+    do_harm(alloc, disk, Set(135, &[0xffff_ff01]))?;
+    assert!(rt; puts_line(alloc, book, disk, "clean 3 7 2/")?);
+    do_harm(alloc, disk, Set(135, &[0xffff_fc01]))?;
+    assert!(rt; puts_line(alloc, book, disk, "damaged end 0 8/")?);
     Ok(())
 }
 
@@ -349,10 +403,5 @@ pub fn rubbish(rt: &impl Abort, alloc: Global, book: &PlaceBook) -> Result<(), F
 pub fn more_bits(rt: &impl Abort, alloc: Global, book: &PlaceBook) -> Result<(), Fail> {
     let runs = [("fresh 10 1 R W near", "open 1/alloc 1 0 W 8 2/")];
     let mut disk = made(rt, alloc, book, &runs)?.disk(NEVER)?;
-    assert!(rt; puts_line(alloc, book, &mut disk, "clean 3 7 2/")?);
-    do_harm(alloc, &mut disk, Set(135, &[0xffff_ff01]))?;
-    assert!(rt; puts_line(alloc, book, &mut disk, "clean 3 7 2/")?);
-    do_harm(alloc, &mut disk, Set(135, &[0xffff_fc01]))?;
-    assert!(rt; puts_line(alloc, book, &mut disk, "damaged end 0 8/")?);
-    Ok(())
+    check_more_bits(rt, alloc, book, &mut disk)
 }

@@ -61,6 +61,22 @@ const LENGTHS: [usize; 5] = [8_399, 8_400, 8_401, 8_402, 100_000];
 /// What is answered to a line that is no request, and to the number of free blocks.
 const REFUSED: &[u8] = b"no bad-request\nfree 7\n";
 
+/// What a disk of eight blocks sends for this input, which is answered to its end.
+fn sent_by(
+    rt: &impl Abort,
+    alloc: Global,
+    book: &PlaceBook,
+    texts: (&str, Vec<u8>),
+    cut: usize,
+) -> Result<Vec<u8>, Fail>
+    requires { 0 < cut }
+{
+    let mut disk = made(rt, alloc, book, &SMALL)?.disk(NEVER)?;
+    let status = run_bytes(alloc, book, texts, cut, NEVER, &mut disk)?;
+    assert_eq!(rt; status, Status::Done);
+    Ok(disk.sent().to_vec(alloc)?)
+}
+
 /// Asserts that a line isn't taken, and that the next one is served.
 fn refuses_line(
     rt: &impl Abort,
@@ -73,12 +89,10 @@ fn refuses_line(
 {
     let mut input = line.to_vec(alloc)?;
     input.extend_from_slice(b"\nfree\n")?;
-    let mut disk = made(rt, alloc, book, &SMALL)?.disk(NEVER)?;
     let length = line.len();
     let start = line.get(..60).unwrap_or(line);
-    let status = run_bytes(alloc, book, ("run near", input), cut, NEVER, &mut disk)?;
-    assert_eq!(rt; status, Status::Done, "{length} {start:?}");
-    assert_eq!(rt; disk.sent(), REFUSED, "{length} {start:?}");
+    let sent = sent_by(rt, alloc, book, ("run near", input), cut)?;
+    assert_eq!(rt; sent.as_slice(), REFUSED, "{length} {start:?}");
     Ok(())
 }
 
@@ -163,10 +177,7 @@ fn sent_for(
 {
     let mut input = frame_of(alloc, body)?;
     input.extend_from_slice(b"\x01\x00\x07")?;
-    let mut disk = made(rt, alloc, book, &SMALL)?.disk(NEVER)?;
-    let status = run_bytes(alloc, book, ("serve near", input), cut, NEVER, &mut disk)?;
-    assert_eq!(rt; status, Status::Done, "{body:?}");
-    Ok(disk.sent().to_vec(alloc)?)
+    sent_by(rt, alloc, book, ("serve near", input), cut)
 }
 
 /// The frame of a refused body, and the one that says that seven blocks are free.
@@ -196,17 +207,22 @@ fn refuses_body(rt: &impl Abort, alloc: Global, book: &PlaceBook, body: &[u8]) -
     refuses_pieces(rt, alloc, book, body, 1_000)
 }
 
-/// Each body is taken, but not with a byte less or a byte more. Other bodies aren't taken at all.
+/// Asserts that this body is taken, but not with a byte less or a byte more.
+fn takes_body(rt: &impl Abort, alloc: Global, book: &PlaceBook, text: &str) -> Result<(), Fail> {
+    let mut body = packed(alloc, text)?;
+    let sent = sent_for(rt, alloc, book, body.as_slice(), 7)?;
+    assert!(rt; sent.as_slice() != REFUSED_FRAMES, "{text}");
+    body.push(0)?;
+    refuses_body(rt, alloc, book, body.as_slice())?;
+    body.pop();
+    body.pop();
+    refuses_body(rt, alloc, book, body.as_slice())
+}
+
+/// Each of the bodies is taken. The others aren't.
 pub fn bodies(rt: &impl Abort, alloc: Global, book: &PlaceBook) -> Result<(), Fail> {
     for text in BODIES {
-        let mut body = packed(alloc, text)?;
-        let sent = sent_for(rt, alloc, book, body.as_slice(), 7)?;
-        assert!(rt; sent.as_slice() != REFUSED_FRAMES, "{text}");
-        body.push(0)?;
-        refuses_body(rt, alloc, book, body.as_slice())?;
-        body.pop();
-        body.pop();
-        refuses_body(rt, alloc, book, body.as_slice())?;
+        takes_body(rt, alloc, book, text)?;
     }
     for text in NO_BODIES {
         refuses_body(rt, alloc, book, packed(alloc, text)?.as_slice())?;

@@ -78,6 +78,23 @@ fn clear_bodies(disk: &mut MemStation) -> Result<(), Fail> {
     Ok(())
 }
 
+/// Asserts what a check says of a disk with this descriptor in a record, behind open ones of one body each.
+fn check_record(
+    rt: &impl Abort,
+    alloc: Global,
+    book: &PlaceBook,
+    disk: &mut MemStation,
+    record: u32,
+    descriptor: &[u32],
+    line: &str,
+) -> Result<(), Fail> {
+    open_before(alloc, disk, record)?;
+    open_record(alloc, disk, record, descriptor)?;
+    let is_put = puts_line(alloc, book, disk, line)?;
+    assert!(rt; is_put, "{record} {descriptor:?} {line}");
+    Ok(())
+}
+
 /// Each of these descriptors in each record, with all records before it open.
 pub fn descriptors(rt: &impl Abort, alloc: Global, book: &PlaceBook) -> Result<(), Fail> {
     let saved = made(rt, alloc, book, &ALLOCATED)?;
@@ -85,10 +102,7 @@ pub fn descriptors(rt: &impl Abort, alloc: Global, book: &PlaceBook) -> Result<(
         for (descriptor, line) in DESCRIPTORS {
             let mut disk = saved.disk(NEVER)?;
             clear_bodies(&mut disk)?;
-            open_before(alloc, &mut disk, record)?;
-            open_record(alloc, &mut disk, record, descriptor)?;
-            let is_put = puts_line(alloc, book, &mut disk, line)?;
-            assert!(rt; is_put, "{record} {descriptor:?} {line}");
+            check_record(rt, alloc, book, &mut disk, record, descriptor, line)?;
         }
     }
     Ok(())
@@ -114,14 +128,28 @@ pub fn full_rings(rt: &impl Abort, alloc: Global, book: &PlaceBook) -> Result<()
             (most.saturating_add(1), "damaged descriptor/"),
         ] {
             let mut disk = saved.disk(NEVER)?;
-            open_before(alloc, &mut disk, record)?;
-            open_record(alloc, &mut disk, record, homes(alloc, count)?.as_slice())?;
-            assert!(rt;
-                puts_line(alloc, book, &mut disk, line)?,
-                "{record} {count}"
-            );
+            let descriptor = homes(alloc, count)?;
+            check_record(rt, alloc, book, &mut disk, record, &descriptor, line)?;
         }
     }
+    Ok(())
+}
+
+/// Asserts that a disk with a closed gate is clean, whatever the descriptors behind it say.
+fn check_behind(
+    rt: &impl Abort,
+    alloc: Global,
+    book: &PlaceBook,
+    disk: &mut MemStation,
+    closed: u32,
+    descriptor: &[u32],
+) -> Result<(), Fail> {
+    open_before(alloc, disk, closed)?;
+    for later in closed.saturating_add(1)..RECORDS {
+        open_record(alloc, disk, later, descriptor)?;
+    }
+    let is_put = puts_line(alloc, book, disk, "clean 4 4 3/")?;
+    assert!(rt; is_put, "{closed} {descriptor:?}");
     Ok(())
 }
 
@@ -130,13 +158,7 @@ pub fn behind_a_closed_gate(rt: &impl Abort, alloc: Global, book: &PlaceBook) ->
     let saved = made(rt, alloc, book, &ALLOCATED)?;
     for closed in 0..RECORDS {
         for (descriptor, _) in DESCRIPTORS {
-            let mut disk = saved.disk(NEVER)?;
-            open_before(alloc, &mut disk, closed)?;
-            for later in closed.saturating_add(1)..RECORDS {
-                open_record(alloc, &mut disk, later, descriptor)?;
-            }
-            let is_put = puts_line(alloc, book, &mut disk, "clean 4 4 3/")?;
-            assert!(rt; is_put, "{closed} {descriptor:?}");
+            check_behind(rt, alloc, book, &mut saved.disk(NEVER)?, closed, descriptor)?;
         }
     }
     Ok(())

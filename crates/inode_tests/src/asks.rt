@@ -23,7 +23,7 @@ pub enum Kind {
 }
 
 /// An ask: its paths by letters, and its bytes.
-#[derive(Drop, Debug)]
+#[derive(Drop)]
 pub struct Ask {
     pub kind: Kind,
     pub path: Vec<u8>,
@@ -180,12 +180,13 @@ pub fn step(
     tree: &mut Tree,
     ask: &Ask,
 ) -> Result<Result<(), FsRefusal>, AllocError> {
+    let kind = ask.kind;
     let wanted = expected(tree, ask)?;
     let answered = answer(rt, site, tree, ask);
-    assert_eq!(rt; answered, wanted, "{ask:?}");
+    assert_eq!(rt; answered, wanted, "{kind:?}");
     if wanted.is_ok() {
         apply(tree, ask)?;
     }
-    assert_eq!(rt; free(rt, site), tree.free()?, "{ask:?}");
+    assert_eq!(rt; free(rt, site), tree.free()?, "{kind:?}");
     Ok(wanted)
 }

@@ -52,3 +52,28 @@ pub fn run(rt: &impl Abort, alloc: Global, site: &mut InodeSite, rows: &[(&str, 
         answers(rt, alloc, site, line, wanted);
     }
 }
+
+/// Asserts that on a fresh disk of so many sectors a block, blocks and slots each line is answered so.
+pub fn run_fresh(
+    rt: &impl Abort,
+    alloc: Global,
+    (sectors, blocks, slots): (u32, u32, u32),
+    rows: &[(&str, &str)],
+) {
+    let mut site = fresh(rt, alloc, sectors, blocks, slots);
+    run(rt, alloc, &mut site, rows);
+}
+
+/// The same, and then what is answered once the disk was mounted again.
+pub fn run_and_mount(
+    rt: &impl Abort,
+    alloc: Global,
+    (sectors, blocks, slots): (u32, u32, u32),
+    rows: &[(&str, &str)],
+    then: &[(&str, &str)],
+) {
+    let mut site = fresh(rt, alloc, sectors, blocks, slots);
+    run(rt, alloc, &mut site, rows);
+    let mut site = mounted_again(rt, alloc, site);
+    run(rt, alloc, &mut site, then);
+}

@@ -3,20 +3,25 @@
 ghost use Rattle.std.specs.Prelude.{◌<◌};
 
 use crate::asks::{Ask, Kind, is_same, step};
-use crate::lines::{fresh, mounted_again};
+use crate::lines::{InodeSite, fresh, mounted_again};
 use crate::tree::{Room, Tree};
 use fs_trees::FsRefusal;
 use std::alloc::{AllocError, Global};
 use std::process::Abort;
 use std::test::Fail;
 
-/// The next number of a row that looks random, below a bound.
+/// The next number of a row that looks random.
+fn next(seed: &mut u32) -> u32 {
+    *seed = seed.wrapping_mul(1_664_525).wrapping_add(1_013_904_223);
+    *seed >> 8
+}
+
+/// The next number of the row, below a bound.
 pub fn draw(seed: &mut u32, bound: u32) -> u32
     requires { 0 < bound }
     ensures { result < bound }
 {
-    *seed = seed.wrapping_mul(1_664_525).wrapping_add(1_013_904_223);
-    (*seed >> 8) % bound
+    next(seed) % bound
 }
 
 /// A path of up to three of so many letters.
@@ -133,6 +138,37 @@ fn note(met: Met, answered: Result<(), FsRefusal>) -> Met {
     Met { done, short }
 }
 
+/// Twenty random asks, of which each answer is compared.
+fn ask_twenty(
+    rt: &impl Abort,
+    site: &mut InodeSite,
+    tree: &mut Tree,
+    seed: &mut u32,
+    letters: u32,
+    met: Met,
+) -> Result<Met, AllocError>
+    requires { 0 < letters }
+{
+    let mut met = met;
+    for _ in 0..20 {
+        let ask = draw_ask(tree, seed, letters)?;
+        met = note(met, step(rt, site, tree, &ask)?);
+    }
+    Ok(met)
+}
+
+/// The same disk, mounted anew, of which the tree is compared.
+fn compared(
+    rt: &impl Abort,
+    alloc: Global,
+    site: InodeSite,
+    tree: &Tree,
+) -> Result<InodeSite, AllocError> {
+    let mut site = mounted_again(rt, alloc, site);
+    assert!(rt; is_same(rt, &mut site, tree)?);
+    Ok(site)
+}
+
 /// Runs a hundred random asks on a fresh disk, compares each answer, and now and then the trees, mounted anew.
 fn run(
     rt: &impl Abort,
@@ -147,17 +183,19 @@ fn run(
     let mut seed = seed;
     let mut met = met;
     let mut tree = Tree::new(alloc, room);
-    let mut site = fresh(rt, alloc, 1, room.blocks, room.slots);
-    assert_eq!(rt; site.make(), Ok(()));
-    for round in 0..100u32 {
-        let ask = draw_ask(&tree, &mut seed, letters)?;
-        met = note(met, step(rt, &mut site, &mut tree, &ask)?);
-        if round % 20 == 19 {
-            site = mounted_again(rt, alloc, site);
-            assert!(rt; is_same(rt, &mut site, &tree)?);
-        }
+    let mut site = made(rt, alloc, room);
+    for _ in 0..5 {
+        met = ask_twenty(rt, &mut site, &mut tree, &mut seed, letters, met)?;
+        site = compared(rt, alloc, site, &tree)?;
     }
     Ok(met)
+}
+
+/// An empty tree on a fresh disk.
+fn made(rt: &impl Abort, alloc: Global, room: Room) -> InodeSite {
+    let mut site = fresh(rt, alloc, 1, room.blocks, room.slots);
+    assert_eq!(rt; site.make(), Ok(()));
+    site
 }
 
 /// Runs from three seeds on, and asserts that many asks were done, and more than so many refused for want of room.

@@ -29,6 +29,40 @@ fn replay(
     Ok(site)
 }
 
+/// Asks, and stops that behind so many requests; gives the answer, which is Device where it was stopped.
+fn ask_within(
+    rt: &impl Abort,
+    site: &mut InodeSite,
+    tree: &Tree,
+    ask: &Ask,
+    left: u64,
+) -> Result<(), FsRefusal> {
+    site.disk.left = left;
+    let answered = answer(rt, site, tree, ask);
+    let is_fault = answered == Err(FsRefusal::Device);
+    assert_eq!(rt; is_fault, site.disk.is_stopped);
+    answered
+}
+
+/// Asserts that a mounted disk has the tree after an ask that was answered so, or the one before where it was stopped.
+fn is_whole(
+    rt: &impl Abort,
+    site: &mut InodeSite,
+    tree: &mut Tree,
+    ask: &Ask,
+    answered: Result<(), FsRefusal>,
+) -> Result<(), AllocError> {
+    let kind = ask.kind;
+    let is_stopped = answered == Err(FsRefusal::Device);
+    let is_old = is_same(rt, site, tree)?;
+    if is_stopped || answered.is_ok() {
+        apply(tree, ask)?;
+    }
+    let is_new = is_same(rt, site, tree)?;
+    assert!(rt; is_new || (is_old && is_stopped), "{kind:?}");
+    Ok(())
+}
+
 /// Does these asks and stops another behind so many requests; gives whether it was stopped.
 fn stop(
     rt: &impl Abort,
@@ -39,22 +73,10 @@ fn stop(
 ) -> Result<bool, AllocError> {
     let mut tree = Tree::new(alloc, ROOM);
     let mut site = replay(rt, alloc, &mut tree, asks)?;
-    site.disk.left = left;
-    let answered = answer(rt, &mut site, &tree, ask);
-    assert_eq!(rt;
-        answered == Err(FsRefusal::Device),
-        site.disk.is_stopped,
-        "{ask:?}"
-    );
+    let answered = ask_within(rt, &mut site, &tree, ask, left);
     let mut site = mounted_again(rt, alloc, site);
-    let is_stopped = answered == Err(FsRefusal::Device);
-    let is_old = is_same(rt, &mut site, &tree)?;
-    if is_stopped || answered.is_ok() {
-        apply(&mut tree, ask)?;
-    }
-    let is_new = is_same(rt, &mut site, &tree)?;
-    assert!(rt; is_new || (is_old && is_stopped), "{ask:?} behind {left}");
-    Ok(is_stopped)
+    is_whole(rt, &mut site, &mut tree, ask, answered)?;
+    Ok(answered == Err(FsRefusal::Device))
 }
 
 /// Stops each ask behind each of its requests, after the asks before it; gives how often one was stopped.

@@ -1,6 +1,8 @@
 //! Worked asks, each with its answer.
 
-use crate::lines::{InodeSite, answers, data_of, fresh, mounted_again, path_of, run};
+use crate::lines::{
+    InodeSite, answers, data_of, fresh, mounted_again, path_of, run, run_and_mount, run_fresh,
+};
 use fs_port::{Blocks, Files};
 use fs_site::answer_to;
 use fs_trees::FsRefusal;
@@ -11,7 +13,6 @@ use tsd_model::Data;
 /// The example of the documents.
 #[test]
 fn docs_example(rt: HostRuntime) {
-    let mut site = fresh(&rt, rt.alloc(), 1, 8, 32);
     let table = [
         ("mkfs", "ok"),
         ("put /a 6869", "ok"),
@@ -24,13 +25,12 @@ fn docs_example(rt: HostRuntime) {
         ("put /a/b -", "no not-dir"),
         ("df", "free 3"),
     ];
-    run(&rt, rt.alloc(), &mut site, table.as_slice());
+    run_fresh(&rt, rt.alloc(), (1, 8, 32), table.as_slice());
 }
 
 /// Eight blocks: too little room for a long file, a copy, and what stands afterwards.
 #[test]
 fn eight_blocks(rt: HostRuntime) {
-    let mut site = fresh(&rt, rt.alloc(), 1, 8, 32);
     let table = [
         ("put /a 01", "no not-this-fs"),
         ("df", "free 7"),
@@ -49,7 +49,7 @@ fn eight_blocks(rt: HostRuntime) {
         ("cat /a", "no no-entry"),
         ("ls /b", "no not-dir"),
     ];
-    run(&rt, rt.alloc(), &mut site, table.as_slice());
+    run_fresh(&rt, rt.alloc(), (1, 8, 32), table.as_slice());
 }
 
 /// A directory and a file of 20,480 bytes in blocks of eight sectors.
@@ -71,35 +71,45 @@ const LONG: [(&str, &str); 12] = [
 /// Appends in blocks of eight sectors, and a file in place of a long one.
 #[test]
 fn wide_blocks(rt: HostRuntime) {
-    let mut site = fresh(&rt, rt.alloc(), 8, 2048, 8192);
-    run(&rt, rt.alloc(), &mut site, LONG.as_slice());
     let table = [
         ("cat /docs/a", "data 61*20480"),
         ("put /docs/a 6869", "ok"),
         ("cat /docs/a", "data 6869"),
         ("df", "free 2044"),
     ];
-    run(&rt, rt.alloc(), &mut site, table.as_slice());
+    let size = (8, 2048, 8192);
+    run_and_mount(&rt, rt.alloc(), size, LONG.as_slice(), table.as_slice());
+}
+
+/// Puts a short file in place of the long one, and stops that behind so many requests; gives whether it was stopped.
+fn put_short(rt: &impl Abort, alloc: Global, site: &mut InodeSite, left: u64) -> bool {
+    run(rt, alloc, site, LONG.as_slice());
+    site.disk.left = left;
+    let answered = site.put(&path_of(rt, b"/docs/a"), &data_of(rt, alloc, "6869"));
+    assert_eq!(rt; answered.is_ok(), !site.disk.is_spent());
+    answered.is_err()
+}
+
+/// Asserts that the long file is there or the short one, and tells whether it is the short one.
+fn is_short(rt: &impl Abort, alloc: Global, site: &mut InodeSite) -> bool {
+    let is_short = site.size(&path_of(rt, b"/docs/a")) == Ok(2);
+    let table = if is_short {
+        [("cat /docs/a", "data 6869"), ("df", "free 2044")]
+    } else {
+        [("cat /docs/a", "data 61*20480"), ("df", "free 2040")]
+    };
+    run(rt, alloc, site, table.as_slice());
+    is_short
 }
 
 /// A short file comes in place of the long one and is stopped behind so many requests; gives whether it was.
 fn is_stopped(rt: &impl Abort, alloc: Global, left: u64) -> bool {
     let mut site = fresh(rt, alloc, 8, 2048, 8192);
-    run(rt, alloc, &mut site, LONG.as_slice());
-    let path = path_of(rt, b"/docs/a");
-    site.disk.left = left;
-    let answered = site.put(&path, &data_of(rt, alloc, "6869"));
-    assert_eq!(rt; answered.is_ok(), !site.disk.is_spent());
+    let is_stopped = put_short(rt, alloc, &mut site, left);
     let mut site = mounted_again(rt, alloc, site);
-    let is_new = site.size(&path) == Ok(2);
-    assert!(rt; is_new || answered.is_err(), "behind {left}");
-    let table = if is_new {
-        [("cat /docs/a", "data 6869"), ("df", "free 2044")]
-    } else {
-        [("cat /docs/a", "data 61*20480"), ("df", "free 2040")]
-    };
-    run(rt, alloc, &mut site, table.as_slice());
-    answered.is_err()
+    let is_short = is_short(rt, alloc, &mut site);
+    assert!(rt; is_short || is_stopped, "behind {left}");
+    is_stopped
 }
 
 /// The old file or the new one, whole, wherever the change is stopped.
@@ -118,7 +128,6 @@ fn wide_blocks_stopped(rt: HostRuntime) {
 /// Refusals, each where the ones before it don't apply.
 #[test]
 fn refusals(rt: HostRuntime) {
-    let mut site = fresh(&rt, rt.alloc(), 1, 16, 6);
     let table = [
         ("df", "free 15"),
         ("cat /a", "no not-this-fs"),
@@ -177,13 +186,12 @@ fn refusals(rt: HostRuntime) {
         ("df", "free 15"),
         ("mkfs -", "no bad-request"),
     ];
-    run(&rt, rt.alloc(), &mut site, table.as_slice());
+    run_fresh(&rt, rt.alloc(), (1, 16, 6), table.as_slice());
 }
 
 /// A disk of which each block is taken.
 #[test]
 fn full_disk(rt: HostRuntime) {
-    let mut site = fresh(&rt, rt.alloc(), 1, 8, 11);
     let table = [
         ("mkfs", "ok"),
         ("put /a 01*1500", "ok"),
@@ -220,13 +228,12 @@ fn full_disk(rt: HostRuntime) {
         ("ls /", "names -"),
         ("df", "free 7"),
     ];
-    run(&rt, rt.alloc(), &mut site, table.as_slice());
+    run_fresh(&rt, rt.alloc(), (1, 8, 11), table.as_slice());
 }
 
 /// A directory takes fifteen entries, a new one only after another has gone; an old entry changes all the same.
 #[test]
 fn full_directory(rt: HostRuntime) {
-    let mut site = fresh(&rt, rt.alloc(), 1, 32, 64);
     let table = [
         ("mkfs", "ok"),
         ("mkdir /d", "ok"),
@@ -263,21 +270,14 @@ fn full_directory(rt: HostRuntime) {
         ("ls /", "names a b c d e f g h i j k l m n o"),
         ("df", "free 14"),
     ];
-    run(&rt, rt.alloc(), &mut site, table.as_slice());
-    let mut site = mounted_again(&rt, rt.alloc(), site);
-    answers(
-        &rt,
-        rt.alloc(),
-        &mut site,
-        "ls /",
-        "names a b c d e f g h i j k l m n o",
-    );
+    let then = [("ls /", "names a b c d e f g h i j k l m n o")];
+    let size = (1, 32, 64);
+    run_and_mount(&rt, rt.alloc(), size, table.as_slice(), then.as_slice());
 }
 
 /// Sixteen names on the way to a file, which is the most that a path has.
 #[test]
 fn longest_path(rt: HostRuntime) {
-    let mut site = fresh(&rt, rt.alloc(), 1, 32, 64);
     let table = [
         ("mkfs", "ok"),
         ("mkdir /a", "ok"),
@@ -310,19 +310,17 @@ fn longest_path(rt: HostRuntime) {
         ("rm /a/b/c/d/e/f/g/h/i/j/k/l/m/n/o/p", "ok"),
         ("rm /a/b/c/d/e/f/g/h/i/j/k/l/m/n/o", "no not-empty"),
     ];
-    run(&rt, rt.alloc(), &mut site, table.as_slice());
-    let mut site = mounted_again(&rt, rt.alloc(), site);
-    let table = [
+    let then = [
         ("cat /a/b/c/d/e/f/g/h/i/j/k/l/m/n/o/q", "data 0708"),
         ("ls /a/b/c/d/e/f/g/h/i/j/k/l/m/n/o", "names q r"),
     ];
-    run(&rt, rt.alloc(), &mut site, table.as_slice());
+    let size = (1, 32, 64);
+    run_and_mount(&rt, rt.alloc(), size, table.as_slice(), then.as_slice());
 }
 
 /// A copy shares its blocks; the two files change apart afterwards.
 #[test]
 fn copies_change_apart(rt: HostRuntime) {
-    let mut site = fresh(&rt, rt.alloc(), 1, 16, 64);
     let table = [
         ("mkfs", "ok"),
         ("put /a 11*512,22*88", "ok"),
@@ -349,22 +347,23 @@ fn copies_change_apart(rt: HostRuntime) {
         ("rm /a", "ok"),
         ("df", "free 15"),
     ];
-    run(&rt, rt.alloc(), &mut site, table.as_slice());
+    run_fresh(&rt, rt.alloc(), (1, 16, 64), table.as_slice());
+}
+
+/// A file that grows to 120 blocks.
+fn grow(rt: &impl Abort, alloc: Global, site: &mut InodeSite) {
+    answers(rt, alloc, site, "mkfs", "ok");
+    answers(rt, alloc, site, "put /a 11*4096", "ok");
+    for _ in 0..14 {
+        answers(rt, alloc, site, "append /a 22*4096", "ok");
+    }
 }
 
 /// A file has at most 124 blocks, whatever else is lacking.
 #[test]
 fn longest_file(rt: HostRuntime) {
     let mut site = fresh(&rt, rt.alloc(), 1, 140, 400);
-    run(
-        &rt,
-        rt.alloc(),
-        &mut site,
-        [("mkfs", "ok"), ("put /a 11*4096", "ok")].as_slice(),
-    );
-    for _ in 0..14 {
-        answers(&rt, rt.alloc(), &mut site, "append /a 22*4096", "ok");
-    }
+    grow(&rt, rt.alloc(), &mut site);
     let table = [
         ("df", "free 18"),
         ("append /a 33*4096", "no too-big"),
@@ -382,69 +381,78 @@ fn longest_file(rt: HostRuntime) {
     run(&rt, rt.alloc(), &mut site, table.as_slice());
 }
 
-/// Asserts that a part of a file of the bytes 0 to 255, over and over, goes from the first place to the last.
-fn reads(rt: &impl Abort, site: &mut InodeSite, first: u32, last: u32) {
-    let mut part = Data::new();
-    let mut wanted = Data::new();
+/// The bytes 0 to 255, over and over, from a place to another.
+fn part(rt: &impl Abort, first: u32, last: u32) -> Data {
+    let mut bytes = Data::new();
     for place in first..last {
-        assert!(rt; wanted.push((place % 256) as u8).is_ok());
+        assert!(rt; bytes.push((place % 256) as u8).is_ok());
     }
-    assert_eq!(rt;
-        site.read_part(&path_of(rt, b"/a"), first as u64, &mut part),
-        Ok(())
-    );
-    assert_eq!(rt; part.as_slice(), wanted.as_slice(), "{first} to {last}");
+    bytes
 }
 
-/// A file of 5,000 bytes: a part has at most 4,096 of them.
+/// Asserts that a part of the file goes from the first place to the last.
+fn reads(rt: &impl Abort, site: &mut InodeSite, first: u32, last: u32) {
+    let mut bytes = Data::new();
+    let answered = site.read_part(&path_of(rt, b"/a"), first as u64, &mut bytes);
+    assert_eq!(rt; answered, Ok(()));
+    let wanted = part(rt, first, last);
+    assert_eq!(rt; bytes.as_slice(), wanted.as_slice(), "{first} to {last}");
+}
+
+/// A file of 5,000 bytes.
+fn make_parts(rt: &impl Abort, site: &mut InodeSite) {
+    assert_eq!(rt; site.make(), Ok(()));
+    let path = path_of(rt, b"/a");
+    assert_eq!(rt; site.put(&path, &part(rt, 0, 4096)), Ok(()));
+    assert_eq!(rt; site.append(&path, &part(rt, 4096, 5000)), Ok(()));
+    assert_eq!(rt; site.size(&path), Ok(5000));
+}
+
+/// From where on it is read, and to where.
+const PARTS: [(u32, u32); 11] = [
+    (0, 4096),
+    (1, 4097),
+    (511, 4607),
+    (512, 4608),
+    (904, 5000),
+    (905, 5000),
+    (4096, 5000),
+    (4999, 5000),
+    (5000, 5000),
+    (5001, 5001),
+    (9000, 9000),
+];
+
+/// A part has at most 4,096 bytes.
 #[test]
 fn parts_of_a_file(rt: HostRuntime) {
     let mut site = fresh(&rt, rt.alloc(), 1, 32, 64);
-    assert_eq!(rt; site.make(), Ok(()));
-    let path = path_of(&rt, b"/a");
-    let mut bytes = Data::new();
-    for place in 0..4096u32 {
-        assert!(rt; bytes.push((place % 256) as u8).is_ok());
-    }
-    assert_eq!(rt; site.put(&path, &bytes), Ok(()));
-    let mut rest = Data::new();
-    for place in 0..904u32 {
-        assert!(rt; rest.push((place % 256) as u8).is_ok());
-    }
-    assert_eq!(rt; site.append(&path, &rest), Ok(()));
-    assert_eq!(rt; site.size(&path), Ok(5000));
-    for (first, last) in [
-        (0, 4096),
-        (1, 4097),
-        (511, 4607),
-        (512, 4608),
-        (904, 5000),
-        (905, 5000),
-        (4096, 5000),
-        (4999, 5000),
-        (5000, 5000),
-        (5001, 5001),
-        (9000, 9000),
-    ] {
+    make_parts(&rt, &mut site);
+    for (first, last) in PARTS {
         reads(&rt, &mut site, first, last);
     }
 }
 
 /// Asserts that a line, or mounting, fails on a disk that answers nothing more, and that the disk is spent then.
-fn fails(rt: &impl Abort, alloc: Global, line: &str) {
-    let mut site = fresh(rt, alloc, 1, 16, 32);
+fn fails_on(rt: &impl Abort, alloc: Global, site: &mut InodeSite, line: &str) {
     assert!(rt; site.files.has_dirs());
-    answers(rt, alloc, &mut site, "mkfs", "ok");
-    answers(rt, alloc, &mut site, "put /a 01", "ok");
+    answers(rt, alloc, site, "mkfs", "ok");
+    answers(rt, alloc, site, "put /a 01", "ok");
     site.disk.left = 0;
     let is_fault = if line == "mount" {
         site.mount() == Err(FsRefusal::Device)
     } else {
-        matches!(answer_to(alloc, &mut site, line), Err(FsRefusal::Device))
+        matches!(answer_to(alloc, site, line), Err(FsRefusal::Device))
     };
     assert!(rt; is_fault, "{line}");
     assert!(rt; site.disk.is_spent(), "{line}");
     assert_eq!(rt; site.disk.faults, 1, "{line}");
+}
+
+/// The same on a fresh disk.
+fn fails(rt: &impl Abort, alloc: Global, line: &str) {
+    let mut site = fresh(rt, alloc, 1, 16, 32);
+    fails_on(rt, alloc, &mut site, line);
 }
 
 /// A fault of the disk is told by each call, and then the disk is spent.

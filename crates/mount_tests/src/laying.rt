@@ -97,6 +97,25 @@ fn link_blocks(rt: &impl Abort, disk: &mut Untold<PlainBlocks>, pairs: &[(u32, u
     }
 }
 
+/// Deletes the pairs from the root that don't stay.
+fn unlink_blocks(
+    rt: &impl Abort,
+    disk: &mut Untold<PlainBlocks>,
+    blocks: u32,
+    pairs: &[(u32, u32)],
+    case: &str,
+) {
+    for block in 1..=blocks {
+        assert!(rt; !disk.is_spent());
+        if !pairs.contains(&(0, block)) {
+            assert!(rt;
+                CLIENT.unlink(disk, 0, block).is_ok(),
+                "{case}: block {block}"
+            );
+        }
+    }
+}
+
 /// Takes so many blocks, leaves just these pairs, and writes what each block says.
 pub fn lay(
     rt: &impl Abort,
@@ -118,15 +137,7 @@ pub fn lay(
             "{case}: block {block}"
         );
     }
-    for block in 1..=blocks {
-        assert!(rt; !disk.is_spent());
-        if !pairs.contains(&(0, block)) {
-            assert!(rt;
-                CLIENT.unlink(disk, 0, block).is_ok(),
-                "{case}: block {block}"
-            );
-        }
-    }
+    unlink_blocks(rt, disk, blocks, pairs, case);
 }
 
 /// Asserts that the pairs out of a disk of sixteen blocks are these, by their sources and targets.

@@ -14,6 +14,23 @@ use std::alloc::Global;
 use std::process::Abort;
 use std::test::Fail;
 
+/// Asserts that just these blocks are doomed.
+fn are_doomed(rt: &impl Abort, ahead: &Ahead, blocks: u32, doomed: &[u32]) {
+    for block in 0..blocks {
+        let is_told = ahead.is_doomed(block);
+        assert_eq!(rt; is_told, is_among(block, doomed), "block {block}");
+    }
+    assert_eq!(rt; ahead.doomed() as usize, doomed.len());
+}
+
+/// How many pairs begin at these blocks.
+fn count_from(pairs: &[(u32, u32)], sources: &[u32]) -> usize {
+    pairs
+        .iter()
+        .filter(|pair| is_among(pair.0, sources))
+        .count()
+}
+
 /// Compares what is kept ahead with what the plain program says of the same graph, and gives how many blocks are doomed.
 fn compare(
     rt: &impl Abort,
@@ -23,19 +40,8 @@ fn compare(
     raw: &World,
 ) -> Result<u32, Fail> {
     let doomed = plain_doomed(alloc, raw)?;
-    for block in 0..disk.live.geometry().blocks {
-        assert_eq!(rt;
-            ahead.is_doomed(block),
-            is_among(block, doomed.as_slice()),
-            "block {block}"
-        );
-    }
-    let pairs = raw.pairs();
-    let from_doomed = pairs
-        .iter()
-        .filter(|pair| is_among(pair.0, doomed.as_slice()))
-        .count();
-    assert_eq!(rt; ahead.doomed() as usize, doomed.len());
+    are_doomed(rt, ahead, disk.live.geometry().blocks, doomed.as_slice());
+    let from_doomed = count_from(raw.pairs(), doomed.as_slice());
     assert_eq!(rt; ahead.doomed_pairs() as usize, from_doomed);
     assert!(rt; hides(&disk.live, ahead));
     Ok(ahead.doomed())

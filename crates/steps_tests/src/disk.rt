@@ -38,6 +38,26 @@ pub fn sized(blocks: u32) -> Geometry {
     }
 }
 
+/// A disk of so many blocks that is free, without pointers.
+fn unused(rt: &impl Abort, alloc: Global, blocks: u32) -> Result<Disk, Fail> {
+    let geometry = sized(blocks);
+    assert!(rt; lawful(&geometry));
+    let mut station = MemStation::new(alloc, Vec::new(alloc));
+    Ok(Disk {
+        pointers: PointerTable::load(alloc, &mut station, &geometry)?,
+        counts: RefCounts::load(alloc, &mut station, &geometry)?,
+        live: LiveMap::load(alloc, &mut station, &geometry)?,
+    })
+}
+
+/// The first so many blocks are live from now on.
+fn set_first_live(rt: &impl Abort, live: &mut LiveMap, count: u32) {
+    for block in 0..count {
+        assert!(rt; block < live.geometry().blocks);
+        live.set_live(block);
+    }
+}
+
 /// A disk on which the first so many blocks are live, with these pairs.
 pub fn disk_with(
     rt: &impl Abort,
@@ -46,18 +66,8 @@ pub fn disk_with(
     live: u32,
     pairs: &[(u32, u32)],
 ) -> Result<Disk, Fail> {
-    let geometry = sized(blocks);
-    assert!(rt; lawful(&geometry));
-    let mut station = MemStation::new(alloc, Vec::new(alloc));
-    let mut disk = Disk {
-        pointers: PointerTable::load(alloc, &mut station, &geometry)?,
-        counts: RefCounts::load(alloc, &mut station, &geometry)?,
-        live: LiveMap::load(alloc, &mut station, &geometry)?,
-    };
-    for block in 0..live {
-        assert!(rt; block < disk.live.geometry().blocks);
-        disk.live.set_live(block);
-    }
+    let mut disk = unused(rt, alloc, blocks)?;
+    set_first_live(rt, &mut disk.live, live);
     for (source, target) in pairs {
         add(rt, &mut disk.pointers, &mut disk.counts, *source, *target)?;
     }
