@@ -120,6 +120,26 @@ pub fn ask_all<D: Device>(
     Ok(replies)
 }
 
+/// Asks what the lines of a text spell, and may close the disk. Gives the lines of the replies.
+fn ask_and_close<D: Device>(
+    alloc: Global,
+    core: &mut Core,
+    dev: &mut D,
+    place: &Placement,
+    text: &str,
+    settles: bool,
+    closes: bool,
+) -> Result<Vec<u8>, Fail>
+    requires ready { IsReady core.old }
+    requires at { D.told → IsAt core.old (D.view dev.old) }
+{
+    let replies = ask_all(alloc, core, dev, place, text, settles)?;
+    if closes {
+        core.close(dev)?;
+    }
+    Ok(replies)
+}
+
 /// Opens the disk, asks what the lines of a text spell, and may close the disk. Gives the lines of the replies.
 pub fn replies_in_run<D: Device>(
     alloc: Global,
@@ -130,9 +150,5 @@ pub fn replies_in_run<D: Device>(
     closes: bool,
 ) -> Result<Vec<u8>, Fail> {
     let mut core = opened(alloc, dev)?;
-    let replies = ask_all(alloc, &mut core, dev, place, text, settles)?;
-    if closes {
-        core.close(dev)?;
-    }
-    Ok(replies)
+    ask_and_close(alloc, &mut core, dev, place, text, settles, closes)
 }

@@ -108,6 +108,8 @@ pub fn opened<D: Device>(alloc: Global, dev: &mut D) -> Result<Core, OpenFault>
 /// Opens a disk and brings it to version 2.
 pub fn upgrade<D: Device>(alloc: Global, dev: &mut D) -> Result<(), OpenFault> {
     let mut volume = open_image(alloc, dev)?;
-    volume.upgrade(dev)?;
-    Ok(())
+    match volume.upgrade(dev) {
+        Ok(()) => Ok(()),
+        Err(fault) => Err(OpenFault::from(fault)),
+    }
 }
