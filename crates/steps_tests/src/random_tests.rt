@@ -5,7 +5,7 @@ use crate::plain::{Forecast, raw_of, told, told_again};
 use crate::steps::{Sum, reclaim_by_guesses, reclaim_by_work};
 use crate::sweeps::sweep;
 use crate::worlds::{Plain, WRITE, after, cut, disk_of, follow, fresh, grown, is_of};
-use plain_disk::plain_reach;
+use plain_disk::{World, plain_reach};
 use reclaim::Guesses;
 use std::alloc::Global;
 use std::process::Abort;
@@ -45,6 +45,35 @@ fn reclaim(rt: &impl Abort, alloc: Global, disk: &mut Disk, by_work: bool) -> Re
     }
 }
 
+/// A world that has grown by so many requests, and then lost some pairs; the tables follow. No step is made.
+fn grown_and_cut(
+    rt: &impl Abort,
+    alloc: Global,
+    plain: Plain,
+    disk: &mut Disk,
+    seed: &mut u32,
+    requests: u32,
+) -> Result<Plain, Fail> {
+    let plain = grown(rt, alloc, plain, seed, requests);
+    follow(rt, disk, &plain.world)?;
+    cut_some(rt, alloc, plain, disk, seed)
+}
+
+/// Reclaims all that is doomed, and compares that with what the plain program says of the raw world. Gives what the steps did.
+fn reclaim_as_told(
+    rt: &impl Abort,
+    alloc: Global,
+    disk: &mut Disk,
+    raw: &World,
+    by_work: bool,
+) -> Result<Sum, Fail> {
+    let forecast = Forecast::of(alloc, disk, raw)?;
+    let sum = reclaim(rt, alloc, disk, by_work)?;
+    assert_eq!(rt; sum.freed as usize, forecast.doomed());
+    forecast.has_come(rt, disk);
+    Ok(sum)
+}
+
 /// Graphs of a disk of so many blocks, each reclaimed by steps and compared with the world that the plain program has then, and with
 /// what it says before of the blocks that are doomed.
 /// Gives what the steps did.
@@ -60,16 +89,11 @@ fn reclaim_graphs(
     let mut kept = told(rt, alloc, &disk);
     let mut all = Sum::none();
     for graph in 0..graphs {
-        plain = grown(rt, alloc, plain, seed, 6);
-        follow(rt, &mut disk, &plain.world)?;
-        plain = cut_some(rt, alloc, plain, &mut disk, seed)?;
+        plain = grown_and_cut(rt, alloc, plain, &mut disk, seed, 6)?;
         kept = told_again(rt, alloc, kept, &disk);
         let raw = raw_of(rt, alloc, &kept, &disk);
-        let forecast = Forecast::of(alloc, &disk, &raw)?;
-        let sum = reclaim(rt, alloc, &mut disk, graph % 2 == 0)?;
+        let sum = reclaim_as_told(rt, alloc, &mut disk, &raw, graph % 2 == 0)?;
         assert!(rt; is_of(&disk, &plain.world), "graph {graph} of {blocks}");
-        assert_eq!(rt; sum.freed as usize, forecast.doomed());
-        forecast.has_come(rt, &disk);
         all = all.with(&sum);
     }
     Ok(all)
@@ -85,6 +109,17 @@ fn steps_reclaim_to_what_the_plain_program_leaves(rt: HostRuntime) -> Result<(),
     }
     assert!(rt; all.freed > 3_000 && all.pairs > 3_000, "{all:?}");
     Ok(())
+}
+
+/// Sweeps all that the plain program doesn't reach in this world. Gives how many steps there were.
+fn sweep_unreached(
+    rt: &impl Abort,
+    alloc: Global,
+    disk: &mut Disk,
+    world: &World,
+) -> Result<u32, Fail> {
+    let reached = plain_reach(alloc, world)?;
+    sweep(rt, alloc, disk, reached.as_slice())
 }
 
 /// Graphs of a disk of so many blocks, each swept by steps, also of what is doomed, and compared with the world that the plain
@@ -104,11 +139,8 @@ fn sweep_graphs(
     };
     let mut steps: u32 = 0;
     for graph in 0..graphs {
-        plain = grown(rt, alloc, plain, seed, blocks / 2);
-        follow(rt, &mut disk, &plain.world)?;
-        plain = cut_some(rt, alloc, plain, &mut disk, seed)?;
-        let reached = plain_reach(alloc, &plain.world)?;
-        let count = sweep(rt, alloc, &mut disk, reached.as_slice())?;
+        plain = grown_and_cut(rt, alloc, plain, &mut disk, seed, blocks / 2)?;
+        let count = sweep_unreached(rt, alloc, &mut disk, &plain.world)?;
         plain = after(rt, alloc, &plain, &all);
         assert!(rt; is_of(&disk, &plain.world), "graph {graph} of {blocks}");
         steps = steps.saturating_add(count);

@@ -24,8 +24,22 @@ fn steps_of(
     Err(Fail::from("the steps don't end"))
 }
 
-/// Compares the steps that are left on a disk with these pairs, on which so many blocks are live, and how many pairs are left. Exactly
-/// those blocks go of which the plain program says that they are doomed.
+/// Compares the steps that are left on a disk. Exactly those blocks go of which the plain program says that they are doomed.
+fn check_steps(
+    rt: &impl Abort,
+    alloc: Global,
+    disk: &mut Disk,
+    expected: &[(u32, usize, bool)],
+) -> Result<(), Fail> {
+    let raw = raw_of(rt, alloc, &told(rt, alloc, disk), disk);
+    let forecast = Forecast::of(alloc, disk, &raw)?;
+    let steps = steps_of(rt, alloc, disk)?;
+    assert_eq!(rt; steps.as_slice(), expected);
+    forecast.has_come(rt, disk);
+    Ok(())
+}
+
+/// Compares the steps that are left on a disk with these pairs, on which so many blocks are live, and how many pairs are left.
 fn check(
     rt: &impl Abort,
     alloc: Global,
@@ -35,12 +49,8 @@ fn check(
     left: u32,
 ) -> Result<(), Fail> {
     let mut disk = disk_with(rt, alloc, 64, live, pairs)?;
-    let raw = raw_of(rt, alloc, &told(rt, alloc, &disk), &disk);
-    let forecast = Forecast::of(alloc, &disk, &raw)?;
-    let steps = steps_of(rt, alloc, &mut disk)?;
-    assert_eq!(rt; steps.as_slice(), expected);
+    check_steps(rt, alloc, &mut disk, expected)?;
     assert_eq!(rt; disk.pointers.len(), left);
-    forecast.has_come(rt, &disk);
     Ok(())
 }
 

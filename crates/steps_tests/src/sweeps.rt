@@ -70,6 +70,14 @@ fn hide(disk: &mut Disk, block: u32) {
     }
 }
 
+/// Asserts that of the blocks of a disk exactly these are marked, and none behind them.
+fn are_marked(rt: &impl Abort, marks: &Marks, blocks: u32, reached: &[u32]) {
+    for block in 0..blocks {
+        assert_eq!(rt; marks.is_marked(block), reached.contains(&block));
+    }
+    assert!(rt; !marks.is_marked(blocks));
+}
+
 /// Carries steps out until there is none, and gives how many there were. Before each one exactly these blocks are marked.
 pub fn sweep(
     rt: &impl Abort,
@@ -80,10 +88,7 @@ pub fn sweep(
     let blocks = disk.pointers.geometry().blocks;
     for count in 0..10_000 {
         let (marks, step) = marked(rt, alloc, disk)?;
-        for block in 0..blocks {
-            assert_eq!(rt; marks.is_marked(block), reached.contains(&block));
-        }
-        assert!(rt; !marks.is_marked(blocks));
+        are_marked(rt, &marks, blocks, reached);
         match step {
             None => return Ok(count),
             Some(step) => carry_out(rt, disk, &step)?,
