@@ -146,9 +146,8 @@ fn may_close<D: Device>(core: &mut Core, dev: &mut D, plain: &mut Plain) -> Resu
     Ok(())
 }
 
-/// Begins so many sessions, asks both for random things, and may close the disk. The worlds are compared after each where that is
-/// watched.
-fn asks<D: Device>(
+/// Asks both for many random things; the worlds are compared after each where that is watched.
+fn many_turns<D: Device>(
     rt: &impl Abort,
     alloc: Global,
     core: &mut Core,
@@ -159,14 +158,32 @@ fn asks<D: Device>(
 ) -> Result<(), OpenFault>
     requires ready { IsReady core.old }
     requires at { D.told → IsAt core.old (D.view dev.old) }
+    ensures ready { OnOk result (IsReady core.new) }
+    ensures at { D.told → OnOk result (IsAt core.new (D.view dev.new)) }
 {
     if is_watched {
-        begin(rt, alloc, core, dev, place, plain, 64)?;
-        watched_turns(rt, alloc, core, dev, place, plain, 200)?;
+        watched_turns(rt, alloc, core, dev, place, plain, 200)
     } else {
-        begin(rt, alloc, core, dev, place, plain, 8)?;
-        turns(rt, alloc, core, dev, place, plain, 60)?;
+        turns(rt, alloc, core, dev, place, plain, 60)
     }
+}
+
+/// Begins so many sessions, asks both for random things, and may close the disk.
+fn asks<D: Device>(
+    rt: &impl Abort,
+    alloc: Global,
+    core: &mut Core,
+    dev: &mut D,
+    place: &Placement,
+    plain: &mut Plain,
+    sessions: u32,
+    is_watched: bool,
+) -> Result<(), OpenFault>
+    requires ready { IsReady core.old }
+    requires at { D.told → IsAt core.old (D.view dev.old) }
+{
+    begin(rt, alloc, core, dev, place, plain, sessions)?;
+    many_turns(rt, alloc, core, dev, place, plain, is_watched)?;
     may_close(core, dev, plain)
 }
 
@@ -177,11 +194,14 @@ fn run<D: Device>(
     dev: &mut D,
     place: &Placement,
     plain: &mut Plain,
+    sessions: u32,
     is_watched: bool,
 ) -> Result<(), OpenFault> {
     end_all(alloc, plain);
     let mut core = opened(alloc, dev)?;
-    asks(rt, alloc, &mut core, dev, place, plain, is_watched)
+    asks(
+        rt, alloc, &mut core, dev, place, plain, sessions, is_watched,
+    )
 }
 
 /// Runs over one image, each opened again after the one before.
@@ -196,7 +216,7 @@ fn try_runs(
     let mut station = image_formatted(alloc, size, upgrades)?;
     let mut plain = Plain::formatted(alloc, size, upgrades, seed)?;
     for round in 0..4 {
-        run(rt, alloc, &mut station, place, &mut plain, true)?;
+        run(rt, alloc, &mut station, place, &mut plain, 64, true)?;
         assert!(rt;
             opens_as(alloc, &mut station, &plain.world)?,
             "after {round}"
@@ -218,7 +238,7 @@ fn stop(
     let pick = PICKS[draw(&mut plain.seed, 5) as usize];
     let passes = u64::from(draw(&mut plain.seed, 240));
     let mut fuse = FuseStation::new(image, passes, pick);
-    match run(rt, alloc, &mut fuse, place, plain, false) {
+    match run(rt, alloc, &mut fuse, place, plain, 8, false) {
         Ok(()) => {}
         Err(OpenFault::Device) => plain.stops = plain.stops.saturating_add(1),
         Err(fault) => return Err(Fail::from(fault)),

@@ -1,10 +1,9 @@
 //! Runs of which one call on the device, the port or the source fails.
 
-use crate::disks::{Saved, made};
+use crate::disks::made;
 use crate::noting::Noting;
 use crate::spelled::{NEVER, run_cut, run_over, spelled};
 use crate::table::{CALLS_MAX, ROWS, Row, count_lines, fits};
-use image_device::MemStation;
 use place_policy::PlaceBook;
 use std::alloc::Global;
 use std::process::Abort;
@@ -27,83 +26,52 @@ pub fn failing_takes(rt: &impl Abort, alloc: Global, book: &PlaceBook) -> Result
     Ok(())
 }
 
-/// A run of which the call of this number fails; gives whether it is done. The status is that of the call's kind, and the device goes
-/// on after it.
-fn call_fails(
-    rt: &impl Abort,
-    alloc: Global,
-    book: &PlaceBook,
-    row: &Row,
-    saved: &Saved,
-    call: u64,
-) -> Result<bool, Fail> {
-    let mut port = Noting::new(saved.disk(call)?);
-    let status = run_over(alloc, book, row.run, &mut port)?;
-    assert_eq!(rt; status, port.asked, "{} {call}", row.run.1);
-    let is_right = is_right(alloc, book, row, status, &mut port.inner)?;
-    assert!(rt; is_right, "{} {call}", row.run.1);
-    Ok(status == Status::Done)
-}
-
-/// Whether what a run sent that ended so, and what is left, fit its row.
-fn is_right(
-    alloc: Global,
-    book: &PlaceBook,
-    row: &Row,
-    status: Status,
-    left: &mut MemStation,
-) -> Result<bool, Fail> {
-    let sent = left.sent().to_vec(alloc)?;
-    fits(alloc, book, row, (status, sent.as_slice()), left)
-}
-
-/// A run of which each call fails, from the first one until it is done.
+/// A run of which each call fails, from the first one until it is done. The status is that of the call's kind, and the device
+/// goes on after it.
 fn calls_fail(rt: &impl Abort, alloc: Global, book: &PlaceBook, row: &Row) -> Result<(), Fail> {
+    let input = row.run.1;
     let saved = made(rt, alloc, book, row.before)?;
     for call in 0..CALLS_MAX {
-        if call_fails(rt, alloc, book, row, &saved, call)? {
+        let mut port = Noting::new(saved.disk(call)?);
+        let status = run_over(alloc, book, row.run, &mut port)?;
+        assert_eq!(rt; status, port.asked, "{input} {call}");
+        let mut left = port.inner;
+        let sent = left.sent().to_vec(alloc)?;
+        if status == Status::Done {
+            let output = spelled(alloc, row.output)?;
+            assert_eq!(rt; sent.as_slice(), output.as_slice(), "{input}");
             return Ok(());
         }
+        let is_right = fits(alloc, book, row, (status, sent.as_slice()), &mut left)?;
+        assert!(rt; is_right, "{input} {call}");
     }
-    assert!(rt; false, "it is never done: {}", row.run.1);
+    assert!(rt; false, "it is never done: {input}");
     Ok(())
 }
 
 /// How many bytes a take gives.
 const CUT: usize = 7;
 
-/// A run of which the take of this number fails; gives its status and how many lines it sent.
-fn take_fails(
-    rt: &impl Abort,
-    alloc: Global,
-    book: &PlaceBook,
-    row: &Row,
-    saved: &Saved,
-    take: u64,
-) -> Result<(Status, usize), Fail> {
-    let mut left = saved.disk(NEVER)?;
-    let status = run_cut(alloc, book, row.run, CUT, take, &mut left)?;
-    let lines = count_lines(left.sent());
-    let is_right = is_right(alloc, book, row, status, &mut left)?;
-    assert!(rt; is_right, "{} {take}", row.run.1);
-    Ok((status, lines))
-}
-
 /// A run of which each take fails, from the first one until it is done. What was whole before it is answered.
 fn takes_fail(rt: &impl Abort, alloc: Global, book: &PlaceBook, row: &Row) -> Result<(), Fail> {
-    let bytes = spelled(alloc, row.run.1)?;
+    let input = row.run.1;
+    let bytes = spelled(alloc, input)?;
     let saved = made(rt, alloc, book, row.before)?;
     let mut whole = 0;
     for take in 0..CALLS_MAX {
-        let (status, lines) = take_fails(rt, alloc, book, row, &saved, take)?;
+        let mut left = saved.disk(NEVER)?;
+        let status = run_cut(alloc, book, row.run, CUT, take, &mut left)?;
+        let sent = left.sent().to_vec(alloc)?;
+        let is_right = fits(alloc, book, row, (status, sent.as_slice()), &mut left)?;
+        assert!(rt; is_right, "{input} {take}");
         if status == Status::Done {
             return Ok(());
         }
-        assert_eq!(rt; status, Status::SourceFault);
-        assert_eq!(rt; lines, whole, "{} {take}", row.run.1);
+        assert_eq!(rt; status, Status::SourceFault, "{input} {take}");
+        assert_eq!(rt; count_lines(sent.as_slice()), whole, "{input} {take}");
         whole = count_lines(taken(bytes.as_slice(), take));
     }
-    assert!(rt; false, "it is never done: {}", row.run.1);
+    assert!(rt; false, "it is never done: {input}");
     Ok(())
 }
 

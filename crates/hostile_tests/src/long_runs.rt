@@ -194,70 +194,36 @@ fn plain_part(
     Ok((script, state.0))
 }
 
-/// The disk as it is made.
-fn image_of(
-    rt: &impl Abort,
-    alloc: Global,
-    book: &PlaceBook,
-    load: &Load,
-) -> Result<MemStation, Fail> {
-    let (size, seed) = (load.size.format, load.seed.0);
+/// All requests through both, with the disk opened again after each part. The replies are the same, and so is the world in the end.
+/// Gives whether one of them begins as it should.
+fn alike(rt: &impl Abort, alloc: Global, book: &PlaceBook, load: &Load) -> Result<bool, Fail> {
+    let (size, seed, run) = (load.size.format, load.seed.0, load.kind.0);
     let format = format!(in alloc; "{size} {seed}")?;
     let mut disk = MemStation::new(alloc, Vec::new(alloc));
-    let status = run_over(alloc, book, (format.as_str(), ""), &mut disk)?;
-    assert_eq!(rt; status, Status::Done, "{size} {seed}");
-    Ok(disk)
-}
-
-/// Asks the disk for these lines, and asserts that it replies as the plain program.
-fn replies_alike(
-    rt: &impl Abort,
-    alloc: Global,
-    book: &PlaceBook,
-    load: &Load,
-    script: Script,
-    disk: &mut MemStation,
-) -> Result<(), Fail> {
-    let (size, seed, run) = (load.size.format, load.seed.0, load.kind.0);
-    let Script { asked, replied } = script;
-    let before = disk.sent().len();
-    let status = run_bytes(alloc, book, (run, asked), 1_000, NEVER, disk)?;
-    assert_eq!(rt; status, Status::Done, "{size} {seed} {run}");
-    let is_same = disk.sent().get(before..) == Some(replied.as_slice());
-    assert!(rt; is_same, "{size} {seed} {run}");
-    Ok(())
-}
-
-/// All requests through both, with the disk opened again after each part. Gives the world of the plain program in the end, and whether
-/// one of the replies begins as it should.
-fn run_parts(
-    rt: &impl Abort,
-    alloc: Global,
-    book: &PlaceBook,
-    load: &Load,
-    disk: &mut MemStation,
-) -> Result<(World, bool), Fail> {
+    let made = run_over(alloc, book, (format.as_str(), ""), &mut disk)?;
+    assert_eq!(rt; made, Status::Done, "{size} {seed}");
     let mut world = plain_disk_of(rt, alloc, load)?;
     assert!(rt; lawful(&load.size.geometry));
     let mut drawn = LoadGen::new(&[load.seed.1; 32], &load.size.geometry);
     let mut is_met = false;
-    for _ in 0..REQUESTS {
+    for part in 0..REQUESTS {
         if drawn.drawn() == REQUESTS {
             break;
         }
         let (script, next) = plain_part(rt, alloc, load, &mut drawn, world)?;
         world = next;
         is_met = is_met || has_reply(script.replied.as_slice(), load.size.reply);
-        replies_alike(rt, alloc, book, load, script, disk)?;
+        let before = disk.sent().len();
+        let status = run_bytes(alloc, book, (run, script.asked), 1_000, NEVER, &mut disk)?;
+        assert_eq!(rt; status, Status::Done, "{size} {seed} {run} {part}");
+        let replied = Some(script.replied.as_slice());
+        assert_eq!(rt;
+            disk.sent().get(before..),
+            replied,
+            "{size} {seed} {run} {part}"
+        );
     }
-    Ok((world, is_met))
-}
-
-/// The same, and the worlds are the same in the end. Gives whether one of the replies begins as it should.
-fn alike(rt: &impl Abort, alloc: Global, book: &PlaceBook, load: &Load) -> Result<bool, Fail> {
-    let mut disk = image_of(rt, alloc, book, load)?;
-    let (world, is_met) = run_parts(rt, alloc, book, load, &mut disk)?;
-    assert!(rt; is_world(&mut disk, &world)?, "{}", load.size.format);
+    assert!(rt; is_world(&mut disk, &world)?, "{size} {seed} {run}");
     Ok(is_met)
 }
 

@@ -32,19 +32,6 @@ pub fn stopped_twice(
     Ok(())
 }
 
-/// A run with these words and this input over a disk that stops; gives its status, how many lines it sent, and what is left.
-fn left_by(
-    alloc: Global,
-    book: &PlaceBook,
-    run: (&str, &str),
-    mut fuse: FuseStation,
-) -> Result<(Status, usize, Saved), Fail> {
-    let status = run_over(alloc, book, run, &mut fuse)?;
-    let lines = count_lines(fuse.sent());
-    let left = Saved::of(alloc, &mut fuse.into_image(), SMALL_END)?;
-    Ok((status, lines, left))
-}
-
 /// A run that is stopped with this pick at each call from the first one until it is done. Each opening of what is left is stopped
 /// with each pick. What two stops left alike is opened once.
 pub fn stopped_by(
@@ -57,11 +44,14 @@ pub fn stopped_by(
     let saved = made(rt, alloc, book, row.before)?;
     let mut last = None;
     for passes in 0..CALLS_MAX {
-        let fuse = FuseStation::new(saved.disk(NEVER)?, passes, pick);
-        let (status, lines, left) = left_by(alloc, book, row.run, fuse)?;
-        let sayings = allowed(status, lines);
+        let mut fuse = FuseStation::new(saved.disk(NEVER)?, passes, pick);
+        let status = run_over(alloc, book, row.run, &mut fuse)?;
+        let sayings = allowed(status, count_lines(fuse.sent()));
+        let left = Saved::of(alloc, &mut fuse.into_image(), SMALL_END)?;
         if !is_last(&last, &left, sayings) {
-            stop_openings(rt, alloc, book, row, sayings, &left)?;
+            for again in PICKS {
+                stop_opening(rt, alloc, book, row, sayings, &left, again)?;
+            }
         }
         if status == Status::Done {
             return Ok(());
@@ -72,41 +62,12 @@ pub fn stopped_by(
     Ok(())
 }
 
-/// Openings of what is left, each stopped with each pick.
-fn stop_openings(
-    rt: &impl Abort,
-    alloc: Global,
-    book: &PlaceBook,
-    row: &Row,
-    sayings: (usize, usize),
-    left: &Saved,
-) -> Result<(), Fail> {
-    for pick in PICKS {
-        stop_opening(rt, alloc, book, row, sayings, left, pick)?;
-    }
-    Ok(())
-}
-
 /// Whether the last disk that was left had the same sectors, and might say the same.
 fn is_last(last: &Option<(Saved, (usize, usize))>, left: &Saved, sayings: (usize, usize)) -> bool {
     match last {
         Some((saved, said)) => *said == sayings && saved.is_like(left),
         None => false,
     }
-}
-
-/// Asserts that this disk, opened once more, says one of these sayings.
-fn check_again(
-    rt: &impl Abort,
-    alloc: Global,
-    book: &PlaceBook,
-    row: &Row,
-    sayings: (usize, usize),
-    again: &Saved,
-) -> Result<(), Fail> {
-    let is_right = is_said(alloc, book, row, sayings, &mut again.disk(NEVER)?)?;
-    assert!(rt; is_right, "{} {sayings:?}", row.run.1);
-    Ok(())
 }
 
 /// An opening of what is left, which is stopped at each call from the first one until it is done. Opened once more the disk says one
@@ -120,18 +81,21 @@ fn stop_opening(
     left: &Saved,
     pick: Pick,
 ) -> Result<(), Fail> {
+    let input = row.run.1;
     let mut last = None;
     for passes in 0..CALLS_MAX {
-        let fuse = FuseStation::new(left.disk(NEVER)?, passes, pick);
-        let (status, _, again) = left_by(alloc, book, ("run near", ""), fuse)?;
+        let mut fuse = FuseStation::new(left.disk(NEVER)?, passes, pick);
+        let status = run_over(alloc, book, ("run near", ""), &mut fuse)?;
+        let again = Saved::of(alloc, &mut fuse.into_image(), SMALL_END)?;
         if !is_last(&last, &again, sayings) {
-            check_again(rt, alloc, book, row, sayings, &again)?;
+            let is_right = is_said(alloc, book, row, sayings, &mut again.disk(NEVER)?)?;
+            assert!(rt; is_right, "{input} {sayings:?} {passes} {pick:?}");
         }
         if status != Status::DeviceFault {
             return Ok(());
         }
         last = Some((again, sayings));
     }
-    assert!(rt; false, "it is never opened: {}", row.run.1);
+    assert!(rt; false, "it is never opened: {input}");
     Ok(())
 }

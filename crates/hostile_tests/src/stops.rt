@@ -18,22 +18,6 @@ pub fn all_stops(rt: &impl Abort, alloc: Global, book: &PlaceBook, pick: Pick) -
     Ok(())
 }
 
-/// A run that is stopped at this call; gives its status. What it sent and what is left fit its row.
-fn stop(
-    rt: &impl Abort,
-    alloc: Global,
-    book: &PlaceBook,
-    row: &Row,
-    mut fuse: FuseStation,
-) -> Result<Status, Fail> {
-    let status = run_over(alloc, book, row.run, &mut fuse)?;
-    let sent = fuse.sent().to_vec(alloc)?;
-    let ended = (status, sent.as_slice());
-    let is_right = fits(alloc, book, row, ended, &mut fuse.into_image())?;
-    assert!(rt; is_right, "{}", row.run.1);
-    Ok(status)
-}
-
 /// A run that is stopped at each call from the first one until it is done.
 fn stops(
     rt: &impl Abort,
@@ -42,15 +26,21 @@ fn stops(
     row: &Row,
     pick: Pick,
 ) -> Result<(), Fail> {
+    let input = row.run.1;
     let saved = made(rt, alloc, book, row.before)?;
     for passes in 0..CALLS_MAX {
-        let fuse = FuseStation::new(saved.disk(NEVER)?, passes, pick);
-        match stop(rt, alloc, book, row, fuse)? {
+        let mut fuse = FuseStation::new(saved.disk(NEVER)?, passes, pick);
+        let status = run_over(alloc, book, row.run, &mut fuse)?;
+        let sent = fuse.sent().to_vec(alloc)?;
+        let ended = (status, sent.as_slice());
+        let is_right = fits(alloc, book, row, ended, &mut fuse.into_image())?;
+        assert!(rt; is_right, "{input} {passes} {pick:?}");
+        match status {
             Status::Done => return Ok(()),
             Status::DeviceFault | Status::PutFault => {}
-            status => assert!(rt; false, "{} {passes} {status:?}", row.run.1),
+            _ => assert!(rt; false, "{input} {passes} {pick:?} {status:?}"),
         }
     }
-    assert!(rt; false, "it is never done: {}", row.run.1);
+    assert!(rt; false, "it is never done: {input}");
     Ok(())
 }
