@@ -52,14 +52,20 @@ fn grows(
     Ok(())
 }
 
+/// Makes a tree, and does each of these appends there.
+fn grow_each(rt: &impl Abort, site: &mut ChainSite, tree: &mut Tree) -> Result<(), AllocError> {
+    does(rt, site, tree, Kind::Make, b"", 0)?;
+    for (old, more, before, then) in APPENDS {
+        grows(rt, site, tree, (old, more), (before, then))?;
+    }
+    Ok(())
+}
+
 #[test]
 fn appends_end_beside_the_end_of_a_cluster(rt: HostRuntime) -> Result<(), Fail> {
     let mut tree = Tree::new(rt.alloc(), ROOM);
     let mut site = fresh(&rt, rt.alloc(), 1, ROOM.blocks, ROOM.slots);
-    does(&rt, &mut site, &mut tree, Kind::Make, b"", 0)?;
-    for (old, more, before, then) in APPENDS {
-        grows(&rt, &mut site, &mut tree, (old, more), (before, then))?;
-    }
+    grow_each(&rt, &mut site, &mut tree)?;
     Ok(())
 }
 
@@ -75,17 +81,35 @@ const STEPS: [(Kind, &[u8], usize); 8] = [
     (Kind::Put, b"ABCDEFGHIJKLMNOPQRSTUVWXYZabcde", 6),
 ];
 
+/// Asks that of each of these names, and asserts how many blocks are free then.
+fn fills(
+    rt: &impl Abort,
+    site: &mut ChainSite,
+    tree: &mut Tree,
+    kind: Kind,
+    names: &[u8],
+    unused: usize,
+) -> Result<(), AllocError> {
+    does_each(rt, site, tree, kind, names)?;
+    assert_eq!(rt; free(rt, site), unused, "{kind:?} {names:?}");
+    Ok(())
+}
+
+/// Makes a tree on a fresh disk, and does each of these steps there; the disk is mounted anew after each.
+fn fill_each(rt: &impl Abort, alloc: Global, tree: &mut Tree) -> Result<(), AllocError> {
+    let mut site = fresh(rt, alloc, 1, ROOM.blocks, ROOM.slots);
+    does(rt, &mut site, tree, Kind::Make, b"", 0)?;
+    for (kind, names, unused) in &STEPS {
+        fills(rt, &mut site, tree, *kind, names, *unused)?;
+        site = compared(rt, alloc, site, tree);
+    }
+    Ok(())
+}
+
 #[test]
 fn a_directory_is_emptied_and_filled_again(rt: HostRuntime) -> Result<(), Fail> {
-    let alloc = rt.alloc();
-    let mut tree = Tree::new(alloc, ROOM);
-    let mut site = fresh(&rt, alloc, 1, ROOM.blocks, ROOM.slots);
-    does(&rt, &mut site, &mut tree, Kind::Make, b"", 0)?;
-    for (kind, names, unused) in STEPS {
-        does_each(&rt, &mut site, &mut tree, kind, names)?;
-        assert_eq!(rt; free(&rt, &mut site), unused);
-        site = compared(&rt, alloc, site, &tree);
-    }
+    let mut tree = Tree::new(rt.alloc(), ROOM);
+    fill_each(&rt, rt.alloc(), &mut tree)?;
     assert_eq!(rt; tree.pages, 3);
     Ok(())
 }

@@ -1,5 +1,5 @@
-//! Tests of the file system of chains over a plain disk: worked asks by lines of the shell, random asks against a plain tree, each
-//! ask stopped at each of its requests, and worlds laid by hand.
+//! Tests of the file system of chains over a plain disk: worked asks by lines of the shell, random asks against a plain tree, and
+//! each ask stopped at each of its requests.
 //!
 //! They use public calls alone and show what no clause says. They stand in a crate of their own, so that a change of a test
 //! proves no other crate again. Nothing stands on it, and it promises nothing.
@@ -7,8 +7,6 @@
 
 #[cfg(test)]
 mod ends;
-#[cfg(test)]
-mod laying;
 #[cfg(test)]
 mod lines;
 #[cfg(test)]
@@ -21,5 +19,3 @@ mod steps;
 mod stops;
 #[cfg(test)]
 mod tree;
-#[cfg(test)]
-mod worlds;

@@ -46,3 +46,16 @@ pub fn run(rt: &impl Abort, alloc: Global, site: &mut ChainSite, rows: &[(&str, 
         answers(rt, alloc, site, line, wanted);
     }
 }
+
+/// Asserts that each line is answered so, and each of the others once the disk was mounted again.
+pub fn run_and_mount(
+    rt: &impl Abort,
+    alloc: Global,
+    site: &mut ChainSite,
+    rows: &[(&str, &str)],
+    then: &[(&str, &str)],
+) {
+    run(rt, alloc, site, rows);
+    assert_eq!(rt; site.mount(), Ok(()));
+    run(rt, alloc, site, then);
+}

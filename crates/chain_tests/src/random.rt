@@ -171,6 +171,23 @@ fn ask_some(
     Ok(())
 }
 
+/// So many random asks and so many more, with the trees compared in between.
+fn ask_around(
+    rt: &impl Abort,
+    site: &mut ChainSite,
+    tree: &mut Tree,
+    letters: u32,
+    seed: &mut u32,
+    counts: (u32, u32),
+    met: &mut Met,
+) -> Result<(), AllocError>
+    requires { 0 < letters }
+{
+    ask_some(rt, site, tree, letters, seed, counts.0, met)?;
+    assert!(rt; is_same(rt, site, tree));
+    ask_some(rt, site, tree, letters, seed, counts.1, met)
+}
+
 /// Three random asks where no tree is yet; then one is made, with a file by each of these letters.
 fn begin(
     rt: &impl Abort,
@@ -202,23 +219,13 @@ fn run(
     let mut site = fresh(rt, alloc, 1, plan.room.blocks, plan.room.slots);
     begin(rt, &mut site, &mut tree, plan, &mut seed, met)?;
     for counts in [(10, 15), (15, 17)] {
-        ask_some(
+        ask_around(
             rt,
             &mut site,
             &mut tree,
             plan.letters,
             &mut seed,
-            counts.0,
-            met,
-        )?;
-        assert!(rt; is_same(rt, &mut site, &tree));
-        ask_some(
-            rt,
-            &mut site,
-            &mut tree,
-            plan.letters,
-            &mut seed,
-            counts.1,
+            counts,
             met,
         )?;
         site = compared(rt, alloc, site, &tree);

@@ -33,23 +33,27 @@ struct Met {
     freed: u32,
 }
 
+/// Whether an ask was stopped, and the mount after it, whether the tree is the one before the ask, and whether mounting made blocks
+/// free.
+#[derive(Clone, Copy)]
+struct Seen {
+    is_stopped: bool,
+    is_mount_stopped: bool,
+    is_old: bool,
+    is_freed: bool,
+}
+
 /// Counts a case where it is one.
 fn count(number: &mut u32, is_one: bool) {
     *number = number.saturating_add(u32::from(is_one));
 }
 
-/// A fresh disk on which these asks are done.
-fn replay(
-    rt: &impl Abort,
-    alloc: Global,
-    tree: &mut Tree,
-    asks: &[Ask],
-) -> Result<ChainSite, AllocError> {
-    let mut site = fresh(rt, alloc, 1, ROOM.blocks, ROOM.slots);
-    for ask in asks {
-        let _answered = step(rt, &mut site, tree, ask)?;
-    }
-    Ok(site)
+/// Notes what was seen.
+fn note(met: &mut Met, seen: Seen) {
+    count(&mut met.stopped, seen.is_stopped);
+    count(&mut met.mounts_stopped, seen.is_mount_stopped);
+    count(&mut met.after, seen.is_stopped && !seen.is_old);
+    count(&mut met.freed, seen.is_freed);
 }
 
 /// Whether an ask was stopped: its answer is asserted to be Device exactly where the disk is spent.
@@ -64,18 +68,23 @@ fn unmounted(rt: &impl Abort, alloc: Global, site: ChainSite) -> ChainSite {
     again(alloc, site).expect(rt, "ample memory")
 }
 
+/// Mounts, stopped behind so many requests; gives whether it was stopped. From then on all requests are answered, where it wasn't.
+fn mount_within(rt: &impl Abort, site: &mut ChainSite, left: u64) -> bool {
+    site.disk.left = left;
+    let answered = site.mount();
+    site.disk.left = u64::MAX;
+    is_cut(rt, site, answered)
+}
+
 /// Mounts the disk, stopped behind so many requests, and once more where it was stopped; gives whether it was.
 fn mounted(rt: &impl Abort, alloc: Global, site: ChainSite, left: u64) -> (ChainSite, bool) {
     let mut site = site;
-    site.disk.left = left;
-    let answered = site.mount();
-    let is_stopped = is_cut(rt, &site, answered);
-    if is_stopped {
-        site = unmounted(rt, alloc, site);
-        let _answered = site.mount();
+    if !mount_within(rt, &mut site, left) {
+        return (site, false);
     }
-    site.disk.left = u64::MAX;
-    (site, is_stopped)
+    let mut site = unmounted(rt, alloc, site);
+    let _answered = site.mount();
+    (site, true)
 }
 
 /// Asks, and stops that behind so many requests; gives whether it was stopped. Where it wasn't, the answer is asserted to be the plain
@@ -90,6 +99,21 @@ fn ask_within(rt: &impl Abort, site: &mut ChainSite, tree: &Tree, ask: &Ask, lef
     is_stopped
 }
 
+/// Does these asks, and then one that is stopped behind so many requests; gives whether it was stopped.
+fn replay(
+    rt: &impl Abort,
+    site: &mut ChainSite,
+    tree: &mut Tree,
+    asks: &[Ask],
+    last: &Ask,
+    left: u64,
+) -> Result<bool, AllocError> {
+    for ask in asks {
+        let _answered = step(rt, site, tree, ask)?;
+    }
+    Ok(ask_within(rt, site, tree, last, left))
+}
+
 /// Gives whether the tree is the one before an ask. It is asserted to be that where nothing was asked of the disk, the one after it
 /// where it wasn't stopped, and else one of the two.
 fn is_old(
@@ -97,42 +121,44 @@ fn is_old(
     site: &mut ChainSite,
     tree: &mut Tree,
     ask: &Ask,
-    left: u64,
+    stop: Stop,
     is_stopped: bool,
 ) -> Result<bool, AllocError> {
+    let Stop { left, mount_left } = stop;
     let is_old = is_same(rt, site, tree);
     if expected(tree, ask).is_ok() {
         apply(tree, ask)?;
     }
     let is_new = is_same(rt, site, tree);
     let is_one = is_new || (is_old && is_stopped);
-    assert!(rt; is_one, "{:?} behind {left}", ask.kind);
+    assert!(rt; is_one, "{:?} behind {left} and {mount_left}", ask.kind);
     assert!(rt; is_old || left > 0, "{:?}", ask.kind);
     Ok(is_old)
 }
 
-/// Does these asks and stops another one and the mount after it, as told; gives whether each of the two was stopped. The tree is
-/// asserted to be the one before it or the one after it, as above.
+/// Does these asks and stops another one and the mount after it, as told; gives what was seen. The tree is asserted to be the one
+/// before it or the one after it, as above.
 fn cut(
     rt: &impl Abort,
     alloc: Global,
     asks: &[Ask],
     ask: &Ask,
     stop: Stop,
-    met: &mut Met,
-) -> Result<(bool, bool), AllocError> {
+) -> Result<Seen, AllocError> {
     let mut tree = Tree::new(alloc, ROOM);
-    let mut site = replay(rt, alloc, &mut tree, asks)?;
-    let is_stopped = ask_within(rt, &mut site, &tree, ask, stop.left);
+    let mut site = fresh(rt, alloc, 1, ROOM.blocks, ROOM.slots);
+    let is_stopped = replay(rt, &mut site, &mut tree, asks, ask, stop.left)?;
     let mut site = unmounted(rt, alloc, site);
     let before = free(rt, &mut site);
     let (mut site, is_mount_stopped) = mounted(rt, alloc, site, stop.mount_left);
-    let is_old = is_old(rt, &mut site, &mut tree, ask, stop.left, is_stopped)?;
-    count(&mut met.stopped, is_stopped);
-    count(&mut met.mounts_stopped, is_mount_stopped);
-    count(&mut met.after, is_stopped && !is_old);
-    count(&mut met.freed, free(rt, &mut site) > before);
-    Ok((is_stopped, is_mount_stopped))
+    let is_old = is_old(rt, &mut site, &mut tree, ask, stop, is_stopped)?;
+    let is_freed = free(rt, &mut site) > before;
+    Ok(Seen {
+        is_stopped,
+        is_mount_stopped,
+        is_old,
+        is_freed,
+    })
 }
 
 /// Stops an ask behind each of its requests, after these asks.
@@ -145,8 +171,9 @@ fn stop_one(
 ) -> Result<(), AllocError> {
     let mount_left = u64::MAX;
     for left in 0..60 {
-        let (is_stopped, _) = cut(rt, alloc, asks, ask, Stop { left, mount_left }, met)?;
-        if !is_stopped {
+        let seen = cut(rt, alloc, asks, ask, Stop { left, mount_left })?;
+        note(met, seen);
+        if !seen.is_stopped {
             return Ok(());
         }
     }
@@ -172,31 +199,44 @@ fn stop_mount(
     met: &mut Met,
 ) -> Result<(), AllocError> {
     for mount_left in 0..60 {
-        let (_, is_mount_stopped) = cut(rt, alloc, asks, ask, Stop { left, mount_left }, met)?;
-        if !is_mount_stopped {
+        let seen = cut(rt, alloc, asks, ask, Stop { left, mount_left })?;
+        note(met, seen);
+        if !seen.is_mount_stopped {
             return Ok(());
         }
     }
     rt.abort()
 }
 
+/// Asks of each kind: the path by letters, and how many bytes.
+const ASKS: [(Kind, &[u8], u32); 12] = [
+    (Kind::Mount, b"", 0),
+    (Kind::Make, b"", 0),
+    (Kind::Put, b"a", 600),
+    (Kind::Append, b"a", 800),
+    (Kind::Append, b"a", 50),
+    (Kind::Put, b"b", 0),
+    (Kind::Put, b"a", 500),
+    (Kind::Read, b"a", 490),
+    (Kind::List, b"", 0),
+    (Kind::Mount, b"", 0),
+    (Kind::Remove, b"a", 0),
+    (Kind::Make, b"", 0),
+];
+
+/// These asks.
+fn all_asked(alloc: Global) -> Result<Vec<Ask>, AllocError> {
+    let mut asks = Vec::new(alloc);
+    for (kind, path, len) in ASKS {
+        asks.push(asked(alloc, kind, path, len)?)?;
+    }
+    Ok(asks)
+}
+
 #[test]
 fn each_kind_is_whole_or_not_at_all(rt: HostRuntime) -> Result<(), Fail> {
-    let alloc = rt.alloc();
-    let mut asks = Vec::new(alloc);
-    asks.push(asked(alloc, Kind::Mount, b"", 0)?)?;
-    asks.push(asked(alloc, Kind::Make, b"", 0)?)?;
-    asks.push(asked(alloc, Kind::Put, b"a", 600)?)?;
-    asks.push(asked(alloc, Kind::Append, b"a", 800)?)?;
-    asks.push(asked(alloc, Kind::Append, b"a", 50)?)?;
-    asks.push(asked(alloc, Kind::Put, b"b", 0)?)?;
-    asks.push(asked(alloc, Kind::Put, b"a", 500)?)?;
-    asks.push(asked(alloc, Kind::Read, b"a", 490)?)?;
-    asks.push(asked(alloc, Kind::List, b"", 0)?)?;
-    asks.push(asked(alloc, Kind::Mount, b"", 0)?)?;
-    asks.push(asked(alloc, Kind::Remove, b"a", 0)?)?;
-    asks.push(asked(alloc, Kind::Make, b"", 0)?)?;
-    let met = stop_each(&rt, alloc, asks.as_slice(), 0)?;
+    let asks = all_asked(rt.alloc())?;
+    let met = stop_each(&rt, rt.alloc(), asks.as_slice(), 0)?;
     assert!(rt; met.stopped > 60 && met.after > 3, "{met:?}");
     Ok(())
 }

@@ -1,16 +1,10 @@
-//! Tests of the top call in hostile use: damaged images, calls that fail, stops, stops again while what they left is opened,
-//! malformed lines and frames, and long runs beside the plain program.
+//! Tests of the top call in hostile use: calls that fail, stops, stops again while what they left is opened, malformed lines and
+//! frames, and long runs beside the plain program.
 //!
 //! They use public calls alone and show what no clause says. They stand in a crate of their own, so that a change of a test
 //! proves no other crate again. Nothing stands on it, and it promises nothing.
 #![tactic(auto)]
 
-#[cfg(test)]
-mod cuts;
-#[cfg(test)]
-mod damage;
-#[cfg(test)]
-mod disks;
 #[cfg(test)]
 mod failures;
 #[cfg(test)]
@@ -22,9 +16,7 @@ mod noting;
 #[cfg(test)]
 mod openings;
 #[cfg(test)]
-mod rings;
-#[cfg(test)]
-mod spelled;
+mod placing;
 #[cfg(test)]
 mod stops;
 #[cfg(test)]

@@ -1,6 +1,5 @@
 //! Long runs of requests that a seed draws, through the image and through the plain program.
 
-use crate::spelled::{NEVER, run_bytes, run_over};
 use crate::worlds::is_world;
 use cap_store::seed_caps;
 use image_device::MemStation;
@@ -8,6 +7,7 @@ use load_gen::LoadGen;
 use place_policy::PlaceBook;
 use plain_disk::{Sessions, World, plain_step};
 use script_text::{OutBuf, print_reply, print_request};
+use serve_site::{NEVER, blank, run_bytes, run_over};
 use std::alloc::Global;
 use std::process::Abort;
 use std::test::Fail;
@@ -194,14 +194,54 @@ fn plain_part(
     Ok((script, state.0))
 }
 
-/// All requests through both, with the disk opened again after each part. The replies are the same, and so is the world in the end.
-/// Gives whether one of them begins as it should.
-fn alike(rt: &impl Abort, alloc: Global, book: &PlaceBook, load: &Load) -> Result<bool, Fail> {
-    let (size, seed, run) = (load.size.format, load.seed.0, load.kind.0);
+/// Makes the disk of a blank one.
+fn make(
+    rt: &impl Abort,
+    alloc: Global,
+    book: &PlaceBook,
+    load: &Load,
+    disk: &mut MemStation,
+) -> Result<(), Fail> {
+    let (size, seed) = (load.size.format, load.seed.0);
     let format = format!(in alloc; "{size} {seed}")?;
-    let mut disk = MemStation::new(alloc, Vec::new(alloc));
-    let made = run_over(alloc, book, (format.as_str(), ""), &mut disk)?;
-    assert_eq!(rt; made, Status::Done, "{size} {seed}");
+    let status = run_over(alloc, book, (format.as_str(), ""), disk)?;
+    assert_eq!(rt; status, Status::Done, "{size} {seed}");
+    Ok(())
+}
+
+/// Asks the disk for what the plain program was asked in the part of this number. The replies are the same.
+fn replies_alike(
+    rt: &impl Abort,
+    alloc: Global,
+    book: &PlaceBook,
+    load: &Load,
+    part: u32,
+    script: Script,
+    disk: &mut MemStation,
+) -> Result<(), Fail> {
+    let (size, seed, run) = (load.size.format, load.seed.0, load.kind.0);
+    let Script { asked, replied } = script;
+    let before = disk.sent().len();
+    let status = run_bytes(alloc, book, (run, asked), 1_000, NEVER, disk)?;
+    assert_eq!(rt; status, Status::Done, "{size} {seed} {run} {part}");
+    let replied = Some(replied.as_slice());
+    assert_eq!(rt;
+        disk.sent().get(before..),
+        replied,
+        "{size} {seed} {run} {part}"
+    );
+    Ok(())
+}
+
+/// All requests through both, with the disk opened again after each part. The replies are the same. Gives the world of the plain
+/// program in the end, and whether one of the replies begins as it should.
+fn all_parts(
+    rt: &impl Abort,
+    alloc: Global,
+    book: &PlaceBook,
+    load: &Load,
+    disk: &mut MemStation,
+) -> Result<(World, bool), Fail> {
     let mut world = plain_disk_of(rt, alloc, load)?;
     assert!(rt; lawful(&load.size.geometry));
     let mut drawn = LoadGen::new(&[load.seed.1; 32], &load.size.geometry);
@@ -213,18 +253,41 @@ fn alike(rt: &impl Abort, alloc: Global, book: &PlaceBook, load: &Load) -> Resul
         let (script, next) = plain_part(rt, alloc, load, &mut drawn, world)?;
         world = next;
         is_met = is_met || has_reply(script.replied.as_slice(), load.size.reply);
-        let before = disk.sent().len();
-        let status = run_bytes(alloc, book, (run, script.asked), 1_000, NEVER, &mut disk)?;
-        assert_eq!(rt; status, Status::Done, "{size} {seed} {run} {part}");
-        let replied = Some(script.replied.as_slice());
-        assert_eq!(rt;
-            disk.sent().get(before..),
-            replied,
-            "{size} {seed} {run} {part}"
-        );
+        replies_alike(rt, alloc, book, load, part, script, disk)?;
     }
-    assert!(rt; is_world(&mut disk, &world)?, "{size} {seed} {run}");
+    Ok((world, is_met))
+}
+
+/// Asserts that the disk is this world in the end.
+fn check_world(
+    rt: &impl Abort,
+    load: &Load,
+    disk: &mut MemStation,
+    world: &World,
+) -> Result<(), Fail> {
+    let (size, seed, run) = (load.size.format, load.seed.0, load.kind.0);
+    assert!(rt; is_world(disk, world)?, "{size} {seed} {run}");
+    Ok(())
+}
+
+/// The same over a blank disk, and the world is the same in the end. Gives whether one of the replies begins as it should.
+fn run_alike(
+    rt: &impl Abort,
+    alloc: Global,
+    book: &PlaceBook,
+    load: &Load,
+    disk: &mut MemStation,
+) -> Result<bool, Fail> {
+    make(rt, alloc, book, load, disk)?;
+    let (world, is_met) = all_parts(rt, alloc, book, load, disk)?;
+    check_world(rt, load, disk, &world)?;
     Ok(is_met)
+}
+
+/// The same with a disk of its own.
+fn alike(rt: &impl Abort, alloc: Global, book: &PlaceBook, load: &Load) -> Result<bool, Fail> {
+    let mut disk = blank(alloc);
+    run_alike(rt, alloc, book, load, &mut disk)
 }
 
 /// Whether one of these lines begins so.

@@ -2,9 +2,9 @@
 
 ghost use Rattle.std.specs.Prelude.{◌<◌};
 
-use crate::disks::made;
-use crate::spelled::{NEVER, packed, run_bytes};
+use image_device::MemStation;
 use place_policy::PlaceBook;
+use serve_site::{NEVER, made, packed, run_bytes};
 use std::alloc::Global;
 use std::process::Abort;
 use std::test::Fail;
@@ -61,7 +61,23 @@ const LENGTHS: [usize; 5] = [8_399, 8_400, 8_401, 8_402, 100_000];
 /// What is answered to a line that is no request, and to the number of free blocks.
 const REFUSED: &[u8] = b"no bad-request\nfree 7\n";
 
-/// What a disk of eight blocks sends for this input, which is answered to its end.
+/// What this disk sends for this input, which is answered to its end.
+fn sent_over(
+    rt: &impl Abort,
+    alloc: Global,
+    book: &PlaceBook,
+    texts: (&str, Vec<u8>),
+    cut: usize,
+    disk: &mut MemStation,
+) -> Result<Vec<u8>, Fail>
+    requires { 0 < cut }
+{
+    let status = run_bytes(alloc, book, texts, cut, NEVER, disk)?;
+    assert_eq!(rt; status, Status::Done);
+    Ok(disk.sent().to_vec(alloc)?)
+}
+
+/// What a disk of eight blocks sends for it.
 fn sent_by(
     rt: &impl Abort,
     alloc: Global,
@@ -71,10 +87,8 @@ fn sent_by(
 ) -> Result<Vec<u8>, Fail>
     requires { 0 < cut }
 {
-    let mut disk = made(rt, alloc, book, &SMALL)?.disk(NEVER)?;
-    let status = run_bytes(alloc, book, texts, cut, NEVER, &mut disk)?;
-    assert_eq!(rt; status, Status::Done);
-    Ok(disk.sent().to_vec(alloc)?)
+    let mut disk = made(alloc, book, &SMALL)?.disk(NEVER)?;
+    sent_over(rt, alloc, book, texts, cut, &mut disk)
 }
 
 /// Asserts that a line isn't taken, and that the next one is served.
@@ -97,7 +111,7 @@ fn refuses_line(
 }
 
 /// Each line, whole and byte by byte.
-pub fn lines(rt: &impl Abort, alloc: Global, book: &PlaceBook) -> Result<(), Fail> {
+fn lines(rt: &impl Abort, alloc: Global, book: &PlaceBook) -> Result<(), Fail> {
     for line in LINES {
         refuses_line(rt, alloc, book, line, 1)?;
         refuses_line(rt, alloc, book, line, 1_000)?;
@@ -106,7 +120,7 @@ pub fn lines(rt: &impl Abort, alloc: Global, book: &PlaceBook) -> Result<(), Fai
 }
 
 /// Long lines of one byte, and long lines that begin as a request does.
-pub fn long_lines(rt: &impl Abort, alloc: Global, book: &PlaceBook) -> Result<(), Fail> {
+fn long_lines(rt: &impl Abort, alloc: Global, book: &PlaceBook) -> Result<(), Fail> {
     for length in LENGTHS {
         for start in [
             b"a".as_slice(),
@@ -220,7 +234,7 @@ fn takes_body(rt: &impl Abort, alloc: Global, book: &PlaceBook, text: &str) -> R
 }
 
 /// Each of the bodies is taken. The others aren't.
-pub fn bodies(rt: &impl Abort, alloc: Global, book: &PlaceBook) -> Result<(), Fail> {
+fn bodies(rt: &impl Abort, alloc: Global, book: &PlaceBook) -> Result<(), Fail> {
     for text in BODIES {
         takes_body(rt, alloc, book, text)?;
     }
@@ -234,7 +248,7 @@ pub fn bodies(rt: &impl Abort, alloc: Global, book: &PlaceBook) -> Result<(), Fa
 const BODY_LENGTHS: [usize; 4] = [4_107, 4_123, 5_000, 65_535];
 
 /// Long bodies: a write of more bytes than a block may have, and all that a frame can hold.
-pub fn long_bodies(rt: &impl Abort, alloc: Global, book: &PlaceBook) -> Result<(), Fail> {
+fn long_bodies(rt: &impl Abort, alloc: Global, book: &PlaceBook) -> Result<(), Fail> {
     for length in BODY_LENGTHS {
         let mut body = packed(alloc, "04 01000000 00000000 00")?;
         for _ in body.len()..length {
@@ -243,4 +257,12 @@ pub fn long_bodies(rt: &impl Abort, alloc: Global, book: &PlaceBook) -> Result<(
         refuses_body(rt, alloc, book, body.as_slice())?;
     }
     Ok(())
+}
+
+/// All of them.
+pub fn all_malformed(rt: &impl Abort, alloc: Global, book: &PlaceBook) -> Result<(), Fail> {
+    lines(rt, alloc, book)?;
+    long_lines(rt, alloc, book)?;
+    bodies(rt, alloc, book)?;
+    long_bodies(rt, alloc, book)
 }

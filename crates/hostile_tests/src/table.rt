@@ -2,9 +2,9 @@
 //!
 //! After so many whole answers the disk is as it was after so many requests, or after one more.
 
-use crate::spelled::{run_over, spelled};
 use image_device::MemStation;
 use place_policy::PlaceBook;
+use serve_site::{run_over, spelled};
 use std::alloc::Global;
 use std::test::Fail;
 use tsd_serve::Status;

@@ -181,12 +181,14 @@ pub fn step(
     ask: &Ask,
 ) -> Result<Result<(), FsRefusal>, AllocError> {
     let kind = ask.kind;
+    let path = ask.path.as_slice();
     let wanted = expected(tree, ask)?;
     let answered = answer(rt, site, tree, ask);
-    assert_eq!(rt; answered, wanted, "{kind:?}");
+    assert_eq!(rt; answered, wanted, "{kind:?} {path:?}");
     if wanted.is_ok() {
         apply(tree, ask)?;
     }
-    assert_eq!(rt; free(rt, site), tree.free()?, "{kind:?}");
+    let unused = tree.free()?;
+    assert_eq!(rt; free(rt, site), unused, "{kind:?} {path:?}");
     Ok(wanted)
 }

@@ -14,19 +14,18 @@ const ROOM: Room = Room {
     slots: 40,
 };
 
-/// A disk on which these asks are done.
+/// Makes a tree, and does these asks there.
 fn replay(
     rt: &impl Abort,
-    alloc: Global,
+    site: &mut InodeSite,
     tree: &mut Tree,
     asks: &[Ask],
-) -> Result<InodeSite, AllocError> {
-    let mut site = fresh(rt, alloc, 1, ROOM.blocks, ROOM.slots);
+) -> Result<(), AllocError> {
     assert_eq!(rt; site.make(), Ok(()));
     for ask in asks {
-        let _answered = step(rt, &mut site, tree, ask)?;
+        let _answered = step(rt, site, tree, ask)?;
     }
-    Ok(site)
+    Ok(())
 }
 
 /// Asks, and stops that behind so many requests; gives the answer, which is Device where it was stopped.
@@ -37,29 +36,37 @@ fn ask_within(
     ask: &Ask,
     left: u64,
 ) -> Result<(), FsRefusal> {
+    let (kind, path) = (ask.kind, ask.path.as_slice());
     site.disk.left = left;
     let answered = answer(rt, site, tree, ask);
     let is_fault = answered == Err(FsRefusal::Device);
-    assert_eq!(rt; is_fault, site.disk.is_stopped);
+    assert_eq!(rt;
+        is_fault,
+        site.disk.is_stopped,
+        "{kind:?} {path:?} behind {left}"
+    );
     answered
 }
 
-/// Asserts that a mounted disk has the tree after an ask that was answered so, or the one before where it was stopped.
+/// Asserts that a mounted disk has the tree after an ask that was answered so, or the one before where it was stopped, behind so many
+/// requests.
 fn is_whole(
     rt: &impl Abort,
     site: &mut InodeSite,
     tree: &mut Tree,
     ask: &Ask,
+    left: u64,
     answered: Result<(), FsRefusal>,
 ) -> Result<(), AllocError> {
-    let kind = ask.kind;
+    let (kind, path) = (ask.kind, ask.path.as_slice());
     let is_stopped = answered == Err(FsRefusal::Device);
     let is_old = is_same(rt, site, tree)?;
     if is_stopped || answered.is_ok() {
         apply(tree, ask)?;
     }
     let is_new = is_same(rt, site, tree)?;
-    assert!(rt; is_new || (is_old && is_stopped), "{kind:?}");
+    let is_one = is_new || (is_old && is_stopped);
+    assert!(rt; is_one, "{kind:?} {path:?} behind {left}");
     Ok(())
 }
 
@@ -72,10 +79,11 @@ fn stop(
     left: u64,
 ) -> Result<bool, AllocError> {
     let mut tree = Tree::new(alloc, ROOM);
-    let mut site = replay(rt, alloc, &mut tree, asks)?;
+    let mut site = fresh(rt, alloc, 1, ROOM.blocks, ROOM.slots);
+    replay(rt, &mut site, &mut tree, asks)?;
     let answered = ask_within(rt, &mut site, &tree, ask, left);
     let mut site = mounted_again(rt, alloc, site);
-    is_whole(rt, &mut site, &mut tree, ask, answered)?;
+    is_whole(rt, &mut site, &mut tree, ask, left, answered)?;
     Ok(answered == Err(FsRefusal::Device))
 }
 
@@ -107,23 +115,35 @@ fn asked(alloc: Global, kind: Kind, path: &[u8], new: &[u8], len: u32) -> Result
     })
 }
 
+/// Asks of each kind: the paths by letters, and how many bytes.
+const ASKS: [(Kind, &[u8], &[u8], u32); 12] = [
+    (Kind::Put, b"a", b"", 1100),
+    (Kind::MakeDir, b"d", b"", 0),
+    (Kind::Copy, b"a", b"db", 0),
+    (Kind::Append, b"db", b"", 700),
+    (Kind::Append, b"a", b"", 436),
+    (Kind::Put, b"a", b"", 513),
+    (Kind::Read, b"db", b"", 0),
+    (Kind::List, b"d", b"", 0),
+    (Kind::Remove, b"db", b"", 0),
+    (Kind::Mount, b"", b"", 0),
+    (Kind::Remove, b"d", b"", 0),
+    (Kind::Make, b"", b"", 0),
+];
+
+/// These asks.
+fn all_asked(alloc: Global) -> Result<Vec<Ask>, AllocError> {
+    let mut asks = Vec::new(alloc);
+    for (kind, path, new, len) in ASKS {
+        asks.push(asked(alloc, kind, path, new, len)?)?;
+    }
+    Ok(asks)
+}
+
 #[test]
 fn each_kind_is_whole_or_not_at_all(rt: HostRuntime) -> Result<(), Fail> {
-    let alloc = rt.alloc();
-    let mut asks = Vec::new(alloc);
-    asks.push(asked(alloc, Kind::Put, b"a", b"", 1100)?)?;
-    asks.push(asked(alloc, Kind::MakeDir, b"d", b"", 0)?)?;
-    asks.push(asked(alloc, Kind::Copy, b"a", b"db", 0)?)?;
-    asks.push(asked(alloc, Kind::Append, b"db", b"", 700)?)?;
-    asks.push(asked(alloc, Kind::Append, b"a", b"", 436)?)?;
-    asks.push(asked(alloc, Kind::Put, b"a", b"", 513)?)?;
-    asks.push(asked(alloc, Kind::Read, b"db", b"", 0)?)?;
-    asks.push(asked(alloc, Kind::List, b"d", b"", 0)?)?;
-    asks.push(asked(alloc, Kind::Remove, b"db", b"", 0)?)?;
-    asks.push(asked(alloc, Kind::Mount, b"", b"", 0)?)?;
-    asks.push(asked(alloc, Kind::Remove, b"d", b"", 0)?)?;
-    asks.push(asked(alloc, Kind::Make, b"", b"", 0)?)?;
-    let stopped = stop_each(&rt, alloc, asks.as_slice())?;
+    let asks = all_asked(rt.alloc())?;
+    let stopped = stop_each(&rt, rt.alloc(), asks.as_slice())?;
     assert!(rt; stopped > 60, "{stopped}");
     Ok(())
 }

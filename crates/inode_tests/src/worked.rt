@@ -68,17 +68,32 @@ const LONG: [(&str, &str); 12] = [
     ("df", "free 2040"),
 ];
 
+/// The long file, and a short one in its place.
+const SHORT: [(&str, &str); 4] = [
+    ("cat /docs/a", "data 61*20480"),
+    ("put /docs/a 6869", "ok"),
+    ("cat /docs/a", "data 6869"),
+    ("df", "free 2044"),
+];
+
+/// Asserts that all that is answered so.
+fn shorten(rt: &impl Abort, alloc: Global, site: &mut InodeSite) {
+    run(rt, alloc, site, LONG.as_slice());
+    run(rt, alloc, site, SHORT.as_slice());
+}
+
 /// Appends in blocks of eight sectors, and a file in place of a long one.
 #[test]
 fn wide_blocks(rt: HostRuntime) {
-    let table = [
-        ("cat /docs/a", "data 61*20480"),
-        ("put /docs/a 6869", "ok"),
-        ("cat /docs/a", "data 6869"),
-        ("df", "free 2044"),
-    ];
+    let mut site = fresh(&rt, rt.alloc(), 8, 2048, 8192);
+    shorten(&rt, rt.alloc(), &mut site);
+}
+
+/// The same, mounted again before the long file is read and replaced.
+#[test]
+fn wide_blocks_mounted(rt: HostRuntime) {
     let size = (8, 2048, 8192);
-    run_and_mount(&rt, rt.alloc(), size, LONG.as_slice(), table.as_slice());
+    run_and_mount(&rt, rt.alloc(), size, LONG.as_slice(), SHORT.as_slice());
 }
 
 /// Puts a short file in place of the long one, and stops that behind so many requests; gives whether it was stopped.

@@ -1,7 +1,9 @@
-//! Worlds laid by hand, by the tables of the documents.
+//! Worlds laid by hand.
 
+use crate::chain_blocks::{page, part};
+use crate::inode_blocks::{directory, file};
 use fs_asks::Client;
-use fs_port::{Blocks, PlainBlocks, free_blocks};
+use fs_port::{Blocks, PlainBlocks};
 use fs_site::{Untold, WRITE, bytes_of};
 use std::alloc::Global;
 use std::process::Abort;
@@ -14,59 +16,40 @@ const CLIENT: Client = Client {
     session: 1,
 };
 
-/// What a block says: a directory's entries, a file's size and blocks, or these digits.
-#[derive(Drop)]
-pub enum Said<'a> {
-    Dir(&'a [(u32, &'a str)]),
-    File(u32, &'a [u32]),
-    Digits(&'a str),
+/// What a block says.
+#[derive(Clone, Copy)]
+pub enum Said {
+    /// A directory's inode with these entries.
+    Dir(&'static [(u32, &'static str)]),
+
+    /// A file's inode with this size and these blocks.
+    File(u32, &'static [u32]),
+
+    /// A directory's cluster: the next one or none, and its entries.
+    Page(Option<u32>, &'static [(u32, &'static str)]),
+
+    /// A file's cluster: the next one or none, and the file's bytes from a place to another.
+    Part(Option<u32>, u64, u64),
+
+    /// These digits.
+    Digits(&'static str),
 }
 
-fn add_number(bytes: &mut Data, number: u32) {
-    let _ = bytes.extend_from_slice(&number.to_le_bytes());
+/// A world: how it is called, how many blocks are taken, its pairs by their sources and targets, and what its blocks say.
+#[derive(Clone, Copy)]
+pub struct ByHand {
+    pub case: &'static str,
+    pub blocks: u32,
+    pub pairs: &'static [(u32, u32)],
+    pub said: &'static [(u32, Said)],
 }
 
-fn add_entry(bytes: &mut Data, block: u32, name: &str) {
-    add_number(bytes, block);
-    let _ = bytes.extend_from_slice(name.as_bytes());
-    for _ in name.len()..28 {
-        let _ = bytes.push(0);
-    }
-}
-
-/// The bytes of a directory's inode. A directory of these tests has at most fifteen entries.
-fn directory(entries: &[(u32, &str)]) -> Data {
-    let mut bytes = Data::new();
-    let _ = bytes.extend_from_slice(b"TSDINOD1");
-    let count = if entries.len() <= 15 {
-        entries.len() as u32
-    } else {
-        0
-    };
-    add_number(&mut bytes, 1);
-    add_number(&mut bytes, count);
-    for (block, name) in entries {
-        add_entry(&mut bytes, *block, name);
-    }
-    bytes
-}
-
-/// The bytes of a file's inode.
-fn file(size: u32, blocks: &[u32]) -> Data {
-    let mut bytes = Data::new();
-    let _ = bytes.extend_from_slice(b"TSDINOD1");
-    add_number(&mut bytes, 2);
-    add_number(&mut bytes, size);
-    for block in blocks {
-        add_number(&mut bytes, *block);
-    }
-    bytes
-}
-
-fn block_bytes(rt: &impl Abort, alloc: Global, said: &Said<'_>) -> Data {
+fn block_bytes(rt: &impl Abort, alloc: Global, said: &Said) -> Data {
     match said {
         Said::Dir(entries) => directory(entries),
         Said::File(size, blocks) => file(*size, blocks),
+        Said::Page(next, entries) => page(*next, entries),
+        Said::Part(next, first, last) => part(*next, *first, *last),
         Said::Digits(digits) => bytes_of(alloc, digits).expect(rt, "digits"),
     }
 }
@@ -123,7 +106,7 @@ pub fn lay(
     disk: &mut Untold<PlainBlocks>,
     blocks: u32,
     pairs: &[(u32, u32)],
-    said: &[(u32, Said<'_>)],
+    said: &[(u32, Said)],
     case: &str,
 ) {
     take_blocks(rt, disk, blocks, case);
@@ -161,10 +144,4 @@ pub fn has_pairs(
         }
     }
     assert_eq!(rt; count, pairs.len(), "{case}");
-}
-
-/// How many blocks are free.
-pub fn free(rt: &impl Abort, disk: &mut Untold<PlainBlocks>) -> u32 {
-    assert!(rt; !disk.is_spent());
-    free_blocks(disk).expect(rt, "no fault")
 }

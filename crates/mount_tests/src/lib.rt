@@ -1,12 +1,22 @@
-//! Tests of mounting a tree of inodes over a plain disk: worlds laid by hand, which are a tree or none, what is read there, and
-//! what is left of their pointers.
+//! Tests of mounting over a plain disk, of the file system of inodes and of the one of chains: worlds laid by hand, which are a
+//! tree or none, and what is left of their pointers; and worlds of inodes from an independent program, with what is read there.
 //!
 //! They use public calls alone and show what no clause says. Nothing stands on this crate, and it promises nothing.
 #![tactic(auto)]
 
 #[cfg(test)]
+mod chain_blocks;
+#[cfg(test)]
+mod chain_trees;
+#[cfg(test)]
+mod fields;
+#[cfg(test)]
+mod inode_blocks;
+#[cfg(test)]
+mod inode_trees;
+#[cfg(test)]
 mod laying;
 #[cfg(test)]
-mod trees;
+mod mounting;
 #[cfg(test)]
 mod worlds;

@@ -1,247 +1,485 @@
-//! Mounting worlds laid by hand, which are a tree or none.
+//! Worlds whose trees an independent program computed from their blocks and pointers, some with an ask and its answer there.
 
-use crate::laying::{Said, free, has_pairs, lay};
-use fs_port::Blocks;
-use fs_site::{PlainSite, again, begun};
+use crate::laying::{Said, has_pairs, lay};
+use fs_port::PlainBlocks;
+use fs_site::{PlainSite, Untold, answer_to, begun, expanded};
 use fs_trees::FsRefusal;
 use inode_fs::InodeFs;
 use std::alloc::Global;
 use std::process::Abort;
 
-/// A disk of sixteen blocks on which these are laid.
-fn laid(
-    rt: &impl Abort,
-    alloc: Global,
+/// A world: its size, what each block says in digits, its pointers, and lines with their answers where it is a tree. In digits
+/// `61*3` stands for `616161`.
+#[derive(Clone, Copy)]
+struct World {
     blocks: u32,
-    pairs: &[(u32, u32)],
-    said: &[(u32, Said<'_>)],
-    case: &str,
-) -> PlainSite<InodeFs> {
-    let mut site = begun(alloc, 1, 16, 64).expect(rt, "ample memory");
-    lay(rt, alloc, &mut site.disk, blocks, pairs, said, case);
-    site
+    slots: u32,
+    said: &'static [(u32, &'static str)],
+    pairs: &'static [(u32, u32)],
+    lines: &'static [(&'static str, &'static str)],
 }
 
-/// Lays a tree, mounts it, and asserts that just these pairs are left and just so many blocks are free, also where mounting is
-/// stopped behind so many requests and begun again.
-fn tidied(
-    rt: &impl Abort,
-    alloc: Global,
-    blocks: u32,
-    pairs: &[(u32, u32)],
-    said: &[(u32, Said<'_>)],
-    left: &[(u32, u32)],
-    unused: u32,
-    case: &str,
-) {
-    for asks in 0..60 {
-        let mut site = laid(rt, alloc, blocks, pairs, said, case);
-        site.disk.left = asks;
-        let answered = site.mount();
-        assert_eq!(rt;
-            answered == Err(FsRefusal::Device),
-            site.disk.is_spent(),
-            "{case}"
-        );
-        let mut site = again(alloc, site).expect(rt, "ample memory");
-        assert_eq!(rt; site.mount(), Ok(()), "{case}: behind {asks}");
-        has_pairs(rt, &mut site.disk, left, case);
-        assert_eq!(rt; free(rt, &mut site.disk), unused, "{case}: behind {asks}");
-        if answered.is_ok() {
-            assert!(rt; asks > 0, "{case}");
-            return;
-        }
+/// Lays it on a disk.
+fn lay_digits(rt: &impl Abort, alloc: Global, disk: &mut Untold<PlainBlocks>, world: &World) {
+    let mut last = 0;
+    let mut all = Vec::new(alloc);
+    for (block, digits) in world.said {
+        last = last.max(*block);
+        assert!(rt; all.push((*block, Said::Digits(digits))).is_ok());
     }
-    rt.abort()
+    lay(
+        rt,
+        alloc,
+        disk,
+        last,
+        world.pairs,
+        all.as_slice(),
+        "a world of an independent program",
+    );
+    has_pairs(rt, disk, world.pairs, "as it was laid");
 }
 
-/// Lays a world that is no tree, and asserts that it is left alone.
-fn left_alone(
+/// Asserts that a line is answered so in the world of this place.
+fn answers(
     rt: &impl Abort,
     alloc: Global,
-    blocks: u32,
-    pairs: &[(u32, u32)],
-    said: &[(u32, Said<'_>)],
-    case: &str,
+    site: &mut PlainSite<InodeFs>,
+    place: usize,
+    line: &str,
+    wanted: &str,
 ) {
-    let mut site = laid(rt, alloc, blocks, pairs, said, case);
-    let before = free(rt, &mut site.disk);
-    assert_eq!(rt; site.mount(), Err(FsRefusal::NotThisFs), "{case}");
-    has_pairs(rt, &mut site.disk, pairs, case);
-    assert_eq!(rt; free(rt, &mut site.disk), before, "{case}");
+    let mut text = expanded(alloc, wanted).expect(rt, "ample memory");
+    assert!(rt; text.push(b'\n').is_ok());
+    match answer_to(alloc, site, line) {
+        Ok(said) => assert_eq!(rt; said.as_slice(), text.as_slice(), "world {place}: {line}"),
+        Err(_) => panic!(rt; "world {place}: {line}"),
+    }
 }
 
-/// A file of 600 bytes in blocks 2 and 3, and a directory in block 4.
-const TREE: [(u32, u32); 4] = [(0, 1), (0, 4), (1, 2), (1, 3)];
+/// Mounts what was laid, and asserts that it is a tree or none and that lines are answered so.
+fn is_as_told(
+    rt: &impl Abort,
+    alloc: Global,
+    site: &mut PlainSite<InodeFs>,
+    place: usize,
+    lines: &[(&str, &str)],
+) {
+    if lines.is_empty() {
+        assert_eq!(rt; site.mount(), Err(FsRefusal::NotThisFs), "world {place}");
+        return;
+    }
+    assert_eq!(rt; site.mount(), Ok(()), "world {place}");
+    for (line, wanted) in lines {
+        answers(rt, alloc, site, place, line, wanted);
+    }
+}
+
+/// Lays a world on a disk of its own and looks at it.
+fn check(rt: &impl Abort, alloc: Global, world: &World, place: usize) {
+    let mut site = begun::<InodeFs>(alloc, 1, world.blocks, world.slots).expect(rt, "ample memory");
+    lay_digits(rt, alloc, &mut site.disk, world);
+    is_as_told(rt, alloc, &mut site, place, world.lines);
+}
+
+const FIRST: [World; 9] = [
+    World {
+        blocks: 8,
+        slots: 32,
+        said: &[
+            (0, "545344494e4f443101000000010000000100000042"),
+            (1, "545344494e4f4431020000000300000002"),
+            (2, "cccccc"),
+        ],
+        pairs: &[(0, 1), (1, 2)],
+        lines: &[
+            ("ls /", "names B"),
+            ("cat /B", "data cccccc"),
+            ("put /a/a 73*1030", "no no-entry"),
+        ],
+    },
+    World {
+        blocks: 8,
+        slots: 32,
+        said: &[
+            (0, "545344494e4f443101000000010000000100000042"),
+            (1, "54534449004f4431020000000300000002"),
+            (2, "cccccc"),
+        ],
+        pairs: &[(0, 1), (1, 2)],
+        lines: &[],
+    },
+    World {
+        blocks: 8,
+        slots: 32,
+        said: &[(0, "545344494e4f44310100*12,62")],
+        pairs: &[],
+        lines: &[("ls /", "names -")],
+    },
+    World {
+        blocks: 8,
+        slots: 32,
+        said: &[(0, "545344494e4f443102")],
+        pairs: &[],
+        lines: &[],
+    },
+    World {
+        blocks: 12,
+        slots: 32,
+        said: &[
+            (
+                0,
+                "545344494e4f44310100000002000000010000006100*27,0200000062",
+            ),
+            (1, "545344494e4f443101"),
+            (2, "545344494e4f443102000000f001000003"),
+            (3, "47*496"),
+        ],
+        pairs: &[(0, 1), (0, 2), (2, 3)],
+        lines: &[
+            ("ls /", "names a b"),
+            ("ls /a", "names -"),
+            ("cat /b", "data 47*496"),
+            ("df", "free 8"),
+        ],
+    },
+    World {
+        blocks: 12,
+        slots: 32,
+        said: &[
+            (
+                0,
+                "545344494e4f4431010000000200000001000000610100*26,0200000062",
+            ),
+            (1, "545344494e4f443101"),
+            (2, "545344494e4f443102000000f001000003"),
+            (3, "47*496"),
+        ],
+        pairs: &[(0, 1), (0, 2), (2, 3)],
+        lines: &[],
+    },
+    World {
+        blocks: 8,
+        slots: 32,
+        said: &[
+            (0, "545344494e4f443101000000010000000100000061"),
+            (1, "545344494e4f443102000000f6050000020000000300000004"),
+            (2, "30*512"),
+            (3, "6230*511"),
+            (4, "30*6,a4*495,26"),
+        ],
+        pairs: &[(0, 1), (1, 2), (1, 3), (1, 4)],
+        lines: &[
+            ("ls /", "names a"),
+            ("cat /a", "data 30*512,6230*517,a4*495,26"),
+        ],
+    },
+    World {
+        blocks: 8,
+        slots: 32,
+        said: &[
+            (
+                0,
+                "545344494e4f44310100000002000000030000004200*27,0400000063",
+            ),
+            (2, "c7*512"),
+            (3, "545344494e4f443102000000030200000200000006"),
+            (4, "545344494e4f4431020000000100000005"),
+            (5, "81"),
+            (6, "959595"),
+        ],
+        pairs: &[(0, 3), (0, 4), (3, 2), (3, 6), (4, 5)],
+        lines: &[
+            ("ls /", "names B c"),
+            ("cat /B", "data c7*512,959595"),
+            ("cat /c", "data 81"),
+            ("cp /c /", "no exists"),
+        ],
+    },
+    World {
+        blocks: 8,
+        slots: 32,
+        said: &[
+            (
+                0,
+                "545344494e4f44310100000002000000030000004200*27,0400000001",
+            ),
+            (2, "c7*512"),
+            (3, "545344494e4f443102000000030200000200000006"),
+            (4, "545344494e4f4431020000000100000005"),
+            (5, "81"),
+            (6, "959595"),
+        ],
+        pairs: &[(0, 3), (0, 4), (3, 2), (3, 6), (4, 5)],
+        lines: &[],
+    },
+];
+
+const SECOND: [World; 9] = [
+    World {
+        blocks: 12,
+        slots: 32,
+        said: &[(0, "545344494e4f44310100000003")],
+        pairs: &[],
+        lines: &[],
+    },
+    World {
+        blocks: 8,
+        slots: 32,
+        said: &[
+            (0, "545344494e4f443101000000010000000100000063"),
+            (1, "545344494e4f4431020000000100000002"),
+            (2, "53"),
+        ],
+        pairs: &[(0, 1), (1, 2)],
+        lines: &[
+            ("ls /", "names c"),
+            ("cat /c", "data 53"),
+            ("append /c dddddd", "ok"),
+        ],
+    },
+    World {
+        blocks: 8,
+        slots: 32,
+        said: &[(0, "545344494e4f44310100*51,61")],
+        pairs: &[],
+        lines: &[("ls /", "names -")],
+    },
+    World {
+        blocks: 8,
+        slots: 32,
+        said: &[
+            (
+                0,
+                "545344494e4f44310100000002000000010000004200*27,0200000061",
+            ),
+            (1, "545344494e4f443101"),
+            (2, "545344494e4f443101"),
+        ],
+        pairs: &[(0, 1), (0, 2)],
+        lines: &[
+            ("ls /", "names B a"),
+            ("ls /B", "names -"),
+            ("ls /a", "names -"),
+            ("ls /B", "names -"),
+        ],
+    },
+    World {
+        blocks: 8,
+        slots: 32,
+        said: &[
+            (
+                0,
+                "545344494e4f4431010000000200000001000000426100*26,0200000061",
+            ),
+            (1, "545344494e4f443101"),
+            (2, "545344494e4f443101"),
+        ],
+        pairs: &[(0, 1), (0, 2)],
+        lines: &[
+            ("ls /", "names Ba a"),
+            ("ls /Ba", "names -"),
+            ("ls /a", "names -"),
+        ],
+    },
+    World {
+        blocks: 8,
+        slots: 32,
+        said: &[
+            (
+                0,
+                "545344494e4f44310100000002000000030000004200*27,0100000061",
+            ),
+            (1, "545344494e4f44310200*4,02000002"),
+            (2, "e1*512"),
+            (3, "545344494e4f443102000000010200000400000005"),
+            (4, "21*512"),
+            (5, "21"),
+        ],
+        pairs: &[(0, 1), (0, 3), (1, 2), (3, 4), (3, 5)],
+        lines: &[
+            ("ls /", "names B a"),
+            ("cat /B", "data 21*513"),
+            ("cat /a", "data e1*512"),
+            ("mkdir /a", "no exists"),
+        ],
+    },
+    World {
+        blocks: 8,
+        slots: 32,
+        said: &[
+            (0, "545344494e4f443101000000010000000300000042"),
+            (3, "545344494e4f443102000000020200000400000005"),
+            (4, "634b*511"),
+            (5, "4b4b"),
+        ],
+        pairs: &[(0, 3), (3, 4), (3, 5)],
+        lines: &[
+            ("ls /", "names B"),
+            ("cat /B", "data 634b*513"),
+            ("append / 0a*513", "no is-dir"),
+        ],
+    },
+    World {
+        blocks: 8,
+        slots: 32,
+        said: &[
+            (0, "545344494e4f443101000000010000000100000063"),
+            (1, "545344494e4f44310200000006040000020000000300000004"),
+            (2, "68*512"),
+            (3, "68*512"),
+            (4, "68*6"),
+        ],
+        pairs: &[(0, 1), (1, 2), (1, 3), (1, 4)],
+        lines: &[
+            ("ls /", "names c"),
+            ("cat /c", "data 68*1030"),
+            ("rm /c", "ok"),
+        ],
+    },
+    World {
+        blocks: 12,
+        slots: 32,
+        said: &[
+            (0, "545344494e4f443101000000010000000100000003"),
+            (1, "545344494e4f4431020000000300000002"),
+            (2, "fefefe"),
+        ],
+        pairs: &[(0, 1), (1, 2)],
+        lines: &[],
+    },
+];
+
+const THIRD: [World; 8] = [
+    World {
+        blocks: 8,
+        slots: 32,
+        said: &[
+            (0, "545344494e4f443101000000010000000100000061"),
+            (1, "545344494e4f443101000000010000000200000061"),
+            (2, "545344494e4f443102000000f101000003"),
+            (3, "79*497"),
+        ],
+        pairs: &[(0, 1), (1, 2), (2, 3)],
+        lines: &[
+            ("ls /", "names a"),
+            ("ls /a", "names a"),
+            ("cat /a/a", "data 79*497"),
+            ("mkdir /b", "ok"),
+        ],
+    },
+    World {
+        blocks: 8,
+        slots: 32,
+        said: &[
+            (0, "545344494e4f443101000000010000000100000001"),
+            (1, "545344494e4f443101000000010000000200000061"),
+            (2, "545344494e4f443102000000f101000003"),
+            (3, "79*497"),
+        ],
+        pairs: &[(0, 1), (1, 2), (2, 3)],
+        lines: &[],
+    },
+    World {
+        blocks: 8,
+        slots: 32,
+        said: &[
+            (0, "545344494e4f443101000000010000000100000062"),
+            (1, "545344494e4f4431020000000300000002"),
+            (2, "7e7e7e"),
+        ],
+        pairs: &[(0, 1), (1, 2)],
+        lines: &[
+            ("ls /", "names b"),
+            ("cat /b", "data 7e7e7e"),
+            ("cp /b /B", "ok"),
+        ],
+    },
+    World {
+        blocks: 8,
+        slots: 32,
+        said: &[
+            (0, "545344494e4f443101000000010000000200000062"),
+            (1, "545344494e4f4431020000000300000002"),
+            (2, "7e7e7e"),
+        ],
+        pairs: &[(0, 1), (1, 2)],
+        lines: &[],
+    },
+    World {
+        blocks: 8,
+        slots: 32,
+        said: &[(0, "545344494e4f4431")],
+        pairs: &[],
+        lines: &[],
+    },
+    World {
+        blocks: 8,
+        slots: 32,
+        said: &[
+            (0, "545344494e4f443101000000010000000100000061"),
+            (1, "545344494e4f44310200000006040000020000000300000004"),
+            (2, "f7*512"),
+            (3, "f7*512"),
+            (4, "f7*6"),
+        ],
+        pairs: &[(0, 1), (1, 2), (1, 3), (1, 4)],
+        lines: &[
+            ("ls /", "names a"),
+            ("cat /a", "data f7*1030"),
+            ("append /a 9b*497", "ok"),
+        ],
+    },
+    World {
+        blocks: 8,
+        slots: 32,
+        said: &[
+            (0, "545344494e4f443101000000020000000100000062"),
+            (1, "545344494e4f443102000000ef01000002"),
+            (2, "82*495"),
+        ],
+        pairs: &[(0, 1), (1, 2)],
+        lines: &[],
+    },
+    World {
+        blocks: 12,
+        slots: 32,
+        said: &[
+            (
+                0,
+                "545344494e4f44310100000002000000030000006100*27,0500000063",
+            ),
+            (3, "545344494e4f443102000000ef01000004"),
+            (4, "51*495"),
+            (5, "545344494e4f443102000000f001000006"),
+            (6, "6d*496"),
+        ],
+        pairs: &[(0, 3), (0, 5), (3, 4), (5, 6)],
+        lines: &[
+            ("ls /", "names a c"),
+            ("cat /a", "data 51*495"),
+            ("cat /c", "data 6d*496"),
+            ("put /a f8*513", "ok"),
+        ],
+    },
+];
 
 #[test]
-fn trees_are_mounted(rt: HostRuntime) {
-    let alloc = rt.alloc();
-    tidied(&rt, alloc, 0, &[], &[(0, Said::Dir(&[]))], &[], 15, "empty");
-    let said = [
-        (0, Said::Dir(&[(1, "a"), (4, "d")])),
-        (1, Said::File(600, &[2, 3])),
-        (4, Said::Dir(&[])),
-    ];
-    tidied(
-        &rt,
-        alloc,
-        4,
-        &TREE,
-        &said,
-        &TREE,
-        11,
-        "a file and a directory",
-    );
-    let shared = [(0, 1), (0, 2), (1, 3), (2, 3)];
-    let said = [
-        (0, Said::Dir(&[(1, "a"), (2, "b")])),
-        (1, Said::File(9, &[3])),
-        (2, Said::File(10, &[3])),
-    ];
-    tidied(&rt, alloc, 3, &shared, &said, &shared, 12, "a shared block");
+fn first_worlds(rt: HostRuntime) {
+    for (place, world) in FIRST.iter().enumerate() {
+        check(&rt, rt.alloc(), world, place);
+    }
 }
 
 #[test]
-fn leftovers_are_deleted(rt: HostRuntime) {
-    let alloc = rt.alloc();
-    let said = [
-        (0, Said::Dir(&[(1, "a"), (4, "d")])),
-        (1, Said::File(600, &[2, 3])),
-        (4, Said::Dir(&[])),
-    ];
-    let cycle = [(0, 1), (0, 4), (1, 2), (1, 3), (0, 5), (5, 6), (6, 5)];
-    // By the rules of the disk a cycle that nothing leads to waits for a sweep; the tree leads there no more.
-    let out_of_reach = [(0, 1), (0, 4), (1, 2), (1, 3), (5, 6), (6, 5)];
-    tidied(
-        &rt,
-        alloc,
-        6,
-        &cycle,
-        &said,
-        &out_of_reach,
-        9,
-        "a cycle of leftovers",
-    );
-    let data = [(0, 1), (0, 4), (1, 2), (1, 3), (2, 5), (3, 4), (3, 6)];
-    tidied(
-        &rt,
-        alloc,
-        6,
-        &data,
-        &said,
-        &TREE,
-        11,
-        "pairs out of data blocks",
-    );
-    let inodes = [
-        (0, 1),
-        (0, 2),
-        (0, 4),
-        (1, 2),
-        (1, 3),
-        (1, 5),
-        (4, 1),
-        (4, 6),
-        (6, 4),
-    ];
-    tidied(
-        &rt,
-        alloc,
-        6,
-        &inodes,
-        &said,
-        &TREE,
-        11,
-        "pairs out of inodes",
-    );
+fn second_worlds(rt: HostRuntime) {
+    for (place, world) in SECOND.iter().enumerate() {
+        check(&rt, rt.alloc(), world, place);
+    }
 }
 
 #[test]
-fn what_is_no_tree_is_left_alone(rt: HostRuntime) {
-    let alloc = rt.alloc();
-    left_alone(&rt, alloc, 2, &[(0, 1), (0, 2)], &[], "a root of zeros");
-    left_alone(
-        &rt,
-        alloc,
-        1,
-        &[(0, 1)],
-        &[(0, Said::File(9, &[1]))],
-        "a file at the root",
-    );
-    let twice = [(0, Said::Dir(&[(1, "a"), (1, "b")])), (1, Said::Dir(&[]))];
-    left_alone(
-        &rt,
-        alloc,
-        2,
-        &[(0, 1), (1, 2)],
-        &twice,
-        "an inode named twice",
-    );
-    let order = [
-        (0, Said::Dir(&[(1, "b"), (2, "a")])),
-        (1, Said::Dir(&[])),
-        (2, Said::Dir(&[])),
-    ];
-    left_alone(
-        &rt,
-        alloc,
-        2,
-        &[(0, 1), (0, 2)],
-        &order,
-        "names out of order",
-    );
-    let no_pair = [(0, Said::Dir(&[(1, "a")])), (1, Said::File(600, &[2, 3]))];
-    left_alone(
-        &rt,
-        alloc,
-        3,
-        &[(0, 1), (0, 3), (1, 2)],
-        &no_pair,
-        "a block that isn't pointed to",
-    );
-    let mixed = [
-        (0, Said::Dir(&[(1, "a"), (2, "d")])),
-        (1, Said::File(9, &[2])),
-        (2, Said::Dir(&[])),
-    ];
-    left_alone(
-        &rt,
-        alloc,
-        2,
-        &[(0, 1), (0, 2), (1, 2)],
-        &mixed,
-        "an inode as a block of bytes",
-    );
-    let mixed = [
-        (0, Said::Dir(&[(2, "a"), (1, "d")])),
-        (1, Said::File(9, &[2])),
-        (2, Said::Dir(&[])),
-    ];
-    left_alone(
-        &rt,
-        alloc,
-        2,
-        &[(0, 1), (0, 2), (1, 2)],
-        &mixed,
-        "a block of bytes that is an inode before",
-    );
-    let round = [(0, Said::Dir(&[(1, "d")])), (1, Said::Dir(&[(1, "d")]))];
-    left_alone(
-        &rt,
-        alloc,
-        1,
-        &[(0, 1), (1, 1)],
-        &round,
-        "a directory in itself",
-    );
-    let rubbish = [(0, Said::Dir(&[(1, "a")]))];
-    left_alone(
-        &rt,
-        alloc,
-        2,
-        &[(0, 1), (0, 2)],
-        &rubbish,
-        "an entry that names no inode",
-    );
+fn third_worlds(rt: HostRuntime) {
+    for (place, world) in THIRD.iter().enumerate() {
+        check(&rt, rt.alloc(), world, place);
+    }
 }

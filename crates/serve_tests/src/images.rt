@@ -1,12 +1,13 @@
 //! Runs one after another over one image.
 
-use crate::spelled::{run_over, spelled, words};
-use image_device::{MemSource, MemStation};
+use crate::loops::loops;
+use image_device::MemStation;
 use place_policy::PlaceBook;
+use serve_site::{NEVER, blank, run_bytes, run_over, spelled};
 use std::alloc::Global;
 use std::process::Abort;
 use std::test::Fail;
-use tsd_serve::{Status, tsd};
+use tsd_serve::Status;
 
 /// A run over the image, which is done, and all that was sent by its end.
 fn done_over(
@@ -24,50 +25,71 @@ fn done_over(
 }
 
 /// What one run writes the next reads. No session stays open.
-pub fn kept(rt: &impl Abort, alloc: Global, book: &PlaceBook) -> Result<(), Fail> {
-    let mut port = MemStation::new(alloc, Vec::new(alloc));
+fn kept(
+    rt: &impl Abort,
+    alloc: Global,
+    book: &PlaceBook,
+    port: &mut MemStation,
+) -> Result<(), Fail> {
     let first = (
         "fresh 8 1 R W near",
         "open 1/write 1 0 W 6869/alloc 1 0 W - 2/",
         "ok/ok/blocks 1 2/",
     );
-    done_over(rt, alloc, book, &mut port, first)?;
+    done_over(rt, alloc, book, port, first)?;
     let second = (
         "run near",
         "read 1 0 R/open 1/read 1 0 R/list 1 0 W 0/free/",
         "ok/ok/blocks 1 2/no not-open/ok/data 6869/list 1 2/free 5/",
     );
-    done_over(rt, alloc, book, &mut port, second)
+    done_over(rt, alloc, book, port, second)
 }
 
 /// An image that was never formatted is refused, and nothing is sent.
-pub fn refused(rt: &impl Abort, alloc: Global, book: &PlaceBook) -> Result<(), Fail> {
-    let mut port = MemStation::new(alloc, Vec::new(alloc));
-    let status = run_over(alloc, book, ("run near", "free/"), &mut port)?;
+fn refused(
+    rt: &impl Abort,
+    alloc: Global,
+    book: &PlaceBook,
+    port: &mut MemStation,
+) -> Result<(), Fail> {
+    let status = run_over(alloc, book, ("run near", "free/"), port)?;
     assert!(rt; matches!(status, Status::NotImage(_)));
     assert!(rt; port.sent().is_empty());
     Ok(())
 }
 
-/// Frames: session 1 is opened, and the free blocks are asked for; and then a byte of a frame that doesn't come.
-const FRAMES: [u8; 11] = *b"\x05\0\x01\x01\0\0\0\x01\0\x07\x05";
+/// Frames: session 1 is opened, and the free blocks are asked for; and the same with a byte of a frame that doesn't come. How a run
+/// over each of them ends.
+const FRAMES: [(&[u8], Status); 2] = [
+    (b"\x05\0\x01\x01\0\0\0\x01\0\x07", Status::Done),
+    (b"\x05\0\x01\x01\0\0\0\x01\0\x07\x05", Status::Truncated),
+];
 
 /// The frames of the replies: done, and 7 are free.
 const ANSWERS: [u8; 10] = *b"\x01\0\x01\x05\0\x04\x07\0\0\0";
 
+/// Asserts how a run over these frames ends, and what is answered.
+fn framed(
+    rt: &impl Abort,
+    alloc: Global,
+    book: &PlaceBook,
+    port: &mut MemStation,
+    frames: &[u8],
+    wanted: Status,
+) -> Result<(), Fail> {
+    let status = run_over(alloc, book, ("fresh 8 1 R W near", ""), port)?;
+    assert_eq!(rt; status, Status::Done);
+    let texts = ("serve near", frames.to_vec(alloc)?);
+    let status = run_bytes(alloc, book, texts, 3, NEVER, port)?;
+    assert_eq!(rt; status, wanted);
+    assert_eq!(rt; port.sent(), ANSWERS.as_slice(), "{wanted:?}");
+    Ok(())
+}
+
 /// Requests in frames, whole, and with one that is cut off.
-pub fn framed(rt: &impl Abort, alloc: Global, book: &PlaceBook) -> Result<(), Fail> {
-    for (count, wanted) in [(10, Status::Done), (11, Status::Truncated)] {
-        let mut port = MemStation::new(alloc, Vec::new(alloc));
-        assert_eq!(rt;
-            run_over(alloc, book, ("fresh 8 1 R W near", ""), &mut port)?,
-            Status::Done
-        );
-        let words = words(alloc, b"serve near".as_slice())?;
-        let mut source = MemSource::new(FRAMES[..count].to_vec(alloc)?, 3, Vec::new(alloc));
-        let status = tsd(alloc, &words, &mut source, &mut port, book);
-        assert_eq!(rt; status, wanted);
-        assert_eq!(rt; port.sent(), ANSWERS.as_slice());
+fn all_framed(rt: &impl Abort, alloc: Global, book: &PlaceBook) -> Result<(), Fail> {
+    for (frames, wanted) in FRAMES {
+        framed(rt, alloc, book, &mut blank(alloc), frames, wanted)?;
     }
     Ok(())
 }
@@ -89,14 +111,27 @@ const COMMANDS: [(&str, &str); 5] = [
 ];
 
 /// The commands one after another, over one image.
-pub fn commands(rt: &impl Abort, alloc: Global, book: &PlaceBook) -> Result<(), Fail> {
-    let mut port = MemStation::new(alloc, Vec::new(alloc));
+fn commands(
+    rt: &impl Abort,
+    alloc: Global,
+    book: &PlaceBook,
+    port: &mut MemStation,
+) -> Result<(), Fail> {
     let mut wanted = Vec::new(alloc);
     for (words, lines) in COMMANDS {
         wanted.extend_from_slice(spelled(alloc, lines)?.as_slice())?;
-        let status = run_over(alloc, book, (words, ""), &mut port)?;
-        assert_eq!(rt; status, Status::Done);
-        assert_eq!(rt; port.sent(), wanted.as_slice());
+        let status = run_over(alloc, book, (words, ""), port)?;
+        assert_eq!(rt; status, Status::Done, "{words}");
+        assert_eq!(rt; port.sent(), wanted.as_slice(), "{words}");
     }
     Ok(())
+}
+
+/// All of them, each over a disk of its own that was never written, and the loops over an open disk.
+pub fn all_images(rt: &impl Abort, alloc: Global, book: &PlaceBook) -> Result<(), Fail> {
+    kept(rt, alloc, book, &mut blank(alloc))?;
+    refused(rt, alloc, book, &mut blank(alloc))?;
+    all_framed(rt, alloc, book)?;
+    commands(rt, alloc, book, &mut blank(alloc))?;
+    loops(rt, alloc, book)
 }

@@ -5,8 +5,6 @@
 #![tactic(auto)]
 
 #[cfg(test)]
-mod disks;
-#[cfg(test)]
 mod faults;
 #[cfg(test)]
 mod images;
@@ -15,9 +13,9 @@ mod loops;
 #[cfg(test)]
 mod outside;
 #[cfg(test)]
-mod runs;
+mod placing;
 #[cfg(test)]
-mod spelled;
+mod runs;
 #[cfg(test)]
 mod stories;
 #[cfg(test)]

@@ -2,8 +2,8 @@
 
 ghost use Rattle.std.specs.Prelude.{◌<◌};
 
-use crate::spelled::{NEVER, run, spelled};
 use place_policy::PlaceBook;
+use serve_site::{NEVER, WHOLE, run, spelled};
 use std::alloc::Global;
 use std::process::Abort;
 use std::test::Fail;
@@ -187,23 +187,39 @@ fn check_run(
     Ok(())
 }
 
-/// Each run, its input cut into pieces of every size from 1 to 9, and whole.
-pub fn all_runs(rt: &impl Abort, alloc: Global, book: &PlaceBook) -> Result<(), Fail> {
+/// One run, its input cut into pieces of every size from 1 to 9, and whole.
+fn check_cuts(
+    rt: &impl Abort,
+    alloc: Global,
+    book: &PlaceBook,
+    row: (&str, &str, &str),
+) -> Result<(), Fail> {
+    for cut in 1..10 {
+        check_run(rt, alloc, book, row, cut)?;
+    }
+    check_run(rt, alloc, book, row, WHOLE)
+}
+
+/// Each run.
+fn worked(rt: &impl Abort, alloc: Global, book: &PlaceBook) -> Result<(), Fail> {
     for row in RUNS {
-        for cut in 1..10 {
-            check_run(rt, alloc, book, row, cut)?;
-        }
-        check_run(rt, alloc, book, row, 10_000)?;
+        check_cuts(rt, alloc, book, row)?;
     }
     Ok(())
 }
 
 /// Each faulty command line: nothing is called, so the failing calls don't show.
-pub fn faulty_words(rt: &impl Abort, alloc: Global, book: &PlaceBook) -> Result<(), Fail> {
+fn faulty_words(rt: &impl Abort, alloc: Global, book: &PlaceBook) -> Result<(), Fail> {
     for words in FAULTY {
         let (status, sent) = run(alloc, book, (words, "free/"), 9, (0, 0))?;
         assert_eq!(rt; status, Status::Usage, "{words}");
-        assert!(rt; sent.is_empty());
+        assert!(rt; sent.is_empty(), "{words}");
     }
     Ok(())
+}
+
+/// All of them.
+pub fn all_runs(rt: &impl Abort, alloc: Global, book: &PlaceBook) -> Result<(), Fail> {
+    worked(rt, alloc, book)?;
+    faulty_words(rt, alloc, book)
 }

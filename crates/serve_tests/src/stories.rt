@@ -2,10 +2,9 @@
 
 ghost use Rattle.std.specs.Prelude.{◌<◌};
 
-use crate::disks::blank;
-use crate::spelled::{NEVER, WHOLE, bytes_of, packed, run_cut};
 use image_device::{Device, Failed, MemStation};
 use place_policy::PlaceBook;
+use serve_site::{NEVER, WHOLE, blank, bytes_of, packed, run_cut};
 use std::alloc::Global;
 use std::process::Abort;
 use std::test::Fail;
@@ -216,16 +215,35 @@ struct Stage {
     before: u64,
 }
 
+/// All steps, the inputs of runs byte by byte, and once more whole.
+pub fn stories(rt: &impl Abort, alloc: Global, book: &PlaceBook) -> Result<(), Fail> {
+    story(rt, alloc, book, 1)?;
+    story(rt, alloc, book, WHOLE)
+}
+
 /// All steps, the input of a run cut into pieces of this size.
-pub fn stories(rt: &impl Abort, alloc: Global, book: &PlaceBook, cut: usize) -> Result<(), Fail>
+fn story(rt: &impl Abort, alloc: Global, book: &PlaceBook, cut: usize) -> Result<(), Fail>
     requires { 0 < cut }
 {
     let mut stage = Stage {
         disk: blank(alloc),
         before: 0,
     };
+    do_steps(rt, alloc, book, &mut stage, cut)
+}
+
+/// All steps over this disk.
+fn do_steps(
+    rt: &impl Abort,
+    alloc: Global,
+    book: &PlaceBook,
+    stage: &mut Stage,
+    cut: usize,
+) -> Result<(), Fail>
+    requires { 0 < cut }
+{
     for step in STEPS {
-        do_step(rt, alloc, book, &mut stage, step, cut)?;
+        do_step(rt, alloc, book, stage, step, cut)?;
     }
     Ok(())
 }

@@ -1,22 +1,19 @@
--- What the tables tell after a step was carried out: a raw graph still, its counts, its lost blocks and what is reached.
-use Rattle.std.proofs.Common.{◌≡◌, ℕ, ◌+◌, ◌-◌, ◌<◌, ◌≤◌, ◌||◌, ◌&&◌, ◌==◌, Bool, true, false, not, List, length, take, get_or, refl, sym, ◌∙◌, ap, subst, arith, inl, inr, cond}
-use Rattle.std.specs.Prelude.{slice_set, slice_index}
-use Rattle.std.proofs.lemmas.Bool.{cases_eq, eq-eqb, eqb-true, ne_eqb, and_parts, and_from, or_cases, or_left, or_right, not-true, both_ways, false_from_ne_true}
-use Rattle.std.proofs.lemmas.List.{get_or-set_same, get_or-set_other}
-use Rattle.tsd_model.specs.Pairs.{holds, without_pair, count_to}
+-- What the tables tell after a step was carried out: the lost blocks, and what is reached.
+use Rattle.std.proofs.Common.{◌≡◌, ℕ, ◌+◌, ◌-◌, ◌<◌, ◌≤◌, ◌||◌, ◌&&◌, ◌==◌, Bool, true, false, not, List, length, take, get_or, refl, sym, ◌∙◌, ap, subst, inl, inr}
+use Rattle.std.specs.Prelude.{slice_index}
+use Rattle.std.proofs.lemmas.Bool.{eq-eqb, eqb-true, and_parts, and_from, or_cases, or_left, or_right, not-true, both_ways, false_from_ne_true}
+use Rattle.tsd_model.specs.Pairs.{holds, count_to}
 use Rattle.tsd_model.specs.World.{World, has_number}
 use Rattle.tsd_model.specs.Reach.{reach}
 use Rattle.tsd_model.specs.declared.geometry.Geometry.{Geometry}
-use Rattle.tsd_model.proofs.CountLaws.{count_to-without_pair}
-use Rattle.pointer_table.specs.Table.{Table, pairs, ArePairs}
+use Rattle.pointer_table.specs.Table.{Table, pairs}
 use Rattle.pointer_table.specs.declared.out_step.OutStep.{OutStep}
-use Rattle.ref_counts.specs.Table.{Table as Counts, IsTable}
+use Rattle.ref_counts.specs.Table.{Table as Counts}
 use Rattle.block_alloc.specs.LiveMap.{LiveMap}
 use Rattle.graph_laws.specs.RawGraph.{IsRawGraph}
-use Rattle.graph_laws.specs.Steps.{IsStep, IsLost}
+use Rattle.graph_laws.specs.Steps.{IsLost}
 use Rattle.graph_laws.proofs.LostLaws.{alone_count, count_alone, lost_after_step}
-use Rattle.graph_laws.proofs.StepLaws.{graph-stepped}
-use Rattle.graph_laws.proofs.SweepLaws.{sweeps-stepped, unreached_apart}
+use Rattle.graph_laws.proofs.SweepLaws.{sweeps-stepped}
 use Rattle.cycle_sweep.specs.Marked.{is_marked}
 use Rattle.cycle_sweep.specs.Sweep.{MaySweep}
 use Rattle.disk_laws.specs.Reclaiming.{all_apart}
@@ -24,45 +21,7 @@ use Rattle.disk_laws.proofs.DoomLaws.{live_below}
 use Rattle.reclaim.proofs.HeldLaws.{has-at, not_before, has-take_more}
 use Rattle.reclaim.specs.Held.{Held}
 use Rattle.reclaim.specs.Stepping.{MayStep, after_step}
-use Rattle.reclaim.specs.Tables.{graph_of, AreTables, HaveCounts, HoldsLost}
-
--- ---- tables
-
--- a pair less, and a count less
-pub counts_less : (old new : Table) (live : LiveMap) (before after : Counts) (a t : ℕ) → ArePairs old → new.geometry ≡ old.geometry → holds (pairs old) a t ≡ true
-    → pairs new ≡ without_pair a t (pairs old) → IsTable before → after ≡ record before { counts = slice_set before.counts t (slice_index before.counts t - 1) }
-    → HaveCounts old live before → HaveCounts new live after
-counts_less old new live before after a t are size held less table is have = record {
-  geometry = ap (λ (c : Counts). c.geometry) is ∙ (have.geometry ∙ sym size);
-  each = λ b below.
-      let inside : b < old.geometry.blocks = subst (λ (g : Geometry). b < g.blocks) size below in
-      let was = have.each b inside in
-      let one = count_to-without_pair a t b (pairs old) are.rising held in
-      let left = ap (λ es. count_to es b) less in
-      let now = ap (λ (c : Counts). slice_index c.counts b) is in
-      let target : t < length before.counts = let w = (are.ends a t held).2 in omega (arith, w, table.each, ap (λ (g : Geometry). g.blocks) have.geometry) in
-      elim (cases_eq b t) [
-        | inl same ↦
-            let here : slice_index (slice_set before.counts t (slice_index before.counts t - 1)) b ≡ slice_index before.counts t - 1 =
-            ap (slice_index (slice_set before.counts t (slice_index before.counts t - 1))) same ∙ get_or-set_same before.counts t (slice_index before.counts t - 1) 0 target in
-            let old_ : slice_index before.counts b ≡ slice_index before.counts t = ap (slice_index before.counts) same in
-            let it : ◌≡◌ {A = ℕ} (cond (t == b) 1 0) 1 = ap (λ s. cond s 1 0) (eq-eqb t b (sym same)) in
-            omega (arith, was, one, left, now, here, old_, it)
-        | inr other ↦
-            let here : slice_index (slice_set before.counts t (slice_index before.counts t - 1)) b ≡ slice_index before.counts b =
-            get_or-set_other before.counts t b (slice_index before.counts t - 1) 0 other in
-            let it : ◌≡◌ {A = ℕ} (cond (t == b) 1 0) 0 = ap (λ s. cond s 1 0) (ne_eqb t b (λ e. other (sym e))) in
-            omega (arith, was, one, left, now, here, it)
-      ];
-}
-
-pub tables_stepped : (old new : Table) (live after : LiveMap) (s : OutStep) → AreTables old live → old.geometry.primaries ≤ s.block
-    → IsStep (graph_of old live) s.block s.targets s.freed → new.geometry ≡ old.geometry → after.geometry ≡ live.geometry
-    → graph_of new after ≡ after_step (graph_of old live) s → AreTables new after
-tables_stepped old new live after s tables apart step size live_size is = record {
-  geometry = live_size ∙ (tables.geometry ∙ sym size);
-  raw = subst IsRawGraph (sym is) (graph-stepped (graph_of old live) s.block s.targets s.freed apart step tables.raw);
-}
+use Rattle.reclaim.specs.Tables.{graph_of, HaveCounts, HoldsLost}
 
 -- ---- the lost blocks
 
@@ -116,9 +75,6 @@ module _ (w : World) (s : OutStep) (old mid new : Held) (counts : List ℕ) (raw
   holds_lost_after b = (forth b, back b)
 
 -- ---- what is reached
-
-pub may_sweep_apart : (w : World) (s : OutStep) → IsRawGraph w → MaySweep w s → w.geometry.primaries ≤ s.block
-may_sweep_apart w s raw may = unreached_apart w raw s.block may.unreached
 
 pub marks_after : (w v : World) (s : OutStep) (old new : List Bool) → IsRawGraph w → MaySweep w s → v ≡ after_step w s → new ≡ old
     → ((b : ℕ) → is_marked old b ≡ has_number (reach w) b) → (b : ℕ) → is_marked new b ≡ has_number (reach v) b

@@ -1,43 +1,21 @@
--- What a change of the tables is to the graph that they tell.
-use Rattle.std.proofs.Common.{◌≡◌, ℕ, ◌+◌, ◌<◌, ◌≤◌, Bool, true, false, ◌==◌, List, [], ◌∷◌, ◌++◌, length, take, get_or, refl, sym, ◌∙◌, ap, subst, inl, inr}
+-- What a new pair and a new block are to the graph that the tables tell.
+use Rattle.std.proofs.Common.{◌≡◌, ℕ, ◌<◌, Bool, true, false, ◌==◌, List, [], ◌∷◌, length, refl, sym, ◌∙◌, ap, subst, inl, inr}
 use Rattle.std.proofs.lemmas.Bool.{and_from, lt-ltb, eqb-true, or_cases}
-use Rattle.std.proofs.lemmas.List.{take_more}
 use Rattle.std.specs.Prelude.{slice_set, replicate, Option, Some, None, is_some, is_none, nat_lt}
-use Rattle.tsd_model.specs.Pairs.{with_pair, without_pair}
+use Rattle.tsd_model.specs.Pairs.{with_pair}
 use Rattle.tsd_model.specs.World.{World, contents, is_free, has_number}
-use Rattle.tsd_model.specs.Step.{with_contents, with_pointer, without_pointer, with_new_blocks, zeros}
+use Rattle.tsd_model.specs.Step.{with_contents, with_pointer, with_new_blocks, zeros}
 use Rattle.pointer_table.specs.Table.{Table, pairs}
 use Rattle.block_alloc.specs.LiveMap.{LiveMap, is_live}
 use Rattle.graph_laws.specs.Graph.{graph, zeros_in, no_record}
-use Rattle.graph_laws.specs.Steps.{with_free, without_pointers}
-use Rattle.graph_laws.proofs.ToldLaws.{graph-set_free, world_with-set_live}
+use Rattle.graph_laws.proofs.ToldLaws.{world_with-set_live}
 use Rattle.tsd_model.specs.Doomed.{doomed}
 use Rattle.reclaim.specs.Ahead.{Kept, IsAheadOf, IsGrowing}
 use Rattle.reclaim.specs.Tables.{graph_of, AreTables}
 use Rattle.reclaim.proofs.CollectLaws.{live_told}
-use Rattle.reclaim.proofs.HeldLaws.{take-whole}
-
-pub graph_less : (old new : Table) (live : LiveMap) (a t : ℕ) → new.geometry ≡ old.geometry → pairs new ≡ without_pair a t (pairs old) → graph_of new live ≡ without_pointer (graph_of old live) a t
-graph_less old new live a t size less = λ i. graph (size i) live.live (less i)
 
 pub graph_more : (old new : Table) (live : LiveMap) (a t : ℕ) → new.geometry ≡ old.geometry → pairs new ≡ with_pair (a, t) (pairs old) → graph_of new live ≡ with_pointer (graph_of old live) a t
 graph_more old new live a t size more = λ i. graph (size i) live.live (more i)
-
-pub graph_freed : (t : Table) (live after : LiveMap) (a : ℕ) (bits : List Bool) → after ≡ record live { live = slice_set live.live a false; unhidden = bits } → graph_of t after ≡ with_free (graph_of t live) a
-graph_freed t live after a bits is = ap (λ (m : LiveMap). graph_of t m) is ∙ graph-set_free t.geometry live.live (pairs t) a
-
--- ---- a step
-
-without-push : (a b : ℕ) (bs : List ℕ) (w : World) → without_pointers w a (bs ++ b ∷ []) ≡ without_pointer (without_pointers w a bs) a b
-without-push a b [] w = refl
-without-push a b (c ∷ bs) w = without-push a b bs (without_pointer w a c)
-
-pub world_next : (w v u : World) (a : ℕ) (ts : List ℕ) (i : ℕ) → i < length ts → v ≡ without_pointers w a (take i ts) → u ≡ without_pointer v a (get_or ts i 0) → u ≡ without_pointers w a (take (i + 1) ts)
-world_next w v u a ts i within same next =
-    next ∙ (ap (λ (x : World). without_pointer x a (get_or ts i 0)) same ∙ (sym (without-push a (get_or ts i 0) (take i ts) w) ∙ ap (without_pointers w a) (sym (take_more ts i 0 within))))
-
-pub taken_all : (w v : World) (a : ℕ) (ts : List ℕ) (i : ℕ) → length ts ≤ i → v ≡ without_pointers w a (take i ts) → v ≡ without_pointers w a ts
-taken_all w v a ts i past is = is ∙ ap (without_pointers w a) (take-whole i ts past)
 
 -- ---- a new block
 

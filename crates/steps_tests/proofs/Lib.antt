@@ -1,3 +1,2 @@
-pub mod CheckLaws
 pub mod DiskLaws
 pub mod CarryLaws

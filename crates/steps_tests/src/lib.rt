@@ -9,12 +9,6 @@ mod ahead_tests;
 #[cfg(test)]
 mod chains;
 #[cfg(test)]
-mod checks;
-#[cfg(test)]
-mod disk;
-#[cfg(test)]
-mod draws;
-#[cfg(test)]
 mod plain;
 #[cfg(test)]
 mod random_tests;
@@ -28,5 +22,3 @@ mod steps;
 mod sweeps;
 #[cfg(test)]
 mod told;
-#[cfg(test)]
-mod worlds;

@@ -4,113 +4,101 @@
 //! them. From it the pointers of block 0 that the tables don't have are cut, and nothing is reclaimed. A block that isn't live in the tables
 //! stays under block 0 and leads nowhere, so it dooms nothing and is never doomed.
 
-use crate::disk::{Disk, sized};
-use crate::worlds::{Plain, WRITE, after, fresh_of, is_live};
 use plain_disk::{World, plain_cut, plain_doomed, plain_reach};
 use std::alloc::Global;
 use std::process::Abort;
 use std::test::Fail;
-use tsd_model::{Geometry, Hint, Request, Shown};
+use table_site::{Disk, Plain, alloc_request, is_live, pair_request, sized};
+use tsd_model::{Geometry, NoMemory};
 
 /// Whether a block is one of these.
 pub fn is_among(block: u32, blocks: &[u32]) -> bool {
     blocks.iter().any(|other| *other == block)
 }
 
+/// Lets block 0 point to each other block.
+fn keep_all(alloc: Global, plain: &mut Plain) -> Result<(), Fail> {
+    let request = alloc_request(0, 1);
+    for _turn in 1..plain.world.geometry().blocks {
+        plain.ask(alloc, &request)?;
+    }
+    if plain.world.free_count() == 0 {
+        Ok(())
+    } else {
+        Err(Fail::from("a block is still free"))
+    }
+}
+
 /// A world of so many blocks in which block 0 points to each other one, and session 1 may write all.
-fn all_kept(rt: &impl Abort, alloc: Global, blocks: u32) -> Plain {
+fn all_kept(alloc: Global, blocks: u32) -> Result<Plain, Fail> {
     let geometry = Geometry {
         slots: 4096,
         ..sized(blocks)
     };
-    let mut plain = fresh_of(rt, alloc, &geometry);
-    for _turn in 1..blocks {
-        let request = Request::Alloc {
-            session: 1,
-            source: 0,
-            shown: Shown::Key(WRITE),
-            hint: Hint::Null,
-            count: 1,
-        };
-        plain = after(rt, alloc, &plain, &request);
-    }
-    assert_eq!(rt; plain.world.free_count(), 0);
-    plain
+    let mut plain = Plain::fresh(alloc, &geometry)?;
+    keep_all(alloc, &mut plain)?;
+    Ok(plain)
 }
 
-/// The plain world with the pair from one block to another, or without it, as the tables have it.
-fn with_pair(
-    rt: &impl Abort,
+/// Adds the pair from one block to another to the plain world, or deletes it, as the tables have it.
+fn tell_pair(
     alloc: Global,
-    plain: Plain,
+    plain: &mut Plain,
     disk: &Disk,
     source: u32,
     target: u32,
-) -> Plain {
+) -> Result<(), Fail> {
     let wanted = disk.pointers.has(source, target);
-    if wanted == plain.world.holds(source, target) {
-        return plain;
+    if wanted != plain.world.holds(source, target) {
+        plain.ask(alloc, &pair_request(source, target, wanted))?;
     }
-    let shown = Shown::Nothing;
-    let request = if wanted {
-        Request::Create {
-            session: 1,
-            source,
-            shown,
-            target,
-        }
+    if plain.world.holds(source, target) == wanted {
+        Ok(())
     } else {
-        Request::Delete {
-            session: 1,
-            source,
-            shown,
-            target,
-        }
-    };
-    let next = after(rt, alloc, &plain, &request);
-    assert_eq!(rt; next.world.holds(source, target), wanted);
-    next
+        Err(Fail::from("the plain program refuses a pair"))
+    }
 }
 
-/// The plain world with the pairs from one block as the tables have them.
-fn with_pairs_from(
-    rt: &impl Abort,
-    alloc: Global,
-    plain: Plain,
-    disk: &Disk,
-    source: u32,
-) -> Plain {
-    let mut plain = plain;
+/// Gives the plain world the pairs from one block as the tables have them.
+fn tell_pairs(alloc: Global, plain: &mut Plain, disk: &Disk, source: u32) -> Result<(), Fail> {
     for target in 1..plain.world.geometry().blocks {
-        plain = with_pair(rt, alloc, plain, disk, source, target);
+        tell_pair(alloc, plain, disk, source, target)?;
     }
-    plain
+    Ok(())
 }
 
-/// The plain world with the pairs from all blocks but block 0 as the tables have them now.
-pub fn told_again(rt: &impl Abort, alloc: Global, plain: Plain, disk: &Disk) -> Plain {
-    let mut plain = plain;
+/// Gives the plain world the pairs from all blocks but block 0 as the tables have them now.
+pub fn tell_again(alloc: Global, plain: &mut Plain, disk: &Disk) -> Result<(), Fail> {
     for source in 1..plain.world.geometry().blocks {
-        plain = with_pairs_from(rt, alloc, plain, disk, source);
+        tell_pairs(alloc, plain, disk, source)?;
     }
-    plain
+    Ok(())
 }
 
-/// The same from the start.
-pub fn told(rt: &impl Abort, alloc: Global, disk: &Disk) -> Plain {
-    let plain = all_kept(rt, alloc, disk.live.geometry().blocks);
-    told_again(rt, alloc, plain, disk)
+/// A plain world with these pairs, made from the start.
+pub fn told(alloc: Global, disk: &Disk) -> Result<Plain, Fail> {
+    let mut plain = all_kept(alloc, disk.live.geometry().blocks)?;
+    tell_again(alloc, &mut plain, disk)?;
+    Ok(plain)
 }
 
-/// The world without the pointers of block 0 to blocks that are live in the tables and to which it doesn't point there.
-pub fn raw_of(rt: &impl Abort, alloc: Global, plain: &Plain, disk: &Disk) -> World {
-    let mut raw = plain_cut(alloc, &plain.world, 0, 0).expect(rt, "ample memory");
+/// Cuts the pointers of block 0 to blocks that are live in the tables and to which it doesn't point there.
+fn cut_loose(alloc: Global, raw: &mut World, disk: &Disk) -> Result<(), NoMemory> {
     for target in 1..raw.geometry().blocks {
         if is_live(disk, target) && !disk.pointers.has(0, target) {
-            raw = plain_cut(alloc, &raw, 0, target).expect(rt, "ample memory");
+            let next = plain_cut(alloc, raw, 0, target)?;
+            *raw = next;
         }
     }
-    raw
+    Ok(())
+}
+
+/// The world that was told, without the pointers of block 0 to blocks that are live in the tables and to which it doesn't point
+/// there.
+pub fn raw_of(alloc: Global, plain: &Plain, disk: &Disk) -> Result<World, Fail> {
+    let mut raw = plain_cut(alloc, &plain.world, 0, 0)?;
+    cut_loose(alloc, &mut raw, disk)?;
+    Ok(raw)
 }
 
 /// The blocks that are live in the tables.
@@ -134,12 +122,18 @@ pub struct Forecast {
 
 impl Forecast {
     /// Of the graph that the tables tell, which the raw world tells, too.
-    pub fn of(alloc: Global, disk: &Disk, raw: &World) -> Result<Forecast, Fail> {
+    fn of(alloc: Global, disk: &Disk, raw: &World) -> Result<Forecast, Fail> {
         Ok(Forecast {
             live: live_of(alloc, disk)?,
             doomed: plain_doomed(alloc, raw)?,
             reached: plain_reach(alloc, raw)?,
         })
+    }
+
+    /// Of the graph that the tables tell, which was told to this world.
+    pub fn of_told(alloc: Global, disk: &Disk, plain: &Plain) -> Result<Forecast, Fail> {
+        let raw = raw_of(alloc, plain, disk)?;
+        Forecast::of(alloc, disk, &raw)
     }
 
     /// How many blocks are doomed.

@@ -1,45 +1,49 @@
 //! Steps carried out until none is left, on graphs of which it is known what must go.
 
-use crate::disk::{Disk, carry_out, disk_with, found, next};
-use crate::plain::{Forecast, raw_of, told};
-use reclaim::Guesses;
+use crate::plain::{Forecast, told};
+use reclaim::{Guesses, find_step};
 use std::alloc::Global;
 use std::process::Abort;
 use std::test::Fail;
+use table_site::{Disk, carry_out, disk_with, next, test_tables};
 
 /// The steps that are left, carried out: of each the block, how many pairs it took, and whether it freed the block.
-fn steps_of(
-    rt: &impl Abort,
-    alloc: Global,
-    disk: &mut Disk,
-) -> Result<Vec<(u32, usize, bool)>, Fail> {
+fn steps_of(alloc: Global, disk: &mut Disk) -> Result<Vec<(u32, usize, bool)>, Fail> {
     let mut steps = Vec::new(alloc);
     for _turn in 0..1000 {
-        let Some(step) = next(rt, alloc, disk)? else {
+        let Some(step) = next(alloc, disk)? else {
             return Ok(steps);
         };
-        carry_out(rt, disk, &step)?;
+        carry_out(disk, &step)?;
         steps.push((step.block, step.targets.len(), step.freed))?;
     }
     Err(Fail::from("the steps don't end"))
 }
 
-/// Compares the steps that are left on a disk. Exactly those blocks go of which the plain program says that they are doomed.
+/// What the plain program says of the graph that the tables tell.
+fn forecast_of(alloc: Global, disk: &Disk) -> Result<Forecast, Fail> {
+    let plain = told(alloc, disk)?;
+    Forecast::of_told(alloc, disk, &plain)
+}
+
+/// Compares the steps that are left on a disk, what goes with what was foreseen, and how many pairs are left then.
 fn check_steps(
     rt: &impl Abort,
     alloc: Global,
     disk: &mut Disk,
+    forecast: &Forecast,
     expected: &[(u32, usize, bool)],
+    left: u32,
 ) -> Result<(), Fail> {
-    let raw = raw_of(rt, alloc, &told(rt, alloc, disk), disk);
-    let forecast = Forecast::of(alloc, disk, &raw)?;
-    let steps = steps_of(rt, alloc, disk)?;
+    let steps = steps_of(alloc, disk)?;
     assert_eq!(rt; steps.as_slice(), expected);
     forecast.has_come(rt, disk);
+    assert_eq!(rt; disk.pointers.len(), left);
     Ok(())
 }
 
 /// Compares the steps that are left on a disk with these pairs, on which so many blocks are live, and how many pairs are left.
+/// Exactly those blocks go of which the plain program says that they are doomed.
 fn check(
     rt: &impl Abort,
     alloc: Global,
@@ -48,10 +52,9 @@ fn check(
     expected: &[(u32, usize, bool)],
     left: u32,
 ) -> Result<(), Fail> {
-    let mut disk = disk_with(rt, alloc, 64, live, pairs)?;
-    check_steps(rt, alloc, &mut disk, expected)?;
-    assert_eq!(rt; disk.pointers.len(), left);
-    Ok(())
+    let mut disk = disk_with(alloc, 64, live, pairs)?;
+    let forecast = forecast_of(alloc, &disk)?;
+    check_steps(rt, alloc, &mut disk, &forecast, expected, left)
 }
 
 #[test]
@@ -114,31 +117,38 @@ fn nothing_goes_that_a_primary_block_leads_to(rt: HostRuntime) -> Result<(), Fai
 }
 
 /// The blocks of the steps that guesses find, carried out until none is left.
-fn guessed(
-    rt: &impl Abort,
-    alloc: Global,
-    disk: &mut Disk,
-    guesses: &mut Guesses,
-) -> Result<Vec<u32>, Fail> {
+fn guessed(alloc: Global, disk: &mut Disk, guesses: &mut Guesses) -> Result<Vec<u32>, Fail> {
     let mut blocks = Vec::new(alloc);
     for _turn in 0..1000 {
-        let Some(step) = found(rt, disk, guesses)? else {
+        test_tables(disk)?;
+        let found = find_step(&disk.pointers, &disk.counts, &disk.live, guesses);
+        let Some(step) = found else {
             return Ok(blocks);
         };
-        carry_out(rt, disk, &step)?;
+        carry_out(disk, &step)?;
         guesses.push_uncounted(&disk.counts, step.targets.as_slice());
         blocks.push(step.block)?;
     }
     Err(Fail::from("the steps don't end"))
 }
 
-/// Compares the blocks of the steps that are found on a disk with a chain of lost blocks, whatever is guessed.
-fn check_guessed(rt: &impl Abort, alloc: Global, guesses: &mut Guesses) -> Result<(), Fail> {
-    let mut disk = disk_with(rt, alloc, 64, 5, &[(1, 2), (2, 3), (3, 4)])?;
-    let steps = guessed(rt, alloc, &mut disk, guesses)?;
+/// Compares the blocks of the steps that are found on a disk with a chain of blocks 1 to 4, whatever is guessed.
+fn check_found(
+    rt: &impl Abort,
+    alloc: Global,
+    disk: &mut Disk,
+    guesses: &mut Guesses,
+) -> Result<(), Fail> {
+    let steps = guessed(alloc, disk, guesses)?;
     assert_eq!(rt; steps.as_slice(), [1, 2, 3, 4].as_slice());
     assert_eq!(rt; disk.pointers.len(), 0);
     Ok(())
+}
+
+/// The same on a disk of its own.
+fn check_guessed(rt: &impl Abort, alloc: Global, guesses: &mut Guesses) -> Result<(), Fail> {
+    let mut disk = disk_with(alloc, 64, 5, &[(1, 2), (2, 3), (3, 4)])?;
+    check_found(rt, alloc, &mut disk, guesses)
 }
 
 #[test]

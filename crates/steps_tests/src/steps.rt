@@ -9,14 +9,14 @@ ghost use Rattle.cycle_sweep.specs.Marked.{is_marked};
 ghost use Rattle.reclaim.specs.Ahead.{IsAheadOf};
 ghost use Rattle.reclaim.specs.Tables.{graph_of, AreTables, HaveCounts, HoldsLost};
 
-use crate::disk::{Disk, carry_out};
-use cycle_sweep::{Marks, next_sweep_step};
+use cycle_sweep::{Marks, mark, next_sweep_step};
 use pointer_table::OutStep;
 use reclaim::{Ahead, Guesses, Work, find_step, next_step};
 use ref_counts::RefCounts;
 use std::alloc::Global;
 use std::process::Abort;
 use std::test::Fail;
+use table_site::{Disk, carry_out, test_tables};
 
 /// No test makes more steps.
 const MOST: u32 = 2_500_000;
@@ -58,16 +58,26 @@ impl Sum {
     }
 }
 
-/// Reclaims all that is doomed, by guesses.
-pub fn reclaim_by_guesses(
+/// Reclaims all that is doomed, by a list of the lost blocks or by guesses.
+pub fn reclaim_all(
     rt: &impl Abort,
+    alloc: Global,
     disk: &mut Disk,
-    guesses: &mut Guesses,
-) -> Result<Sum, Fail>
+    by_work: bool,
+) -> Result<Sum, Fail> {
+    test_tables(disk)?;
+    if by_work {
+        reclaim_by_work(rt, alloc, disk)
+    } else {
+        let mut guesses = Guesses::new(alloc)?;
+        reclaim_by_guesses(disk, &mut guesses)
+    }
+}
+
+/// Reclaims all that is doomed, by guesses.
+fn reclaim_by_guesses(disk: &mut Disk, guesses: &mut Guesses) -> Result<Sum, Fail>
     requires tables { AreTables disk.old.pointers disk.old.live }
     requires counts { HaveCounts disk.old.pointers disk.old.live disk.old.counts }
-    ensures tables { OnOk result (AreTables disk.new.pointers disk.new.live) }
-    ensures counts { OnOk result (HaveCounts disk.new.pointers disk.new.live disk.new.counts) }
 {
     let mut sum = Sum::none();
     for _turn in 0..MOST {
@@ -75,7 +85,7 @@ pub fn reclaim_by_guesses(
         let Some(step) = found else {
             return Ok(sum);
         };
-        carry_out(rt, disk, &step)?;
+        carry_out(disk, &step)?;
         guesses.push_uncounted(&disk.counts, step.targets.as_slice());
         sum.count(&step);
     }
@@ -83,7 +93,7 @@ pub fn reclaim_by_guesses(
 }
 
 /// Reclaims all that is doomed, by a list of the lost blocks.
-pub fn reclaim_by_work(rt: &impl Abort, alloc: Global, disk: &mut Disk) -> Result<Sum, Fail>
+fn reclaim_by_work(rt: &impl Abort, alloc: Global, disk: &mut Disk) -> Result<Sum, Fail>
     requires tables { AreTables disk.old.pointers disk.old.live }
     requires counts { HaveCounts disk.old.pointers disk.old.live disk.old.counts }
 {
@@ -99,15 +109,13 @@ fn reclaim_collected(rt: &impl Abort, disk: &mut Disk, work: &mut Work) -> Resul
     requires counts { HaveCounts disk.old.pointers disk.old.live disk.old.counts }
     requires room { work.old.room ≡ disk.old.pointers.geometry.blocks }
     requires work { HoldsLost (graph_of disk.old.pointers disk.old.live) work.old }
-    ensures tables { OnOk result (AreTables disk.new.pointers disk.new.live) }
-    ensures counts { OnOk result (HaveCounts disk.new.pointers disk.new.live disk.new.counts) }
 {
     let mut sum = Sum::none();
     for _turn in 0..MOST {
         let Some(step) = next_step(&disk.pointers, &disk.counts, &disk.live, work) else {
             return Ok(sum);
         };
-        carry_out(rt, disk, &step)?;
+        carry_out(disk, &step)?;
         push_uncounted(rt, work, &disk.counts, step.targets.as_slice());
         sum.count(&step);
     }
@@ -141,12 +149,7 @@ fn push_one(rt: &impl Abort, work: &mut Work, counts: &RefCounts, block: u32)
 }
 
 /// Reclaims all that is doomed, by guesses, and tells each step to what is kept ahead.
-pub fn reclaim_told(
-    rt: &impl Abort,
-    disk: &mut Disk,
-    ahead: &mut Ahead,
-    guesses: &mut Guesses,
-) -> Result<Sum, Fail>
+pub fn reclaim_told(disk: &mut Disk, ahead: &mut Ahead, guesses: &mut Guesses) -> Result<Sum, Fail>
     requires tables { AreTables disk.old.pointers disk.old.live }
     requires counts { HaveCounts disk.old.pointers disk.old.live disk.old.counts }
     requires ahead { IsAheadOf (graph_of disk.old.pointers disk.old.live) ahead.old }
@@ -158,7 +161,7 @@ pub fn reclaim_told(
         let Some(step) = found else {
             return Ok(sum);
         };
-        carry_out(rt, disk, &step)?;
+        carry_out(disk, &step)?;
         ahead.done(&step);
         guesses.push_uncounted(&disk.counts, step.targets.as_slice());
         sum.count(&step);
@@ -166,13 +169,20 @@ pub fn reclaim_told(
     Err(Fail::from("the steps don't end"))
 }
 
+/// Sweeps all that no primary block leads to, with the marks of the beginning.
+pub fn sweep_all(alloc: Global, disk: &mut Disk) -> Result<Sum, Fail> {
+    test_tables(disk)?;
+    let size = disk.pointers.geometry();
+    let mut marks = Marks::new(alloc, size.blocks)?;
+    mark(&disk.pointers, &disk.live, size.primaries, &mut marks);
+    sweep_marked(disk, &mut marks)
+}
+
 /// Sweeps all that isn't marked, with the marks as they are.
-pub fn sweep_marked(rt: &impl Abort, disk: &mut Disk, marks: &mut Marks) -> Result<Sum, Fail>
+fn sweep_marked(disk: &mut Disk, marks: &mut Marks) -> Result<Sum, Fail>
     requires tables { AreTables disk.old.pointers disk.old.live }
     requires counts { HaveCounts disk.old.pointers disk.old.live disk.old.counts }
     requires marks { (b : ℕ) → is_marked marks.old b ≡ has_number (reach (graph_of disk.old.pointers disk.old.live)) b }
-    ensures tables { OnOk result (AreTables disk.new.pointers disk.new.live) }
-    ensures counts { OnOk result (HaveCounts disk.new.pointers disk.new.live disk.new.counts) }
 {
     let mut sum = Sum::none();
     for _turn in 0..MOST {
@@ -180,7 +190,7 @@ pub fn sweep_marked(rt: &impl Abort, disk: &mut Disk, marks: &mut Marks) -> Resu
         let Some(step) = found else {
             return Ok(sum);
         };
-        carry_out(rt, disk, &step)?;
+        carry_out(disk, &step)?;
         sum.count(&step);
     }
     Err(Fail::from("the steps don't end"))

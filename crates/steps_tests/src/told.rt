@@ -5,20 +5,19 @@ ghost use Rattle.block_alloc.specs.LiveMap.{is_live};
 ghost use Rattle.reclaim.specs.Ahead.{IsAheadOf, Hides, is_gone};
 ghost use Rattle.reclaim.specs.Tables.{graph_of};
 
-use crate::checks::are_tables;
-use crate::disk::{Disk, add, carry_out, next, take};
 use block_alloc::LiveMap;
 use reclaim::Ahead;
 use std::alloc::Global;
 use std::process::Abort;
 use std::test::Fail;
+use table_site::{Disk, add, are_tables, carry_out, next, take};
 
 /// What is kept ahead of a disk on which nothing is doomed.
-pub fn ahead_of(rt: &impl Abort, alloc: Global, disk: &Disk) -> Result<Ahead, Fail>
+pub fn ahead_of(alloc: Global, disk: &Disk) -> Result<Ahead, Fail>
     ensures { IfOk result (λ ahead. IsAheadOf (graph_of disk.now.pointers disk.now.live) ahead) }
 {
     let mut ahead = Ahead::new(alloc, disk.counts.geometry().blocks)?;
-    match next(rt, alloc, disk)? {
+    match next(alloc, disk)? {
         Some(_) => Err(Fail::from("something is doomed")),
         None => {
             ahead.reset(&disk.counts);
@@ -68,7 +67,7 @@ pub fn delete(
     assert!(rt; disk.pointers.has(source, target));
     assert!(rt; !ahead.is_doomed(source));
     assert!(rt; !ahead.is_doomed(target));
-    take(rt, &mut disk.pointers, &mut disk.counts, source, target)?;
+    take(&mut disk.pointers, &mut disk.counts, source, target)?;
     assert!(rt; are_tables(&disk.pointers, &disk.live));
     Ok(ahead.lower(&disk.pointers, &mut disk.live, target))
 }
@@ -89,7 +88,7 @@ pub fn create(
     assert!(rt; !ahead.is_doomed(source));
     assert!(rt; !ahead.is_doomed(target));
     assert!(rt; target < disk.pointers.geometry().blocks);
-    add(rt, &mut disk.pointers, &mut disk.counts, source, target)?;
+    add(&mut disk.pointers, &mut disk.counts, source, target)?;
     ahead.raise(target);
     Ok(())
 }
@@ -106,14 +105,14 @@ pub fn allocate(
     requires { IsAheadOf (graph_of disk.old.pointers disk.old.live) ahead.old }
     ensures { OnOk result (IsAheadOf (graph_of disk.new.pointers disk.new.live) ahead.new) }
 {
-    match next(rt, alloc, disk)? {
+    match next(alloc, disk)? {
         Some(_) => Err(Fail::from("something is doomed")),
         None => {
             let size = disk.live.geometry();
             assert!(rt; block < size.blocks);
             assert!(rt; !disk.live.raw_live(block));
             disk.live.set_live(block);
-            add(rt, &mut disk.pointers, &mut disk.counts, source, block)?;
+            add(&mut disk.pointers, &mut disk.counts, source, block)?;
             ahead.raise_all(&[block]);
             Ok(())
         }
@@ -121,19 +120,26 @@ pub fn allocate(
 }
 
 /// A step of reclamation, if one is left. Tells whether there was one.
-pub fn step(
-    rt: &impl Abort,
-    alloc: Global,
-    disk: &mut Disk,
-    ahead: &mut Ahead,
-) -> Result<bool, Fail>
+pub fn step(alloc: Global, disk: &mut Disk, ahead: &mut Ahead) -> Result<bool, Fail>
     requires { IsAheadOf (graph_of disk.old.pointers disk.old.live) ahead.old }
     ensures { OnOk result (IsAheadOf (graph_of disk.new.pointers disk.new.live) ahead.new) }
 {
-    let Some(step) = next(rt, alloc, disk)? else {
+    let Some(step) = next(alloc, disk)? else {
         return Ok(false);
     };
-    carry_out(rt, disk, &step)?;
+    carry_out(disk, &step)?;
     ahead.done(&step);
     Ok(true)
+}
+
+/// Asserts how many blocks are doomed and how many pairs begin there, and how many pairs there are and how many blocks are free.
+pub fn are_counted(
+    rt: &impl Abort,
+    disk: &Disk,
+    ahead: &Ahead,
+    doomed: (u32, u32),
+    left: (u32, u32),
+) {
+    assert_eq!(rt; (ahead.doomed(), ahead.doomed_pairs()), doomed);
+    assert_eq!(rt; (disk.pointers.len(), disk.live.free_count()), left);
 }

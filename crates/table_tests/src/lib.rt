@@ -1,4 +1,4 @@
-//! Tests of the tables of an image: pointers, counts, free space and capabilities.
+//! Tests of the tables of an image that tell of its blocks: counts, free space and capabilities.
 //!
 //! They use public calls alone and show what no clause says. They stand in a crate of their own, so that a change of a test
 //! proves no other crate again. Nothing stands on it, and it promises nothing.
@@ -11,6 +11,8 @@ mod caps;
 #[cfg(test)]
 mod counts;
 #[cfg(test)]
-mod long_lists;
+mod placing;
 #[cfg(test)]
-mod pointers;
+mod sectors;
+#[cfg(test)]
+mod seeds;

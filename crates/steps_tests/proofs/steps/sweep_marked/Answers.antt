@@ -3,7 +3,7 @@ use Rattle.steps_tests.proofs.CarryLaws.{marks_after}
 use Rattle.steps_tests.proofs.steps.sweep_marked.Goals as goal
 
 pub loop-turn-preserved : goal.loop-turn-preserved
-loop-turn-preserved g c = record {
+loop-turn-preserved c = record {
   tables = c.in_ok-carry_out.ensures.tables;
   counts = c.in_ok-carry_out.ensures.counts;
   marks = marks_after (graph_of c.loop-turn.disk.pointers c.loop-turn.disk.live) (graph_of c.carry_out.new.disk.pointers c.carry_out.new.disk.live) c.in-Some.step c.loop-turn.marks

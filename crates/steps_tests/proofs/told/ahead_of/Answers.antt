@@ -7,7 +7,7 @@ use Rattle.reclaim.specs.Tables.{graph_of}
 use Rattle.steps_tests.proofs.told.ahead_of.Goals as goal
 
 pub returns-in-None : goal.returns-in-None
-returns-in-None g c =
+returns-in-None c =
     let w = graph_of c.args.disk.now.pointers c.args.disk.now.live in
     c.reset.ensures.ahead w (sym (ap (λ (x : Geometry). x.blocks) c.in_ok-next.ensures.counts.geometry))
     (subst (λ (o : Option OutStep). IfNone o (doomed w ≡ [])) c.in-None.is c.in_ok-next.ensures.none) c.in_ok-next.ensures.counts.each
