@@ -46,7 +46,10 @@ fn check_stop(
     assert!(rt; is_right, "{input} {passes} {pick:?} {status:?}");
     let is_done = status == Status::Done;
     let is_stopped = matches!(status, Status::DeviceFault | Status::PutFault);
-    assert!(rt; is_done || is_stopped, "{input} {passes} {pick:?} {status:?}");
+    assert!(rt;
+        is_done || is_stopped,
+        "{input} {passes} {pick:?} {status:?}"
+    );
     Ok(is_done)
 }
 
