@@ -430,3 +430,18 @@ fn sessions_begin_and_end(rt: HostRuntime) -> Result<(), Fail> {
     assert_eq!(rt; grants.end(65), Err(EndRefusal::BadSession));
     Ok(())
 }
+
+#[test]
+fn no_session_has_number_0(rt: HostRuntime) -> Result<(), Fail> {
+    let mut grants = Grants::new(rt.alloc(), 100, 3);
+    assert_eq!(rt; grants.begin(1), Ok(()));
+    assert!(rt; !grants.is_begun(0));
+    let mut origins = Origins::bare();
+    origins.raise(2, Level::Read);
+    grants.raise(0, 99, &origins);
+    assert_eq!(rt; grants.level(0, 99), Level::Bare);
+    assert_eq!(rt; grants.level_from(1, 99, 2), Level::Bare);
+    assert_eq!(rt; grants.end(0), Err(EndRefusal::BadSession));
+    assert!(rt; grants.is_begun(1));
+    Ok(())
+}

@@ -19,4 +19,6 @@ mod laying;
 #[cfg(test)]
 mod mounting;
 #[cfg(test)]
+mod roots;
+#[cfg(test)]
 mod worlds;

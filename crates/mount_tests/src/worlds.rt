@@ -19,11 +19,17 @@ struct World {
     lines: &'static [(&'static str, &'static str)],
 }
 
-/// Lays it on a disk.
-fn lay_digits(rt: &impl Abort, alloc: Global, disk: &mut Untold<PlainBlocks>, world: &World) {
+/// Lays on a disk what these digits say and these pointers.
+pub fn lay_digits(
+    rt: &impl Abort,
+    alloc: Global,
+    disk: &mut Untold<PlainBlocks>,
+    said: &[(u32, &'static str)],
+    pairs: &[(u32, u32)],
+) {
     let mut last = 0;
     let mut all = Vec::new(alloc);
-    for (block, digits) in world.said {
+    for (block, digits) in said {
         last = last.max(*block);
         assert!(rt; all.push((*block, Said::Digits(digits))).is_ok());
     }
@@ -32,11 +38,11 @@ fn lay_digits(rt: &impl Abort, alloc: Global, disk: &mut Untold<PlainBlocks>, wo
         alloc,
         disk,
         last,
-        world.pairs,
+        pairs,
         all.as_slice(),
         "a world of an independent program",
     );
-    has_pairs(rt, disk, world.pairs, "as it was laid");
+    has_pairs(rt, disk, pairs, "as it was laid");
 }
 
 /// Asserts that a line is answered so in the world of this place.
@@ -57,7 +63,7 @@ fn answers(
 }
 
 /// Mounts what was laid, and asserts that it is a tree or none and that lines are answered so.
-fn is_as_told(
+pub fn is_as_told(
     rt: &impl Abort,
     alloc: Global,
     site: &mut PlainSite<InodeFs>,
@@ -77,7 +83,7 @@ fn is_as_told(
 /// Lays a world on a disk of its own and looks at it.
 fn check(rt: &impl Abort, alloc: Global, world: &World, place: usize) {
     let mut site = begun::<InodeFs>(alloc, 1, world.blocks, world.slots).expect(rt, "ample memory");
-    lay_digits(rt, alloc, &mut site.disk, world);
+    lay_digits(rt, alloc, &mut site.disk, world.said, world.pairs);
     is_as_told(rt, alloc, &mut site, place, world.lines);
 }
 
@@ -463,6 +469,235 @@ const THIRD: [World; 8] = [
     },
 ];
 
+const FOURTH: [World; 8] = [
+    World {
+        blocks: 8,
+        slots: 32,
+        said: &[
+            (0, "545344494e4f443101000000010000000100000061"),
+            (1, "545344494e4f443102000000f6050000020000000300000004"),
+            (2, "30*512"),
+            (3, "30*512"),
+            (4, "30*6,a4*495,26"),
+        ],
+        pairs: &[(0, 1), (1, 2), (1, 3), (1, 4)],
+        lines: &[
+            ("ls /", "names a"),
+            ("cat /a", "data 30*1030,a4*495,26"),
+            ("append /a/a ec*497", "no not-dir"),
+        ],
+    },
+    World {
+        blocks: 8,
+        slots: 12,
+        said: &[
+            (0, "545344494e4f443101000000010000000300000063"),
+            (3, "545344494e4f443102000000010200000400000005"),
+            (4, "14*512"),
+            (5, "14"),
+        ],
+        pairs: &[(0, 3), (3, 4), (3, 5)],
+        lines: &[
+            ("ls /", "names c"),
+            ("cat /c", "data 14*513"),
+            ("mkdir /c", "no exists"),
+        ],
+    },
+    World {
+        blocks: 8,
+        slots: 32,
+        said: &[
+            (
+                0,
+                "555344494e4f44310100000002000000030000004200*27,0100000061",
+            ),
+            (1, "545344494e4f44310200*4,02000002"),
+            (2, "e1*512"),
+            (3, "545344494e4f443102000000010200000400000005"),
+            (4, "21*512"),
+            (5, "21"),
+        ],
+        pairs: &[(0, 1), (0, 3), (1, 2), (3, 4), (3, 5)],
+        lines: &[],
+    },
+    World {
+        blocks: 8,
+        slots: 12,
+        said: &[
+            (0, "545344494e4f443101000000010000000300000042"),
+            (3, "545344494e4f443102000000020200000400000005"),
+            (4, "634b*7,004b*503"),
+            (5, "4b4b"),
+        ],
+        pairs: &[(0, 3), (3, 4), (3, 5)],
+        lines: &[("ls /", "names B"), ("cat /B", "data 634b*7,004b*505")],
+    },
+    World {
+        blocks: 12,
+        slots: 32,
+        said: &[
+            (0, "545344494e4f443101000000010000000100000062"),
+            (1, "545344494e4f443101"),
+        ],
+        pairs: &[(0, 1)],
+        lines: &[
+            ("ls /", "names b"),
+            ("ls /b", "names -"),
+            ("cat /b/a", "no no-entry"),
+            ("put /a/a 0e*495", "no no-entry"),
+        ],
+    },
+    World {
+        blocks: 8,
+        slots: 7,
+        said: &[
+            (0, "545344494e4f443101000000010000000500000042"),
+            (5, "545344494e4f443102000000f101000006"),
+            (6, "93*497"),
+        ],
+        pairs: &[(0, 5), (5, 6)],
+        lines: &[
+            ("ls /", "names B"),
+            ("cat /B", "data 93*497"),
+            ("mkdir /b", "ok"),
+        ],
+    },
+    World {
+        blocks: 8,
+        slots: 7,
+        said: &[
+            (0, "545344494e4f443101000000010000000500000043"),
+            (5, "545344494e4f443102000000f101000006"),
+            (6, "93*497"),
+        ],
+        pairs: &[(0, 5), (5, 6)],
+        lines: &[("ls /", "names C"), ("cat /C", "data 93*497")],
+    },
+    World {
+        blocks: 12,
+        slots: 32,
+        said: &[
+            (0, "545344494e4f443101000000010000000100000042"),
+            (1, "545344494e4f4431020000000300000002"),
+            (2, "fefefe"),
+        ],
+        pairs: &[(0, 1), (1, 2)],
+        lines: &[
+            ("ls /", "names B"),
+            ("cat /B", "data fefefe"),
+            ("mkdir /B", "no exists"),
+        ],
+    },
+];
+
+const FIFTH: [World; 8] = [
+    World {
+        blocks: 12,
+        slots: 32,
+        said: &[
+            (0, "545344494e4f44310100000001000000010000006200*27,02"),
+            (1, "545344494e4f443101"),
+        ],
+        pairs: &[(0, 1)],
+        lines: &[("ls /", "names b"), ("ls /b", "names -")],
+    },
+    World {
+        blocks: 12,
+        slots: 32,
+        said: &[
+            (0, "545344494e4f443101000000010000000100000063"),
+            (1, "545344494e4f443101"),
+        ],
+        pairs: &[(0, 1)],
+        lines: &[
+            ("ls /", "names c"),
+            ("ls /c", "names -"),
+            ("mkdir /B", "ok"),
+        ],
+    },
+    World {
+        blocks: 8,
+        slots: 32,
+        said: &[
+            (0, "545344494e4f443101000000010000000100000063"),
+            (1, "545344494e4f443101"),
+        ],
+        pairs: &[(0, 1)],
+        lines: &[
+            ("ls /", "names c"),
+            ("ls /c", "names -"),
+            ("put /c 87*1030", "no is-dir"),
+            ("put /c 98*496", "no is-dir"),
+        ],
+    },
+    World {
+        blocks: 8,
+        slots: 7,
+        said: &[
+            (0, "545344494e4f443101000000010000000100000063"),
+            (1, "545344494e4f443102000000ef01000002"),
+            (2, "64*495"),
+        ],
+        pairs: &[(0, 1), (1, 2)],
+        lines: &[
+            ("ls /", "names c"),
+            ("cat /c", "data 64*495"),
+            ("put /a/a be*496", "no no-entry"),
+        ],
+    },
+    World {
+        blocks: 8,
+        slots: 7,
+        said: &[
+            (0, "545344494e4f443101000000010000000100000001"),
+            (1, "545344494e4f443102000000ef01000002"),
+            (2, "64*495"),
+        ],
+        pairs: &[(0, 1), (1, 2)],
+        lines: &[],
+    },
+    World {
+        blocks: 8,
+        slots: 12,
+        said: &[
+            (0, "545344494e4f443101000000010000000100000042"),
+            (1, "545344494e4f443101"),
+        ],
+        pairs: &[(0, 1)],
+        lines: &[
+            ("ls /", "names B"),
+            ("ls /B", "names -"),
+            ("mkdir /B", "no exists"),
+        ],
+    },
+    World {
+        blocks: 8,
+        slots: 32,
+        said: &[
+            (0, "545344494e4f443101000000010000000100000062"),
+            (1, "545344494e4f4431020000000100000002"),
+            (2, "97"),
+        ],
+        pairs: &[(0, 1), (1, 2)],
+        lines: &[("ls /", "names b"), ("cat /b", "data 97"), ("rm /b", "ok")],
+    },
+    World {
+        blocks: 8,
+        slots: 12,
+        said: &[
+            (0, "545344494e4f443101000000010000000100000062"),
+            (1, "545344494e4f443102000000ef01000002"),
+            (2, "82*495"),
+        ],
+        pairs: &[(0, 1), (1, 2)],
+        lines: &[
+            ("ls /", "names b"),
+            ("cat /b", "data 82*495"),
+            ("cp /b /b", "no exists"),
+        ],
+    },
+];
+
 #[test]
 fn first_worlds(rt: HostRuntime) {
     for (place, world) in FIRST.iter().enumerate() {
@@ -480,6 +715,20 @@ fn second_worlds(rt: HostRuntime) {
 #[test]
 fn third_worlds(rt: HostRuntime) {
     for (place, world) in THIRD.iter().enumerate() {
+        check(&rt, rt.alloc(), world, place);
+    }
+}
+
+#[test]
+fn fourth_worlds(rt: HostRuntime) {
+    for (place, world) in FOURTH.iter().enumerate() {
+        check(&rt, rt.alloc(), world, place);
+    }
+}
+
+#[test]
+fn fifth_worlds(rt: HostRuntime) {
+    for (place, world) in FIFTH.iter().enumerate() {
         check(&rt, rt.alloc(), world, place);
     }
 }
