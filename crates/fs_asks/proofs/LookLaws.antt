@@ -54,7 +54,7 @@ only_a_fault no.Device h = refl
 
 -- ---- such a request is granted
 
-is_numbered : (v : Sessions) (s : ℕ) → is_open v s ≡ true → 1 ≤ s
+pub is_numbered : (v : Sessions) (s : ℕ) → is_open v s ≡ true → 1 ≤ s
 is_numbered v zero h = absurd (cc)
 is_numbered v (suc s) h = omega arith
 

@@ -1,44 +1,18 @@
 -- What a root reaches is closed under pairs, and is the least such set.
-use Rattle.std.proofs.Common.{◌≡◌, ℕ, zero, suc, ◌+◌, ◌<◌, ◌≤◌, Bool, true, false, cond, ◌&&◌, ◌||◌, ◌==◌, List, [], ◌∷◌, length, refl, sym, ◌∙◌, ap, subst, arith, inl, inr}
+use Rattle.std.proofs.Common.{◌≡◌, ℕ, zero, suc, ◌+◌, ◌<◌, ◌≤◌, true, false, cond, ◌&&◌, ◌==◌, List, [], ◌∷◌, length, refl, sym, ◌∙◌, ap, subst, arith, inl, inr}
 use Rattle.std.proofs.lemmas.Bool.{and_parts, and_from, or_cases, eq-eqb, eqb-true, cases_eq, or_left, or_right}
 use Rattle.std.proofs.lemmas.Bool.Decides.{nat_tests}
 use Rattle.std.specs.Prelude.{filter}
 use Rattle.std.specs.List.{list_any, range_with_len}
-use Rattle.tsd_model.specs.Pairs.{holds, is_pair}
+use Rattle.tsd_model.specs.Pairs.{holds}
 use Rattle.tsd_model.specs.World.{World, all_blocks, has_number}
-use Rattle.tsd_model.specs.Reach.{is_led_from, reach_round, reach_rounds, reach_from}
+use Rattle.tsd_model.specs.Reach.{reach_round, reach_rounds, reach_from}
 use Rattle.tsd_model.specs.Valid.{IsRaw}
 use Rattle.disk_laws.proofs.GraphLaws.{has_number-filter, length-range, rounds_from, from_more, from_end}
 use Rattle.disk_laws.proofs.DoomLaws.{live_below, in_all}
+use Rattle.disk_laws.proofs.ReachLaws.{leads, leads_stays, leads_grows, found_any}
 use Rattle.fs_trees.specs.Outside.{is_under}
 use Rattle.fs_laws.proofs.ListLaws.{led_by}
-
--- reached, or led to from what is
-abbrev leads : World → List ℕ → ℕ → Bool
-leads w xs b = has_number xs b || is_led_from w xs b
-
-any_more : (xs ys : List ℕ) (b : ℕ) → ((c : ℕ) → has_number xs c ≡ true → has_number ys c ≡ true) → (es : List (ℕ × ℕ)) → list_any (λ e. (e.1 == b) && has_number xs e.0) es ≡ true → list_any (λ e. (e.1 == b) && has_number ys e.0) es ≡ true
-any_more xs ys b more [] h = absurd (cc)
-any_more xs ys b more (e ∷ es) h = elim (or_cases ((e.1 == b) && has_number xs e.0) (list_any (λ f. (f.1 == b) && has_number xs f.0) es) h) [
-  | inl here ↦ let parts = and_parts (e.1 == b) (has_number xs e.0) here in or_left _ _ (and_from (e.1 == b) (has_number ys e.0) parts.0 (more e.0 parts.1))
-  | inr later ↦ or_right ((e.1 == b) && has_number ys e.0) _ (any_more xs ys b more es later)
-]
-
-leads_stays : (w : World) (xs : List ℕ) (b : ℕ) → has_number xs b ≡ true → leads w xs b ≡ true
-leads_stays w xs b h = or_left (has_number xs b) _ h
-
-leads_grows : (w : World) (xs ys : List ℕ) → ((b : ℕ) → has_number xs b ≡ true → has_number ys b ≡ true) → (b : ℕ) → leads w xs b ≡ true → leads w ys b ≡ true
-leads_grows w xs ys more b h = elim (or_cases (has_number xs b) (list_any (λ e. (e.1 == b) && has_number xs e.0) w.pairs) h) [
-  | inl here ↦ or_left (has_number ys b) _ (more b here)
-  | inr led ↦ or_right (has_number ys b) _ (any_more xs ys b more w.pairs led)
-]
-
-found_any : (xs : List ℕ) (b : ℕ) (es : List (ℕ × ℕ)) → list_any (λ e. (e.1 == b) && has_number xs e.0) es ≡ true → (a : ℕ) × (holds es a b ≡ true) × (has_number xs a ≡ true)
-found_any xs b [] h = absurd (cc)
-found_any xs b (e ∷ es) h = elim (or_cases ((e.1 == b) && has_number xs e.0) (list_any (λ f. (f.1 == b) && has_number xs f.0) es) h) [
-  | inl here ↦ let parts = and_parts (e.1 == b) (has_number xs e.0) here in (e.0, or_left (is_pair e.0 b e) _ (and_from (e.0 == e.0) (e.1 == b) (eq-eqb e.0 e.0 refl) parts.0), parts.1)
-  | inr later ↦ let rest = found_any xs b es later in (rest.0, or_right (is_pair rest.0 b e) _ rest.1, rest.2)
-]
 
 -- one number of a range
 none_there : (root i n : ℕ) → root < i → filter (λ b. b == root) (range_with_len i n) ≡ []

@@ -1,5 +1,5 @@
 -- Requests of a client that may write there are refused for want of room alone.
-use Rattle.std.proofs.Common.{◌≡◌, ℕ, zero, suc, ◌+◌, ◌≤◌, Bool, true, false, not, cond, ◌&&◌, nat_lt, nat_le, List, [], ◌∷◌, ◌++◌, length, refl, sym, ◌∙◌, ap, arith, Option, Some, None}
+use Rattle.std.proofs.Common.{◌≡◌, ℕ, ◌+◌, ◌≤◌, Bool, true, false, not, cond, ◌&&◌, nat_lt, nat_le, List, [], ◌∷◌, ◌++◌, length, refl, sym, ◌∙◌, ap, arith, Option, Some, None}
 use Rattle.std.proofs.lemmas.Bool.{and_parts, not-true}
 use Rattle.std.proofs.lemmas.Bool.Decides.{nat_tests}
 use Rattle.std.specs.List.{list_all}
@@ -30,11 +30,8 @@ use Rattle.fs_asks.specs.declared.client.Client.{Client}
 use Rattle.fs_asks.specs.Client.{shown_at, write_by, unlink_by, link_by, alloc_by}
 use Rattle.fs_asks.specs.Asks.{refusal_of, IsRefused}
 use Rattle.fs_asks.specs.May.{MayWrite}
+use Rattle.fs_asks.proofs.LookLaws.{is_numbered}
 use Rattle.fs_steps.specs.Steps.{no_room_in}
-
-is_numbered : (v : Sessions) (s : ℕ) → is_open v s ≡ true → 1 ≤ s
-is_numbered v zero h = absurd (cc)
-is_numbered v (suc s) h = omega arith
 
 -- rules that don't apply are passed by
 passed_by : (cs ds : List Check) → list_all (λ c. not c.applies) cs ≡ true → first_rule (cs ++ ds) ≡ first_rule ds

@@ -15,17 +15,7 @@ like_back v w like = record { geometry = sym like.geometry; version = sym like.v
 pub like_as : (v w : World) → v ≡ w → AreLike v w
 like_as v w same = subst (AreLike v) same (like_itself v)
 
--- a block has at most eight sectors
-pub sectors_most : (g : Geometry) → IsLawful g → g.sectors ≤ 8
-sectors_most g lawful = elim lawful.sectors [
-  | inl one ↦ omega (arith, one)
-  | inr more ↦ elim more [
-    | inl two ↦ omega (arith, two)
-    | inr rest ↦ elim rest [ inl four ↦ omega (arith, four) | inr eight ↦ omega (arith, eight) ]
-  ]
-]
-
--- and at most 32 blocks have at most 256
+-- at most 32 blocks have at most 256 sectors
 pub sectors_of_blocks : (g : Geometry) (len : ℕ) → IsLawful g → len ≤ 32 → g.sectors * len ≤ 256
 sectors_of_blocks g len lawful few = elim lawful.sectors [
   | inl one ↦ subst (λ k. k * len ≤ 256) (sym one) (omega (arith, few))

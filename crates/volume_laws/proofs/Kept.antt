@@ -28,6 +28,7 @@ use Rattle.image_world.specs.Tables.{Tables}
 use Rattle.image_world.specs.Raw.{left_of, world_with, zeros_of}
 use Rattle.volume_laws.specs.Moments.{owed}
 use Rattle.image_world.specs.Turns.{Turns}
+use Rattle.image_world.proofs.ChangeLaws.{left_records}
 
 -- ---- worlds
 pub left_kept : (t : Tables) (rs : List Record) (c : ℕ → List ℕ) → left_of (record t { records = rs }) (world_with (record t { records = rs }) c) ≡ record (left_of t (world_with t c)) { records = rs }
@@ -36,10 +37,6 @@ left_kept t rs c = elim (cases_Bool t.is_sweeping) [
   | inl e ↦ rw e (swept-of_records (world_with t c) t.version rs)
   | inr e ↦ rw e (settle-of_records (world_with t c) t.version rs)
 ]
-
-pub left_records : (t : Tables) (c : ℕ → List ℕ) → (left_of t (world_with t c)).records ≡ t.records
-unfolding left_of world_with
-left_records t c = elim (cases_Bool t.is_sweeping) [ inl e ↦ rw e refl | inr e ↦ rw e refl ]
 
 -- a primary block's record is set
 pub left_with_caps : (t : Tables) (b : ℕ) (r : Record) (c : ℕ → List ℕ)

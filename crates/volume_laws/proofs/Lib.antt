@@ -8,7 +8,6 @@ pub mod Loose
 pub mod Ops
 pub mod Dropped
 pub mod Outcomes
-pub mod NumberLaws
 pub mod Taken
 pub mod TableWorlds
 pub mod StepWorlds

@@ -19,7 +19,7 @@ use Rattle.pointer_table.specs.Changes.{IsSlotSector, KeepsStored}
 use Rattle.ref_counts.specs.Table.{Table as Counts}
 use Rattle.ref_counts.specs.Changes.{KeepsStored as KeepsCounts}
 use Rattle.graph_laws.proofs.StepLaws.{holds-without_pointers}
-use Rattle.volume_laws.proofs.NumberLaws.{has-at, not_before}
+use Rattle.reclaim.proofs.HeldLaws.{has-at, not_before}
 use Rattle.image_world.specs.Sound.{HasTables}
 use Rattle.image_world.specs.Tables.{Tables, pairs_of}
 use Rattle.image_world.specs.Raw.{world_with, zeros_of}

@@ -1,15 +1,11 @@
-use Rattle.std.proofs.Common.{◌∙◌, ap, Result, Ok, Err}
-use Rattle.std.specs.Prelude.{OnOk}
+use Rattle.std.proofs.Common.{◌∙◌, ap}
 use Rattle.image_layout.specs.Image.{is_open}
 use Rattle.image_device.proofs.Outcomes.{on_ok}
 use Rattle.image_world.proofs.FreshLaws.{fresh_stands}
 use Rattle.recovery.proofs.Formatted.{formatted_moments}
 use Rattle.recovery.proofs.FreshQuiet.{fresh_quiet}
+use Rattle.volume_laws.proofs.Committed.{ok_map}
 use Rattle.recovery.proofs.formatting.format.Goals as goal
-
-ok_map : {T E : Type 0} (r : Result T E) (P Q : Type 0) → (P → Q) → OnOk r P → OnOk r Q
-ok_map (Ok u) P Q f p = f p
-ok_map (Err e) P Q f p = tt
 
 pub returns-clause-done : goal.returns-clause-done
 returns-clause-done g c told =

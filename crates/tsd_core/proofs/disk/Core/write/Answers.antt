@@ -14,7 +14,8 @@ use Rattle.tsd_core.specs.Core.{Core, IsAt}
 use Rattle.tsd_core.specs.Work.{cost_of}
 use Rattle.tsd_core.specs.Carrying.{IsKnown, IsOperation, IsCarriedOut}
 use Rattle.tsd_core.proofs.AtLaws.{at_volume, like_at}
-use Rattle.tsd_core.proofs.Likes.{like_back, sectors_most}
+use Rattle.volume_laws.proofs.BlockLaws.{sectors_most}
+use Rattle.tsd_core.proofs.Likes.{like_back}
 use Rattle.tsd_core.proofs.Operations.{then_ok, if_ok, counted, at_most, most_due, paid_more, carried_out}
 use Rattle.tsd_core.proofs.disk.Core.write.Goals as goal
 
