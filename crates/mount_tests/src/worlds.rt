@@ -87,6 +87,13 @@ fn check(rt: &impl Abort, alloc: Global, world: &World, place: usize) {
     is_as_told(rt, alloc, &mut site, place, world.lines);
 }
 
+/// Looks at each of these worlds.
+fn check_all(rt: &impl Abort, alloc: Global, worlds: &[World]) {
+    for (place, world) in worlds.iter().enumerate() {
+        check(rt, alloc, world, place);
+    }
+}
+
 const FIRST: [World; 9] = [
     World {
         blocks: 8,
@@ -700,35 +707,25 @@ const FIFTH: [World; 8] = [
 
 #[test]
 fn first_worlds(rt: HostRuntime) {
-    for (place, world) in FIRST.iter().enumerate() {
-        check(&rt, rt.alloc(), world, place);
-    }
+    check_all(&rt, rt.alloc(), &FIRST);
 }
 
 #[test]
 fn second_worlds(rt: HostRuntime) {
-    for (place, world) in SECOND.iter().enumerate() {
-        check(&rt, rt.alloc(), world, place);
-    }
+    check_all(&rt, rt.alloc(), &SECOND);
 }
 
 #[test]
 fn third_worlds(rt: HostRuntime) {
-    for (place, world) in THIRD.iter().enumerate() {
-        check(&rt, rt.alloc(), world, place);
-    }
+    check_all(&rt, rt.alloc(), &THIRD);
 }
 
 #[test]
 fn fourth_worlds(rt: HostRuntime) {
-    for (place, world) in FOURTH.iter().enumerate() {
-        check(&rt, rt.alloc(), world, place);
-    }
+    check_all(&rt, rt.alloc(), &FOURTH);
 }
 
 #[test]
 fn fifth_worlds(rt: HostRuntime) {
-    for (place, world) in FIFTH.iter().enumerate() {
-        check(&rt, rt.alloc(), world, place);
-    }
+    check_all(&rt, rt.alloc(), &FIFTH);
 }
