@@ -1,6 +1,7 @@
 -- When an image's bitmap says what a map says.
-use Rattle.std.specs.Prelude.{◌≡◌, ℕ, ◌+◌, ◌<◌, Bool, List}
-use Rattle.image_device.specs.Image.{Image}
+use Rattle.std.specs.Prelude.{◌≡◌, ◌≢◌, ◌⊎◌, ℕ, ◌+◌, ◌/◌, ◌<◌, Bool, List}
+use Rattle.image_device.specs.Image.{Image, put_at}
+use Rattle.image_layout.specs.declared.place.Patch.{Patch}
 use Rattle.image_layout.specs.Areas.{bitmap_start, slots_start}
 use Rattle.image_layout.specs.Image.{is_marked}
 use Rattle.image_layout.specs.Places.{bit_place}
@@ -28,3 +29,28 @@ sector_of g b = (bit_place g b).sector
 abbrev pub AreWritten : List Bool → Geometry → Image → Type 0
 AreWritten live g image =
     (part : ℕ) → bitmap_start g + part < slots_start g → image (bitmap_start g + part) ≡ bitmap_sector_bytes live part
+
+-- ---- changes
+-- with the patch, an image has the bit of each block that has its bit in that sector, whatever it had before
+abbrev pub StoresSector : List Bool → Geometry → Patch → Type 0
+StoresSector live g patch =
+    (x : Image) (b : ℕ) → b < g.blocks → sector_of g b ≡ patch.sector
+    → IsStoredAt live g (put_at patch.sector patch.bytes x) b
+
+-- where an image has the bits of all other sectors, with the patch it has all of them
+abbrev pub Completes : List Bool → Geometry → Patch → Type 0
+Completes live g patch =
+    (x : Image) → ((b : ℕ) → b < g.blocks → sector_of g b ≢ patch.sector → IsStoredAt live g x b)
+    → IsStored live g (put_at patch.sector patch.bytes x)
+
+-- an image with the sector of a block's bit as the map has it
+abbrev pub patched : List Bool → Geometry → ℕ → Image → Image
+patched live g b x = put_at (sector_of g b) (bitmap_sector_bytes live (b / per_sector)) x
+
+-- From image x, where a map was `live`, to image y, where it is `now`: each block's sector is patched, or it is as before and
+-- the block didn't change.
+abbrev pub ArePatched : List Bool → List Bool → Geometry → Image → Image → Type 0
+ArePatched live now g x y =
+    (b : ℕ) → b < g.blocks
+    → (y (sector_of g b) ≡ bitmap_sector_bytes now (b / per_sector))
+    ⊎ ((y (sector_of g b) ≡ x (sector_of g b)) × (is_live now b ≡ is_live live b))

@@ -1,6 +1,7 @@
 //! Bits in bytes, eight a byte, the lowest first.
 
-ghost use Rattle.std.specs.Prelude.{◌≡◌, ℕ, ◌*◌, ◌+◌, ◌/◌, ◌%◌, ◌<◌, ◌≤◌, ◌≢◌, ◌==◌, cond, false, length, slice_index, IfOk};
+ghost use Rattle.std.specs.Prelude.{◌≡◌, ℕ, ◌*◌, ◌+◌, ◌/◌, ◌%◌, ◌<◌, ◌≤◌, ◌≢◌};
+ghost use Rattle.std.specs.Prelude.{◌==◌, cond, false, length, slice_index, IfOk};
 ghost use Rattle.std.specs.Int.{bit_at, div_ceil};
 ghost use Rattle.block_alloc.specs.LiveMap.{free_count};
 ghost use Rattle.block_alloc.specs.Bytes.{bit_in, bits_of, AreBits, IsPut};

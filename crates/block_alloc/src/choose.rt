@@ -81,8 +81,8 @@ impl LiveMap {
     }
 
     /// The first block of a run of so many free blocks: of all such runs, the one whose first block has the least rank.
-    /// The placement is asked for the rank of each one's first block (tested). `Short` comes exactly where fewer blocks are
-    /// free, `NoRun` exactly where enough are and no run is that long.
+    /// The placement is asked for the rank of each one's first block (tested). `Short` comes exactly where fewer blocks
+    /// are free, `NoRun` exactly where enough are and no run is that long.
     pub fn choose_run(&self, place: &Placement, hint: u32, count: u32) -> Result<u32, RunRefusal>
         requires { (1 ≤ count) × (count ≤ 32) }
         ensures chosen { IfOk result (λ first. chosen_run place.now.kind self.now.unhidden hint count ≡ Some first) }

@@ -1,6 +1,7 @@
 //! The bitmap of a fresh disk, in which the primary blocks are live and all others are free.
 
-ghost use Rattle.std.specs.Prelude.{◌≡◌, ℕ, ◌-◌, ◌<◌, ◌≤◌, ◌≢◌, Bool, true, List, length, nat_lt, slice_index};
+ghost use Rattle.std.specs.Prelude.{◌≡◌, ℕ, ◌-◌, ◌<◌, ◌≤◌, ◌≢◌, Bool, true, List, length};
+ghost use Rattle.std.specs.Prelude.{nat_lt, slice_index};
 ghost use Rattle.image_device.specs.Image.{Image};
 ghost use Rattle.block_alloc.specs.Bytes.{bit_in, bitmap_sector_bytes};
 ghost use Rattle.block_alloc.specs.Fresh.{fresh_live};
@@ -46,11 +47,12 @@ pub fn fresh_sector(geometry: &Geometry, part: u32) -> [u8; SECTOR_BYTES]
     first_bits(if part == 0 { geometry.primaries } else { 0 })
 }
 
-/// An image whose bitmap is written as that of a map has the bits of that map. The blocks of a fresh disk are a map, in which
-/// the primary blocks are live and all others are free.
+/// An image whose bitmap is written as that of a map has the bits of that map. The blocks of a fresh disk are a map, in
+/// which the primary blocks are live and all others are free.
 pub fn written_sectors_have_the_bits()
     ensures stored { (live : List Bool) (g : Geometry) (x : Image) → AreWritten live g x → IsStored live g x }
-    ensures fresh { (g : Geometry) → IsLawful g → IsTable (record { geometry = g; live = fresh_live g; unhidden = fresh_live g }) }
+    ensures fresh { (g : Geometry) → IsLawful g
+        → IsTable (record { geometry = g; live = fresh_live g; unhidden = fresh_live g }) }
     ensures live { (g : Geometry) (b : ℕ) → is_live (fresh_live g) b ≡ nat_lt b g.primaries }
     ensures free { (g : Geometry) → free_count (fresh_live g) ≡ g.blocks - g.primaries }
 {}

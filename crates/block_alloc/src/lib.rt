@@ -6,10 +6,10 @@
 //!
 //! What it promises: after `load` a map says what the bitmap's sectors say; each change followed by its `patch` keeps
 //! map and sectors equal. `choose` and `choose_run` answer exactly the blocks that the definitions choose, and refuse
-//! exactly where there are too few or no run is long enough, with both numbers. A live block can be hidden: it is free for
-//! each question and each choice, while its bit in the bitmap stays until it is set. An image whose sectors are those of
-//! `fresh_sector` has a map in which the primary blocks alone are live. A load that answers Ok leaves the device's count
-//! of faults as it was. Of all this it keeps two bits a block, and only `load` takes memory.
+//! exactly where there are too few or no run is long enough, with both numbers. A live block can be hidden: it is free
+//! for each question and each choice, while its bit in the bitmap stays until it is set. An image whose sectors are
+//! those of `fresh_sector` has a map in which the primary blocks alone are live. A load that answers Ok leaves the
+//! device's count of faults as it was. Of all this it keeps two bits a block, and only `load` takes memory.
 #![tactic(auto)]
 
 mod bits;

@@ -1,14 +1,14 @@
 //! Which blocks are live, a bit a block.
 
-ghost use Rattle.std.specs.Prelude.{◌≡◌, ℕ, ◌/◌, ◌<◌, ◌≤◌, ◌≢◌, true, false, slice_set, IfOk, IsErrOf, IsTrue};
+ghost use Rattle.std.specs.Prelude.{◌≡◌, ◌/◌, ◌<◌, ◌≤◌, true, false, slice_set};
+ghost use Rattle.std.specs.Prelude.{IfOk, IsTrue};
 ghost use Rattle.image_device.specs.Calls.{Rests, Uses};
-ghost use Rattle.image_device.specs.Counts.{Rose};
-ghost use Rattle.image_device.specs.Image.{Image, put_at};
+ghost use Rattle.image_device.specs.Counts.{CountsFaultOf};
 ghost use Rattle.image_layout.specs.Areas.{bitmap_start, slots_start};
 ghost use Rattle.tsd_model.specs.Geometry.{IsLawful};
 ghost use Rattle.block_alloc.specs.LiveMap.{IsTable, is_live, free_count};
 ghost use Rattle.block_alloc.specs.Bytes.{bitmap_sector_bytes};
-ghost use Rattle.block_alloc.specs.Stored.{IsStoredAt, IsStored, per_sector, sector_of};
+ghost use Rattle.block_alloc.specs.Stored.{IsStored, StoresSector, Completes, per_sector, sector_of};
 
 use crate::bits::{bit_in, copy_of, count_zeros, cut_to, put_bit, put_counted, sector_from};
 use crate::fault::LoadFault;
@@ -25,8 +25,8 @@ pub(crate) const PER_SECTOR: u32 = 4096;
 
 const _: () = prove!(PER_SECTOR == 4096);
 
-/// Which blocks are live and which are free. A live block may be hidden: it is free for each question and each choice, while its
-/// bit stays in the bitmap.
+/// Which blocks are live and which are free. A live block may be hidden: it is free for each question and each choice,
+/// while its bit stays in the bitmap.
 #[derive(Drop)]
 pub struct LiveMap {
     geometry: Geometry,
@@ -55,7 +55,8 @@ impl Model for LiveMap {
 }
 
 impl LiveMap {
-    /// Reads the bitmap, and hides no block. Bits past the last block don't matter. `Device` comes only where `faults` rose.
+    /// Reads the bitmap, and hides no block. Bits past the last block don't matter. `Device` comes only where `faults`
+    /// rose.
     pub fn load<D: Device>(
         alloc: Global,
         dev: &mut D,
@@ -68,8 +69,7 @@ impl LiveMap {
         ensures none_hidden { IfOk result (λ m. m.unhidden ≡ m.live) }
         ensures rests { D.told → Rests (D.view dev.old) (D.view dev.new) }
         ensures uses { Uses 0 (D.view dev.old) (D.view dev.new) }
-        ensures faultless { ¬ IsErrOf result LoadFault.Device → (D.view dev.new).faults ≡ (D.view dev.old).faults }
-        ensures cause { IsErrOf result LoadFault.Device → Rose (D.view dev.old).faults (D.view dev.new).faults }
+        ensures faults { CountsFaultOf LoadFault.Device result (D.view dev.old).faults (D.view dev.new).faults }
     {
         let layout = Layout::of(geometry);
         let sectors = geometry.blocks.div_ceil(PER_SECTOR);
@@ -165,14 +165,15 @@ impl LiveMap {
     pub fn patch(&self, block: u32) -> Patch
         requires { block < self.now.geometry.blocks }
         ensures sector { result.sector ≡ sector_of self.now.geometry block }
-        ensures inside { (bitmap_start self.now.geometry ≤ result.sector) × (result.sector < slots_start self.now.geometry) }
+        ensures inside { (bitmap_start self.now.geometry ≤ result.sector)
+            × (result.sector < slots_start self.now.geometry) }
         ensures bytes { result.bytes ≡ bitmap_sector_bytes self.now.live (block / per_sector) }
 
         // The bits of all blocks that have theirs in this sector are right, whatever the others are.
-        ensures here { (x : Image) (b : ℕ) → b < self.now.geometry.blocks → sector_of self.now.geometry b ≡ result.sector → IsStoredAt self.now.live self.now.geometry (put_at result.sector result.bytes x) b }
+        ensures here { StoresSector self.now.live self.now.geometry result }
 
         // So where those of all other blocks were right, all are.
-        ensures stored { (x : Image) → ((b : ℕ) → b < self.now.geometry.blocks → sector_of self.now.geometry b ≢ result.sector → IsStoredAt self.now.live self.now.geometry x b) → IsStored self.now.live self.now.geometry (put_at result.sector result.bytes x) }
+        ensures stored { Completes self.now.live self.now.geometry result }
     {
         let first = SECTOR_BYTES * (block / PER_SECTOR) as usize;
         Patch {

@@ -1,24 +1,27 @@
 //! That a changed map and patched sectors say the same.
 
-ghost use Rattle.std.specs.Prelude.{◌≡◌, ◌⊎◌, ℕ, ◌/◌, ◌<◌, ◌≤◌, Bool, List, length, map, slice_set};
+ghost use Rattle.std.specs.Prelude.{◌≡◌, ℕ, Bool, List, length, map};
+ghost use Rattle.std.specs.Prelude.{slice_set};
 ghost use Rattle.std.specs.List.{range_with_len};
-ghost use Rattle.image_device.specs.Image.{Image, put_at};
+ghost use Rattle.image_device.specs.Agreeing.{AgreeWithin};
+ghost use Rattle.image_device.specs.Image.{Image};
 ghost use Rattle.image_layout.specs.Areas.{bitmap_start, slots_start};
 ghost use Rattle.image_layout.specs.Image.{is_marked};
 ghost use Rattle.tsd_model.specs.declared.geometry.Geometry.{Geometry};
-ghost use Rattle.block_alloc.specs.Bytes.{bitmap_sector_bytes};
-ghost use Rattle.block_alloc.specs.LiveMap.{is_live};
-ghost use Rattle.block_alloc.specs.Stored.{IsStored, per_sector, sector_of};
+ghost use Rattle.block_alloc.specs.Stored.{IsStored, ArePatched, patched};
 
 /// Where an image's bitmap says what a map says, it does so again after a change with its patch: after one block's, and
 /// after many blocks' in many sectors, of which each has the bytes that the map gives it in the end.
 pub fn patches_keep_the_bitmap()
-    ensures one { (live : List Bool) (g : Geometry) (x : Image) (b : ℕ) (bit : Bool) → IsStored live g x → IsStored (slice_set live b bit) g (put_at (sector_of g b) (bitmap_sector_bytes (slice_set live b bit) (b / per_sector)) x) }
+    ensures one { (live : List Bool) (g : Geometry) (x : Image) (b : ℕ) (bit : Bool) → IsStored live g x
+        → IsStored (slice_set live b bit) g (patched (slice_set live b bit) g b x) }
 
-    // Each block's sector is patched, or it is as before and the block didn't change.
-    ensures many { (live now : List Bool) (g : Geometry) (x y : Image) → IsStored live g x → ((b : ℕ) → b < g.blocks → (y (sector_of g b) ≡ bitmap_sector_bytes now (b / per_sector)) ⊎ ((y (sector_of g b) ≡ x (sector_of g b)) × (is_live now b ≡ is_live live b))) → IsStored now g y }
+    ensures many { (live now : List Bool) (g : Geometry) (x y : Image) → IsStored live g x
+        → ArePatched live now g x y → IsStored now g y }
 
     // An image has the bits of one map alone, and the bitmap's sectors decide which.
-    ensures one_map { (live : List Bool) (g : Geometry) (x : Image) → length live ≡ g.blocks → IsStored live g x → live ≡ map (is_marked x g) (range_with_len 0 g.blocks) }
-    ensures same_sectors { (live : List Bool) (g : Geometry) (x y : Image) → ((n : ℕ) → bitmap_start g ≤ n → n < slots_start g → y n ≡ x n) → IsStored live g x → IsStored live g y }
+    ensures one_map { (live : List Bool) (g : Geometry) (x : Image) → length live ≡ g.blocks → IsStored live g x
+        → live ≡ map (is_marked x g) (range_with_len 0 g.blocks) }
+    ensures same_sectors { (live : List Bool) (g : Geometry) (x y : Image)
+        → AgreeWithin (bitmap_start g) (slots_start g) x y → IsStored live g x → IsStored live g y }
 {}

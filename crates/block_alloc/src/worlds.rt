@@ -2,7 +2,8 @@
 
 ghost use Rattle.std.specs.Prelude.{◌≡◌, ℕ, Bool, List};
 ghost use Rattle.tsd_model.specs.Placing.{hint_block};
-ghost use Rattle.tsd_model.specs.Placing.{free_blocks as free_blocks_of, chosen as chosen_of, runs as runs_of, chosen_run as chosen_run_of};
+ghost use Rattle.tsd_model.specs.Placing.{free_blocks as free_blocks_of, chosen as chosen_of, runs as runs_of};
+ghost use Rattle.tsd_model.specs.Placing.{chosen_run as chosen_run_of};
 ghost use Rattle.tsd_model.specs.World.{World};
 ghost use Rattle.tsd_model.specs.World.{free_count as free_count_of};
 ghost use Rattle.tsd_model.specs.declared.requests.Hint.{Hint};
@@ -15,7 +16,11 @@ ghost use Rattle.block_alloc.specs.Worlds.{IsMapOf};
 pub fn choices_are_the_worlds()
     ensures count { (live : List Bool) (w : World) → IsMapOf live w → free_count live ≡ free_count_of w }
     ensures free { (live : List Bool) (w : World) → IsMapOf live w → free_blocks live ≡ free_blocks_of w }
-    ensures blocks { (live : List Bool) (w : World) → IsMapOf live w → (kind : PlaceKind) (hint : Hint) (count : ℕ) → chosen kind live (hint_block hint) count ≡ chosen_of kind w hint count }
-    ensures runs { (live : List Bool) (w : World) → IsMapOf live w → (count : ℕ) → runs live count ≡ runs_of w count }
-    ensures run { (live : List Bool) (w : World) → IsMapOf live w → (kind : PlaceKind) (hint : Hint) (count : ℕ) → chosen_run kind live (hint_block hint) count ≡ chosen_run_of kind w hint count }
+    ensures blocks { (live : List Bool) (w : World) → IsMapOf live w
+        → (kind : PlaceKind) (hint : Hint) (count : ℕ) → chosen kind live (hint_block hint) count
+        ≡ chosen_of kind w hint count }
+    ensures runs { (live : List Bool) (w : World) → IsMapOf live w → (count : ℕ)
+        → runs live count ≡ runs_of w count }
+    ensures run { (live : List Bool) (w : World) → IsMapOf live w → (kind : PlaceKind) (hint : Hint) (count : ℕ)
+        → chosen_run kind live (hint_block hint) count ≡ chosen_run_of kind w hint count }
 {}

@@ -5,6 +5,7 @@ use Rattle.std.specs.List.{flat_map}
 use Rattle.tsd_model.specs.declared.records.KeptCap.{KeptCap}
 use Rattle.tsd_model.specs.declared.records.KeptCap.TheVariants.{Plain, Digested}
 use Rattle.tsd_model.specs.declared.records.Record.{Record}
+use Rattle.image_layout.specs.Areas.{caps_start}
 use Rattle.image_layout.specs.Image.{Image, kept_place, kept_len, kept_for_reading, kept_for_writing}
 
 -- ---- the bytes
@@ -68,3 +69,9 @@ abbrev pub IsStoredBut : (ℕ → Bool) → ℕ → List Record → Image → Ty
 IsStoredBut some version records x =
     (block : ℕ) → block < length records → some (sector_of version block) ≡ false
     → slice_get records block ≡ Some (stored_record version x block)
+
+-- its sectors of records are written as those of these records
+abbrev pub AreWritten : ℕ → List Record → Image → Type 0
+AreWritten version records x =
+    (part : ℕ) → part * per_sector version < length records
+    → x (caps_start + part) ≡ caps_sector_bytes version records part

@@ -1,8 +1,8 @@
 //! The records as the sectors have them.
 
-ghost use Rattle.std.specs.Prelude.{◌≡◌, ℕ, ◌+◌, ◌<◌, ◌≤◌, length, slice_get, Some, OnOk, OnErr};
+ghost use Rattle.std.specs.Prelude.{◌≡◌, ℕ, ◌+◌, ◌<◌, ◌≤◌, length, slice_get, Some, OnOk};
 ghost use Rattle.image_device.specs.Calls.{Rests, Uses};
-ghost use Rattle.image_device.specs.Counts.{Rose};
+ghost use Rattle.image_device.specs.Counts.{CountsFault};
 ghost use Rattle.image_layout.specs.Header.{IsVersion};
 ghost use Rattle.cap_store.specs.Store.{AreRecords, IsRecord};
 ghost use Rattle.cap_store.specs.Stored.{per_sector, record_at, IsStored};
@@ -17,7 +17,8 @@ fn set_records(version: u32, bytes: &[u8; SECTOR_BYTES], first: usize, records: 
     requires version { IsVersion version }
     requires first { first ≤ length records.old }
     ensures before { (block : ℕ) → block < first → slice_get records.new block ≡ slice_get records.old block }
-    ensures here { (k : ℕ) → k < per_sector version → first + k < length records.old → slice_get records.new (first + k) ≡ Some (record_at version bytes.now k) }
+    ensures here { (k : ℕ) → k < per_sector version → first + k < length records.old
+        → slice_get records.new (first + k) ≡ Some (record_at version bytes.now k) }
     ensures kept { (k : ℕ) → k < per_sector version → IsRecord version (record_at version bytes.now k) }
 {
     let end = records.len().min(first + per_sector(version));
@@ -38,8 +39,7 @@ pub(crate) fn read_records<D: Device>(
     ensures read { D.told → OnOk result (IsStored version records.new (D.view dev.old).reads) }
     ensures rests { D.told → Rests (D.view dev.old) (D.view dev.new) }
     ensures uses { Uses 0 (D.view dev.old) (D.view dev.new) }
-    ensures faultless { OnOk result ((D.view dev.new).faults ≡ (D.view dev.old).faults) }
-    ensures cause { OnErr result (Rose (D.view dev.old).faults (D.view dev.new).faults) }
+    ensures faults { CountsFault result (D.view dev.old).faults (D.view dev.new).faults }
 {
     let mut bytes = [0; SECTOR_BYTES];
     let each = per_sector(version);

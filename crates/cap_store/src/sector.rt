@@ -1,6 +1,7 @@
 //! One sector of records.
 
-ghost use Rattle.std.specs.Prelude.{◌≡◌, ◌+◌, ◌-◌, ◌*◌, ◌<◌, ◌≤◌, ◌++◌, length, take, drop, replicate};
+ghost use Rattle.std.specs.Prelude.{◌≡◌, ◌+◌, ◌-◌, ◌*◌, ◌<◌, ◌≤◌, ◌++◌, length, take};
+ghost use Rattle.std.specs.Prelude.{drop, replicate};
 ghost use Rattle.std.specs.List.{flat_map};
 ghost use Rattle.image_layout.specs.Image.{kept_len};
 ghost use Rattle.image_layout.specs.Header.{IsVersion};
@@ -90,7 +91,8 @@ fn kept_slice(held: &KeptCap) -> &[u8]
 fn put_kept(bytes: &mut [u8; SECTOR_BYTES], at: usize, held: &KeptCap) -> usize
     requires { at + length (kept_bytes held.now) ≤ 512 }
     ensures end { result ≡ at + length (kept_bytes held.now) }
-    ensures bytes { bytes.new ≡ take at bytes.old ++ kept_bytes held.now ++ drop (at + length (kept_bytes held.now)) bytes.old }
+    ensures bytes { bytes.new ≡ take at bytes.old ++ kept_bytes held.now ++ drop (at + length (kept_bytes held.now))
+        bytes.old }
 {
     let kept = kept_slice(held);
     let end = at + kept.len();
@@ -101,7 +103,8 @@ fn put_kept(bytes: &mut [u8; SECTOR_BYTES], at: usize, held: &KeptCap) -> usize
 /// The bytes of these records, and zeros behind them.
 fn bytes_of(records: &[Record]) -> [u8; SECTOR_BYTES]
     requires { length (flat_map record_bytes records.now) ≤ 512 }
-    ensures { result ≡ flat_map record_bytes records.now ++ replicate (512 - length (flat_map record_bytes records.now)) 0 }
+    ensures { result ≡ flat_map record_bytes records.now
+        ++ replicate (512 - length (flat_map record_bytes records.now)) 0 }
 {
     let mut bytes = [0; SECTOR_BYTES];
     let mut at = 0;

@@ -1,6 +1,7 @@
 //! The store of records.
 
-ghost use Rattle.std.specs.Prelude.{◌≡◌, ℕ, ◌+◌, ◌<◌, ◌≤◌, ◌==◌, ◌||◌, Bool, length, slice_set, IfOk, OnOk, IsErrOf, IsTrue};
+ghost use Rattle.std.specs.Prelude.{◌≡◌, ◌+◌, ◌<◌, ◌≤◌, length};
+ghost use Rattle.std.specs.Prelude.{slice_set, IfOk, IsTrue};
 ghost use Rattle.std.specs.List.{list_all};
 ghost use Rattle.tsd_model.specs.Attained.{shown_level};
 ghost use Rattle.tsd_model.specs.Geometry.{IsLawful};
@@ -9,12 +10,12 @@ ghost use Rattle.tsd_model.specs.World.{World};
 ghost use Rattle.image_layout.specs.Areas.{caps_start, counts_start};
 ghost use Rattle.image_layout.specs.Header.{IsVersion};
 ghost use Rattle.image_layout.specs.Image.{Image};
-ghost use Rattle.image_device.specs.Image.{put_at, zeros};
+ghost use Rattle.image_device.specs.Image.{zeros};
 ghost use Rattle.image_device.specs.Calls.{Rests, Uses};
-ghost use Rattle.image_device.specs.Counts.{Rose};
+ghost use Rattle.image_device.specs.Counts.{CountsFaultOf};
 ghost use Rattle.cap_store.specs.Store.{level_shown, upgraded, IsTable};
-ghost use Rattle.cap_store.specs.Changes.{patch_of, KeepsStored};
-ghost use Rattle.cap_store.specs.Stored.{IsStored, IsStoredBut, sector_of, caps_sector_bytes, part_of};
+ghost use Rattle.cap_store.specs.Changes.{patch_of, KeepsElsewhere, KeepsStored, Completes, CompletesBut};
+ghost use Rattle.cap_store.specs.Stored.{IsStored, sector_of, caps_sector_bytes, part_of};
 
 use crate::fault::LoadFault;
 use crate::loading::read_records;
@@ -44,7 +45,8 @@ impl Model for CapStore {
 
     ghost view = { λ s. record { version = s.version; geometry = s.geometry; records = s.records.items } };
 
-    ghost invariant = { λ s. IsTable (record { version = s.version; geometry = s.geometry; records = s.records.items }) };
+    ghost invariant = { λ s.
+        IsTable (record { version = s.version; geometry = s.geometry; records = s.records.items }) };
 }
 
 impl CapStore {
@@ -63,9 +65,7 @@ impl CapStore {
         ensures stored { D.told → IfOk result (λ s. IsStored s.version s.records (D.view dev.old).reads) }
         ensures rests { D.told → Rests (D.view dev.old) (D.view dev.new) }
         ensures uses { Uses 0 (D.view dev.old) (D.view dev.new) }
-        ensures faultless { OnOk result ((D.view dev.new).faults ≡ (D.view dev.old).faults) }
-        ensures short { IsErrOf result LoadFault.NoMemory → (D.view dev.new).faults ≡ (D.view dev.old).faults }
-        ensures cause { IsErrOf result LoadFault.Device → Rose (D.view dev.old).faults (D.view dev.new).faults }
+        ensures faults { CountsFaultOf LoadFault.Device result (D.view dev.old).faults (D.view dev.new).faults }
     {
         let mut records = vec![in alloc; BLANK; header.geometry.primaries as usize]?;
         read_records(dev, header.version, &mut records)?;
@@ -94,7 +94,8 @@ impl CapStore {
         ensures value { result ≡ level_shown self.now block shown.now }
 
         // That is the level by the abstract disk's rule, in any world with these records.
-        ensures rule { (w : World) → w.version ≡ self.now.version → w.records ≡ self.now.records → result ≡ shown_level w block shown.now }
+        ensures rule { (w : World) → w.version ≡ self.now.version → w.records ≡ self.now.records
+            → result ≡ shown_level w block shown.now }
     {
         match shown {
             Shown::Nothing => Level::Bare,
@@ -107,10 +108,13 @@ impl CapStore {
     /// A primary block has these capabilities from now on.
     pub fn set(&mut self, block: u32, caps: &CapPair)
         requires { block < self.old.geometry.primaries }
-        ensures set { self.new ≡ record self.old { records = slice_set self.old.records block (kept self.old.version caps.now) } }
+        ensures set { self.new ≡ record self.old {
+          records = slice_set self.old.records block
+              (kept self.old.version caps.now);
+        } }
 
         // What an image had of the store it has still, but for the sector of this record.
-        ensures elsewhere { (some : ℕ → Bool) (x : Image) → IsStoredBut some self.old.version self.old.records x → IsStoredBut (λ n. n == sector_of self.old.version block || some n) self.new.version self.new.records x }
+        ensures elsewhere { KeepsElsewhere block self.old self.new }
 
         // With the patch of this record, an image that had the store before has the new one.
         ensures stored { KeepsStored self.old self.new (patch_of self.new block) }
@@ -125,8 +129,10 @@ impl CapStore {
         ensures same { self.old.version ≡ 2 → self.new ≡ self.old }
 
         // An image has all the records where the two sectors stand there, and with 8 primary blocks or fewer the first.
-        ensures one { self.new.geometry.primaries ≤ 8 → (y : Image) → y caps_start ≡ caps_sector_bytes 2 self.new.records 0 → IsStored 2 self.new.records y }
-        ensures both { (y : Image) → y caps_start ≡ caps_sector_bytes 2 self.new.records 0 → y (caps_start + 1) ≡ caps_sector_bytes 2 self.new.records 1 → IsStored 2 self.new.records y }
+        ensures one { self.new.geometry.primaries ≤ 8 → (y : Image)
+            → y caps_start ≡ caps_sector_bytes 2 self.new.records 0 → IsStored 2 self.new.records y }
+        ensures both { (y : Image) → y caps_start ≡ caps_sector_bytes 2 self.new.records 0
+            → y (caps_start + 1) ≡ caps_sector_bytes 2 self.new.records 1 → IsStored 2 self.new.records y }
 
         // The second sector is then zeros.
         ensures empty { self.new.geometry.primaries ≤ 8 → caps_sector_bytes 2 self.new.records 1 ≡ zeros }
@@ -135,20 +141,21 @@ impl CapStore {
         self.version = DIGEST_VERSION;
     }
 
-    /// The sector that has the record of a primary block, as it must read now. It depends on the records as they are now
-    /// alone, so the patches of one sector replace each other.
+    /// The sector that has the record of a primary block, as it must read now. It depends on the records as they are
+    /// now alone, so the patches of one sector replace each other.
     pub fn patch(&self, block: u32) -> Patch
         requires { block < self.now.geometry.primaries }
         ensures value { result ≡ patch_of self.now block }
         ensures sector { result.sector ≡ sector_of self.now.version block }
         ensures inside { (caps_start ≤ result.sector) × (result.sector < counts_start) }
-        ensures bytes { result.bytes ≡ caps_sector_bytes self.now.version self.now.records (part_of self.now.version block) }
+        ensures bytes { result.bytes ≡ caps_sector_bytes self.now.version self.now.records
+            (part_of self.now.version block) }
 
         // An image that has the records of the other sector has all of them, once the patch stands there.
-        ensures stored { (x : Image) → IsStoredBut (λ n. n == result.sector) self.now.version self.now.records x → IsStored self.now.version self.now.records (put_at result.sector result.bytes x) }
+        ensures stored { Completes self.now result }
 
         // The same where more sectors are still to be patched.
-        ensures more { (some : ℕ → Bool) (x : Image) → IsStoredBut (λ n. n == result.sector || some n) self.now.version self.now.records x → IsStoredBut some self.now.version self.now.records (put_at result.sector result.bytes x) }
+        ensures more { CompletesBut self.now result }
     {
         let part = block as usize / per_sector(self.version);
         Patch {

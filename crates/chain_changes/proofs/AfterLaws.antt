@@ -19,19 +19,19 @@ use Rattle.fs_laws.proofs.OutsideLaws.{outside_twice}
 use Rattle.fs_laws.proofs.TreeLaws.{named_is_under, read_from_named}
 use Rattle.fs_port.specs.View.{View}
 use Rattle.fs_port.specs.Calls.{IsValidNow}
-use Rattle.fs_port.specs.Files.{Answers, IsEitherTree, LeavesWorld, tree_on}
-use Rattle.fs_asks.specs.declared.client.Client.{Client}
-use Rattle.fs_asks.specs.Client.{unlink_by}
-use Rattle.fs_steps.specs.Steps.{Went, Steps, dropped}
-use Rattle.fs_changing.specs.Changing.{refused_on}
-use Rattle.fs_changing.specs.Runs.{Runs}
-use Rattle.fs_changing.specs.Trimming.{IsTrim}
-use Rattle.fs_changing.proofs.AskLaws.{ask_done, after_is}
-use Rattle.fs_changing.proofs.RunLaws.{runs_more}
-use Rattle.fs_changing.proofs.DropLaws.{other_pair}
-use Rattle.fs_changing.proofs.TrimLaws.{trimmed_by_step, trims_by_step}
-use Rattle.fs_changing.proofs.TidyLaws.{is_tidy}
-use Rattle.fs_changing.proofs.TargetLaws.{target_named, chain_targets}
+use Rattle.fs_port.specs.Files.{Answers, IsEitherTree, LeavesTidyWorld, tree_on}
+use Rattle.fs_client.specs.declared.client.Client.{Client}
+use Rattle.fs_client.specs.Client.{unlink_by}
+use Rattle.fs_client.specs.Steps.{Went, Steps, dropped}
+use Rattle.fs_client.specs.Changing.{refused_on}
+use Rattle.fs_port.specs.Runs.{Runs}
+use Rattle.fs_client.specs.Trimming.{IsTrim}
+use Rattle.fs_client.proofs.AskLaws.{ask_done, after_is}
+use Rattle.fs_client.proofs.RunLaws.{runs_more}
+use Rattle.fs_client.proofs.DropLaws.{other_pair}
+use Rattle.fs_client.proofs.TrimLaws.{trimmed_by_step, trims_by_step}
+use Rattle.fs_client.proofs.TidyLaws.{is_tidy}
+use Rattle.fs_client.proofs.TargetLaws.{target_named, chain_targets}
 use Rattle.chain_reading.specs.Asking.{mounted_by}
 
 clash : (t : Bool) → t ≡ true → t ≡ false → ⊥
@@ -82,7 +82,7 @@ pub decided_answers : (c : Client) (first : View) (a : ShellAsk) (new : View) (L
 decided_answers c first a new Loose x = ask_done {X = Unit {0}} (mounted_by c) first new a tt x.granted x.answer x.tree
 
 -- where nothing is loose, the world is left so
-pub decided_leaves : (c : Client) (first : View) (a : ShellAsk) (new : View) → Decided c first a new.world None_loose → new.spent ≡ false → LeavesWorld (mounted_by c) first new
+pub decided_leaves : (c : Client) (first : View) (a : ShellAsk) (new : View) → Decided c first a new.world None_loose → new.spent ≡ false → LeavesTidyWorld (mounted_by c) first new
 decided_leaves c first a new x unspent =
     let named_is = decided_named c first a new.world None_loose x in
     record {

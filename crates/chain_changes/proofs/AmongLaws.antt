@@ -5,8 +5,8 @@ use Rattle.tsd_model.specs.World.{has_number}
 use Rattle.tsd_model.specs.Pairs.{holds, is_pair}
 use Rattle.fs_trees.specs.ChainTree.{Link, blocks_of, links, ChainFile, Chains, chain_blocks, chain_pairs}
 use Rattle.fs_laws.proofs.ListLaws.{number_left, number_right, in_append, held_left, held_right, held_append}
-use Rattle.chain_laws.specs.Changed.{file_blocks, file_pairs}
-use Rattle.chain_laws.proofs.ChangeLaws.{file_blocks-append, file_pairs-append}
+use Rattle.chain_reading.specs.Changed.{file_blocks, file_pairs}
+use Rattle.chain_reading.proofs.ChangeLaws.{file_blocks-append, file_pairs-append}
 
 module _ (ds : List Link) (fs : List ChainFile) (f : ChainFile) (gs : List ChainFile) where
   abbrev whole : Chains

@@ -11,13 +11,13 @@ use Rattle.fs_trees.specs.declared.ask.ShellAsk.TheVariants as ask
 use Rattle.fs_trees.specs.declared.ask.ShellKind.TheVariants as kind
 use Rattle.fs_trees.specs.declared.refusal.FsRefusal.{FsRefusal}
 use Rattle.fs_port.specs.View.{View}
-use Rattle.fs_asks.specs.declared.client.Client.{Client}
-use Rattle.fs_steps.specs.Steps.{no_room_in}
-use Rattle.fs_changing.specs.Changing.{refused_on}
-use Rattle.fs_changing.proofs.RoomLaws.{room_there}
-use Rattle.chain_laws.specs.Changed.{file_names}
-use Rattle.chain_laws.proofs.ChangeLaws.{has_chains, right_is}
-use Rattle.chain_laws.proofs.FileLaws.{distinct_parts, tree_set}
+use Rattle.fs_client.specs.declared.client.Client.{Client}
+use Rattle.fs_client.specs.Steps.{no_room_in}
+use Rattle.fs_client.specs.Changing.{refused_on}
+use Rattle.fs_client.proofs.RoomLaws.{room_there}
+use Rattle.chain_reading.specs.Changed.{file_names}
+use Rattle.chain_reading.proofs.ChangeLaws.{has_chains, right_is}
+use Rattle.chain_reading.proofs.FileLaws.{distinct_parts, tree_set}
 use Rattle.chain_reading.specs.Asking.{tree_of, mounted_by}
 use Rattle.chain_reading.specs.Finding.{IsFileOf, no_file_found}
 use Rattle.chain_changes.proofs.RemoveLaws.{names_between}

@@ -23,9 +23,9 @@ use Rattle.chain_layout.specs.Held as held
 use Rattle.chain_layout.specs.Listed.{entry_blocks}
 use Rattle.chain_layout.specs.ReadsBack.{are_small}
 use Rattle.chain_layout.proofs.BackLaws.{head_back, entries_back}
-use Rattle.chain_laws.specs.Chained.{IsFrom, placed, AreFiles, AreEntries}
-use Rattle.chain_laws.proofs.ChainedLaws.{files_split, entries_split}
-use Rattle.chain_laws.proofs.ChangeLaws.{HasChains, has_chains, blocks-append}
+use Rattle.chain_reading.specs.Chained.{IsFrom, placed, AreFiles, AreEntries}
+use Rattle.chain_reading.proofs.ChainedLaws.{files_split, entries_split}
+use Rattle.chain_reading.proofs.ChangeLaws.{HasChains, has_chains, blocks-append}
 use Rattle.chain_reading.specs.declared.walking.Page.{Page}
 use Rattle.chain_reading.specs.Standing.{IsPage}
 use Rattle.chain_reading.specs.Finding.{page_link}

@@ -6,8 +6,8 @@ use Rattle.tsd_model.specs.Pairs.{holds, is_pair}
 use Rattle.fs_trees.specs.ChainTree.{blocks_of, links, ChainFile, Chains, chain_blocks, chain_pairs}
 use Rattle.fs_laws.proofs.ListLaws.{held_left, held_right, held_append}
 use Rattle.fs_laws.proofs.CountLaws.{times, times-append, times_none, none_times}
-use Rattle.chain_laws.specs.Changed.{file_blocks, file_pairs}
-use Rattle.chain_laws.proofs.ChangeLaws.{times_three, held_three, first_held, last_held}
+use Rattle.chain_reading.specs.Changed.{file_blocks, file_pairs}
+use Rattle.chain_reading.proofs.ChangeLaws.{times_three, held_three, first_held, last_held}
 
 clash : (t : Bool) → t ≡ true → t ≡ false → ⊥
 clash t p q = cc

@@ -21,25 +21,25 @@ use Rattle.fs_trees.specs.declared.refusal.FsRefusal.{FsRefusal}
 use Rattle.fs_laws.proofs.ListLaws.{number_left, number_right, in_append, first_in, held_left, held_right, held_append}
 use Rattle.fs_port.specs.View.{View}
 use Rattle.fs_port.specs.Files.{IsEitherTree}
-use Rattle.fs_asks.specs.declared.client.Client.{Client}
-use Rattle.fs_asks.specs.Client.{write_by}
-use Rattle.fs_steps.specs.Steps.{Leads, written, no_room_in}
-use Rattle.fs_changing.specs.Changing.{refused_on}
+use Rattle.fs_client.specs.declared.client.Client.{Client}
+use Rattle.fs_client.specs.Client.{write_by}
+use Rattle.fs_client.specs.Steps.{Leads, written, no_room_in}
+use Rattle.fs_client.specs.Changing.{refused_on}
 use Rattle.chain_layout.specs.Block.{cluster_of}
 use Rattle.chain_layout.specs.Held as held
 use Rattle.chain_layout.specs.Held.{entries_in}
 use Rattle.chain_layout.specs.Listed.{entry_blocks}
 use Rattle.chain_layout.specs.ReadsBack.{are_small}
-use Rattle.chain_laws.specs.Chained.{IsFrom, AreOthers}
-use Rattle.chain_laws.specs.Changed.{file_blocks, file_pairs, file_names, relinked}
-use Rattle.chain_laws.specs.Decided.{IsNewCluster, Becomes}
-use Rattle.chain_laws.proofs.ChainedLaws.{from_same}
-use Rattle.chain_laws.proofs.ChangeLaws.{blocks-append}
-use Rattle.chain_laws.proofs.DecidedLaws.{the_directory_grows}
-use Rattle.chain_files.specs.Making.{Making}
-use Rattle.chain_files.specs.Filling.{AreLinkable, NewFile}
-use Rattle.chain_files.proofs.MakingLaws.{aside_now, link_held, making_written}
-use Rattle.chain_files.proofs.WriteLaws.{in_drop}
+use Rattle.chain_reading.specs.Chained.{IsFrom, AreOthers}
+use Rattle.chain_reading.specs.Changed.{file_blocks, file_pairs, file_names, relinked}
+use Rattle.chain_reading.specs.Decided.{IsNewCluster, Becomes}
+use Rattle.chain_reading.proofs.ChainedLaws.{from_same}
+use Rattle.chain_reading.proofs.ChangeLaws.{blocks-append}
+use Rattle.chain_reading.proofs.DecidedLaws.{the_directory_grows}
+use Rattle.chain_changes.specs.Making.{Making}
+use Rattle.chain_changes.specs.Filling.{AreLinkable, NewFile}
+use Rattle.chain_changes.proofs.MakingLaws.{aside_now, link_held, making_written}
+use Rattle.chain_changes.proofs.WriteLaws.{in_drop}
 use Rattle.chain_reading.specs.declared.walking.Page.{Page}
 use Rattle.chain_reading.specs.Asking.{mounted_by}
 use Rattle.chain_reading.specs.Finding.{page_link}

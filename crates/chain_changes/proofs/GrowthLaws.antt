@@ -35,31 +35,31 @@ use Rattle.fs_laws.proofs.CountLaws.{times, apart_times}
 use Rattle.fs_laws.proofs.OutsideLaws.{outside_twice}
 use Rattle.fs_port.specs.View.{View}
 use Rattle.fs_port.specs.Files.{IsEitherTree}
-use Rattle.fs_asks.specs.declared.client.Client.{Client}
-use Rattle.fs_asks.specs.Client.{write_by}
-use Rattle.fs_asks.specs.May.{MayWrite}
-use Rattle.fs_steps.specs.Steps.{Leads, written, no_room_in}
-use Rattle.fs_changing.specs.Changing.{refused_on}
-use Rattle.fs_changing.proofs.AskLaws.{is_mounted}
-use Rattle.fs_changing.proofs.RunLaws.{clash_free_live}
+use Rattle.fs_client.specs.declared.client.Client.{Client}
+use Rattle.fs_client.specs.Client.{write_by}
+use Rattle.fs_client.specs.May.{MayWrite}
+use Rattle.fs_client.specs.Steps.{Leads, written, no_room_in}
+use Rattle.fs_client.specs.Changing.{refused_on}
+use Rattle.fs_client.proofs.AskLaws.{is_mounted}
+use Rattle.fs_client.proofs.RunLaws.{clash_free_live}
 use Rattle.chain_layout.specs.Block.{cluster_of}
 use Rattle.chain_layout.specs.Held.{part_in}
 use Rattle.chain_layout.specs.Held as held
-use Rattle.chain_laws.specs.Chained.{IsFrom, IsFile, Placed, AreFiles}
-use Rattle.chain_laws.specs.Changed.{file_blocks, relinked}
-use Rattle.chain_laws.specs.Decided.{Becomes, grown, Lengthens}
-use Rattle.chain_laws.proofs.ChainedLaws.{entries_of_files}
-use Rattle.chain_laws.proofs.ChangeLaws.{HasChains, has_chains, IsRight, right_is, blocks-append}
-use Rattle.chain_laws.proofs.DecidedLaws.{the_file_grows}
+use Rattle.chain_reading.specs.Chained.{IsFrom, IsFile, PlacedEntry, AreFiles}
+use Rattle.chain_reading.specs.Changed.{file_blocks, relinked}
+use Rattle.chain_reading.specs.Decided.{Becomes, grown, Lengthens}
+use Rattle.chain_reading.proofs.ChainedLaws.{entries_of_files}
+use Rattle.chain_reading.proofs.ChangeLaws.{HasChains, has_chains, IsRight, right_is, blocks-append}
+use Rattle.chain_reading.proofs.DecidedLaws.{the_file_grows}
 use Rattle.chain_reading.specs.declared.walking.Part.{Part}
 use Rattle.chain_reading.specs.Asking.{tree_of, mounted_by}
 use Rattle.chain_reading.specs.Finding.{no_file_found}
-use Rattle.chain_files.specs.Making.{Stage, IsAside}
-use Rattle.chain_files.specs.Filling.{AreLinkable, first_block, ArePartsOf}
-use Rattle.chain_files.proofs.FileLaws.{long_room, file_filled}
-use Rattle.chain_files.proofs.MakingLaws.{aside_now, tree_same, primary_now, link_held, source_under, new_unnamed, was_live}
-use Rattle.chain_files.proofs.PartLaws.{parts_bytes}
-use Rattle.chain_files.proofs.WriteLaws.{part_length, part_cluster, part_back, first_linked}
+use Rattle.chain_changes.specs.Making.{Stage, IsAside}
+use Rattle.chain_changes.specs.Filling.{AreLinkable, first_block, ArePartsOf}
+use Rattle.chain_changes.proofs.FileLaws.{long_room, file_filled}
+use Rattle.chain_changes.proofs.MakingLaws.{aside_now, tree_same, primary_now, link_held, source_under, new_unnamed, was_live}
+use Rattle.chain_changes.proofs.PartLaws.{parts_bytes}
+use Rattle.chain_changes.proofs.WriteLaws.{part_length, part_cluster, part_back, first_linked}
 use Rattle.chain_changes.specs.Growing.{part_link, IsLastOf, clusters_more, NewTail}
 use Rattle.chain_changes.proofs.EntryLaws.{cluster_live}
 use Rattle.chain_changes.proofs.KeptLaws.{chains_kept}
@@ -110,12 +110,12 @@ module _ (c : Client) (first : View) (path : Path) (x : List ℕ) (part : Part) 
   whole = right_is first.world last.chains has.right
 
   -- the file of one of the entries
-  file_is : (q : Placed) × IsFile first.world q.0 q.1 last.file
+  file_is : (q : PlacedEntry) × IsFile first.world q.0 q.1 last.file
   file_is =
       let split = entries_of_files first.world has.listing.entries last.front (last.file ∷ last.back) (subst (AreFiles first.world has.listing.entries) last.among has.listing.files) in
       by_rest split.1 split.4
     where
-      by_rest : (qs : List Placed) → AreFiles first.world qs (last.file ∷ last.back) → (q : Placed) × IsFile first.world q.0 q.1 last.file
+      by_rest : (qs : List PlacedEntry) → AreFiles first.world qs (last.file ∷ last.back) → (q : PlacedEntry) × IsFile first.world q.0 q.1 last.file
       by_rest [] are = absurd are
       by_rest (q ∷ qs) are = (q, are.0)
 

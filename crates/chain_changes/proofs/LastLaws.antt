@@ -6,16 +6,16 @@ use Rattle.fs_trees.specs.ChainTree.{Link, cluster_at, is_filled}
 use Rattle.fs_port.specs.View.{View, state_of}
 use Rattle.fs_port.specs.Calls.{Stays}
 use Rattle.fs_laws.specs.Ways.{HoldsWrite}
-use Rattle.fs_asks.specs.declared.client.Client.{Client}
-use Rattle.fs_asks.specs.May.{MayWrite, Looked, Looks}
-use Rattle.fs_asks.proofs.LookLaws.{may_again}
+use Rattle.fs_client.specs.declared.client.Client.{Client}
+use Rattle.fs_client.specs.May.{MayWrite, Looked, OnlyLooks}
+use Rattle.fs_client.proofs.LookLaws.{may_again}
 use Rattle.chain_layout.specs.Block.{cluster_of}
 use Rattle.chain_layout.specs.Held.{part_cluster}
 use Rattle.chain_reading.specs.declared.walking.Part.{Part}
 use Rattle.chain_reading.specs.Standing.{has_part, IsPart}
 use Rattle.chain_reading.specs.Ahead.{IsFileAhead}
 use Rattle.chain_reading.proofs.WalkLaws.{link_of, IsWalked, walk_starts, walk_on, walk_ends, one_more, part_there}
-use Rattle.chain_changes.specs.Growing.{IsLast}
+use Rattle.chain_changes.specs.Growing.{IsLastCluster}
 
 -- after so many clusters the walk is at a block
 pub record IsStepped (c : Client) (now : View) (ls : List Link) (i b : ℕ) : Type 0 where
@@ -24,7 +24,7 @@ pub record IsStepped (c : Client) (now : View) (ls : List Link) (i b : ℕ) : Ty
   pub count : length before ≡ i
 
 pub record Stepping (told : Type 0) (c : Client) (first now : View) (start i b : ℕ) : Type 0 where
-  pub looks : Looks {X = Unit {0}} told first now (Ok tt)
+  pub looks : OnlyLooks {X = Unit {0}} told first now (Ok tt)
   pub stepped : told → (ls : List Link) → IsFileAhead c first start ls → IsStepped c now ls i b
 
 pub step_starts : (c : Client) (v : View) (start : ℕ) (ls : List Link) → IsFileAhead c v start ls → IsStepped c v ls 0 start
@@ -49,7 +49,7 @@ step_below c first now start i b ls file stepped over = let more = one_more c no
     too_many m n k i a b c d = absurd (omega arith)
 
 -- the walk ends at the last one
-pub step_ends : (c : Client) (first now new : View) (ls : List Link) (i b : ℕ) (part : Part) → IsStepped c now ls i b → Looked first now → Looked now new → Stays now new → IsPart now.world b part → (cluster_of (part_cluster part.cluster)).next ≡ None → IsLast c new ls part
+pub step_ends : (c : Client) (first now new : View) (ls : List Link) (i b : ℕ) (part : Part) → IsStepped c now ls i b → Looked first now → Looked now new → Stays now new → IsPart now.world b part → (cluster_of (part_cluster part.cluster)).next ≡ None → IsLastCluster c new ls part
 step_ends c first now new ls i b part stepped before seen stays read next =
     let cl = cluster_of (part_cluster part.cluster) in
     let here : part.block ≡ b = read.block in

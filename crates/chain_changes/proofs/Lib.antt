@@ -17,3 +17,10 @@ pub mod PuttingLaws
 pub mod PlacedLaws
 pub mod AddLaws
 pub mod ExtendLaws
+pub mod LinkLaws
+pub mod MakingLaws
+pub mod BackLaws
+pub mod ChainLaws
+pub mod WriteLaws
+pub mod PartLaws
+pub mod FileLaws

@@ -9,9 +9,9 @@ use Rattle.fs_trees.specs.Inode.{are_apart}
 use Rattle.fs_trees.specs.ChainTree.{Link, blocks_of, links, is_filled, ChainFile, Chains, chain_blocks, chain_pairs}
 use Rattle.fs_laws.proofs.ListLaws.{held_left, held_right, held_append, number_left, number_right}
 use Rattle.fs_laws.proofs.CountLaws.{times, times-append, times_none, times_apart}
-use Rattle.chain_laws.specs.Changed.{file_blocks, file_pairs, relinked}
-use Rattle.chain_laws.specs.Decided.{grown}
-use Rattle.chain_laws.proofs.ChangeLaws.{blocks-append, file_pairs-append, times_three, held_three, first_held, last_held}
+use Rattle.chain_reading.specs.Changed.{file_blocks, file_pairs, relinked}
+use Rattle.chain_reading.specs.Decided.{grown}
+use Rattle.chain_reading.proofs.ChangeLaws.{blocks-append, file_pairs-append, times_three, held_three, first_held, last_held}
 use Rattle.chain_changes.proofs.ExchangeLaws.{in_times}
 
 -- ---- links

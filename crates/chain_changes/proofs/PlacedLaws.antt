@@ -26,24 +26,24 @@ use Rattle.fs_laws.proofs.ListLaws.{any-append, first_in}
 use Rattle.fs_port.specs.View.{View}
 use Rattle.fs_port.specs.Calls.{IsValidNow}
 use Rattle.fs_port.specs.Files.{FilesView}
-use Rattle.fs_asks.specs.declared.client.Client.{Client}
-use Rattle.fs_asks.specs.May.{Looked}
-use Rattle.fs_steps.specs.Steps.{no_room_in}
-use Rattle.fs_changing.specs.Changing.{refused_on, no_entry_of}
+use Rattle.fs_client.specs.declared.client.Client.{Client}
+use Rattle.fs_client.specs.May.{Looked}
+use Rattle.fs_client.specs.Steps.{no_room_in}
+use Rattle.fs_client.specs.Changing.{refused_on, no_place_found}
 use Rattle.chain_layout.specs.Block.{cluster_of, block_len_of}
 use Rattle.chain_layout.specs.Held.{cluster_in, entries_in}
 use Rattle.chain_layout.specs.Listed.{listed_at}
-use Rattle.chain_laws.specs.Chained.{Placed, AreOthers}
-use Rattle.chain_laws.specs.Changed.{file_names}
-use Rattle.chain_laws.proofs.ChangeLaws.{HasChains, has_chains, right_is}
-use Rattle.chain_laws.proofs.FileLaws.{tree_lacks}
-use Rattle.chain_files.specs.Filling.{first_block}
+use Rattle.chain_reading.specs.Chained.{PlacedEntry, AreOthers}
+use Rattle.chain_reading.specs.Changed.{file_names}
+use Rattle.chain_reading.proofs.ChangeLaws.{HasChains, has_chains, right_is}
+use Rattle.chain_reading.proofs.FileLaws.{tree_lacks}
+use Rattle.chain_changes.specs.Filling.{first_block}
 use Rattle.chain_reading.specs.declared.walking.Page.{Page}
 use Rattle.chain_reading.specs.declared.finding.Place.TheVariants.{Taken, Free}
 use Rattle.chain_reading.specs.Asking.{tree_of, mounted_by}
 use Rattle.chain_reading.specs.Finding.{placed_names, page_link, is_roomy, IsEntry, IsTaken, IsRoomiest}
 use Rattle.chain_reading.proofs.KnownLaws.{IsKnown, names_of_files, entry_file, taken_name}
-use Rattle.chain_changes.specs.Places.{IsAt}
+use Rattle.chain_changes.specs.Places.{StandsAtPlace}
 use Rattle.chain_changes.proofs.PutNeedLaws.{put_lost, put_over, put_new, need_over, need_new, names_counted}
 use Rattle.chain_changes.proofs.PuttingLaws.{Putting}
 
@@ -109,15 +109,15 @@ add_bytes next n b es place at =
 -- ---- what was found
 
 module _ (c : Client) (old : View) (n : Name) (page : Page) (valid : IsValidNow old) (tree : is_there (tree_of c old) ≡ true) (primary : c.root < old.world.geometry.primaries) (named : is_name n ≡ true) where
-  pub the_taken : (place first : ℕ) (at : IsAt c old n (Taken page place first)) → IsTaken c old n at.chains.directory page place first
+  pub the_taken : (place first : ℕ) (at : StandsAtPlace c old n (Taken page place first)) → IsTaken c old n at.chains.directory page place first
   the_taken place first at = let has : HasChains old.world c.root at.chains = has_chains old.world c.root at.chains at.under in at.found has.listing.entries has.listing.in_order
 
-  abbrev pub putting_over : (place first : ℕ) → IsAt c old n (Taken page place first) → Putting c old n page
+  abbrev pub putting_over : (place first : ℕ) → StandsAtPlace c old n (Taken page place first) → Putting c old n page
   putting_over place first at =
       record { valid = valid; tree = tree; primary = primary; named = named; chains = at.chains; under = at.under; before = (the_taken place first at).before; behind = (the_taken place first at).behind; parts = (the_taken place first at).parts; read = (the_taken place first at).read; may = (the_taken place first at).may }
 
   -- the name stands for a file
-  pub over_entry : (known : IsKnown c old) (place first : ℕ) (at : IsAt c old n (Taken page place first)) → (y : List ℕ) × (entry n (tree_of_files at.chains.files) ≡ a_file y)
+  pub over_entry : (known : IsKnown c old) (place first : ℕ) (at : StandsAtPlace c old n (Taken page place first)) → (y : List ℕ) × (entry n (tree_of_files at.chains.files) ≡ a_file y)
   over_entry known place first at =
       let same : known.chains ≡ at.chains = some_same (sym known.under ∙ at.under) in
       let taken = subst (λ cs. IsTaken c old n cs.directory page place first) (sym same) (the_taken place first at) in
@@ -128,7 +128,7 @@ module _ (c : Client) (old : View) (n : Name) (page : Page) (valid : IsValidNow 
       some_same e = cc
 
   -- no file has the name
-  module _ (count : ℕ) (at : IsAt c old n (Free page count)) where
+  module _ (count : ℕ) (at : StandsAtPlace c old n (Free page count)) where
     has : HasChains old.world c.root at.chains
     has = has_chains old.world c.root at.chains at.under
 
@@ -148,7 +148,7 @@ module _ (c : Client) (old : View) (n : Name) (page : Page) (valid : IsValidNow 
         name-length [] = refl
         name-length (f ∷ fs) = ap suc (name-length fs)
 
-        placed-length : (ps : List Placed) → length (placed_names ps) ≡ length ps
+        placed-length : (ps : List PlacedEntry) → length (placed_names ps) ≡ length ps
         placed-length [] = refl
         placed-length (p ∷ ps) = ap suc (placed-length ps)
 
@@ -243,13 +243,13 @@ abbrev by_any : Client → View → Path → List ℕ → Option Chains → Opti
 by_any c old path body o = refusal kind.Chain old.world.geometry (as_tree o) (free_count old.world) (length old.world.pairs)
     (chain_need old.world.geometry (as_tree o) (option_map_or (has_room old.world) o true) (ask.Put path body)) (ask.Put path body)
 
-pub refused_lost : (c : Client) (old : View) → is_there (tree_of c old) ≡ true → (path : Path) (body : List ℕ) (e : FsRefusal) → no_entry_of (tree_of c old) path no.IsDir ≡ Some e → refused_on (mounted_by c) old (ask.Put path body) ≡ Some e
+pub refused_lost : (c : Client) (old : View) → is_there (tree_of c old) ≡ true → (path : Path) (body : List ℕ) (e : FsRefusal) → no_place_found (tree_of c old) path no.IsDir ≡ Some e → refused_on (mounted_by c) old (ask.Put path body) ≡ Some e
 refused_lost c old there path body e h =
     let f = found old.world c.root there in
     let cs = f.chains in
     ap (by_any c old path body) f.under
     ∙ put_lost old.world.geometry (tree_of_files cs.files) (free_count old.world) (length old.world.pairs) (chain_need old.world.geometry (as_tree (Some cs)) (has_room old.world cs) (ask.Put path body)) body path e
-    (ap (λ o. no_entry_of (as_tree o) path no.IsDir) (sym f.under) ∙ h)
+    (ap (λ o. no_place_found (as_tree o) path no.IsDir) (sym f.under) ∙ h)
 
 -- what refuses an ask where nothing has changed since
 pub refused_since : (f : FilesView) (first mid : View) (a : ShellAsk) → mid.world ≡ first.world → refused_on f mid a ≡ refused_on f first a

@@ -27,18 +27,18 @@ use Rattle.fs_laws.proofs.OutsideLaws.{outside_twice}
 use Rattle.fs_port.specs.View.{View}
 use Rattle.fs_port.specs.Calls.{IsValidNow}
 use Rattle.fs_port.specs.Files.{IsEitherTree}
-use Rattle.fs_asks.specs.declared.client.Client.{Client}
-use Rattle.fs_asks.specs.Client.{write_by}
-use Rattle.fs_asks.specs.May.{MayWrite}
-use Rattle.fs_steps.specs.Steps.{Leads, written, no_room_in}
-use Rattle.fs_changing.specs.Changing.{refused_on}
-use Rattle.fs_changing.proofs.RoomLaws.{there_is_room}
-use Rattle.fs_changing.proofs.RunLaws.{clash_free_live}
-use Rattle.chain_laws.specs.Chained.{IsFrom, IsFile}
-use Rattle.chain_laws.proofs.ChangeLaws.{has_chains, right_is}
-use Rattle.chain_files.specs.Making.{Stage, Making, IsAside}
-use Rattle.chain_files.specs.Filling.{NewFile}
-use Rattle.chain_files.proofs.MakingLaws.{named_live, tree_same, primary_now, source_under, aside_now}
+use Rattle.fs_client.specs.declared.client.Client.{Client}
+use Rattle.fs_client.specs.Client.{write_by}
+use Rattle.fs_client.specs.May.{MayWrite}
+use Rattle.fs_client.specs.Steps.{Leads, written, no_room_in}
+use Rattle.fs_client.specs.Changing.{refused_on}
+use Rattle.fs_client.proofs.RoomLaws.{there_is_room}
+use Rattle.fs_client.proofs.RunLaws.{clash_free_live}
+use Rattle.chain_reading.specs.Chained.{IsFrom, IsFile}
+use Rattle.chain_reading.proofs.ChangeLaws.{has_chains, right_is}
+use Rattle.chain_changes.specs.Making.{Stage, Making, IsAside}
+use Rattle.chain_changes.specs.Filling.{NewFile}
+use Rattle.chain_changes.proofs.MakingLaws.{named_live, tree_same, primary_now, source_under, aside_now}
 use Rattle.chain_reading.specs.declared.walking.Page.{Page}
 use Rattle.chain_reading.specs.Standing.{IsPage}
 use Rattle.chain_reading.specs.Asking.{tree_of, mounted_by}

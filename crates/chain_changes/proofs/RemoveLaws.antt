@@ -28,30 +28,30 @@ use Rattle.fs_laws.proofs.TreeLaws.{named_is_under}
 use Rattle.fs_port.specs.View.{View}
 use Rattle.fs_port.specs.Calls.{Stays}
 use Rattle.fs_port.specs.Files.{IsEitherTree}
-use Rattle.fs_asks.specs.declared.client.Client.{Client}
-use Rattle.fs_asks.specs.Client.{write_by}
-use Rattle.fs_asks.specs.May.{MayWrite, Looked}
-use Rattle.fs_steps.specs.Steps.{Leads, Went, written}
-use Rattle.fs_changing.specs.Changing.{refused_on, no_entry_of}
-use Rattle.fs_changing.proofs.AskLaws.{rm_none}
-use Rattle.fs_changing.proofs.RunLaws.{as_before, clash_free_live}
-use Rattle.fs_changing.proofs.StepLaws.{may_after}
-use Rattle.fs_changing.proofs.TidyLaws.{named_reached}
+use Rattle.fs_client.specs.declared.client.Client.{Client}
+use Rattle.fs_client.specs.Client.{write_by}
+use Rattle.fs_client.specs.May.{MayWrite, Looked}
+use Rattle.fs_client.specs.Steps.{Leads, Went, written}
+use Rattle.fs_client.specs.Changing.{refused_on, no_place_found}
+use Rattle.fs_client.proofs.AskLaws.{rm_none}
+use Rattle.fs_client.proofs.RunLaws.{as_before, clash_free_live}
+use Rattle.fs_client.proofs.MayLaws.{may_after}
+use Rattle.fs_client.proofs.TidyLaws.{named_reached}
 use Rattle.chain_layout.specs.Block.{cluster_of}
 use Rattle.chain_layout.specs.Held.{cluster_in, entries_in}
 use Rattle.chain_layout.specs.Listed.{unlisted_at, entry_blocks}
 use Rattle.chain_layout.specs.ReadsBack.{are_small}
-use Rattle.chain_laws.specs.Chained.{IsFile}
-use Rattle.chain_laws.specs.Changed.{file_blocks, file_pairs, file_names, relinked}
-use Rattle.chain_laws.specs.Decided.{FileRemoved}
-use Rattle.chain_laws.proofs.ChangeLaws.{HasChains, has_chains, IsRight, right_is, blocks-append, file_pairs-append}
-use Rattle.chain_laws.proofs.DecidedLaws.{entry_is_removed}
-use Rattle.chain_laws.proofs.FileLaws.{distinct_parts, tree_has}
+use Rattle.chain_reading.specs.Chained.{IsFile}
+use Rattle.chain_reading.specs.Changed.{file_blocks, file_pairs, file_names, relinked}
+use Rattle.chain_reading.specs.Decided.{FileRemoved}
+use Rattle.chain_reading.proofs.ChangeLaws.{HasChains, has_chains, IsRight, right_is, blocks-append, file_pairs-append}
+use Rattle.chain_reading.proofs.DecidedLaws.{entry_is_removed}
+use Rattle.chain_reading.proofs.FileLaws.{distinct_parts, tree_has}
 use Rattle.chain_reading.specs.declared.walking.Page.{Page}
 use Rattle.chain_reading.specs.declared.finding.Place.TheVariants.{Taken}
 use Rattle.chain_reading.specs.Asking.{tree_of, mounted_by}
 use Rattle.chain_reading.specs.Finding.{page_link, IsTaken}
-use Rattle.chain_changes.specs.Places.{IsAt}
+use Rattle.chain_changes.specs.Places.{StandsAtPlace}
 use Rattle.chain_changes.proofs.EntryLaws.{ReadsAs, directory_read, directory_fits, from_first, named_parts, named_both, small_parts, small_both, page_live, page_within, page_named, page_entries, page_all_named, page_linked, page_sized, page_small}
 use Rattle.chain_changes.proofs.ExchangeLaws.{old_gone, named_before, still_named}
 use Rattle.chain_changes.proofs.AfterLaws.{LetsGo, This_loose, decided_either}
@@ -122,8 +122,8 @@ pub record Taking (c : Client) (first mid : View) (path : Path) (n : Name) (page
   pub primary : c.root < first.world.geometry.primaries
   pub seen : Looked first mid
   pub path_is : path ≡ n ∷ []
-  pub found : IsAt c mid n (Taken page place b)
-  pub way : ◌≡◌ {A = Option FsRefusal} (no_entry_of (tree_of c first) path no.IsDir) None
+  pub found : StandsAtPlace c mid n (Taken page place b)
+  pub way : ◌≡◌ {A = Option FsRefusal} (no_place_found (tree_of c first) path no.IsDir) None
 
 module _ (c : Client) (first mid : View) (path : Path) (n : Name) (page : Page) (place b : ℕ) (x : Taking c first mid path n page place b) where
   abbrev w : World

@@ -14,7 +14,7 @@ use Rattle.fs_trees.specs.Fields.{only_if, begins_with}
 use Rattle.byteorder.specs.Endian.{little_number}
 use Rattle.fs_trees.specs.Cluster.{Cluster, magic, link_in, cluster_in, bytes_room}
 use Rattle.fs_trees.specs.ChainTree.{Link, cluster_at, is_filled, chain_bytes}
-use Rattle.chain_laws.specs.Chained.{IsFrom}
+use Rattle.chain_reading.specs.Chained.{IsFrom}
 
 -- ---- of numbers
 

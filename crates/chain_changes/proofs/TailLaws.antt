@@ -8,10 +8,10 @@ use Rattle.tsd_model.specs.World.{World}
 use Rattle.tsd_model.specs.Valid.{IsValid}
 use Rattle.fs_trees.specs.Cluster.{bytes_room}
 use Rattle.fs_port.specs.View.{View}
-use Rattle.fs_asks.specs.declared.client.Client.{Client}
-use Rattle.chain_files.specs.Making.{Stage, IsAside}
-use Rattle.chain_files.specs.Filling.{AsideWith, NewChain, ArePartsOf, Wrote}
-use Rattle.chain_files.proofs.FileLaws.{few_clusters, long_room}
+use Rattle.fs_client.specs.declared.client.Client.{Client}
+use Rattle.chain_changes.specs.Making.{Stage, IsAside}
+use Rattle.chain_changes.specs.Filling.{AsideWith, NewChain, ArePartsOf, Wrote}
+use Rattle.chain_changes.proofs.FileLaws.{few_clusters, long_room}
 use Rattle.chain_changes.specs.Growing.{clusters_more, NewTail}
 
 pub few_more : (w : World) (bytes : List ℕ) → IsValid w → length bytes ≤ 4096 → clusters_more (block_len w.geometry) bytes ≤ 64

@@ -6,22 +6,22 @@ use Rattle.fs_trees.specs.Names.{Path}
 use Rattle.fs_trees.specs.Cluster.{bytes_room}
 use Rattle.fs_trees.specs.ChainTree.{Link, ChainFile, blocks_of, Chains, chains_under}
 use Rattle.fs_port.specs.View.{View}
-use Rattle.fs_asks.specs.declared.client.Client.{Client}
-use Rattle.fs_asks.specs.May.{MayWrite}
+use Rattle.fs_client.specs.declared.client.Client.{Client}
+use Rattle.fs_client.specs.May.{MayWrite}
 use Rattle.chain_layout.specs.Block.{cluster_of}
 use Rattle.chain_layout.specs.Held.{part_cluster}
-use Rattle.chain_laws.specs.Chained.{IsFrom}
+use Rattle.chain_reading.specs.Chained.{IsFrom}
 use Rattle.chain_reading.specs.declared.walking.Part.{Part}
 use Rattle.chain_reading.specs.Standing.{IsPart}
-use Rattle.chain_files.specs.Making.{Making}
-use Rattle.chain_files.specs.Filling.{first_block, ArePartsOf}
+use Rattle.chain_changes.specs.Making.{Making}
+use Rattle.chain_changes.specs.Filling.{first_block, ArePartsOf}
 
 -- a cluster of a file that was read, as one of its chain
 abbrev pub part_link : Part → Link
 part_link part = record { block = part.block; cluster = cluster_of (part_cluster part.cluster) }
 
 -- it is the last cluster of a chain; it was read, and the session may write it
-pub record IsLast (c : Client) (v : View) (ls : List Link) (part : Part) : Type 0 where
+pub record IsLastCluster (c : Client) (v : View) (ls : List Link) (part : Part) : Type 0 where
   pub before : List Link
   pub parts : ls ≡ before ++ (part_link part ∷ [])
   pub read : IsPart v.world part.block part
@@ -36,7 +36,7 @@ pub record IsLastOf (c : Client) (v : View) (path : Path) (part : Part) : Type 0
   pub back : List ChainFile
   pub among : chains.files ≡ front ++ (file ∷ back)
   pub named : path ≡ file.name ∷ []
-  pub last : IsLast c v file.chain part
+  pub last : IsLastCluster c v file.chain part
 
 -- how many clusters such bytes take in blocks of this length
 abbrev pub clusters_more : ℕ → List ℕ → ℕ

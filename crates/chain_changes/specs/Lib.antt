@@ -1,2 +1,4 @@
 pub mod Places
 pub mod Growing
+pub mod Making
+pub mod Filling

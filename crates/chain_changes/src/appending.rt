@@ -1,6 +1,7 @@
 //! Files that get longer.
 
-ghost use Rattle.std.specs.Prelude.{◌≡◌, ◌≢◌, ◌≤◌, ◌<◌, ◌-◌, min, take, drop, ℕ, List, length, false, None, Some, IfOk, IfErr, OnOk};
+ghost use Rattle.std.specs.Prelude.{◌≡◌, ◌≢◌, ◌≤◌, ◌<◌, ◌-◌, min, take, drop, ℕ, List};
+ghost use Rattle.std.specs.Prelude.{length, false, None, Some, IfOk, IfErr, OnOk};
 ghost use Rattle.tsd_model.specs.Geometry.{block_len};
 ghost use Rattle.fs_trees.specs.Answer.{done};
 ghost use Rattle.fs_trees.specs.Names.{Path};
@@ -10,24 +11,23 @@ ghost use Rattle.fs_trees.specs.declared.ask.ShellAsk.TheVariants as ask;
 ghost use Rattle.fs_trees.specs.declared.refusal.FsRefusal.TheVariants as no;
 ghost use Rattle.fs_port.specs.Calls.{IsValidNow};
 ghost use Rattle.fs_port.specs.Files.{Answers};
-ghost use Rattle.fs_asks.specs.May.{MayWrite, Looks};
-ghost use Rattle.fs_steps.specs.Steps.{no_room_in};
-ghost use Rattle.fs_changing.specs.Changing.{Changes};
-ghost use Rattle.fs_changing.specs.Runs.{Runs};
+ghost use Rattle.fs_client.specs.May.{MayWrite, OnlyLooks};
+ghost use Rattle.fs_client.specs.Steps.{no_room_in};
+ghost use Rattle.fs_port.specs.Runs.{Changes, Runs};
 ghost use Rattle.chain_reading.specs.Ahead.{IsFileAhead, HasFile};
 ghost use Rattle.chain_reading.specs.Asking.{MayAsk, mounted_by};
-ghost use Rattle.chain_files.specs.Making.{Stage, IsAside};
-ghost use Rattle.chain_files.specs.Filling.{AreLinkable, first_block};
+ghost use Rattle.chain_changes.specs.Making.{Stage, IsAside};
+ghost use Rattle.chain_changes.specs.Filling.{AreLinkable, first_block};
 ghost use Rattle.chain_layout.specs.Block.{block_len_of};
 ghost use Rattle.chain_layout.specs.Held.{part_cluster, part_in};
-ghost use Rattle.chain_changes.specs.Growing.{IsLast, IsLastOf, clusters_more, NewTail};
+ghost use Rattle.chain_changes.specs.Growing.{IsLastCluster, IsLastOf, clusters_more, NewTail};
 
-use chain_files::{new_chain, write_chain};
+use crate::blocks::new_chain;
+use crate::bytes::write_chain;
 use chain_layout::{bytes_room, file_part};
 use chain_reading::{Part, find_file, read_part};
-use fs_asks::Client;
+use fs_client::{Client, write_block};
 use fs_port::Blocks;
-use fs_steps::write_block;
 use fs_trees::{FsRefusal, Path};
 use tsd_model::{BlockList, Data};
 
@@ -36,9 +36,10 @@ fn last_part<K: Blocks>(client: &Client, disk: &mut K, first: u32) -> Result<Par
     requires unspent { (K.view disk.old).spent ≡ false }
     requires valid { K.told → IsValidNow (K.view disk.old) }
     requires file { K.told → HasFile client.now (K.view disk.old) first }
-    ensures last { K.told → (ls : List Link) → IsFileAhead client.now (K.view disk.old) first ls → IfOk result (IsLast client.now (K.view disk.new) ls) }
+    ensures last { K.told → (ls : List Link) → IsFileAhead client.now (K.view disk.old) first ls
+        → IfOk result (IsLastCluster client.now (K.view disk.new) ls) }
     ensures only { K.told → IfErr result (λ e. e ≡ no.Device) }
-    ensures looks { Looks K.told (K.view disk.old) (K.view disk.new) result }
+    ensures looks { OnlyLooks K.told (K.view disk.old) (K.view disk.new) result }
 {
     let mut block = first;
     for place in 0..disk.geometry().blocks {
@@ -54,8 +55,8 @@ fn last_part<K: Blocks>(client: &Client, disk: &mut K, first: u32) -> Result<Par
     Err(FsRefusal::NotThisFs)
 }
 
-/// Makes the further clusters of a file in new blocks under its last one. Want of room refuses them, and then nothing is left of
-/// them.
+/// Makes the further clusters of a file in new blocks under its last one. Want of room refuses them, and then nothing
+/// is left of them.
 #[tactic(none)]
 fn new_tail<K: Blocks>(
     client: &Client,
@@ -74,10 +75,14 @@ fn new_tail<K: Blocks>(
     requires small { length bytes.now ≤ 4096 }
     ensures made { K.told → IfOk result (NewTail client.now (K.view disk.old) (K.view disk.new) source bytes.now) }
     ensures linkable { IfOk result (λ blocks. AreLinkable blocks) }
-    ensures room { K.told → OnOk result (no_room_in (K.view disk.old).world (clusters_more len bytes.now) (clusters_more len bytes.now) ≡ None) }
-    ensures full { K.told → IfErr result (λ e. e ≢ no.Device → no_room_in (K.view disk.old).world (clusters_more len bytes.now) (clusters_more len bytes.now) ≡ Some e) }
-    ensures same { K.told → IfErr result (λ e. e ≢ no.Device → (K.view disk.new).world ≡ (K.view disk.old).world) }
-    ensures runs { Runs K.told (K.view disk.old) (K.view disk.new) (IsAside client.now.root (K.view disk.old).world) result }
+    ensures room { K.told → OnOk result (no_room_in (K.view disk.old).world (clusters_more len bytes.now)
+        (clusters_more len bytes.now) ≡ None) }
+    ensures full { K.told → IfErr result (λ e. e ≢ no.Device
+        → no_room_in (K.view disk.old).world (clusters_more len bytes.now) (clusters_more len bytes.now) ≡ Some e) }
+    ensures same { K.told → IfErr result (λ e. e ≢ no.Device → (K.view disk.new).world
+        ≡ (K.view disk.old).world) }
+    ensures runs { Runs K.told (K.view disk.old) (K.view disk.new) (IsAside client.now.root (K.view disk.old).world)
+        result }
 {
     let count = bytes.len().div_ceil(bytes_room(len));
     let blocks = match new_chain(client, disk, source, count as u32) {
@@ -118,8 +123,8 @@ fn first_block(blocks: &[u32]) -> Option<u32>
     }
 }
 
-/// Adds some bytes behind a file's last cluster: as many as it has room for in that, and the others in new clusters. The write of
-/// the last one decides.
+/// Adds some bytes behind a file's last cluster: as many as it has room for in that, and the others in new clusters.
+/// The write of the last one decides.
 #[tactic(none)]
 fn grow<K: Blocks>(
     client: &Client,
@@ -131,8 +136,12 @@ fn grow<K: Blocks>(
     requires last { K.told → (path : Path) × IsLastOf client.now (K.view disk.old) path last.now }
     requires some { 0 < length bytes.now }
     requires small { length bytes.now ≤ 4096 }
-    ensures answer { K.told → (path : Path) → IsLastOf client.now (K.view disk.old) path last.now → Answers (mounted_by client.now) (K.view disk.old) (K.view disk.new) (ask.Append path bytes.now) result (λ _ answer. answer ≡ done) }
-    ensures changes { (path : Path) → (K.told → IsLastOf client.now (K.view disk.old) path last.now) → Changes K.told (mounted_by client.now) (K.view disk.old) (K.view disk.new) (ask.Append path bytes.now) result }
+    ensures answer { K.told → (path : Path) → IsLastOf client.now (K.view disk.old) path last.now
+        → Answers (mounted_by client.now) (K.view disk.old) (K.view disk.new) (ask.Append path bytes.now) result
+        (λ _ answer. answer ≡ done) }
+    ensures changes { (path : Path) → (K.told → IsLastOf client.now (K.view disk.old) path last.now)
+        → Changes K.told (mounted_by client.now) (K.view disk.old) (K.view disk.new) (ask.Append path bytes.now)
+        result }
 {
     let len = last.cluster.cluster().block_len();
     if bytes_room(len) == 0 {
@@ -160,8 +169,10 @@ pub fn append<K: Blocks>(
     bytes: &Data,
 ) -> Result<(), FsRefusal>
     requires may { MayAsk K.told client.now (K.view disk.old) }
-    ensures answer { K.told → Answers (mounted_by client.now) (K.view disk.old) (K.view disk.new) (ask.Append path.now bytes.now) result (λ _ answer. answer ≡ done) }
-    ensures changes { Changes K.told (mounted_by client.now) (K.view disk.old) (K.view disk.new) (ask.Append path.now bytes.now) result }
+    ensures answer { K.told → Answers (mounted_by client.now) (K.view disk.old) (K.view disk.new)
+        (ask.Append path.now bytes.now) result (λ _ answer. answer ≡ done) }
+    ensures changes { Changes K.told (mounted_by client.now) (K.view disk.old) (K.view disk.new)
+        (ask.Append path.now bytes.now) result }
 {
     let first = match find_file(client, disk, path) {
         Ok(first) => first,

@@ -2,14 +2,14 @@
 
 ghost use Rattle.std.specs.Prelude.{◌≡◌, ◌≢◌, [], ◌∷◌, None, Some, IfOk, IfErr, OnOk};
 ghost use Rattle.fs_trees.specs.declared.refusal.FsRefusal.TheVariants as no;
-ghost use Rattle.fs_asks.specs.May.{Looks};
-ghost use Rattle.fs_changing.specs.Changing.{no_entry_of};
+ghost use Rattle.fs_client.specs.May.{OnlyLooks};
+ghost use Rattle.fs_client.specs.Changing.{no_place_found};
 ghost use Rattle.chain_reading.specs.Asking.{MayAsk, tree_of};
 ghost use Rattle.chain_reading.specs.Finding.{IsWithin};
-ghost use Rattle.chain_changes.specs.Places.{IsAt};
+ghost use Rattle.chain_changes.specs.Places.{StandsAtPlace};
 
 use chain_reading::{Place, no_way, search};
-use fs_asks::Client;
+use fs_client::Client;
 use fs_port::Blocks;
 use fs_trees::{FsRefusal, Name, Path};
 
@@ -22,12 +22,14 @@ pub fn find_place<'a, K: Blocks>(
 ) -> Result<(Place, &'a Name), FsRefusal>
     requires may { MayAsk K.told client.now (K.view disk.old) }
     requires refusal { at_root ≢ no.Device }
-    ensures found { K.told → IfOk result (λ found. IsAt client.now (K.view disk.new) found.1.now found.0) }
+    ensures found { K.told → IfOk result (λ found. StandsAtPlace client.now (K.view disk.new) found.1.now found.0) }
     ensures path { IfOk result (λ found. path.now ≡ found.1.now ∷ []) }
     ensures within { IfOk result (λ found. IsWithin found.0) }
-    ensures none { K.told → OnOk result (no_entry_of (tree_of client.now (K.view disk.old)) path.now at_root ≡ None) }
-    ensures refused { K.told → IfErr result (λ e. e ≢ no.Device → no_entry_of (tree_of client.now (K.view disk.old)) path.now at_root ≡ Some e) }
-    ensures looks { Looks K.told (K.view disk.old) (K.view disk.new) result }
+    ensures none { K.told → OnOk result (no_place_found (tree_of client.now (K.view disk.old)) path.now at_root
+        ≡ None) }
+    ensures refused { K.told → IfErr result (λ e. e ≢ no.Device
+        → no_place_found (tree_of client.now (K.view disk.old)) path.now at_root ≡ Some e) }
+    ensures looks { OnlyLooks K.told (K.view disk.old) (K.view disk.new) result }
 {
     match path.as_slice() {
         [] => Err(at_root),

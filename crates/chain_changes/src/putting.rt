@@ -7,28 +7,27 @@ ghost use Rattle.fs_trees.specs.Cluster.{entries_room};
 ghost use Rattle.fs_trees.specs.Answer.{done};
 ghost use Rattle.fs_trees.specs.declared.ask.ShellAsk.TheVariants as ask;
 ghost use Rattle.fs_port.specs.Files.{Answers};
-ghost use Rattle.fs_changing.specs.Changing.{Changes};
+ghost use Rattle.fs_port.specs.Runs.{Changes};
 ghost use Rattle.chain_layout.specs.Block.{block_len_of};
 ghost use Rattle.chain_layout.specs.Held.{cluster_in, entries_in};
 ghost use Rattle.chain_reading.specs.Asking.{MayAsk, mounted_by};
 ghost use Rattle.chain_reading.specs.declared.finding.Place.TheVariants.{Taken, Free};
-ghost use Rattle.chain_changes.specs.Places.{IsAt};
+ghost use Rattle.chain_changes.specs.Places.{StandsAtPlace};
 
+use crate::file::new_file;
 use crate::finding::find_place;
-use chain_files::new_file;
 use chain_layout::{directory_linked, directory_of_one, directory_with};
 use chain_reading::{Page, Place};
-use fs_asks::Client;
+use fs_client::{Client, drop_pointer, write_block};
 use fs_port::Blocks;
-use fs_steps::{drop_pointer, write_block};
 use fs_trees::{FsRefusal, Name, Path};
 use tsd_model::Data;
 
 /// How many names the directory has at most.
 const NAMES_MAX: usize = 4096;
 
-/// Puts a file of these bytes in place of the one that an entry names. The write of the entry's cluster decides; then it lets go of
-/// the old file.
+/// Puts a file of these bytes in place of the one that an entry names. The write of the entry's cluster decides; then
+/// it lets go of the old file.
 #[tactic(none)]
 fn replace<K: Blocks>(
     client: &Client,
@@ -40,11 +39,13 @@ fn replace<K: Blocks>(
     bytes: &Data,
 ) -> Result<(), FsRefusal>
     requires may { MayAsk K.told client.now (K.view disk.old) }
-    requires found { K.told → IsAt client.now (K.view disk.old) name.now (Taken page.now place first) }
+    requires found { K.told → StandsAtPlace client.now (K.view disk.old) name.now (Taken page.now place first) }
     requires within { place < length (entries_in page.now.cluster) }
     requires named { IsTrue (is_name name.now) }
-    ensures answer { K.told → Answers (mounted_by client.now) (K.view disk.old) (K.view disk.new) (ask.Put (name.now ∷ []) bytes.now) result (λ _ answer. answer ≡ done) }
-    ensures changes { Changes K.told (mounted_by client.now) (K.view disk.old) (K.view disk.new) (ask.Put (name.now ∷ []) bytes.now) result }
+    ensures answer { K.told → Answers (mounted_by client.now) (K.view disk.old) (K.view disk.new)
+        (ask.Put (name.now ∷ []) bytes.now) result (λ _ answer. answer ≡ done) }
+    ensures changes { Changes K.told (mounted_by client.now) (K.view disk.old) (K.view disk.new)
+        (ask.Put (name.now ∷ []) bytes.now) result }
 {
     let len = page.cluster.cluster().block_len();
     let blocks = match new_file(client, disk, page.block, 0, bytes, len) {
@@ -62,7 +63,8 @@ fn replace<K: Blocks>(
     }
 }
 
-/// Puts a file of these bytes under a new name, in a cluster of the directory that has room. The write of that cluster decides.
+/// Puts a file of these bytes under a new name, in a cluster of the directory that has room. The write of that cluster
+/// decides.
 #[tactic(none)]
 fn add<K: Blocks>(
     client: &Client,
@@ -73,12 +75,14 @@ fn add<K: Blocks>(
     bytes: &Data,
 ) -> Result<(), FsRefusal>
     requires may { MayAsk K.told client.now (K.view disk.old) }
-    requires found { K.told → IsAt client.now (K.view disk.old) name.now (Free page.now count) }
+    requires found { K.told → StandsAtPlace client.now (K.view disk.old) name.now (Free page.now count) }
     requires few { count < names_max }
     requires room { length (entries_in page.now.cluster) < entries_room (block_len_of (cluster_in page.now.cluster)) }
     requires named { IsTrue (is_name name.now) }
-    ensures answer { K.told → Answers (mounted_by client.now) (K.view disk.old) (K.view disk.new) (ask.Put (name.now ∷ []) bytes.now) result (λ _ answer. answer ≡ done) }
-    ensures changes { Changes K.told (mounted_by client.now) (K.view disk.old) (K.view disk.new) (ask.Put (name.now ∷ []) bytes.now) result }
+    ensures answer { K.told → Answers (mounted_by client.now) (K.view disk.old) (K.view disk.new)
+        (ask.Put (name.now ∷ []) bytes.now) result (λ _ answer. answer ≡ done) }
+    ensures changes { Changes K.told (mounted_by client.now) (K.view disk.old) (K.view disk.new)
+        (ask.Put (name.now ∷ []) bytes.now) result }
 {
     let len = page.cluster.cluster().block_len();
     let blocks = match new_file(client, disk, page.block, 0, bytes, len) {
@@ -93,8 +97,8 @@ fn add<K: Blocks>(
     }
 }
 
-/// Puts a file of these bytes under a new name, in a new cluster of the directory behind the last one. The write of the last one
-/// decides.
+/// Puts a file of these bytes under a new name, in a new cluster of the directory behind the last one. The write of the
+/// last one decides.
 #[tactic(none)]
 fn extend<K: Blocks>(
     client: &Client,
@@ -105,12 +109,14 @@ fn extend<K: Blocks>(
     bytes: &Data,
 ) -> Result<(), FsRefusal>
     requires may { MayAsk K.told client.now (K.view disk.old) }
-    requires found { K.told → IsAt client.now (K.view disk.old) name.now (Free page.now count) }
+    requires found { K.told → StandsAtPlace client.now (K.view disk.old) name.now (Free page.now count) }
     requires few { count < names_max }
     requires full { entries_room (block_len_of (cluster_in page.now.cluster)) ≤ length (entries_in page.now.cluster) }
     requires named { IsTrue (is_name name.now) }
-    ensures answer { K.told → Answers (mounted_by client.now) (K.view disk.old) (K.view disk.new) (ask.Put (name.now ∷ []) bytes.now) result (λ _ answer. answer ≡ done) }
-    ensures changes { Changes K.told (mounted_by client.now) (K.view disk.old) (K.view disk.new) (ask.Put (name.now ∷ []) bytes.now) result }
+    ensures answer { K.told → Answers (mounted_by client.now) (K.view disk.old) (K.view disk.new)
+        (ask.Put (name.now ∷ []) bytes.now) result (λ _ answer. answer ≡ done) }
+    ensures changes { Changes K.told (mounted_by client.now) (K.view disk.old) (K.view disk.new)
+        (ask.Put (name.now ∷ []) bytes.now) result }
 {
     let len = page.cluster.cluster().block_len();
     let blocks = match new_file(client, disk, page.block, 1, bytes, len) {
@@ -144,8 +150,10 @@ pub fn put<K: Blocks>(
 ) -> Result<(), FsRefusal>
     requires may { MayAsk K.told client.now (K.view disk.old) }
     requires named { IsTrue (is_path path.now) }
-    ensures answer { K.told → Answers (mounted_by client.now) (K.view disk.old) (K.view disk.new) (ask.Put path.now bytes.now) result (λ _ answer. answer ≡ done) }
-    ensures changes { Changes K.told (mounted_by client.now) (K.view disk.old) (K.view disk.new) (ask.Put path.now bytes.now) result }
+    ensures answer { K.told → Answers (mounted_by client.now) (K.view disk.old) (K.view disk.new)
+        (ask.Put path.now bytes.now) result (λ _ answer. answer ≡ done) }
+    ensures changes { Changes K.told (mounted_by client.now) (K.view disk.old) (K.view disk.new)
+        (ask.Put path.now bytes.now) result }
 {
     let (place, name) = match find_place(client, disk, path, FsRefusal::IsDir) {
         Ok(found) => found,

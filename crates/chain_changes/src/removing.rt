@@ -4,23 +4,24 @@ ghost use Rattle.std.specs.Prelude.{◌≡◌};
 ghost use Rattle.fs_trees.specs.Answer.{done};
 ghost use Rattle.fs_trees.specs.declared.ask.ShellAsk.TheVariants as ask;
 ghost use Rattle.fs_port.specs.Files.{Answers};
-ghost use Rattle.fs_changing.specs.Changing.{Changes};
+ghost use Rattle.fs_port.specs.Runs.{Changes};
 ghost use Rattle.chain_reading.specs.Asking.{MayAsk, mounted_by};
 
 use crate::finding::find_place;
 use chain_layout::directory_without;
 use chain_reading::Place;
-use fs_asks::Client;
+use fs_client::{Client, drop_pointer, write_block};
 use fs_port::Blocks;
-use fs_steps::{drop_pointer, write_block};
 use fs_trees::{FsRefusal, Path};
 
 /// Takes away a file: the cluster of its entry is written without it, which decides, and then lets go of it.
 #[tactic(none)]
 pub fn remove<K: Blocks>(client: &Client, disk: &mut K, path: &Path) -> Result<(), FsRefusal>
     requires may { MayAsk K.told client.now (K.view disk.old) }
-    ensures answer { K.told → Answers (mounted_by client.now) (K.view disk.old) (K.view disk.new) (ask.Rm path.now) result (λ _ answer. answer ≡ done) }
-    ensures changes { Changes K.told (mounted_by client.now) (K.view disk.old) (K.view disk.new) (ask.Rm path.now) result }
+    ensures answer { K.told → Answers (mounted_by client.now) (K.view disk.old) (K.view disk.new) (ask.Rm path.now)
+        result (λ _ answer. answer ≡ done) }
+    ensures changes { Changes K.told (mounted_by client.now) (K.view disk.old) (K.view disk.new) (ask.Rm path.now)
+        result }
 {
     let (place, _name) = match find_place(client, disk, path, FsRefusal::IsDir) {
         Ok(found) => found,

@@ -1,1 +1,5 @@
-pub mod ViewLaws
+pub mod MakeLaws
+pub mod StandLaws
+pub mod TidyLaws
+pub mod PageLaws
+pub mod MountLaws

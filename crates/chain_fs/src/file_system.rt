@@ -3,8 +3,7 @@
 ghost use Rattle.std.specs.Prelude.{◌≡◌, IfOk, IfErr, OnOk};
 ghost use Rattle.fs_trees.specs.declared.refusal.FsRefusal.TheVariants as no;
 
-use fs_asks::Client;
-use fs_looking::BlockSet;
+use fs_client::{BlockSet, Client};
 use fs_port::{Blocks, Files};
 use fs_trees::{FsRefusal, Name, Path};
 use std::alloc::Global;
@@ -21,7 +20,8 @@ pub struct ChainFs {
 impl ChainFs {
     ghost use Rattle.chain_fs.specs.View.{new_view, chain_view};
 
-    /// A file system under a root, for a session that shows this capability there; nothing is mounted. Its room is for any disk.
+    /// A file system under a root, for a session that shows this capability there; nothing is mounted. Its room is for
+    /// any disk.
     pub fn new(alloc: Global, root: u32, cap: &Cap, session: u32) -> Result<ChainFs, NoMemory>
         ensures { IfOk result (λ f. chain_view f ≡ new_view root cap.now session) }
     {
@@ -48,7 +48,7 @@ impl Files for ChainFs {
     }
 
     fn make<K: Blocks>(&mut self, disk: &mut K) -> Result<(), FsRefusal> {
-        match chain_mounting::make(&self.client, disk) {
+        match crate::making::make(&self.client, disk) {
             Ok(()) => {
                 self.mounted = true;
                 Ok(())
@@ -59,7 +59,7 @@ impl Files for ChainFs {
 
     fn mount<K: Blocks>(&mut self, disk: &mut K) -> Result<(), FsRefusal> {
         self.mounted = false;
-        match chain_mounting::mount(&self.client, disk, &mut self.seen) {
+        match crate::mounting::mount(&self.client, disk, &mut self.seen) {
             Ok(()) => {
                 self.mounted = true;
                 Ok(())

@@ -112,7 +112,8 @@ impl DirectoryCluster {
 
     /// Whether it has room for one entry more.
     pub fn has_room(&self) -> bool
-        ensures { result ≡ nat_lt (cluster_of (cluster_in self.now)).used (entries_room (block_len_of (cluster_in self.now))) }
+        ensures { result ≡ nat_lt (cluster_of (cluster_in self.now)).used
+            (entries_room (block_len_of (cluster_in self.now))) }
     {
         self.count < entries_room(self.cluster.block_len())
     }
@@ -149,7 +150,8 @@ impl DirectoryCluster {
 
     /// Whether one of its names stands in another cluster, too.
     pub fn shares_a_name(&self, other: &DirectoryCluster) -> bool
-        ensures { result ≡ list_any (is_among (entry_names (entries_in other.now))) (entry_names (entries_in self.now)) }
+        ensures { result ≡ list_any (is_among (entry_names (entries_in other.now)))
+            (entry_names (entries_in self.now)) }
     {
         are_shared(
             self.cluster.body(),

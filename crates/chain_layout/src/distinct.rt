@@ -39,7 +39,8 @@ pub fn are_distinct(list: &[u8], count: usize) -> bool
 pub fn are_shared(list: &[u8], count: usize, others: &[u8], other_count: usize) -> bool
     requires fits { 32 * count ≤ length list.now }
     requires others_fit { 32 * other_count ≤ length others.now }
-    ensures { result ≡ list_any (is_among (entry_names (entries other_count others.now))) (entry_names (entries count list.now)) }
+    ensures { result ≡ list_any (is_among (entry_names (entries other_count others.now)))
+        (entry_names (entries count list.now)) }
 {
     for place in 0..count {
         if is_among(name_at(list, place), others, other_count) {

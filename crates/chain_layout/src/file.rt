@@ -51,7 +51,8 @@ impl FileCluster {
 
     /// Whether it has no room for more.
     pub fn is_full(&self) -> bool
-        ensures { result ≡ ((cluster_of (part_cluster self.now)).used == bytes_room (block_len_of (part_cluster self.now))) }
+        ensures { result ≡ ((cluster_of (part_cluster self.now)).used == bytes_room
+            (block_len_of (part_cluster self.now))) }
     {
         self.count == bytes_room(self.cluster.block_len())
     }

@@ -1,6 +1,7 @@
 //! What is written as a cluster.
 
-ghost use Rattle.std.specs.Prelude.{◌≡◌, ◌≤◌, ◌<◌, ◌+◌, ◌*◌, ◌^◌, ◌++◌, [], ◌∷◌, ◌-◌, None, Some, length, take, drop, flat_map};
+ghost use Rattle.std.specs.Prelude.{◌≡◌, ◌≤◌, ◌<◌, ◌+◌, ◌*◌, ◌^◌, ◌++◌, [], ◌∷◌};
+ghost use Rattle.std.specs.Prelude.{◌-◌, None, Some, length, take, drop, flat_map};
 ghost use Rattle.fs_trees.specs.Fields.{entries, entry_bytes};
 ghost use Rattle.fs_trees.specs.Cluster.{link_field, entries_room, cluster_bytes, directory_bytes, part_bytes};
 ghost use Rattle.chain_layout.specs.Listed.{listed_at, unlisted_at};
@@ -91,7 +92,8 @@ pub fn directory_with(old: &DirectoryCluster, place: usize, name: &[u8], block: 
     requires named { length name.now ≤ 28 }
     requires within { place ≤ length (entries_in old.now) }
     requires fits { place < entries_room (block_len_of (cluster_in old.now)) }
-    ensures { result ≡ directory_bytes (cluster_of (cluster_in old.now)).next (listed_at place (record { name = name.now; block = block }) (entries_in old.now)) }
+    ensures { result ≡ directory_bytes (cluster_of (cluster_in old.now)).next
+        (listed_at place (record { name = name.now; block = block }) (entries_in old.now)) }
 {
     let list = old.cluster().body();
     let count = old.count();

@@ -7,8 +7,8 @@ use Rattle.std.proofs.lemmas.Grind.{flat_map-append}
 use Rattle.fs_port.specs.View.{View, state_of}
 use Rattle.fs_port.specs.Calls.{Stays}
 use Rattle.fs_laws.specs.Ways.{HoldsWrite}
-use Rattle.fs_asks.specs.declared.client.Client.{Client}
-use Rattle.fs_asks.specs.May.{Looked, Looks}
+use Rattle.fs_client.specs.declared.client.Client.{Client}
+use Rattle.fs_client.specs.May.{Looked, OnlyLooks}
 use Rattle.chain_reading.specs.Ahead.{IsFileAhead}
 use Rattle.chain_reading.proofs.WalkLaws.{link_of}
 use Rattle.chain_reading.proofs.SizeLaws.{IsCounted, count_on, more_bytes}
@@ -59,7 +59,7 @@ pub record IsCopied (c : Client) (now : View) (ls : List Link) (i b before start
   pub copied : into ≡ take 4096 (drop start (chain_bytes counted.before))
 
 pub record Copying (told : Type 0) (c : Client) (first now : View) (block i b before start : ℕ) (into : List ℕ) : Type 0 where
-  pub looks : Looks {X = Unit {0}} told first now (Ok tt)
+  pub looks : OnlyLooks {X = Unit {0}} told first now (Ok tt)
   pub copied : told → (ls : List Link) → IsFileAhead c first block ls → IsCopied c now ls i b before start into
   pub few : before ≤ 4096 * i
 

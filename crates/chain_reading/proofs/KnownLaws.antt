@@ -27,20 +27,20 @@ use Rattle.fs_laws.proofs.ChainLaws.{found}
 use Rattle.fs_laws.proofs.ListLaws.{held_left, held_right}
 use Rattle.fs_port.specs.View.{View, state_of, IsSound}
 use Rattle.fs_port.specs.Calls.{Stays}
-use Rattle.fs_asks.specs.declared.client.Client.{Client}
-use Rattle.fs_asks.specs.Client.{shown_at}
-use Rattle.fs_asks.specs.May.{MayWrite, Looked}
+use Rattle.fs_client.specs.declared.client.Client.{Client}
+use Rattle.fs_client.specs.Client.{shown_at}
+use Rattle.fs_client.specs.May.{MayWrite, Looked}
 use Rattle.chain_layout.specs.Block.{cluster_of}
 use Rattle.chain_layout.specs.Held.{cluster_in, entries_in}
-use Rattle.chain_laws.specs.Chained.{IsFrom, IsFile, Placed, AreFiles, placed, AreEntries, AreOthers}
-use Rattle.chain_laws.specs.Changed.{file_names, file_pairs}
-use Rattle.chain_laws.proofs.ChainedLaws.{files_split, entries_split}
-use Rattle.chain_laws.proofs.ChangeLaws.{HasChains, has_chains, right_is, placed-append, file_pairs-append}
-use Rattle.chain_laws.proofs.FileLaws.{tree_has, tree_lacks, others-append}
+use Rattle.chain_reading.specs.Chained.{IsFrom, IsFile, PlacedEntry, AreFiles, placed, AreEntries, AreOthers}
+use Rattle.chain_reading.specs.Changed.{file_names, file_pairs}
+use Rattle.chain_reading.proofs.ChainedLaws.{files_split, entries_split}
+use Rattle.chain_reading.proofs.ChangeLaws.{HasChains, has_chains, right_is, placed-append, file_pairs-append}
+use Rattle.chain_reading.proofs.FileLaws.{tree_has, tree_lacks, others-append}
 use Rattle.chain_reading.specs.declared.walking.Page.{Page}
 use Rattle.chain_reading.specs.Ahead.{IsFileAhead, IsDirectoryAhead, HasDirectory}
 use Rattle.chain_reading.specs.Asking.{MayAsk, tree_of}
-use Rattle.chain_reading.specs.Finding.{placed_names, no_way, IsTaken, IsFound, IsFileOf, no_file_found, no_directory_found}
+use Rattle.chain_reading.specs.Finding.{placed_names, no_way, IsTaken, IsNameFound, IsFileOf, no_file_found, no_directory_found}
 use Rattle.chain_reading.proofs.WalkLaws.{link_of}
 use Rattle.chain_reading.proofs.ListLaws.{names_placed, names-append, own_entries, entries_unique}
 
@@ -98,7 +98,7 @@ tree_known c v known = ap as_tree known.under
 
 -- ---- the files of entries
 
-pub names_of_files : (w : World) (ps : List Placed) (fs : List ChainFile) → AreFiles w ps fs → file_names fs ≡ placed_names ps
+pub names_of_files : (w : World) (ps : List PlacedEntry) (fs : List ChainFile) → AreFiles w ps fs → file_names fs ≡ placed_names ps
 names_of_files w [] [] are = refl
 names_of_files w [] (f ∷ fs) are = absurd are
 names_of_files w (p ∷ ps) [] are = absurd are
@@ -114,7 +114,7 @@ record IsAmong (w : World) (b : ℕ) (e : Entry) (n : Name) (fs : List ChainFile
   others : AreOthers n (file_names front)
 
 -- an entry's file, where the entry is the first of its name
-file_among : (w : World) (ps qs : List Placed) (b : ℕ) (e : Entry) (n : Name) (fs : List ChainFile) → AreFiles w (ps ++ ((b, e) ∷ qs)) fs → AreOthers n (placed_names ps) → IsAmong w b e n fs
+file_among : (w : World) (ps qs : List PlacedEntry) (b : ℕ) (e : Entry) (n : Name) (fs : List ChainFile) → AreFiles w (ps ++ ((b, e) ∷ qs)) fs → AreOthers n (placed_names ps) → IsAmong w b e n fs
 file_among w ps qs b e n fs are others =
     let split = files_split w ps ((b, e) ∷ qs) fs are in
     by_back split.0 split.1 split.2 split.3 split.4
@@ -133,7 +133,7 @@ module _ (c : Client) (old new : View) (known : IsKnown c old) (seen : Looked ol
 
   module _ (page : Page) (place first : ℕ) (taken : IsTaken c new n known.chains.directory page place first) where
     -- all entries, by the one that was found
-    in_parts : (later : List Placed) → known.has.listing.entries ≡ taken.earlier ++ (placed page.block (entries_in page.cluster) ++ later)
+    in_parts : (later : List PlacedEntry) → known.has.listing.entries ≡ taken.earlier ++ (placed page.block (entries_in page.cluster) ++ later)
         → known.has.listing.entries ≡ (taken.earlier ++ placed page.block taken.entry.front) ++ ((page.block, taken.entry.entry) ∷ (placed page.block taken.entry.back ++ later))
     in_parts later all =
         all ∙ (ap (λ xs. taken.earlier ++ (placed page.block xs ++ later)) taken.entry.parts
@@ -260,14 +260,14 @@ module _ (es : Entries (Unit {0}) (List ℕ)) (n : Name) where
 
 -- ---- what looking a name up found
 
-module _ (told : Type 0) (c : Client) (old new : View) (t : told) (may : MayAsk told c old) (sound : IsSound old) (seen : Looked old new) (stays : Stays old new) (n : Name) (place : Place) (found : (ls : List Link) (ps : List Placed) → IsDirectoryAhead c old ls ps → IsFound c new n ls ps place) where
+module _ (told : Type 0) (c : Client) (old new : View) (t : told) (may : MayAsk told c old) (sound : IsSound old) (seen : Looked old new) (stays : Stays old new) (n : Name) (place : Place) (found : (ls : List Link) (ps : List PlacedEntry) → IsDirectoryAhead c old ls ps → IsNameFound c new n ls ps place) where
   the_known : IsKnown c old
   the_known = is_known told c old t may sound
 
   pub place_lost : (m : Name) (ns : Path) → no_file_found (tree_of c old) (n ∷ m ∷ ns) ≡ Some (no_way place)
   place_lost m ns = by_place place (found the_known.chains.directory the_known.has.listing.entries the_known.ahead)
     where
-      by_place : (p : Place) → IsFound c new n the_known.chains.directory the_known.has.listing.entries p → no_file_found (tree_of c old) (n ∷ m ∷ ns) ≡ Some (no_way p)
+      by_place : (p : Place) → IsNameFound c new n the_known.chains.directory the_known.has.listing.entries p → no_file_found (tree_of c old) (n ∷ m ∷ ns) ≡ Some (no_way p)
       by_place (Taken page place first) taken =
           ap (λ x. no_file_found x (n ∷ m ∷ ns)) (tree_known c old the_known)
           ∙ taken_lost (tree_of_files the_known.chains.files) n m ns (chain_bytes (entry_file c old new the_known seen n page place first taken).0.chain) (missing (a_dir tt (tree_of_files the_known.chains.files)) (n ∷ m ∷ ns) ∷ no_file (a_dir tt (tree_of_files the_known.chains.files)) (n ∷ m ∷ ns) ∷ []) (taken_name c old new the_known seen n page place first taken)
@@ -278,7 +278,7 @@ module _ (told : Type 0) (c : Client) (old new : View) (t : told) (may : MayAsk 
   pub place_no_dir : (ns : Path) → no_directory_found (tree_of c old) (n ∷ ns) ≡ Some (no_way place)
   place_no_dir ns = by_place place (found the_known.chains.directory the_known.has.listing.entries the_known.ahead)
     where
-      by_place : (p : Place) → IsFound c new n the_known.chains.directory the_known.has.listing.entries p → no_directory_found (tree_of c old) (n ∷ ns) ≡ Some (no_way p)
+      by_place : (p : Place) → IsNameFound c new n the_known.chains.directory the_known.has.listing.entries p → no_directory_found (tree_of c old) (n ∷ ns) ≡ Some (no_way p)
       by_place (Taken page place first) taken =
           ap (λ x. no_directory_found x (n ∷ ns)) (tree_known c old the_known)
           ∙ taken_no_dir (tree_of_files the_known.chains.files) n ns (chain_bytes (entry_file c old new the_known seen n page place first taken).0.chain) (taken_name c old new the_known seen n page place first taken)
@@ -286,12 +286,12 @@ module _ (told : Type 0) (c : Client) (old new : View) (t : told) (may : MayAsk 
 
 -- a name that was found, and one that wasn't
 module _ (told : Type 0) (c : Client) (old new : View) (t : told) (may : MayAsk told c old) (sound : IsSound old) (seen : Looked old new) (stays : Stays old new) (n : Name) where
-  pub no_name : (page : Page) (count : ℕ) → ((ls : List Link) (ps : List Placed) → IsDirectoryAhead c old ls ps → IsFound c new n ls ps (Free page count)) → no_file_found (tree_of c old) (n ∷ []) ≡ Some no.NoEntry
+  pub no_name : (page : Page) (count : ℕ) → ((ls : List Link) (ps : List PlacedEntry) → IsDirectoryAhead c old ls ps → IsNameFound c new n ls ps (Free page count)) → no_file_found (tree_of c old) (n ∷ []) ≡ Some no.NoEntry
   no_name page count found =
       let known = is_known told c old t may sound in
       ap (λ x. no_file_found x (n ∷ [])) (tree_known c old known) ∙ free_refused (tree_of_files known.chains.files) n (free_name c old new known seen n (found known.chains.directory known.has.listing.entries known.ahead).0)
 
-  module _ (page : Page) (place first : ℕ) (found : (ls : List Link) (ps : List Placed) → IsDirectoryAhead c old ls ps → IsFound c new n ls ps (Taken page place first)) where
+  module _ (page : Page) (place first : ℕ) (found : (ls : List Link) (ps : List PlacedEntry) → IsDirectoryAhead c old ls ps → IsNameFound c new n ls ps (Taken page place first)) where
     pub a_name : ◌≡◌ {A = Option FsRefusal} (no_file_found (tree_of c old) (n ∷ [])) None
     a_name =
         let known = is_known told c old t may sound in

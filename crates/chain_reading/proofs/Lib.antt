@@ -7,3 +7,16 @@ pub mod KnownLaws
 pub mod RefusalLaws
 pub mod NextLaws
 pub mod ToldLaws
+pub mod ListingLaws
+pub mod FileLaws
+pub mod ChainedLaws
+pub mod ChangeLaws
+pub mod GrowLaws
+pub mod DecidedLaws
+pub mod SeenLaws
+pub mod RightLaws
+pub mod WrongLaws
+pub mod TreeLaws
+pub mod NameLaws
+pub mod PageLaws
+pub mod LoopLaws

@@ -11,29 +11,29 @@ use Rattle.fs_trees.specs.ChainTree.{Link, cluster_at}
 use Rattle.fs_port.specs.View.{View, state_of}
 use Rattle.fs_port.specs.Calls.{Stays}
 use Rattle.fs_laws.specs.Ways.{HoldsWrite}
-use Rattle.fs_asks.specs.declared.client.Client.{Client}
-use Rattle.fs_asks.specs.May.{Looked, Looks}
+use Rattle.fs_client.specs.declared.client.Client.{Client}
+use Rattle.fs_client.specs.May.{Looked, OnlyLooks}
 use Rattle.chain_layout.specs.Listed.{lesser, if_above, least_above}
 use Rattle.chain_layout.proofs.PlaceLaws.{lesser-assoc}
-use Rattle.chain_laws.specs.Chained.{IsFrom, Placed, placed, AreEntries}
-use Rattle.chain_laws.proofs.ChainedLaws.{entries-append, entries_split}
+use Rattle.chain_reading.specs.Chained.{IsFrom, PlacedEntry, placed, AreEntries}
+use Rattle.chain_reading.proofs.ChainedLaws.{entries-append, entries_split}
 use Rattle.chain_reading.specs.Standing.{entries_at}
 use Rattle.chain_reading.specs.Ahead.{IsDirectoryAhead}
 use Rattle.chain_reading.proofs.WalkLaws.{link_of, IsWalked, walk_starts, walk_on, walk_ends}
 
-abbrev pub placed_names : List Placed → List Name
+abbrev pub placed_names : List PlacedEntry → List Name
 placed_names ps = map (λ p. p.1.name) ps
 
 pub names_placed : (b : ℕ) (es : List Entry) → placed_names (placed b es) ≡ entry_names es
 names_placed b [] = refl
 names_placed b (e ∷ es) = ap (λ ns. e.name ∷ ns) (names_placed b es)
 
-pub names-append : (ps qs : List Placed) → placed_names (ps ++ qs) ≡ placed_names ps ++ placed_names qs
+pub names-append : (ps qs : List PlacedEntry) → placed_names (ps ++ qs) ≡ placed_names ps ++ placed_names qs
 names-append [] qs = refl
 names-append (p ∷ ps) qs = ap (λ ns. p.1.name ∷ ns) (names-append ps qs)
 
 -- clusters have one list of entries
-pub entries_unique : (len : ℕ) (ls : List Link) (ps qs : List Placed) → AreEntries len ls ps → AreEntries len ls qs → ps ≡ qs
+pub entries_unique : (len : ℕ) (ls : List Link) (ps qs : List PlacedEntry) → AreEntries len ls ps → AreEntries len ls qs → ps ≡ qs
 entries_unique len [] ps qs a b = a ∙ sym b
 entries_unique len (l ∷ ls) ps qs a b =
     let same : a.0 ≡ b.0 = some_same (sym a.2 ∙ b.2) in
@@ -43,14 +43,14 @@ entries_unique len (l ∷ ls) ps qs a b =
     some_same e = cc
 
 -- the clusters before a block were looked through, with these entries
-pub record IsLooking (c : Client) (now : View) (len : ℕ) (ls : List Link) (ps qs : List Placed) (i b : ℕ) : Type 0 where
+pub record IsLooking (c : Client) (now : View) (len : ℕ) (ls : List Link) (ps qs : List PlacedEntry) (i b : ℕ) : Type 0 where
   pub before : List Link
   pub walked : IsWalked c now ls before b
   pub count : length before ≡ i
   pub entries : AreEntries len before qs
   pub all : AreEntries len ls ps
 
-abbrev pub look_starts : (c : Client) (v : View) (len : ℕ) (ls : List Link) (ps : List Placed) → len ≡ block_len v.world.geometry → IsDirectoryAhead c v ls ps → IsLooking c v len ls ps [] 0 c.root
+abbrev pub look_starts : (c : Client) (v : View) (len : ℕ) (ls : List Link) (ps : List PlacedEntry) → len ≡ block_len v.world.geometry → IsDirectoryAhead c v ls ps → IsLooking c v len ls ps [] 0 c.root
 look_starts c v len ls ps is ahead = record {
   before = [];
   walked = walk_starts c v c.root ls ahead.ahead;
@@ -62,7 +62,7 @@ look_starts c v len ls ps is ahead = record {
 one_cluster : (len b : ℕ) (cl : Cluster) (es : List Entry) → entries_of len cl ≡ Some es → AreEntries len (link_of b cl ∷ []) (placed b es)
 one_cluster len b cl es e = (es, [], e, sym (append-nil (placed b es)), refl)
 
-module _ (c : Client) (now : View) (len : ℕ) (ls : List Link) (ps qs : List Placed) (i b : ℕ) (looking : IsLooking c now len ls ps qs i b) where
+module _ (c : Client) (now : View) (len : ℕ) (ls : List Link) (ps qs : List PlacedEntry) (i b : ℕ) (looking : IsLooking c now len ls ps qs i b) where
   -- the block has a cluster of the directory
   pub page_there : len ≡ block_len now.world.geometry → is_some (entries_at now.world b) ≡ true
   page_there whole = by_rest looking.walked.rest looking.walked.parts looking.walked.ahead.rest
@@ -100,23 +100,23 @@ least-append n [] ys = refl
 least-append n (x ∷ xs) ys = ap (lesser (if_above n x)) (least-append n xs ys) ∙ sym (lesser-assoc (if_above n x) (least_above n xs) (least_above n ys))
 
 -- with the names of one cluster more
-pub least_more : (n : Name) (qs : List Placed) (b : ℕ) (es : List Entry) (least least_here result : Option Name) → least ≡ least_above n (placed_names qs) → least_here ≡ least_above n (entry_names es) → result ≡ lesser least least_here
+pub least_more : (n : Name) (qs : List PlacedEntry) (b : ℕ) (es : List Entry) (least least_here result : Option Name) → least ≡ least_above n (placed_names qs) → least_here ≡ least_above n (entry_names es) → result ≡ lesser least least_here
     → result ≡ least_above n (placed_names (qs ++ placed b es))
 least_more n qs b es least least_here result is here e =
     e ∙ (ap (λ m. lesser m least_here) is ∙ (ap (lesser (least_above n (placed_names qs))) here
     ∙ sym (ap (least_above n) (names-append qs (placed b es)) ∙ (least-append n (placed_names qs) (placed_names (placed b es)) ∙ ap (λ ns. lesser (least_above n (placed_names qs)) (least_above n ns)) (names_placed b es)))))
 
 -- the clusters so far were looked through for it
-pub record IsLeast (c : Client) (now : View) (len : ℕ) (ls : List Link) (ps : List Placed) (i b : ℕ) (after : Name) (least : Option Name) : Type 0 where
-  pub qs : List Placed
+pub record IsLeast (c : Client) (now : View) (len : ℕ) (ls : List Link) (ps : List PlacedEntry) (i b : ℕ) (after : Name) (least : Option Name) : Type 0 where
+  pub qs : List PlacedEntry
   pub looking : IsLooking c now len ls ps qs i b
   pub is : least ≡ least_above after (placed_names qs)
 
 pub record Seeking (told : Type 0) (c : Client) (first now : View) (i b : ℕ) (after : Name) (least : Option Name) : Type 0 where
-  pub looks : Looks {X = Unit {0}} told first now (Ok tt)
-  pub seen : told → (ls : List Link) (ps : List Placed) → IsDirectoryAhead c first ls ps → IsLeast c now (block_len first.world.geometry) ls ps i b after least
+  pub looks : OnlyLooks {X = Unit {0}} told first now (Ok tt)
+  pub seen : told → (ls : List Link) (ps : List PlacedEntry) → IsDirectoryAhead c first ls ps → IsLeast c now (block_len first.world.geometry) ls ps i b after least
 
-abbrev pub least_of : Name → List Placed → Option Name
+abbrev pub least_of : Name → List PlacedEntry → Option Name
 least_of after ps = least_above after (placed_names ps)
 
 -- the entries of a cluster that was read, in blocks of that length

@@ -10,7 +10,7 @@ use Rattle.fs_trees.specs.declared.ask.ShellKind.TheVariants.{Chain}
 use Rattle.fs_trees.specs.declared.refusal.FsRefusal.{FsRefusal}
 use Rattle.fs_port.specs.View.{View}
 use Rattle.fs_port.specs.Files.{step_on}
-use Rattle.fs_asks.specs.declared.client.Client.{Client}
+use Rattle.fs_client.specs.declared.client.Client.{Client}
 use Rattle.chain_reading.specs.Asking.{mounted_by, tree_of}
 use Rattle.chain_reading.specs.Finding.{no_file_found, no_directory_found}
 

@@ -11,14 +11,14 @@ use Rattle.fs_trees.specs.ChainTree.{Link, cluster_at}
 use Rattle.fs_laws.specs.Ways.{HoldsWrite}
 use Rattle.fs_port.specs.View.{View, state_of}
 use Rattle.fs_port.specs.Calls.{IsValidNow, Stays}
-use Rattle.fs_asks.specs.declared.client.Client.{Client}
-use Rattle.fs_asks.specs.May.{MayWrite, Looked, Looks}
-use Rattle.fs_asks.proofs.LookLaws.{may_again}
+use Rattle.fs_client.specs.declared.client.Client.{Client}
+use Rattle.fs_client.specs.May.{MayWrite, Looked, OnlyLooks}
+use Rattle.fs_client.proofs.LookLaws.{may_again}
 use Rattle.chain_layout.specs.Listed.{has_name, entry_blocks}
 use Rattle.chain_layout.specs.Block.{cluster_of, block_len_of}
 use Rattle.chain_layout.specs.Held.{cluster_in, entries_in}
-use Rattle.chain_laws.specs.Chained.{Placed, placed, AreEntries, AreOthers}
-use Rattle.chain_laws.proofs.FileLaws.{others-append}
+use Rattle.chain_reading.specs.Chained.{PlacedEntry, placed, AreEntries, AreOthers}
+use Rattle.chain_reading.proofs.FileLaws.{others-append}
 use Rattle.chain_reading.specs.declared.walking.Page.{Page}
 use Rattle.chain_reading.specs.Standing.{IsPage}
 use Rattle.chain_reading.specs.Ahead.{IsDirectoryAhead}
@@ -146,23 +146,23 @@ module _ (c : Client) (v : View) (ls : List Link) (page : Page) (read : IsPage v
 
 -- ---- in all clusters
 
-pub record IsSearched (c : Client) (now : View) (len : ℕ) (ls : List Link) (ps : List Placed) (i b : ℕ) (n : Name) (count : ℕ) (best : Option Page) : Type 0 where
-  pub qs : List Placed
+pub record IsSearched (c : Client) (now : View) (len : ℕ) (ls : List Link) (ps : List PlacedEntry) (i b : ℕ) (n : Name) (count : ℕ) (best : Option Page) : Type 0 where
+  pub qs : List PlacedEntry
   pub looking : IsLooking c now len ls ps qs i b
   pub others : AreOthers n (placed_names qs)
   pub counted : count ≡ length qs
   pub roomiest : IsRoomiestOf c now looking.before best
 
 pub record Searching (told : Type 0) (c : Client) (first now : View) (i b : ℕ) (n : Name) (count : ℕ) (best : Option Page) : Type 0 where
-  pub looks : Looks {X = Unit {0}} told first now (Ok tt)
-  pub searched : told → (ls : List Link) (ps : List Placed) → IsDirectoryAhead c first ls ps → IsSearched c now (block_len first.world.geometry) ls ps i b n count best
+  pub looks : OnlyLooks {X = Unit {0}} told first now (Ok tt)
+  pub searched : told → (ls : List Link) (ps : List PlacedEntry) → IsDirectoryAhead c first ls ps → IsSearched c now (block_len first.world.geometry) ls ps i b n count best
   pub few : count ≤ 127 * i
 
 length-placed : (b : ℕ) (es : List Entry) → length (placed b es) ≡ length es
 length-placed b [] = refl
 length-placed b (e ∷ es) = ap suc (length-placed b es)
 
-module _ (c : Client) (now : View) (len : ℕ) (ls : List Link) (ps : List Placed) (i b : ℕ) (n : Name) (count more : ℕ) (best : Option Page) (cl : Cluster) (es : List Entry) (searched : IsSearched c now len ls ps i b n count best) (at : cluster_at now.world b ≡ Some cl) (own : entries_of len cl ≡ Some es)
+module _ (c : Client) (now : View) (len : ℕ) (ls : List Link) (ps : List PlacedEntry) (i b : ℕ) (n : Name) (count more : ℕ) (best : Option Page) (cl : Cluster) (es : List Entry) (searched : IsSearched c now len ls ps i b n count best) (at : cluster_at now.world b ≡ Some cl) (own : entries_of len cl ≡ Some es)
     (none : position_from (has_name n) 0 es ≡ None) (sized : more ≡ length es) where
   others_now : AreOthers n (placed_names (searched.qs ++ placed b es))
   others_now = subst (AreOthers n) (sym (names-append searched.qs (placed b es) ∙ ap (λ ns. placed_names searched.qs ++ ns) (names_placed b es))) (others-append n (placed_names searched.qs) (entry_names es) searched.others (none_found n es 0 none))
@@ -194,7 +194,7 @@ module _ (c : Client) (now : View) (len : ℕ) (ls : List Link) (ps : List Place
         )
 
 -- it was found in this cluster
-pub search_finds : (c : Client) (first now new : View) (ls : List Link) (ps : List Placed) (i b : ℕ) (n : Name) (count : ℕ) (best : Option Page) (page : Page) (place block : ℕ) → IsSearched c now (block_len first.world.geometry) ls ps i b n count best → Looked first now → Looked now new → Stays now new
+pub search_finds : (c : Client) (first now new : View) (ls : List Link) (ps : List PlacedEntry) (i b : ℕ) (n : Name) (count : ℕ) (best : Option Page) (page : Page) (place block : ℕ) → IsSearched c now (block_len first.world.geometry) ls ps i b n count best → Looked first now → Looked now new → Stays now new
     → IsPage now.world b page → HoldsWrite (state_of new) c.session b → position_from (has_name n) 0 (entries_in page.cluster) ≡ Some place → block ≡ slice_index (entry_blocks (entries_in page.cluster)) place
     → IsTaken c new n ls page place block
 search_finds c first now new ls ps i b n count best page place block searched before seen stays read held at is =
@@ -215,5 +215,5 @@ search_finds c first now new ls ps i b n count best page place block searched be
       may = subst (MayWrite c new) (sym here) (may_again c now new b seen stays before.valid walked.ahead.may);
     }
 
-pub search_starts : (c : Client) (v : View) (ls : List Link) (ps : List Placed) (n : Name) → IsDirectoryAhead c v ls ps → IsSearched c v (block_len v.world.geometry) ls ps 0 c.root n 0 None
+pub search_starts : (c : Client) (v : View) (ls : List Link) (ps : List PlacedEntry) (n : Name) → IsDirectoryAhead c v ls ps → IsSearched c v (block_len v.world.geometry) ls ps 0 c.root n 0 None
 search_starts c v ls ps n ahead = record { qs = []; looking = look_starts c v (block_len v.world.geometry) ls ps refl ahead; others = tt; counted = refl; roomiest = refl }

@@ -8,8 +8,8 @@ use Rattle.fs_trees.specs.ChainTree.{Link, chain_bytes, cluster_at, is_filled}
 use Rattle.fs_port.specs.View.{View, state_of}
 use Rattle.fs_port.specs.Calls.{Stays}
 use Rattle.fs_laws.specs.Ways.{HoldsWrite}
-use Rattle.fs_asks.specs.declared.client.Client.{Client}
-use Rattle.fs_asks.specs.May.{Looked, Looks}
+use Rattle.fs_client.specs.declared.client.Client.{Client}
+use Rattle.fs_client.specs.May.{Looked, OnlyLooks}
 use Rattle.chain_reading.specs.Standing.{has_part}
 use Rattle.chain_reading.specs.Ahead.{IsFileAhead}
 use Rattle.chain_reading.proofs.WalkLaws.{link_of, IsWalked, walk_starts, walk_on, walk_ends, one_more, part_there}
@@ -22,7 +22,7 @@ pub record IsCounted (c : Client) (now : View) (ls : List Link) (i b size : ℕ)
   pub bytes : size ≡ length (chain_bytes before)
 
 pub record Sizing (told : Type 0) (c : Client) (first now : View) (start i b size : ℕ) : Type 0 where
-  pub looks : Looks {X = Unit {0}} told first now (Ok tt)
+  pub looks : OnlyLooks {X = Unit {0}} told first now (Ok tt)
   pub counted : told → (ls : List Link) → IsFileAhead c first start ls → IsCounted c now ls i b size
   pub few : size ≤ 4096 * i
 

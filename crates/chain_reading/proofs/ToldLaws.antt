@@ -11,14 +11,14 @@ use Rattle.fs_trees.specs.declared.refusal.FsRefusal.TheVariants as no
 use Rattle.tsd_model.specs.Geometry.{block_len}
 use Rattle.tsd_model.specs.Pairs.{holds}
 use Rattle.fs_port.specs.Calls.{IsValidNow, Stays}
-use Rattle.fs_asks.proofs.LookLaws.{may_again}
+use Rattle.fs_client.proofs.LookLaws.{may_again}
 use Rattle.fs_port.specs.View.{View, IsSound}
 use Rattle.fs_port.specs.Files.{Answers, TellsPart, TellsNext}
-use Rattle.fs_asks.specs.declared.client.Client.{Client}
-use Rattle.fs_asks.specs.May.{Looked, Looks}
+use Rattle.fs_client.specs.declared.client.Client.{Client}
+use Rattle.fs_client.specs.May.{Looked, OnlyLooks}
 use Rattle.chain_layout.specs.Listed.{least_above}
-use Rattle.chain_laws.specs.Chained.{IsFrom, Placed, AreEntries}
-use Rattle.chain_laws.proofs.ChangeLaws.{right_is}
+use Rattle.chain_reading.specs.Chained.{IsFrom, PlacedEntry, AreEntries}
+use Rattle.chain_reading.proofs.ChangeLaws.{right_is}
 use Rattle.chain_reading.specs.Ahead.{IsFileAhead, IsDirectoryAhead}
 use Rattle.chain_reading.specs.Asking.{MayAsk, mounted_by, tree_of}
 use Rattle.chain_reading.specs.Finding.{IsFileOf, no_file_found}
@@ -28,7 +28,7 @@ use Rattle.chain_reading.proofs.NextLaws.{next_name}
 
 -- the bytes of a file from a place on
 pub part_told : (told : Type 0) (c : Client) (old mid new : View) (p : Path) (first start : ℕ) (part : List ℕ) (result : Result (Unit {0}) FsRefusal) → told → is_there (tree_of c old) ≡ true → Looked old mid → ◌≡◌ {A = Option FsRefusal} (no_file_found (tree_of c old) p) None → IsFileOf c mid p first
-    → ((ls : List Link) → IsFileAhead c mid first ls → OnOk result (part ≡ take 4096 (drop start (chain_bytes ls)))) → IfErr result (λ e. e ≡ no.Device) → Looks told mid new result → Answers (mounted_by c) old new (ask.Cat p) result (λ _. TellsPart start part)
+    → ((ls : List Link) → IsFileAhead c mid first ls → OnOk result (part ≡ take 4096 (drop start (chain_bytes ls)))) → IfErr result (λ e. e ≡ no.Device) → OnlyLooks told mid new result → Answers (mounted_by c) old new (ask.Cat p) result (λ _. TellsPart start part)
 part_told told c old mid new p first start part (Err e) t there seen none file gives only looks = record { ok = tt; err = λ ne. absurd (ne only) }
 part_told told c old mid new p first start part (Ok x) t there seen none file gives only looks = record {
   ok = (
@@ -40,7 +40,7 @@ part_told told c old mid new p first start part (Ok x) t there seen none file gi
 
 -- the next name of the directory
 pub next_told : (told : Type 0) (c : Client) (old new : View) (after : Name) (result : Result (Option Name) FsRefusal) → told → MayAsk told c old → IsSound old
-    → ((ls : List Link) (ps : List Placed) → IsDirectoryAhead c old ls ps → IfOk result (λ name. name ≡ least_above after (map (λ p. p.1.name) ps))) → IfErr result (λ e. e ≡ no.Device) → Looks told old new result
+    → ((ls : List Link) (ps : List PlacedEntry) → IsDirectoryAhead c old ls ps → IfOk result (λ name. name ≡ least_above after (map (λ p. p.1.name) ps))) → IfErr result (λ e. e ≡ no.Device) → OnlyLooks told old new result
     → Answers (mounted_by c) old new (ask.Ls []) result (TellsNext after)
 next_told told c old new after (Err e) t may sound gives only looks = record { ok = tt; err = λ ne. absurd (ne only) }
 next_told told c old new after (Ok name) t may sound gives only looks =
@@ -59,7 +59,7 @@ next_told told c old new after (Ok name) t may sound gives only looks =
     }
 
 -- after looking, the directory is still ahead
-pub ahead_again : (c : Client) (old mid : View) (ls : List Link) (ps : List Placed) → Looked old mid → Stays old mid → IsValidNow old → IsDirectoryAhead c old ls ps → IsDirectoryAhead c mid ls ps
+pub ahead_again : (c : Client) (old mid : View) (ls : List Link) (ps : List PlacedEntry) → Looked old mid → Stays old mid → IsValidNow old → IsDirectoryAhead c old ls ps → IsDirectoryAhead c mid ls ps
 ahead_again c old mid ls ps seen stays valid ahead = record {
   ahead = record {
     rest = subst (λ w. IsFrom w (Some c.root) ls) (sym seen.world) ahead.ahead.rest;

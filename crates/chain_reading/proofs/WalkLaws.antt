@@ -11,10 +11,10 @@ use Rattle.fs_laws.specs.Ways.{HoldsWrite}
 use Rattle.fs_laws.proofs.WayLaws.{ways_lead_on}
 use Rattle.fs_port.specs.View.{View, state_of}
 use Rattle.fs_port.specs.Calls.{Stays}
-use Rattle.fs_asks.specs.declared.client.Client.{Client}
-use Rattle.fs_asks.specs.Client.{shown_at}
-use Rattle.fs_asks.specs.May.{Looked}
-use Rattle.chain_laws.specs.Chained.{IsFrom}
+use Rattle.fs_client.specs.declared.client.Client.{Client}
+use Rattle.fs_client.specs.Client.{shown_at}
+use Rattle.fs_client.specs.May.{Looked}
+use Rattle.chain_reading.specs.Chained.{IsFrom}
 use Rattle.chain_reading.specs.Standing.{has_part, IsAhead}
 
 abbrev pub link_of : ℕ → Cluster → Link

@@ -4,8 +4,8 @@ use Rattle.tsd_model.specs.Geometry.{block_len}
 use Rattle.fs_trees.specs.Cluster.{bytes_room}
 use Rattle.fs_trees.specs.ChainTree.{Link, is_filled}
 use Rattle.fs_port.specs.View.{View}
-use Rattle.fs_asks.specs.declared.client.Client.{Client}
-use Rattle.chain_laws.specs.Chained.{Placed, AreEntries}
+use Rattle.fs_client.specs.declared.client.Client.{Client}
+use Rattle.chain_reading.specs.Chained.{PlacedEntry, AreEntries}
 use Rattle.chain_reading.specs.Standing.{IsAhead}
 
 -- a whole file begins at this block
@@ -18,10 +18,10 @@ abbrev pub HasFile : Client → View → ℕ → Type 0
 HasFile c v b = (ls : List Link) × IsFileAhead c v b ls
 
 -- the directory begins at the root
-pub record IsDirectoryAhead (c : Client) (v : View) (ls : List Link) (ps : List Placed) : Type 0 where
+pub record IsDirectoryAhead (c : Client) (v : View) (ls : List Link) (ps : List PlacedEntry) : Type 0 where
   pub ahead : IsAhead c v c.root ls
   pub entries : AreEntries (block_len v.world.geometry) ls ps
   pub short : length ls ≤ v.world.geometry.blocks
 
 abbrev pub HasDirectory : Client → View → Type 0
-HasDirectory c v = (ls : List Link) × (ps : List Placed) × IsDirectoryAhead c v ls ps
+HasDirectory c v = (ls : List Link) × (ps : List PlacedEntry) × IsDirectoryAhead c v ls ps

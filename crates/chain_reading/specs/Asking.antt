@@ -5,8 +5,8 @@ use Rattle.fs_trees.specs.ChainTree.{chain_tree}
 use Rattle.fs_trees.specs.declared.ask.ShellKind.TheVariants.{Chain}
 use Rattle.fs_port.specs.View.{View}
 use Rattle.fs_port.specs.Calls.{IsValidNow}
-use Rattle.fs_port.specs.Files.{FilesView, IsReady}
-use Rattle.fs_asks.specs.declared.client.Client.{Client}
+use Rattle.fs_port.specs.Files.{FilesView, IsClientReady}
+use Rattle.fs_client.specs.declared.client.Client.{Client}
 
 -- the file system of a client, where a tree is mounted
 abbrev pub mounted_by : Client → FilesView
@@ -18,6 +18,6 @@ tree_of c v = chain_tree v.world c.root
 
 -- before each call: the disk isn't spent and the client may write its root; where the disk tells, its world is valid, and a tree is under the root
 pub record MayAsk (told : Type 0) (c : Client) (v : View) : Type 0 where
-  pub ready : IsReady (mounted_by c) v
+  pub ready : IsClientReady (mounted_by c) v
   pub valid : told → IsValidNow v
   pub tree : told → IsTrue (is_there (tree_of c v))

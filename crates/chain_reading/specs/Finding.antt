@@ -12,11 +12,11 @@ use Rattle.fs_trees.specs.declared.refusal.FsRefusal.{FsRefusal}
 use Rattle.fs_trees.specs.declared.refusal.FsRefusal.TheVariants as no
 use Rattle.fs_laws.specs.Ways.{HoldsWrite}
 use Rattle.fs_port.specs.View.{View, state_of}
-use Rattle.fs_asks.specs.declared.client.Client.{Client}
-use Rattle.fs_asks.specs.May.{MayWrite}
+use Rattle.fs_client.specs.declared.client.Client.{Client}
+use Rattle.fs_client.specs.May.{MayWrite}
 use Rattle.chain_layout.specs.Block.{cluster_of, block_len_of}
 use Rattle.chain_layout.specs.Held.{cluster_in, entries_in}
-use Rattle.chain_laws.specs.Chained.{Placed, AreEntries, AreOthers}
+use Rattle.chain_reading.specs.Chained.{PlacedEntry, AreEntries, AreOthers}
 use Rattle.chain_reading.specs.Standing.{IsPage}
 use Rattle.chain_reading.specs.Ahead.{IsFileAhead}
 use Rattle.chain_reading.specs.Asking.{tree_of}
@@ -24,7 +24,7 @@ use Rattle.chain_reading.specs.declared.walking.Page.{Page}
 use Rattle.chain_reading.specs.declared.finding.Place.{Place}
 use Rattle.chain_reading.specs.declared.finding.Place.TheVariants.{Taken, Free}
 
-abbrev pub placed_names : List Placed → List Name
+abbrev pub placed_names : List PlacedEntry → List Name
 placed_names ps = map (λ p. p.1.name) ps
 
 -- a cluster that was read, as one of its chain
@@ -49,7 +49,7 @@ pub record IsTaken (c : Client) (v : View) (n : Name) (ls : List Link) (page : P
   pub parts : ls ≡ before ++ (page_link page ∷ behind)
   pub read : IsPage v.world page.block page
   pub entry : IsEntry n (entries_in page.cluster) place first
-  pub earlier : List Placed
+  pub earlier : List PlacedEntry
   pub entries : AreEntries (block_len v.world.geometry) before earlier
   pub others : AreOthers n (placed_names earlier)
   pub held : HoldsWrite (state_of v) c.session page.block
@@ -75,9 +75,9 @@ abbrev pub better : Option Page → Page → Page
 better None other = other
 better (Some page) other = cond (is_roomy (block_len_of (cluster_in page.cluster)) (page_link page)) page other
 
-abbrev pub IsFound : Client → View → Name → List Link → List Placed → Place → Type 0
-IsFound c v n ls ps (Taken page place first) = IsTaken c v n ls page place first
-IsFound c v n ls ps (Free page count) = AreOthers n (placed_names ps) × (count ≡ length ps) × IsRoomiest c v ls page
+abbrev pub IsNameFound : Client → View → Name → List Link → List PlacedEntry → Place → Type 0
+IsNameFound c v n ls ps (Taken page place first) = IsTaken c v n ls page place first
+IsNameFound c v n ls ps (Free page count) = AreOthers n (placed_names ps) × (count ≡ length ps) × IsRoomiest c v ls page
 
 -- where it is taken, its place is that of an entry
 abbrev pub IsWithin : Place → Type 0

@@ -2,3 +2,8 @@ pub mod Standing
 pub mod Ahead
 pub mod Asking
 pub mod Finding
+pub mod Chained
+pub mod Changed
+pub mod Decided
+pub mod Looking
+pub mod Comparing

@@ -8,12 +8,12 @@ use Rattle.fs_trees.specs.Fields.{Entry}
 use Rattle.fs_trees.specs.Cluster.{entries_of, bytes_room}
 use Rattle.fs_trees.specs.ChainTree.{Link, cluster_at, blocks_of, links}
 use Rattle.fs_port.specs.View.{View}
-use Rattle.fs_asks.specs.declared.client.Client.{Client}
-use Rattle.fs_asks.specs.May.{MayWrite}
+use Rattle.fs_client.specs.declared.client.Client.{Client}
+use Rattle.fs_client.specs.May.{MayWrite}
 use Rattle.chain_layout.specs.Block.{cluster_of, block_len_of}
 use Rattle.chain_layout.specs.Held.{cluster_in, entries_in, part_cluster}
 use Rattle.chain_layout.specs.declared.cluster.Cluster.{Cluster}
-use Rattle.chain_laws.specs.Chained.{IsFrom}
+use Rattle.chain_reading.specs.Chained.{IsFrom}
 use Rattle.chain_reading.specs.declared.walking.Page.{Page}
 use Rattle.chain_reading.specs.declared.walking.Part.{Part}
 

@@ -4,14 +4,15 @@ ghost use Rattle.std.specs.Prelude.{◌≡◌, ◌≢◌, List, false, None, Som
 ghost use Rattle.fs_trees.specs.ChainTree.{Link};
 ghost use Rattle.fs_trees.specs.declared.refusal.FsRefusal.TheVariants as no;
 ghost use Rattle.fs_port.specs.Calls.{IsValidNow};
-ghost use Rattle.fs_asks.specs.May.{Looks};
-ghost use Rattle.chain_laws.specs.Chained.{Placed};
+ghost use Rattle.fs_client.specs.May.{OnlyLooks};
+ghost use Rattle.chain_reading.specs.Chained.{PlacedEntry};
 ghost use Rattle.chain_reading.specs.Ahead.{IsDirectoryAhead, HasDirectory};
 ghost use Rattle.chain_reading.specs.Asking.{MayAsk, tree_of};
-ghost use Rattle.chain_reading.specs.Finding.{better, no_way, IsFound, IsWithin, IsFileOf, no_file_found, no_directory_found};
+ghost use Rattle.chain_reading.specs.Finding.{better, no_way, IsNameFound, IsWithin, IsFileOf, no_file_found};
+ghost use Rattle.chain_reading.specs.Finding.{no_directory_found};
 
 use crate::walking::{Page, read_page};
-use fs_asks::Client;
+use fs_client::Client;
 use fs_port::Blocks;
 use fs_trees::{FsRefusal, Name, Path};
 
@@ -25,7 +26,8 @@ pub enum Place {
         first: u32,
     },
 
-    /// No entry has the name: the first cluster that has room, or the last one where none has, and how many entries there are.
+    /// No entry has the name: the first cluster that has room, or the last one where none has, and how many entries
+    /// there are.
     Free {
         page: Page,
         count: usize,
@@ -47,10 +49,11 @@ pub fn search<K: Blocks>(client: &Client, disk: &mut K, name: &Name) -> Result<P
     requires unspent { (K.view disk.old).spent ≡ false }
     requires valid { K.told → IsValidNow (K.view disk.old) }
     requires directory { K.told → HasDirectory client.now (K.view disk.old) }
-    ensures found { K.told → (ls : List Link) (ps : List Placed) → IsDirectoryAhead client.now (K.view disk.old) ls ps → IfOk result (IsFound client.now (K.view disk.new) name.now ls ps) }
+    ensures found { K.told → (ls : List Link) (ps : List PlacedEntry) → IsDirectoryAhead client.now (K.view disk.old) ls
+        ps → IfOk result (IsNameFound client.now (K.view disk.new) name.now ls ps) }
     ensures within { IfOk result IsWithin }
     ensures only { K.told → IfErr result (λ e. e ≡ no.Device) }
-    ensures looks { Looks K.told (K.view disk.old) (K.view disk.new) result }
+    ensures looks { OnlyLooks K.told (K.view disk.old) (K.view disk.new) result }
 {
     let mut best = None;
     let mut count = 0;
@@ -93,8 +96,9 @@ pub fn find_file<K: Blocks>(client: &Client, disk: &mut K, path: &Path) -> Resul
     requires may { MayAsk K.told client.now (K.view disk.old) }
     ensures found { K.told → IfOk result (λ first. IsFileOf client.now (K.view disk.new) path.now first) }
     ensures none { K.told → OnOk result (no_file_found (tree_of client.now (K.view disk.old)) path.now ≡ None) }
-    ensures refused { K.told → IfErr result (λ e. e ≢ no.Device → no_file_found (tree_of client.now (K.view disk.old)) path.now ≡ Some e) }
-    ensures looks { Looks K.told (K.view disk.old) (K.view disk.new) result }
+    ensures refused { K.told → IfErr result (λ e. e ≢ no.Device
+        → no_file_found (tree_of client.now (K.view disk.old)) path.now ≡ Some e) }
+    ensures looks { OnlyLooks K.told (K.view disk.old) (K.view disk.new) result }
 {
     match path.as_slice() {
         [] => Err(FsRefusal::IsDir),
@@ -119,8 +123,9 @@ pub fn find_directory<K: Blocks>(
     requires may { MayAsk K.told client.now (K.view disk.old) }
     ensures found { K.told → OnOk result (path.now ≡ []) }
     ensures none { K.told → OnOk result (no_directory_found (tree_of client.now (K.view disk.old)) path.now ≡ None) }
-    ensures refused { K.told → IfErr result (λ e. e ≢ no.Device → no_directory_found (tree_of client.now (K.view disk.old)) path.now ≡ Some e) }
-    ensures looks { Looks K.told (K.view disk.old) (K.view disk.new) result }
+    ensures refused { K.told → IfErr result (λ e. e ≢ no.Device
+        → no_directory_found (tree_of client.now (K.view disk.old)) path.now ≡ Some e) }
+    ensures looks { OnlyLooks K.told (K.view disk.old) (K.view disk.new) result }
 {
     match path.as_slice() {
         [] => Ok(()),

@@ -1,21 +1,22 @@
 //! What files and the directory hold.
 
-ghost use Rattle.std.specs.Prelude.{◌≡◌, ◌++◌, ◌-◌, List, [], false, length, take, drop, map, IfOk, IfErr, OnOk};
+ghost use Rattle.std.specs.Prelude.{◌≡◌, ◌++◌, ◌-◌, List, [], false, length, take, drop, map, IfOk};
+ghost use Rattle.std.specs.Prelude.{IfErr, OnOk};
 ghost use Rattle.fs_trees.specs.ChainTree.{Link, chain_bytes};
 ghost use Rattle.fs_trees.specs.declared.ask.ShellAsk.TheVariants as ask;
 ghost use Rattle.fs_trees.specs.declared.refusal.FsRefusal.TheVariants as no;
 ghost use Rattle.fs_port.specs.Calls.{IsValidNow};
 ghost use Rattle.fs_port.specs.Files.{Answers, TellsSize, TellsPart, TellsNext};
-ghost use Rattle.fs_asks.specs.May.{Looks};
+ghost use Rattle.fs_client.specs.May.{OnlyLooks};
 ghost use Rattle.chain_layout.specs.Listed.{least_above};
-ghost use Rattle.chain_laws.specs.Chained.{Placed};
+ghost use Rattle.chain_reading.specs.Chained.{PlacedEntry};
 ghost use Rattle.chain_reading.specs.Ahead.{IsFileAhead, HasFile, IsDirectoryAhead, HasDirectory};
 ghost use Rattle.chain_reading.specs.Asking.{MayAsk, mounted_by};
 
 use crate::finding::{find_directory, find_file};
 use crate::walking::{read_page, read_part};
 use chain_layout::lesser;
-use fs_asks::Client;
+use fs_client::Client;
 use fs_port::Blocks;
 use fs_trees::{FsRefusal, Name, Path};
 use tsd_model::Data;
@@ -26,9 +27,10 @@ fn chain_size<K: Blocks>(client: &Client, disk: &mut K, first: u32) -> Result<u6
     requires unspent { (K.view disk.old).spent ≡ false }
     requires valid { K.told → IsValidNow (K.view disk.old) }
     requires file { K.told → HasFile client.now (K.view disk.old) first }
-    ensures size { K.told → (ls : List Link) → IsFileAhead client.now (K.view disk.old) first ls → IfOk result (λ size. size ≡ length (chain_bytes ls)) }
+    ensures size { K.told → (ls : List Link) → IsFileAhead client.now (K.view disk.old) first ls
+        → IfOk result (λ size. size ≡ length (chain_bytes ls)) }
     ensures only { K.told → IfErr result (λ e. e ≡ no.Device) }
-    ensures looks { Looks K.told (K.view disk.old) (K.view disk.new) result }
+    ensures looks { OnlyLooks K.told (K.view disk.old) (K.view disk.new) result }
 {
     let mut size = 0;
     let mut block = first;
@@ -49,8 +51,9 @@ fn chain_size<K: Blocks>(client: &Client, disk: &mut K, first: u32) -> Result<u6
 /// How many bytes a file has.
 pub fn size<K: Blocks>(client: &Client, disk: &mut K, path: &Path) -> Result<u64, FsRefusal>
     requires { MayAsk K.told client.now (K.view disk.old) }
-    ensures answer { K.told → Answers (mounted_by client.now) (K.view disk.old) (K.view disk.new) (ask.Cat path.now) result TellsSize }
-    ensures looks { Looks K.told (K.view disk.old) (K.view disk.new) result }
+    ensures answer { K.told → Answers (mounted_by client.now) (K.view disk.old) (K.view disk.new) (ask.Cat path.now)
+        result TellsSize }
+    ensures looks { OnlyLooks K.told (K.view disk.old) (K.view disk.new) result }
 {
     match find_file(client, disk, path) {
         Ok(first) => chain_size(client, disk, first),
@@ -80,9 +83,10 @@ fn read_chain<K: Blocks>(
     requires valid { K.told → IsValidNow (K.view disk.old) }
     requires file { K.told → HasFile client.now (K.view disk.old) first }
     requires empty { into.old ≡ [] }
-    ensures bytes { K.told → (ls : List Link) → IsFileAhead client.now (K.view disk.old) first ls → OnOk result (into.new ≡ take 4096 (drop start (chain_bytes ls))) }
+    ensures bytes { K.told → (ls : List Link) → IsFileAhead client.now (K.view disk.old) first ls
+        → OnOk result (into.new ≡ take 4096 (drop start (chain_bytes ls))) }
     ensures only { K.told → IfErr result (λ e. e ≡ no.Device) }
-    ensures looks { Looks K.told (K.view disk.old) (K.view disk.new) result }
+    ensures looks { OnlyLooks K.told (K.view disk.old) (K.view disk.new) result }
 {
     let mut before = 0;
     let mut block = first;
@@ -113,8 +117,9 @@ pub fn read_file<K: Blocks>(
     into: &mut Data,
 ) -> Result<(), FsRefusal>
     requires { MayAsk K.told client.now (K.view disk.old) }
-    ensures answer { K.told → Answers (mounted_by client.now) (K.view disk.old) (K.view disk.new) (ask.Cat path.now) result (λ _. TellsPart start into.new) }
-    ensures looks { Looks K.told (K.view disk.old) (K.view disk.new) result }
+    ensures answer { K.told → Answers (mounted_by client.now) (K.view disk.old) (K.view disk.new) (ask.Cat path.now)
+        result (λ _. TellsPart start into.new) }
+    ensures looks { OnlyLooks K.told (K.view disk.old) (K.view disk.new) result }
 {
     *into = Data::new();
     match find_file(client, disk, path) {
@@ -132,9 +137,10 @@ fn least_above<K: Blocks>(
     requires unspent { (K.view disk.old).spent ≡ false }
     requires valid { K.told → IsValidNow (K.view disk.old) }
     requires directory { K.told → HasDirectory client.now (K.view disk.old) }
-    ensures least { K.told → (ls : List Link) (ps : List Placed) → IsDirectoryAhead client.now (K.view disk.old) ls ps → IfOk result (λ name. name ≡ least_above after.now (map (λ p. p.1.name) ps)) }
+    ensures least { K.told → (ls : List Link) (ps : List PlacedEntry) → IsDirectoryAhead client.now (K.view disk.old) ls
+        ps → IfOk result (λ name. name ≡ least_above after.now (map (λ p. p.1.name) ps)) }
     ensures only { K.told → IfErr result (λ e. e ≡ no.Device) }
-    ensures looks { Looks K.told (K.view disk.old) (K.view disk.new) result }
+    ensures looks { OnlyLooks K.told (K.view disk.old) (K.view disk.new) result }
 {
     let mut least = None;
     let mut block = client.root;
@@ -160,8 +166,9 @@ pub fn name_after<K: Blocks>(
     after: &Name,
 ) -> Result<Option<Name>, FsRefusal>
     requires { MayAsk K.told client.now (K.view disk.old) }
-    ensures answer { K.told → Answers (mounted_by client.now) (K.view disk.old) (K.view disk.new) (ask.Ls path.now) result (TellsNext after.now) }
-    ensures looks { Looks K.told (K.view disk.old) (K.view disk.new) result }
+    ensures answer { K.told → Answers (mounted_by client.now) (K.view disk.old) (K.view disk.new) (ask.Ls path.now)
+        result (TellsNext after.now) }
+    ensures looks { OnlyLooks K.told (K.view disk.old) (K.view disk.new) result }
 {
     match find_directory(client, disk, path) {
         Ok(()) => least_above(client, disk, after),

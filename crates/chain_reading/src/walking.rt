@@ -1,6 +1,7 @@
 //! Clusters as they stand on the disk.
 
-ghost use Rattle.std.specs.Prelude.{◌≡◌, false, None, Some, is_some, nat_le, option_map, IsTrue, IfSome, IfNone, IfOk, IfErr, OnOk};
+ghost use Rattle.std.specs.Prelude.{◌≡◌, false, None, Some, is_some, nat_le, option_map, IsTrue, IfSome, IfNone};
+ghost use Rattle.std.specs.Prelude.{IfOk, IfErr, OnOk};
 ghost use Rattle.std.specs.Option.{option_and_then, option_map_or};
 ghost use Rattle.fs_trees.specs.Cluster.{entries_of, bytes_room};
 ghost use Rattle.fs_trees.specs.ChainTree.{cluster_at};
@@ -8,14 +9,14 @@ ghost use Rattle.fs_trees.specs.declared.refusal.FsRefusal.TheVariants as no;
 ghost use Rattle.fs_laws.specs.Ways.{HoldsWrite};
 ghost use Rattle.fs_port.specs.View.{state_of};
 ghost use Rattle.fs_port.specs.Calls.{IsValidNow};
-ghost use Rattle.fs_asks.specs.May.{MayWrite, Looks};
+ghost use Rattle.fs_client.specs.May.{MayWrite, OnlyLooks};
 ghost use Rattle.chain_layout.specs.Listed.{next_blocks};
 ghost use Rattle.chain_layout.specs.Block.{cluster_of, block_len_of};
 ghost use Rattle.chain_layout.specs.Held.{blocks_in, cluster_in, entries_in, part_cluster};
 ghost use Rattle.chain_reading.specs.Standing.{entries_at, has_part, IsRead, IsPage, IsPart};
 
 use chain_layout::{Cluster, DirectoryCluster, FileCluster};
-use fs_asks::{Client, Names};
+use fs_client::{Client, Names};
 use fs_port::Blocks;
 use fs_trees::FsRefusal;
 
@@ -64,11 +65,12 @@ fn cluster_at<K: Blocks>(
     requires unspent { (K.view disk.old).spent ≡ false }
     requires valid { K.told → IsValidNow (K.view disk.old) }
     requires may { K.told → MayWrite client.now (K.view disk.old) block }
-    ensures read { K.told → IfOk result (λ found. IfSome found (λ cluster. IsRead (K.view disk.old).world block cluster)) }
+    ensures read { K.told
+        → IfOk result (λ found. IfSome found (λ cluster. IsRead (K.view disk.old).world block cluster)) }
     ensures none { K.told → IfOk result (λ found. IfNone found (cluster_at (K.view disk.old).world block ≡ None)) }
     ensures held { K.told → OnOk result (HoldsWrite (state_of (K.view disk.new)) client.now.session block) }
     ensures only { K.told → IfErr result (λ e. e ≡ no.Device) }
-    ensures looks { Looks K.told (K.view disk.old) (K.view disk.new) result }
+    ensures looks { OnlyLooks K.told (K.view disk.old) (K.view disk.new) result }
 {
     match client.look(disk, block) {
         Ok(bytes) => Ok(Cluster::parse(bytes)),
@@ -78,7 +80,8 @@ fn cluster_at<K: Blocks>(
 
 /// A cluster as one of the directory, where it is one.
 fn page_of(block: u32, cluster: Option<Cluster>) -> Option<Page>
-    ensures entries { option_map (λ page. entries_in page.cluster) result ≡ option_and_then (λ c. entries_of (block_len_of c) (cluster_of c)) cluster }
+    ensures entries { option_map (λ page. entries_in page.cluster) result ≡ option_and_then
+        (λ c. entries_of (block_len_of c) (cluster_of c)) cluster }
     ensures block { IfSome result (λ page. page.block ≡ block) }
     ensures kept { IfSome result (λ page. cluster ≡ Some (cluster_in page.cluster)) }
 {
@@ -90,7 +93,8 @@ fn page_of(block: u32, cluster: Option<Cluster>) -> Option<Page>
 
 /// A cluster as one of a file, where there is room for its bytes.
 fn part_of(block: u32, cluster: Option<Cluster>) -> Option<Part>
-    ensures there { is_some result ≡ option_map_or (λ c. nat_le (cluster_of c).used (bytes_room (block_len_of c))) cluster false }
+    ensures there { is_some result ≡ option_map_or (λ c. nat_le (cluster_of c).used (bytes_room (block_len_of c)))
+        cluster false }
     ensures block { IfSome result (λ part. part.block ≡ block) }
     ensures kept { IfSome result (λ part. cluster ≡ Some (part_cluster part.cluster)) }
 {
@@ -113,7 +117,7 @@ pub fn page_at<K: Blocks>(
     ensures none { K.told → IfOk result (λ found. IfNone found (entries_at (K.view disk.old).world block ≡ None)) }
     ensures held { K.told → OnOk result (HoldsWrite (state_of (K.view disk.new)) client.now.session block) }
     ensures only { K.told → IfErr result (λ e. e ≡ no.Device) }
-    ensures looks { Looks K.told (K.view disk.old) (K.view disk.new) result }
+    ensures looks { OnlyLooks K.told (K.view disk.old) (K.view disk.new) result }
 {
     match cluster_at(client, disk, block) {
         Ok(cluster) => Ok(page_of(block, cluster)),
@@ -134,7 +138,7 @@ pub fn part_at<K: Blocks>(
     ensures none { K.told → IfOk result (λ found. IfNone found (has_part (K.view disk.old).world block ≡ false)) }
     ensures held { K.told → OnOk result (HoldsWrite (state_of (K.view disk.new)) client.now.session block) }
     ensures only { K.told → IfErr result (λ e. e ≡ no.Device) }
-    ensures looks { Looks K.told (K.view disk.old) (K.view disk.new) result }
+    ensures looks { OnlyLooks K.told (K.view disk.old) (K.view disk.new) result }
 {
     match cluster_at(client, disk, block) {
         Ok(cluster) => Ok(part_of(block, cluster)),
@@ -151,7 +155,7 @@ pub fn read_page<K: Blocks>(client: &Client, disk: &mut K, block: u32) -> Result
     ensures page { K.told → IfOk result (λ page. IsPage (K.view disk.old).world block page) }
     ensures held { K.told → OnOk result (HoldsWrite (state_of (K.view disk.new)) client.now.session block) }
     ensures only { K.told → IfErr result (λ e. e ≡ no.Device) }
-    ensures looks { Looks K.told (K.view disk.old) (K.view disk.new) result }
+    ensures looks { OnlyLooks K.told (K.view disk.old) (K.view disk.new) result }
 {
     match page_at(client, disk, block) {
         Ok(Some(page)) => Ok(page),
@@ -169,7 +173,7 @@ pub fn read_part<K: Blocks>(client: &Client, disk: &mut K, block: u32) -> Result
     ensures part { K.told → IfOk result (λ part. IsPart (K.view disk.old).world block part) }
     ensures held { K.told → OnOk result (HoldsWrite (state_of (K.view disk.new)) client.now.session block) }
     ensures only { K.told → IfErr result (λ e. e ≡ no.Device) }
-    ensures looks { Looks K.told (K.view disk.old) (K.view disk.new) result }
+    ensures looks { OnlyLooks K.told (K.view disk.old) (K.view disk.new) result }
 {
     match part_at(client, disk, block) {
         Ok(Some(part)) => Ok(part),

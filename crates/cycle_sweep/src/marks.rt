@@ -1,6 +1,7 @@
 //! Which blocks are reached.
 
-ghost use Rattle.std.specs.Prelude.{◌≡◌, ℕ, ◌+◌, ◌<◌, ◌||◌, ◌&&◌, ◌==◌, not, [], false, length, replicate, IfOk, IsTrue};
+ghost use Rattle.std.specs.Prelude.{◌≡◌, ℕ, ◌+◌, ◌<◌, ◌||◌, ◌&&◌, ◌==◌, not, [], false};
+ghost use Rattle.std.specs.Prelude.{length, replicate, IfOk, IsTrue};
 ghost use Rattle.tsd_model.specs.Reach.{reach};
 ghost use Rattle.tsd_model.specs.World.{has_number};
 ghost use Rattle.cycle_sweep.specs.Marked.{is_marked, AreMarks, AreMarksAt, count_marked};
@@ -122,11 +123,14 @@ fn mark_targets(
     requires size { length marked.old ≡ pointers.now.geometry.blocks }
     requires room { waiting.old.room ≡ pointers.now.geometry.blocks }
     requires marked { IsTrue (is_marked marked.old block) }
-    requires marks { AreMarksAt (graph_of pointers.now live.now) marked.old waiting.old.blocks pointers.now.geometry.primaries block 0 }
+    requires marks { AreMarksAt (graph_of pointers.now live.now) marked.old waiting.old.blocks
+        pointers.now.geometry.primaries block 0 }
     ensures size { length marked.new ≡ length marked.old }
     ensures room { waiting.new.room ≡ waiting.old.room }
-    ensures marks { AreMarks (graph_of pointers.now live.now) marked.new waiting.new.blocks pointers.now.geometry.primaries }
-    ensures balance { count_marked marked.new + length waiting.old.blocks ≡ count_marked marked.old + length waiting.new.blocks }
+    ensures marks { AreMarks (graph_of pointers.now live.now) marked.new waiting.new.blocks
+        pointers.now.geometry.primaries }
+    ensures balance { count_marked marked.new + length waiting.old.blocks ≡ count_marked marked.old + length
+        waiting.new.blocks }
 {
     let mut from = 0;
     while let Some(target) = pointers.next_target(block, from) {
@@ -143,8 +147,10 @@ fn mark_one(marked: &mut BitArray, waiting: &mut Work, block: u32)
     ensures size { length marked.new ≡ length marked.old }
     ensures room { waiting.new.room ≡ waiting.old.room }
     ensures marked { (b : ℕ) → is_marked marked.new b ≡ (is_marked marked.old b || (b == block)) }
-    ensures waiting { (b : ℕ) → has_number waiting.new.blocks b ≡ (has_number waiting.old.blocks b || ((b == block) && not (is_marked marked.old block))) }
-    ensures balance { count_marked marked.new + length waiting.old.blocks ≡ count_marked marked.old + length waiting.new.blocks }
+    ensures waiting { (b : ℕ) → has_number waiting.new.blocks b
+        ≡ (has_number waiting.old.blocks b || ((b == block) && not (is_marked marked.old block))) }
+    ensures balance { count_marked marked.new + length waiting.old.blocks ≡ count_marked marked.old + length
+        waiting.new.blocks }
 {
     if !marked.get(block) {
         marked.set(block, true);

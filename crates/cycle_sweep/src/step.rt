@@ -1,6 +1,7 @@
 //! The next step of a sweep.
 
-ghost use Rattle.std.specs.Prelude.{◌≡◌, ℕ, ◌<◌, ◌≤◌, ◌&&◌, nat_le, not, false, [], length, IfSome, IsNone, IsTrue, ◌↔◌};
+ghost use Rattle.std.specs.Prelude.{◌≡◌, ℕ, ◌<◌, ◌≤◌, ◌&&◌, nat_le, not, false, [], length};
+ghost use Rattle.std.specs.Prelude.{IfSome, IsNone, IsTrue, ◌↔◌};
 ghost use Rattle.tsd_model.specs.Reach.{reach, swept};
 ghost use Rattle.tsd_model.specs.World.{World, is_live, has_number};
 ghost use Rattle.block_alloc.specs.LiveMap.{is_live as is_live_in};
@@ -20,8 +21,8 @@ use tsd_model::BlockList;
 /// where it has no more. The block is freed exactly where pairs lead neither from it nor to it then. None exactly where
 /// each live block is marked.
 ///
-/// Carrying the step out means to take away the pairs from the block to these targets and, if it is freed, the block. The
-/// search goes round all blocks, and begins where the last step was.
+/// Carrying the step out means to take away the pairs from the block to these targets and, if it is freed, the block.
+/// The search goes round all blocks, and begins where the last step was.
 pub fn next_sweep_step(
     pointers: &PointerTable,
     counts: &RefCounts,
@@ -36,7 +37,8 @@ pub fn next_sweep_step(
 
     // What a disk with this graph sweeps to is the same after the step, and there is less of it.
     ensures kept { IfSome result (λ s. AreSweptBy (graph_of pointers.now live.now) s) }
-    ensures none { IsNone result ↔ ((b : ℕ) → IsTrue (is_live (graph_of pointers.now live.now) b) → IsTrue (is_marked marks.old b)) }
+    ensures none { IsNone result ↔ ((b : ℕ) → IsTrue (is_live (graph_of pointers.now live.now) b)
+        → IsTrue (is_marked marks.old b)) }
 
     // A disk with this graph is swept then.
     ensures swept { IsNone result → (r : World) → HasGraphOf (graph_of pointers.now live.now) r → swept r ≡ r }
@@ -61,7 +63,8 @@ fn step_around(
     requires marks { (b : ℕ) → is_marked marks.now b ≡ has_number (reach (graph_of pointers.now live.now)) b }
     ensures step { IfSome result (λ s. MaySweep (graph_of pointers.now live.now) s) }
     ensures freed { IfSome result (λ s. IsTrue s.freed ↔ IsAloneAfter (graph_of pointers.now live.now) s) }
-    ensures stuck { IsNone result → (b : ℕ) → IsTrue (is_live (graph_of pointers.now live.now) b) → is_marked marks.now b ≡ false → IsStuck (graph_of pointers.now live.now) b }
+    ensures stuck { IsNone result → (b : ℕ) → IsTrue (is_live (graph_of pointers.now live.now) b)
+        → is_marked marks.now b ≡ false → IsStuck (graph_of pointers.now live.now) b }
 {
     let blocks = live.geometry().blocks;
     let place = marks.place().min(blocks);
@@ -87,7 +90,9 @@ fn step_within(
     requires end { end ≤ pointers.now.geometry.blocks }
     ensures step { IfSome result (λ s. MaySweep (graph_of pointers.now live.now) s) }
     ensures freed { IfSome result (λ s. IsTrue s.freed ↔ IsAloneAfter (graph_of pointers.now live.now) s) }
-    ensures stuck { IsNone result → (b : ℕ) → start ≤ b → b < end → IsTrue (is_live (graph_of pointers.now live.now) b) → is_marked marks.now b ≡ false → IsStuck (graph_of pointers.now live.now) b }
+    ensures stuck { IsNone result → (b : ℕ) → start ≤ b → b < end
+        → IsTrue (is_live (graph_of pointers.now live.now) b) → is_marked marks.now b ≡ false
+        → IsStuck (graph_of pointers.now live.now) b }
 {
     for block in start..end {
         if is_unmarked(live, marks, block) {

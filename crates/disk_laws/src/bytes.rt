@@ -1,6 +1,7 @@
 //! What reads no bytes of blocks.
 
-ghost use Rattle.disk_laws.specs.Bytes.{BytesLeaveWorldsLike, VerdictsReadNoBytes, LevelsReadNoBytes, ChoicesReadNoBytes};
+ghost use Rattle.disk_laws.specs.Bytes.{BytesLeaveWorldsLike, VerdictsReadNoBytes, LevelsReadNoBytes};
+ghost use Rattle.disk_laws.specs.Bytes.{ChoicesReadNoBytes};
 
 /// Worlds that differ in the bytes of their live blocks alone, as before and after a write, give the same verdict on
 /// each request, the same attained levels and the same choices of blocks.

@@ -1,6 +1,7 @@
 //! Entries of directories.
 
-ghost use Rattle.std.specs.Prelude.{◌≡◌, ◌↔◌, ◌≤◌, ◌+◌, ◌*◌, ◌++◌, ◌&&◌, length, find, flat_map, IsOk, OnOk, OnErr};
+ghost use Rattle.std.specs.Prelude.{◌≡◌, ◌↔◌, ◌≤◌, ◌+◌, ◌*◌, ◌++◌, ◌&&◌, length};
+ghost use Rattle.std.specs.Prelude.{find, flat_map, IsOk, OnOk, OnErr};
 ghost use Rattle.fs_trees.specs.Names.{name_lt, are_ascending};
 ghost use Rattle.fs_trees.specs.Fields.{entries, entry_names, all_named, entry_bytes};
 ghost use Rattle.fs_trees.specs.Inode.{block_named};
@@ -52,7 +53,8 @@ fn place_of(list: &[u8], amount: usize, name: &[u8]) -> usize
     amount
 }
 
-/// Where the entries behind a name begin, of which so many stand before it: behind that of the name itself, if it is there.
+/// Where the entries behind a name begin, of which so many stand before it: behind that of the name itself, if it is
+/// there.
 fn behind(list: &[u8], amount: usize, place: usize, name: &[u8]) -> usize
     requires fits { 32 * amount ≤ length list.now }
     requires within { place ≤ amount }

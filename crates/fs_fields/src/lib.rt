@@ -1,9 +1,10 @@
 //! Fields that blocks of both file systems have: numbers, names and entries of directories.
 //!
-//! What it stands on: `fs_trees` for what a field means, `tsd_model` for lists of bytes, `byteorder` for numbers in bytes.
+//! What it stands on: `fs_trees` for what a field means, `tsd_model` for lists of bytes, `byteorder` for numbers in
+//! bytes.
 //!
-//! What it promises: an entry has 32 bytes, the number of a block and a name with zeros behind it. Each call reads or writes
-//! such bytes exactly as the definitions of `fs_trees` say, and none takes memory.
+//! What it promises: an entry has 32 bytes, the number of a block and a name with zeros behind it. Each call reads or
+//! writes such bytes exactly as the definitions of `fs_trees` say, and none takes memory.
 #![tactic(auto)]
 
 mod entries;

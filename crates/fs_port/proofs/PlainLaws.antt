@@ -16,7 +16,7 @@ use Rattle.tsd_model.specs.declared.requests.Request.TheVariants as ask
 use Rattle.tsd_model.proofs.SessionLaws.{held-map}
 use Rattle.disk_laws.proofs.AnswerLaws.{after_answer}
 use Rattle.disk_laws.proofs.FitLaws.{geometry-change, version-change}
-use Rattle.fs_port.specs.Calls.{LeavesOnly, is_steady}
+use Rattle.fs_port.specs.Calls.{LeavesWorldsOnly, is_steady}
 use Rattle.fs_port.specs.Plain.{IsOneOf, HadSince, plain_view, none_behind, GoesOn}
 use Rattle.fs_port.specs.declared.plain.PlainBlocks.{PlainBlocks}
 
@@ -34,7 +34,7 @@ join_last zero (v ∷ ws) w x le h = ⊎_elim (λ k. ⊎_elim (λ e. inl e) (λ 
 join_last (suc t) [] w x le h = absurd (omega arith)
 join_last (suc t) (v ∷ ws) w x le h = join_last t ws w x (omega arith) h
 
-pub gone_on : (old new : PlainBlocks) (w : World) (v : Sessions) (P : World → Type 0) → GoesOn old new w v → P old.world → P w → LeavesOnly (plain_view old) (plain_view new) P
+pub gone_on : (old new : PlainBlocks) (w : World) (v : Sessions) (P : World → Type 0) → GoesOn old new w v → P old.world → P w → LeavesWorldsOnly (plain_view old) (plain_view new) P
 gone_on old new w v P on before after = record {
   later = let long : length new.earlier.items ≡ length old.earlier.items + 1 = ap length on.earlier ∙ length-append old.earlier.items (old.world ∷ []) in omega arith;
   sent = refl;
@@ -45,7 +45,7 @@ gone_on old new w v P on before after = record {
   keeps = λ t x f le h. (inl (subst (λ ws. IsOneOf (drop t ws) x) (sym on.earlier) (join_last t old.earlier.items old.world x le h.0)), h.1);
 }
 
-pub failed_leaves : (old new : PlainBlocks) (P : World → Type 0) → new.world ≡ old.world → new.earlier.items ≡ old.earlier.items → P old.world → LeavesOnly (plain_view old) (plain_view new) P
+pub failed_leaves : (old new : PlainBlocks) (P : World → Type 0) → new.world ≡ old.world → new.earlier.items ≡ old.earlier.items → P old.world → LeavesWorldsOnly (plain_view old) (plain_view new) P
 failed_leaves old new P same earlier before = record {
   later = let long = ap length earlier in omega (arith, long);
   sent = refl;

@@ -37,7 +37,7 @@ has_dirs Chain = false
 -- ---- before a call
 
 -- the disk isn't spent, the session is open there, the root is primary, and what is shown attains write at it
-pub record IsReady (f : FilesView) (v : View) : Type 0 where
+pub record IsClientReady (f : FilesView) (v : View) : Type 0 where
   pub unspent : v.spent ≡ false
   pub number : f.session ≤ sessions_max
   pub begun : IsTrue (is_open v.sessions f.session)
@@ -71,7 +71,7 @@ abbrev pub OnAnswer : {X : Type 0} → Result X FsRefusal → Type 0 → Type 0
 OnAnswer result P = OnOk result P × IfErr result (λ e. e ≢ no.Device → P)
 
 -- The world afterwards: tidy if it was, what the root didn't reach is as it was, and what was free is the tree's.
-pub record LeavesWorld (f : FilesView) (old new : View) : Type 0 where
+pub record LeavesTidyWorld (f : FilesView) (old new : View) : Type 0 where
   pub unspent : new.spent ≡ false
   pub tidy : IsTidy f.kind old.world f.root → IsTidy f.kind new.world f.root
   pub others : OthersStay f.root old.world new.world
@@ -109,12 +109,6 @@ mounted_now f = record f { mounted = true }
 
 abbrev pub unmounted_now : FilesView → FilesView
 unmounted_now f = record f { mounted = false }
-
--- after it a tree is mounted, and the disk is tidy under the root
-pub record Mounts (f : FilesView) (now : FilesView) (new : View) (t : Tree) : Type 0 where
-  pub mounted : now ≡ mounted_now f
-  pub tree : tree_at f.kind new.world f.root ≡ t
-  pub tidy : IsTidy f.kind new.world f.root
 
 -- ---- what a reading call tells
 

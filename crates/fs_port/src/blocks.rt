@@ -1,9 +1,9 @@
 //! The disk as one call.
 
 ghost use Rattle.std.specs.Prelude.{◌≡◌, true, false, IsTrue, IsOk, IsErr, OnOk, OnErr, IfOk};
-ghost use Rattle.image_device.specs.Counts.{Rose};
+ghost use Rattle.image_device.specs.Counts.{CountsFault};
 ghost use Rattle.fs_port.specs.View.{View, IsSound};
-ghost use Rattle.fs_port.specs.Calls.{Counts, IsCarriedOut, IsEitherSide, LeavesOnly, Stays, is_steady};
+ghost use Rattle.fs_port.specs.Calls.{Counts, IsAskCarriedOut, IsEitherSide, LeavesWorldsOnly, Stays, is_steady};
 
 use image_device::Failed;
 use tsd_model::{Geometry, Reply, Request};
@@ -26,14 +26,14 @@ pub trait Blocks {
     /// `faults` rose, and then the disk is spent.
     fn ask(&mut self, request: &Request) -> Result<Reply, Failed>
         requires { (view self.old).spent ≡ false }
-        ensures step { told → IfOk result (λ reply. IsCarriedOut (view self.old) (view self.new) request.now reply) }
-        ensures crash { told → LeavesOnly (view self.old) (view self.new) (IsEitherSide (view self.old) request.now) }
+        ensures step { told → IfOk result (λ reply. IsAskCarriedOut (view self.old) (view self.new) request.now reply) }
+        ensures crash { told → LeavesWorldsOnly (view self.old) (view self.new)
+            (IsEitherSide (view self.old) request.now) }
         ensures stays { is_steady request.now ≡ true → OnOk result (Stays (view self.old) (view self.new)) }
         ensures counts { Counts (view self.old) (view self.new) }
-        ensures faultless { OnOk result ((view self.new).faults ≡ (view self.old).faults) }
+        ensures faults { CountsFault result (view self.old).faults (view self.new).faults }
         ensures unspent { OnOk result ((view self.new).spent ≡ false) }
-        ensures spent { OnErr result ((view self.new).spent ≡ true) }
-        ensures cause { OnErr result (Rose (view self.old).faults (view self.new).faults) };
+        ensures spent { OnErr result ((view self.new).spent ≡ true) };
 
     /// Whether an ask failed.
     fn is_spent(&self) -> bool

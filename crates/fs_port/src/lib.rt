@@ -3,8 +3,8 @@
 //! What it stands on: `tsd_model` for requests and replies, `image_device` for what a failed call is, `fs_trees` for
 //! trees and asks, `plain_disk` for the disk in memory, `disk_laws` for what a request leaves.
 //!
-//! What it promises: `Blocks` is the whole contract of a disk as a file system sees it: each ask answers by the rules of
-//! the disk, a crash inside leaves the world before or the one after, and `Failed` comes only where a count rose.
+//! What it promises: `Blocks` is the whole contract of a disk as a file system sees it: each ask answers by the rules
+//! of the disk, a crash inside leaves the world before or the one after, and `Failed` comes only where a count rose.
 //! `Files` is the contract of a file system over any such disk, but for copies: each call answers and changes the tree
 //! by `tree_step`, a refusal leaves the disk, a crash inside leaves the tree before or the one after, and what its root
 //! doesn't reach stays.

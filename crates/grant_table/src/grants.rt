@@ -1,7 +1,10 @@
 //! What all sessions hold.
 
-ghost use Rattle.std.specs.Prelude.{◌≡◌, ℕ, ◌-◌, ◌<◌, ◌≤◌, [], length, map, replicate, option_map, slice_index_or, slice_set, IfSome, OnOk, OnErr, IfErr, None, Some, MatchOption};
-ghost use Rattle.tsd_model.specs.Sessions.{Sessions as AllSessions, no_sessions, held_by, with_held, is_open, level_from, level_of, ended, raised, raised_held, dropped_from};
+ghost use Rattle.std.specs.Prelude.{◌≡◌, ℕ, ◌-◌, ◌<◌, ◌≤◌, [], length, map, replicate};
+ghost use Rattle.std.specs.Prelude.{option_map, slice_index_or, slice_set, IfSome, OnOk, OnErr, IfErr, None, Some};
+ghost use Rattle.std.specs.Prelude.{MatchOption};
+ghost use Rattle.tsd_model.specs.Sessions.{Sessions as AllSessions, no_sessions, held_by, with_held, is_open};
+ghost use Rattle.tsd_model.specs.Sessions.{level_from, level_of, ended, raised, raised_held, dropped_from};
 ghost use Rattle.tsd_model.specs.declared.requests.Level.{Level as AnyLevel};
 ghost use Rattle.tsd_model.specs.declared.requests.Level.TheVariants as level;
 
@@ -57,7 +60,8 @@ impl Model for Grants {
 }
 
 impl Grants {
-    ghost use Rattle.grant_table.specs.Table.{Table, IsTable, with_sessions, begun_in, dropped_at, begin_rule, end_rule, begin_verdict, end_verdict, IsHeldAt};
+    ghost use Rattle.grant_table.specs.Table.{Table, IsTable, with_sessions, begun_in, dropped_at, begin_rule};
+    ghost use Rattle.grant_table.specs.Table.{end_rule, begin_verdict, end_verdict, IsHeldAt};
 
     /// No session is open.
     pub fn new(alloc: Global, blocks: u32, primaries: u32) -> Grants
@@ -133,7 +137,8 @@ impl Grants {
 
     /// What a session holds, None exactly where it isn't open.
     pub(crate) fn holding(&self, session: u32) -> Option<&Holding>
-        ensures held { MatchOption result (held_by self.now.sessions session ≡ None) (λ held. held_by self.now.sessions session ≡ Some held.now) }
+        ensures held { MatchOption result (held_by self.now.sessions session ≡ None)
+            (λ held. held_by self.now.sessions session ≡ Some held.now) }
         ensures table { IsTable self.now }
     {
         let held = self.held.as_slice();
@@ -173,10 +178,12 @@ impl Grants {
         }
     }
 
-    /// At a block the level from each primary block becomes the greater of itself and this one. Nothing changes where the
-    /// session isn't open.
+    /// At a block the level from each primary block becomes the greater of itself and this one. Nothing changes where
+    /// the session isn't open.
     pub fn raise(&mut self, session: u32, block: u32, origins: &Origins)
-        ensures { (f : ℕ → AnyLevel) → ((o : ℕ) → o < self.old.primaries → f o ≡ slice_index_or origins.now o level.Bare) → self.new ≡ with_sessions self.old (raised self.old.sessions session block f) }
+        ensures { (f : ℕ → AnyLevel) → ((o : ℕ) → o < self.old.primaries
+            → f o ≡ slice_index_or origins.now o level.Bare)
+            → self.new ≡ with_sessions self.old (raised self.old.sessions session block f) }
     {
         if session == 0 {
             return;
@@ -236,7 +243,8 @@ fn drop_at(held: &mut Option<Holding>, block: u32)
 }
 
 fn drop_from(held: &mut Option<Holding>, origin: u32)
-    ensures { held.new ≡ option_map (λ h. slice_set h origin (replicate (length (slice_index_or h origin [])) level.Bare)) held.old }
+    ensures { held.new ≡ option_map (λ h. slice_set h origin (replicate (length (slice_index_or h origin []))
+        level.Bare)) held.old }
 {
     match held {
         Some(holding) => holding.drop_from(origin),
@@ -254,7 +262,8 @@ fn drop_at_each(held: &mut [Option<Holding>], block: u32)
 }
 
 fn drop_from_each(held: &mut [Option<Holding>], origin: u32)
-    ensures { held.new ≡ map (option_map (λ h. slice_set h origin (replicate (length (slice_index_or h origin [])) level.Bare))) held.old }
+    ensures { held.new ≡ map (option_map (λ h. slice_set h origin (replicate (length (slice_index_or h origin []))
+        level.Bare))) held.old }
 {
     let count = held.len();
     for place in 0..count {

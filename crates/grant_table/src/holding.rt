@@ -1,6 +1,7 @@
 //! What one open session holds.
 
-ghost use Rattle.std.specs.Prelude.{◌≡◌, ℕ, ◌<◌, ◌≤◌, [], length, map, replicate, slice_index_or, slice_set, IfOk};
+ghost use Rattle.std.specs.Prelude.{◌≡◌, ℕ, ◌<◌, ◌≤◌, [], length, map, replicate, slice_index_or};
+ghost use Rattle.std.specs.Prelude.{slice_set, IfOk};
 ghost use Rattle.tsd_model.specs.Sessions.{greater, greatest, raised_held};
 ghost use Rattle.tsd_model.specs.declared.requests.Level.{Level as AnyLevel};
 ghost use Rattle.tsd_model.specs.declared.requests.Level.TheVariants as level;
@@ -70,7 +71,9 @@ impl Holding {
     /// Each of these levels becomes the greater of itself and the one held from its origin at a block.
     pub fn add_to(&self, block: u32, best: &mut Origins)
         ensures sized { length best.new ≡ length best.old }
-        ensures each { (o : ℕ) → o < 16 → slice_index_or best.new o level.Bare ≡ greater (slice_index_or best.old o level.Bare) (slice_index_or (slice_index_or self.now o []) block level.Bare) }
+        ensures each { (o : ℕ) → o < 16 → slice_index_or best.new o level.Bare
+            ≡ greater (slice_index_or best.old o level.Bare) (slice_index_or (slice_index_or self.now o []) block
+            level.Bare) }
     {
         let count = self.tables.len() as u32;
         for origin in 0..count {
@@ -103,7 +106,8 @@ impl Holding {
 
     /// Nothing is held from an origin any more.
     pub fn drop_from(&mut self, origin: u32)
-        ensures { self.new ≡ slice_set self.old origin (replicate (length (slice_index_or self.old origin [])) level.Bare) }
+        ensures { self.new ≡ slice_set self.old origin (replicate (length (slice_index_or self.old origin []))
+            level.Bare) }
     {
         let place = origin as usize;
         if place < self.tables.len() {

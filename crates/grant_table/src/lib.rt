@@ -3,9 +3,9 @@
 //! What it stands on: `tsd_model`, whose definitions say what sessions hold and which rule refuses a request;
 //! `bit_array` for levels, two bits each; `arrayvec` for the 64 places of sessions.
 //!
-//! What it promises: `Grants` is the definition's sessions, two bits for each block and primary block of an open session
-//! and nothing for one that isn't. `attained` and `verdict` answer as the definitions say for any `DiskFacts`, which
-//! tells a world. Only `begin` takes memory.
+//! What it promises: `Grants` is the definition's sessions, two bits for each block and primary block of an open
+//! session and nothing for one that isn't. `attained` and `verdict` answer as the definitions say for any `DiskFacts`,
+//! which tells a world. Only `begin` takes memory.
 #![tactic(auto)]
 
 mod attained;

@@ -67,7 +67,8 @@ impl Origins {
     /// The level from a primary block becomes the greater of itself and this one; from block 16 on nothing changes.
     pub fn raise(&mut self, primary: u32, to: Level)
         ensures sized { length self.old ≡ 16 }
-        ensures value { self.new ≡ slice_set self.old primary (greater (slice_index_or self.old primary level.Bare) to) }
+        ensures value { self.new ≡ slice_set self.old primary (greater (slice_index_or self.old primary level.Bare)
+            to) }
     {
         let raised = greater(self.at(primary), to);
         let place = primary as usize;

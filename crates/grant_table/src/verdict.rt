@@ -1,9 +1,14 @@
 //! Which rule refuses a request.
 
-ghost use Rattle.std.specs.Prelude.{◌≡◌, ◌<◌, nat_le, false, Some, None, OnOk, IfOk, IfErr, IfSome, slice_get};
+ghost use Rattle.std.specs.Prelude.{◌≡◌, ◌<◌, nat_le, false, Some, None, OnOk, IfOk, IfErr, IfSome};
+ghost use Rattle.std.specs.Prelude.{slice_get};
 ghost use Rattle.tsd_model.specs.Needs.{needs};
 ghost use Rattle.tsd_model.specs.World.{is_free, is_primary};
-ghost use Rattle.tsd_model.specs.Verdict.{is_bad, is_begin, has_bad_session, is_already_open, is_not_open, has_bad_count, has_bad_size, names_missing_block, names_free_block, sets_caps_elsewhere, points_to_primary, adds_held_pair, deletes_missing_pair, wants_too_many, finds_no_run, has_no_room, denied, first_rule, session_rules, block_rules, level_rules, pair_rules, room_rules, verdict};
+ghost use Rattle.tsd_model.specs.Verdict.{is_bad, is_begin, has_bad_session, is_already_open, is_not_open};
+ghost use Rattle.tsd_model.specs.Verdict.{has_bad_count, has_bad_size, names_missing_block, names_free_block};
+ghost use Rattle.tsd_model.specs.Verdict.{sets_caps_elsewhere, points_to_primary, adds_held_pair, deletes_missing_pair};
+ghost use Rattle.tsd_model.specs.Verdict.{wants_too_many, finds_no_run, has_no_room, denied, first_rule, session_rules};
+ghost use Rattle.tsd_model.specs.Verdict.{block_rules, level_rules, pair_rules, room_rules, verdict};
 ghost use Rattle.grant_table.specs.Granted.{attained_for, at_source, at_target, IsDenied};
 ghost use Rattle.grant_table.specs.Table.{IsMadeFor};
 
@@ -84,7 +89,8 @@ impl Grants {
         ensures ok { OnOk result (first_rule (level_rules (F.world facts.now) self.now.sessions request.now) ≡ None) }
         ensures source { IfOk result (λ g. g.source ≡ at_source (F.world facts.now) self.now.sessions request.now) }
         ensures target { IfOk result (λ g. g.target ≡ at_target (F.world facts.now) self.now.sessions request.now) }
-        ensures err { IfErr result (λ r. first_rule (level_rules (F.world facts.now) self.now.sessions request.now) ≡ Some r) }
+        ensures err { IfErr result (λ r. first_rule (level_rules (F.world facts.now) self.now.sessions request.now)
+            ≡ Some r) }
     {
         let session = session_of(request).unwrap_or(0);
         let source = self.check_need(facts, session, need_at(request, 0))?;
@@ -102,7 +108,8 @@ impl Grants {
         requires made { IsMadeFor (F.world facts.now) self.now }
         requires there { IfSome need (λ n. n.block < (F.world facts.now).geometry.blocks) }
         ensures ok { IfOk result (λ o. o ≡ attained_for (F.world facts.now) self.now.sessions session need) }
-        ensures suffices { OnOk result (IfSome need (λ n. (denied (F.world facts.now) self.now.sessions session n).applies ≡ false)) }
+        ensures suffices { OnOk result
+            (IfSome need (λ n. (denied (F.world facts.now) self.now.sessions session n).applies ≡ false)) }
         ensures err { IfErr result (λ r. IsDenied (F.world facts.now) self.now.sessions session need r) }
     {
         match need {
@@ -119,8 +126,10 @@ impl Grants {
     ) -> Result<Origins, Rule>
         requires made { IsMadeFor (F.world facts.now) self.now }
         requires there { need.now.block < (F.world facts.now).geometry.blocks }
-        ensures ok { IfOk result (λ o. o ≡ attained_for (F.world facts.now) self.now.sessions session (Some need.now)) }
-        ensures suffices { OnOk result ((denied (F.world facts.now) self.now.sessions session need.now).applies ≡ false) }
+        ensures ok { IfOk result (λ o. o ≡ attained_for (F.world facts.now) self.now.sessions session
+            (Some need.now)) }
+        ensures suffices { OnOk result ((denied (F.world facts.now) self.now.sessions session need.now).applies
+            ≡ false) }
         ensures err { IfErr result (λ r. IsDenied (F.world facts.now) self.now.sessions session (Some need.now) r) }
     {
         let origins = self.attained(facts, session, need.block, &need.shown);

@@ -2,8 +2,8 @@
 
 ghost use Rattle.graph_laws.specs.Dooming.{DoomedIsLeast, StaysByPairs, RingsStay};
 
-/// The doomed blocks are the least set that takes in each live block, not primary, to which only blocks of the set lead.
-/// So a live block stays exactly where it is primary or one that stays leads to it, and a ring of pairs stays.
+/// The doomed blocks are the least set that takes in each live block, not primary, to which only blocks of the set
+/// lead. So a live block stays exactly where it is primary or one that stays leads to it, and a ring of pairs stays.
 pub fn doom_is_by_pairs()
     ensures least { DoomedIsLeast }
     ensures stays { StaysByPairs }

@@ -2,8 +2,8 @@
 
 ghost use Rattle.graph_laws.specs.Steps.{StepStaysRaw, StepTakes};
 
-/// A step at a block that isn't primary leaves a raw world: a block is freed only once no pair needs it. At a live block
-/// it takes its pairs and, if it frees it, the block, and nothing else.
+/// A step at a block that isn't primary leaves a raw world: a block is freed only once no pair needs it. At a live
+/// block it takes its pairs and, if it frees it, the block, and nothing else.
 pub fn steps_stay_raw()
     ensures raw { StepStaysRaw }
     ensures takes { StepTakes }

@@ -1,6 +1,7 @@
 //! Steps of a sweep.
 
-ghost use Rattle.graph_laws.specs.Sweeping.{ReachIsLeast, StepSweeps, SweepGoesOn, SweptWhole, SweepsToValid, SettledSweeps};
+ghost use Rattle.graph_laws.specs.Sweeping.{ReachIsLeast, StepSweeps, SweepGoesOn, SweptWhole, SweepsToValid};
+ghost use Rattle.graph_laws.specs.Sweeping.{SettledSweeps};
 
 /// The reached blocks are the least set that has the primary ones and follows the pairs. A step at an unreached block
 /// keeps them and the world on them, since no pair that it takes leads on from a reached one.

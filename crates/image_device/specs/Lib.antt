@@ -3,6 +3,7 @@ pub mod View
 pub mod Calls
 pub mod Runs
 pub mod Counts
+pub mod Agreeing
 pub mod History
 pub mod Cells
 pub mod Laws

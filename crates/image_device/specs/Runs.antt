@@ -3,7 +3,7 @@ use Rattle.std.specs.Prelude.{ℕ, ◌<◌, ◌≤◌, ◌≡◌, ◌⊎◌, Boo
 use Rattle.image_device.specs.Image.{Image}
 use Rattle.image_device.specs.View.{View, IsLeftWithin, IsLeftInPut}
 use Rattle.image_device.specs.Calls.{Puts}
-use Rattle.image_device.specs.Counts.{Rose}
+use Rattle.image_device.specs.Counts.{CountsFault}
 
 -- A crash at any moment since old leaves what has P.
 pub record LeavesOnly (old new : View) (P : Image → List ℕ → Type 0) : Type 0 where
@@ -33,5 +33,4 @@ pub record PutsAll {T E : Type 0} (told : Type 0) (text : List ℕ) (old new : V
   -- a crash at any moment leaves what a read gives, with a front of the text sent
   pub any_moment : told → LeavesOnly old new (IsLeftInPut text old)
   pub puts : Puts old new
-  pub faultless : OnOk result (new.put_faults ≡ old.put_faults)
-  pub cause : OnErr result (Rose old.put_faults new.put_faults)
+  pub faults : CountsFault result old.put_faults new.put_faults

@@ -1,6 +1,7 @@
 // What a disk and a port mean.
-ghost use Rattle.std.specs.Prelude.{◌≡◌, ◌<◌, ◌≤◌, ◌+◌, ◌++◌, ℕ, true, length, take, OnOk, OnErr, IfOk};
-ghost use Rattle.image_device.specs.Counts.{Rose};
+ghost use Rattle.std.specs.Prelude.{◌≡◌, ◌<◌, ◌≤◌, ◌+◌, ◌++◌, ℕ, true, length, take, OnOk};
+ghost use Rattle.std.specs.Prelude.{OnErr, IfOk};
+ghost use Rattle.image_device.specs.Counts.{CountsFault};
 ghost use Rattle.image_device.specs.View.{View, IsLeftInPut, IsSound};
 ghost use Rattle.image_device.specs.Calls.{Appends, Includes, Puts, Rests, Settles, Touches, Uses};
 ghost use Rattle.image_device.specs.Runs.{IsFirm};
@@ -24,8 +25,7 @@ pub trait Device {
         ensures kept { OnErr result (into.new ≡ into.old) }
         ensures rests { told → Rests (view self.old) (view self.new) }
         ensures uses { Uses 0 (view self.old) (view self.new) }
-        ensures faultless { OnOk result ((view self.new).faults ≡ (view self.old).faults) }
-        ensures cause { OnErr result (Rose (view self.old).faults (view self.new).faults) };
+        ensures faults { CountsFault result (view self.old).faults (view self.new).faults };
 
     /// Writes a sector. Until the next sync a crash may leave any bytes in it, after a write that
     /// failed too. `Failed` comes only where `faults` rose.
@@ -34,8 +34,7 @@ pub trait Device {
         ensures loose { told → OnOk result ((view self.new).loose sector ≡ true) }
         ensures touches { told → Touches sector (view self.old) (view self.new) }
         ensures uses { Uses 1 (view self.old) (view self.new) }
-        ensures faultless { OnOk result ((view self.new).faults ≡ (view self.old).faults) }
-        ensures cause { OnErr result (Rose (view self.old).faults (view self.new).faults) };
+        ensures faults { CountsFault result (view self.old).faults (view self.new).faults };
 
     /// Waits until all that was written is on the disk. `Failed` comes only where `faults` rose.
     fn sync(&mut self) -> Result<(), Failed>
@@ -43,8 +42,7 @@ pub trait Device {
         ensures loose { told → OnErr result ((view self.new).loose ≡ (view self.old).loose) }
         ensures settles { told → Settles (view self.old) (view self.new) }
         ensures uses { Uses 0 (view self.old) (view self.new) }
-        ensures faultless { OnOk result ((view self.new).faults ≡ (view self.old).faults) }
-        ensures cause { OnErr result (Rose (view self.old).faults (view self.new).faults) };
+        ensures faults { CountsFault result (view self.old).faults (view self.new).faults };
 
     /// What holds of it at each moment.
     ghost sound: { (d : Self) → told → IsSound (view d) };
@@ -57,11 +55,13 @@ pub trait Port: Device {
     fn put(&mut self, piece: &[u8]) -> Result<usize, Failed>
         requires { 0 < length piece.now }
         ensures some { IfOk result (λ count. (0 < count) × (count ≤ length piece.now)) }
-        ensures sent { Self.told → IfOk result (λ count. (Self.view self.new).sent ≡ (Self.view self.old).sent ++ take count piece.now) }
-        ensures part { Self.told → OnErr result ((count : ℕ) × (count < length piece.now) × ((Self.view self.new).sent ≡ (Self.view self.old).sent ++ take count piece.now)) }
+        ensures sent { Self.told → IfOk result (λ count. (Self.view self.new).sent ≡ (Self.view self.old).sent
+            ++ take count piece.now) }
+        ensures part { Self.told → OnErr result ((count : ℕ) × (count < length piece.now)
+            × ((Self.view self.new).sent ≡ (Self.view self.old).sent ++ take count piece.now)) }
         ensures appends { Self.told → Appends piece.now (Self.view self.old) (Self.view self.new) }
-        ensures includes { Self.told → OnOk result (Includes (Self.view self.old) (Self.view self.new) (IsLeftInPut piece.now (Self.view self.old))) }
+        ensures includes { Self.told → OnOk result (Includes (Self.view self.old) (Self.view self.new)
+            (IsLeftInPut piece.now (Self.view self.old))) }
         ensures puts { Puts (Self.view self.old) (Self.view self.new) }
-        ensures faultless { OnOk result ((Self.view self.new).put_faults ≡ (Self.view self.old).put_faults) }
-        ensures cause { OnErr result (Rose (Self.view self.old).put_faults (Self.view self.new).put_faults) };
+        ensures faults { CountsFault result (Self.view self.old).put_faults (Self.view self.new).put_faults };
 }

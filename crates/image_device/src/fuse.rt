@@ -14,7 +14,8 @@ pub struct FuseStation {
 }
 
 impl FuseStation {
-    ghost use Rattle.image_device.specs.FuseStation.{fuse_view, own_faults_of, own_put_faults_of, passes_of, pick_of, within};
+    ghost use Rattle.image_device.specs.FuseStation.{fuse_view, own_faults_of, own_put_faults_of, passes_of, pick_of};
+    ghost use Rattle.image_device.specs.FuseStation.{within};
     ghost use Rattle.image_device.specs.MemStation.{failing_of, station_view, synced_reads, IsNew};
     ghost use Rattle.image_device.specs.Image.{IsImage};
     ghost use Rattle.std.specs.Prelude.{◌≡◌, [], ℕ, true, replicate};
@@ -53,7 +54,8 @@ impl FuseStation {
         ensures left { (fuse_view self).left (fuse_view self).clock (station_view result).reads (fuse_view self).sent }
         ensures old { pick_of self ≡ Pick.Old → (station_view result).reads ≡ synced_reads (within self) }
         ensures new { pick_of self ≡ Pick.New → (station_view result).reads ≡ (fuse_view self).reads }
-        ensures torn { (b : ℕ) → pick_of self ≡ Pick.Torn b → (n : ℕ) → (fuse_view self).loose n ≡ true → (station_view result).reads n ≡ replicate 512 b }
+        ensures torn { (b : ℕ) → pick_of self ≡ Pick.Torn b → (n : ℕ) → (fuse_view self).loose n ≡ true
+            → (station_view result).reads n ≡ replicate 512 b }
         ensures unused { IsNew result }
         ensures fail { failing_of result ≡ [] }
     {
@@ -85,7 +87,7 @@ impl Device for FuseStation {
     ghost use Rattle.image_device.specs.MemStation.{synced_reads};
     ghost use Rattle.image_device.specs.Calls.{Rests, Settles, Touches, Uses};
     ghost use Rattle.image_device.specs.Runs.{IsFirm};
-    ghost use Rattle.image_device.specs.Counts.{raised, Rose};
+    ghost use Rattle.image_device.specs.Counts.{raised, CountsFault};
     ghost use Rattle.std.specs.Prelude.{◌≡◌, true, OnOk, OnErr};
 
     ghost told = { Unit {0} };
@@ -99,8 +101,7 @@ impl Device for FuseStation {
         ensures kept { OnErr result (into.new ≡ into.old) }
         ensures rests { Rests (fuse_view self.old) (fuse_view self.new) }
         ensures uses { Uses 0 (fuse_view self.old) (fuse_view self.new) }
-        ensures faultless { OnOk result ((fuse_view self.new).faults ≡ (fuse_view self.old).faults) }
-        ensures cause { OnErr result (Rose (fuse_view self.old).faults (fuse_view self.new).faults) }
+        ensures faults { CountsFault result (fuse_view self.old).faults (fuse_view self.new).faults }
         ensures once { OnErr result ((fuse_view self.new).faults ≡ raised (fuse_view self.old).faults) }
         ensures passed { IsPassed self.old self.new result }
         ensures synced { synced_reads (within self.new) ≡ synced_reads (within self.old) }
@@ -117,8 +118,7 @@ impl Device for FuseStation {
         ensures loose { OnOk result ((fuse_view self.new).loose sector ≡ true) }
         ensures touches { Touches sector (fuse_view self.old) (fuse_view self.new) }
         ensures uses { Uses 1 (fuse_view self.old) (fuse_view self.new) }
-        ensures faultless { OnOk result ((fuse_view self.new).faults ≡ (fuse_view self.old).faults) }
-        ensures cause { OnErr result (Rose (fuse_view self.old).faults (fuse_view self.new).faults) }
+        ensures faults { CountsFault result (fuse_view self.old).faults (fuse_view self.new).faults }
         ensures once { OnErr result ((fuse_view self.new).faults ≡ raised (fuse_view self.old).faults) }
         ensures passed { IsPassed self.old self.new result }
         ensures synced { synced_reads (within self.new) ≡ synced_reads (within self.old) }
@@ -135,8 +135,7 @@ impl Device for FuseStation {
         ensures loose { OnErr result ((fuse_view self.new).loose ≡ (fuse_view self.old).loose) }
         ensures settles { Settles (fuse_view self.old) (fuse_view self.new) }
         ensures uses { Uses 0 (fuse_view self.old) (fuse_view self.new) }
-        ensures faultless { OnOk result ((fuse_view self.new).faults ≡ (fuse_view self.old).faults) }
-        ensures cause { OnErr result (Rose (fuse_view self.old).faults (fuse_view self.new).faults) }
+        ensures faults { CountsFault result (fuse_view self.old).faults (fuse_view self.new).faults }
         ensures once { OnErr result ((fuse_view self.new).faults ≡ raised (fuse_view self.old).faults) }
         ensures passed { IsPassed self.old self.new result }
         ensures synced { OnOk result (synced_reads (within self.new) ≡ (fuse_view self.old).reads) }
@@ -155,19 +154,21 @@ impl Port for FuseStation {
     ghost use Rattle.image_device.specs.MemStation.{synced_reads};
     ghost use Rattle.image_device.specs.View.{IsLeftInPut};
     ghost use Rattle.image_device.specs.Calls.{Appends, Includes, Puts};
-    ghost use Rattle.image_device.specs.Counts.{raised, Rose};
+    ghost use Rattle.image_device.specs.Counts.{raised, CountsFault};
     ghost use Rattle.std.specs.Prelude.{◌≡◌, ◌≤◌, ◌<◌, ◌++◌, ℕ, length, take, OnOk, OnErr, IfOk};
 
     fn put(&mut self, piece: &[u8]) -> Result<usize, Failed>
         requires { 0 < length piece.now }
         ensures some { IfOk result (λ count. (0 < count) × (count ≤ length piece.now)) }
-        ensures sent { IfOk result (λ count. (fuse_view self.new).sent ≡ (fuse_view self.old).sent ++ take count piece.now) }
-        ensures part { OnErr result ((count : ℕ) × (count < length piece.now) × ((fuse_view self.new).sent ≡ (fuse_view self.old).sent ++ take count piece.now)) }
+        ensures sent { IfOk result (λ count. (fuse_view self.new).sent ≡ (fuse_view self.old).sent
+            ++ take count piece.now) }
+        ensures part { OnErr result ((count : ℕ) × (count < length piece.now)
+            × ((fuse_view self.new).sent ≡ (fuse_view self.old).sent ++ take count piece.now)) }
         ensures appends { Appends piece.now (fuse_view self.old) (fuse_view self.new) }
-        ensures includes { OnOk result (Includes (fuse_view self.old) (fuse_view self.new) (IsLeftInPut piece.now (fuse_view self.old))) }
+        ensures includes { OnOk result (Includes (fuse_view self.old) (fuse_view self.new)
+            (IsLeftInPut piece.now (fuse_view self.old))) }
         ensures puts { Puts (fuse_view self.old) (fuse_view self.new) }
-        ensures faultless { OnOk result ((fuse_view self.new).put_faults ≡ (fuse_view self.old).put_faults) }
-        ensures cause { OnErr result (Rose (fuse_view self.old).put_faults (fuse_view self.new).put_faults) }
+        ensures faults { CountsFault result (fuse_view self.old).put_faults (fuse_view self.new).put_faults }
         ensures once { OnErr result ((fuse_view self.new).put_faults ≡ raised (fuse_view self.old).put_faults) }
         ensures passed { IsPassed self.old self.new result }
         ensures synced { synced_reads (within self.new) ≡ synced_reads (within self.old) }

@@ -1,6 +1,7 @@
 // What a station in memory keeps: an event, and the cell that it leaves, both or none.
 ghost use Rattle.std.specs.HashMap.{get};
-ghost use Rattle.std.specs.Prelude.{◌≡◌, ◌+◌, ◌++◌, [], ◌∷◌, ℕ, nat_eq, length, option_map, OnOk, OnErr};
+ghost use Rattle.std.specs.Prelude.{◌≡◌, ◌+◌, ◌++◌, [], ◌∷◌, ℕ, nat_eq, length, option_map, OnOk};
+ghost use Rattle.std.specs.Prelude.{OnErr};
 ghost use Rattle.image_device.specs.declared.event.Event.TheVariants.{Poke, Put, Write};
 ghost use Rattle.image_device.specs.Cells.{cell_or_blank, poked_cell, settled_cell, written_cell, IsKept, IsSame};
 
@@ -28,7 +29,8 @@ fn keep_cell(
     sector: u32,
     cell: Cell,
 ) -> Result<(), AllocError>
-    ensures ok { OnOk result (IsKept event sector cell log.old.items log.new.items (get nat_eq cells.old) (get nat_eq cells.new)) }
+    ensures ok { OnOk result (IsKept event sector cell log.old.items log.new.items (get nat_eq cells.old)
+        (get nat_eq cells.new)) }
     ensures err { OnErr result (IsSame log.old.items log.new.items (get nat_eq cells.old) (get nat_eq cells.new)) }
 {
     cells.reserve(1)?;
@@ -46,7 +48,8 @@ pub(crate) fn keep_write(
     sector: u32,
     from: &[u8; 512],
 ) -> Result<(), AllocError>
-    ensures ok { OnOk result ((bytes : _) × (bytes.value ≡ from.now) × IsKept (Write sector bytes) sector (written_cell synced (length log.old.items + 1) from.now (cell_or_blank (get nat_eq cells.old sector)))
+    ensures ok { OnOk result ((bytes : _) × (bytes.value ≡ from.now) × IsKept (Write sector bytes) sector
+        (written_cell synced (length log.old.items + 1) from.now (cell_or_blank (get nat_eq cells.old sector)))
         log.old.items log.new.items (get nat_eq cells.old) (get nat_eq cells.new)) }
     ensures err { OnErr result (IsSame log.old.items log.new.items (get nat_eq cells.old) (get nat_eq cells.new)) }
 {
@@ -64,7 +67,8 @@ pub(crate) fn keep_poke(
     sector: u32,
     from: &[u8; 512],
 ) -> Result<(), AllocError>
-    ensures ok { OnOk result ((bytes : _) × (bytes.value ≡ from.now) × IsKept (Poke sector bytes) sector (poked_cell from.now (cell_or_blank (get nat_eq cells.old sector)))
+    ensures ok { OnOk result ((bytes : _) × (bytes.value ≡ from.now) × IsKept (Poke sector bytes) sector
+        (poked_cell from.now (cell_or_blank (get nat_eq cells.old sector)))
         log.old.items log.new.items (get nat_eq cells.old) (get nat_eq cells.new)) }
     ensures err { OnErr result (IsSame log.old.items log.new.items (get nat_eq cells.old) (get nat_eq cells.new)) }
 {
@@ -81,7 +85,8 @@ pub(crate) fn keep_piece(
     sent: &mut Vec<u8>,
     piece: &[u8],
 ) -> Result<(), AllocError>
-    ensures ok { OnOk result ((kept : _) × (kept.items ≡ piece.now) × (log.new.items ≡ log.old.items ++ Put kept ∷ []) × (sent.new.items ≡ sent.old.items ++ piece.now)) }
+    ensures ok { OnOk result ((kept : _) × (kept.items ≡ piece.now)
+        × (log.new.items ≡ log.old.items ++ Put kept ∷ []) × (sent.new.items ≡ sent.old.items ++ piece.now)) }
     ensures err { OnErr result ((log.new.items ≡ log.old.items) × (sent.new.items ≡ sent.old.items)) }
 {
     let before = sent.len();

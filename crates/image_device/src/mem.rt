@@ -1,6 +1,7 @@
 // A station in memory, which keeps a record of all that was done to it.
 ghost use Rattle.std.specs.HashMap.{get};
-ghost use Rattle.std.specs.Prelude.{◌≡◌, ◌≤◌, ◌<◌, ◌++◌, [], ℕ, nat_eq, true, false, length, take, OnOk, OnErr, IfOk, IsOk};
+ghost use Rattle.std.specs.Prelude.{◌≡◌, ◌≤◌, ◌<◌, ◌++◌, [], ℕ, nat_eq, true, false, length};
+ghost use Rattle.std.specs.Prelude.{take, OnOk, OnErr, IfOk, IsOk};
 ghost use Rattle.image_device.specs.History.{after};
 ghost use Rattle.image_device.specs.Cells.{begun, cell_or_blank, standing, IsWhole};
 
@@ -31,7 +32,8 @@ pub struct MemStation {
     short: u64,
     ghost whole: { (n : ℕ) → IsWhole (length log.items) (cell_or_blank (get nat_eq cells n)) },
     ghost reached: { synced ≤ length log.items },
-    ghost agrees: { after log.items (begun (λ n. get nat_eq cells n)) ≡ standing (λ n. get nat_eq cells n) synced sent.items },
+    ghost agrees: { after log.items (begun (λ n. get nat_eq cells n))
+        ≡ standing (λ n. get nat_eq cells n) synced sent.items },
 }
 
 impl MemStation {
@@ -90,7 +92,7 @@ impl MemStation {
 
 impl MemStation {
     ghost use Rattle.image_device.specs.MemStation.{is_failing};
-    ghost use Rattle.image_device.specs.Counts.{raised};
+    ghost use Rattle.image_device.specs.Counts.{raised, CountsFault};
 
     /// Counts a call, and gives whether it is one of those that fail.
     fn is_failing(&mut self) -> bool
@@ -104,17 +106,19 @@ impl MemStation {
 }
 
 impl MemStation {
-    ghost use Rattle.image_device.specs.MemStation.{station_view, calls_of, failing_of, short_of, synced_reads, KeepsNothing};
+    ghost use Rattle.image_device.specs.MemStation.{station_view, calls_of, failing_of, short_of, synced_reads};
+    ghost use Rattle.image_device.specs.MemStation.{KeepsNothing};
     ghost use Rattle.image_device.specs.Image.{put_at};
     ghost use Rattle.image_device.specs.View.{IsLeftNow};
     ghost use Rattle.image_device.specs.Calls.{Elapses};
     ghost use Rattle.image_device.specs.History.{firmed};
-    ghost use Rattle.image_device.specs.Counts.{raised};
+    ghost use Rattle.image_device.specs.Counts.{raised, CountsFault};
 
     /// Sets a sector as a damaged image would have it, which makes nothing loose. It is no call of
     /// the device, and `Failed` comes only where `short` rose.
     pub fn poke(&mut self, sector: u32, from: &[u8; 512]) -> Result<(), Failed>
-        ensures reads { OnOk result ((station_view self.new).reads ≡ put_at sector from.now (station_view self.old).reads) }
+        ensures reads { OnOk result ((station_view self.new).reads ≡ put_at sector from.now
+            (station_view self.old).reads) }
         ensures synced { OnOk result (synced_reads self.new ≡ put_at sector from.now (synced_reads self.old)) }
         ensures loose { OnOk result ((station_view self.new).loose ≡ firmed sector (station_view self.old).loose) }
         ensures same_reads { OnErr result ((station_view self.new).reads ≡ (station_view self.old).reads) }
@@ -149,7 +153,8 @@ impl MemStation {
         ensures image { IsImage (station_view self).reads (station_view self).loose (station_view result).reads }
         ensures old { pick ≡ Pick.Old → (station_view result).reads ≡ synced_reads self }
         ensures new { pick ≡ Pick.New → (station_view result).reads ≡ (station_view self).reads }
-        ensures torn { (b : ℕ) → pick ≡ Pick.Torn b → (n : ℕ) → (station_view self).loose n ≡ true → (station_view result).reads n ≡ replicate 512 b }
+        ensures torn { (b : ℕ) → pick ≡ Pick.Torn b → (n : ℕ) → (station_view self).loose n ≡ true
+            → (station_view result).reads n ≡ replicate 512 b }
         ensures unused { IsNew result }
         ensures fail { failing_of result ≡ [] }
     {
@@ -187,7 +192,7 @@ impl Device for MemStation {
     ghost use Rattle.image_device.specs.MemStation.{station_view, station_sound, is_failing, synced_reads, IsCalled};
     ghost use Rattle.image_device.specs.Calls.{Rests, Settles, Touches, Uses};
     ghost use Rattle.image_device.specs.Runs.{IsFirm};
-    ghost use Rattle.image_device.specs.Counts.{raised, Rose};
+    ghost use Rattle.image_device.specs.Counts.{raised, CountsFault};
     ghost use Rattle.std.specs.Prelude.{◌≡◌, true, false, IsOk, OnOk, OnErr};
 
     ghost told = { Unit {0} };
@@ -201,8 +206,7 @@ impl Device for MemStation {
         ensures kept { OnErr result (into.new ≡ into.old) }
         ensures rests { Rests (station_view self.old) (station_view self.new) }
         ensures uses { Uses 0 (station_view self.old) (station_view self.new) }
-        ensures faultless { OnOk result ((station_view self.new).faults ≡ (station_view self.old).faults) }
-        ensures cause { OnErr result (Rose (station_view self.old).faults (station_view self.new).faults) }
+        ensures faults { CountsFault result (station_view self.old).faults (station_view self.new).faults }
         ensures once { OnErr result ((station_view self.new).faults ≡ raised (station_view self.old).faults) }
         ensures called { IsCalled self.old self.new result }
         ensures synced { synced_reads self.new ≡ synced_reads self.old }
@@ -223,8 +227,7 @@ impl Device for MemStation {
         ensures loose { OnOk result ((station_view self.new).loose sector ≡ true) }
         ensures touches { Touches sector (station_view self.old) (station_view self.new) }
         ensures uses { Uses 1 (station_view self.old) (station_view self.new) }
-        ensures faultless { OnOk result ((station_view self.new).faults ≡ (station_view self.old).faults) }
-        ensures cause { OnErr result (Rose (station_view self.old).faults (station_view self.new).faults) }
+        ensures faults { CountsFault result (station_view self.old).faults (station_view self.new).faults }
         ensures once { OnErr result ((station_view self.new).faults ≡ raised (station_view self.old).faults) }
         ensures called { IsCalled self.old self.new result }
         ensures synced { synced_reads self.new ≡ synced_reads self.old }
@@ -257,8 +260,7 @@ impl Device for MemStation {
         ensures loose { OnErr result ((station_view self.new).loose ≡ (station_view self.old).loose) }
         ensures settles { Settles (station_view self.old) (station_view self.new) }
         ensures uses { Uses 0 (station_view self.old) (station_view self.new) }
-        ensures faultless { OnOk result ((station_view self.new).faults ≡ (station_view self.old).faults) }
-        ensures cause { OnErr result (Rose (station_view self.old).faults (station_view self.new).faults) }
+        ensures faults { CountsFault result (station_view self.old).faults (station_view self.new).faults }
         ensures once { OnErr result ((station_view self.new).faults ≡ raised (station_view self.old).faults) }
         ensures called { IsCalled self.old self.new result }
         ensures synced { OnOk result (synced_reads self.new ≡ (station_view self.old).reads) }
@@ -282,19 +284,21 @@ impl Port for MemStation {
     ghost use Rattle.image_device.specs.MemStation.{station_view, is_failing, synced_reads, IsCalled};
     ghost use Rattle.image_device.specs.View.{IsLeftInPut};
     ghost use Rattle.image_device.specs.Calls.{Appends, Includes, Puts};
-    ghost use Rattle.image_device.specs.Counts.{raised, Rose};
+    ghost use Rattle.image_device.specs.Counts.{raised, CountsFault};
     ghost use Rattle.std.specs.Prelude.{◌≡◌, ◌≤◌, ◌<◌, ◌++◌, ℕ, length, take, OnOk, OnErr, IfOk};
 
     fn put(&mut self, piece: &[u8]) -> Result<usize, Failed>
         requires { 0 < length piece.now }
         ensures some { IfOk result (λ count. (0 < count) × (count ≤ length piece.now)) }
-        ensures sent { IfOk result (λ count. (station_view self.new).sent ≡ (station_view self.old).sent ++ take count piece.now) }
-        ensures part { OnErr result ((count : ℕ) × (count < length piece.now) × ((station_view self.new).sent ≡ (station_view self.old).sent ++ take count piece.now)) }
+        ensures sent { IfOk result (λ count. (station_view self.new).sent ≡ (station_view self.old).sent
+            ++ take count piece.now) }
+        ensures part { OnErr result ((count : ℕ) × (count < length piece.now)
+            × ((station_view self.new).sent ≡ (station_view self.old).sent ++ take count piece.now)) }
         ensures appends { Appends piece.now (station_view self.old) (station_view self.new) }
-        ensures includes { OnOk result (Includes (station_view self.old) (station_view self.new) (IsLeftInPut piece.now (station_view self.old))) }
+        ensures includes { OnOk result (Includes (station_view self.old) (station_view self.new)
+            (IsLeftInPut piece.now (station_view self.old))) }
         ensures puts { Puts (station_view self.old) (station_view self.new) }
-        ensures faultless { OnOk result ((station_view self.new).put_faults ≡ (station_view self.old).put_faults) }
-        ensures cause { OnErr result (Rose (station_view self.old).put_faults (station_view self.new).put_faults) }
+        ensures faults { CountsFault result (station_view self.old).put_faults (station_view self.new).put_faults }
         ensures once { OnErr result ((station_view self.new).put_faults ≡ raised (station_view self.old).put_faults) }
         ensures called { IsCalled self.old self.new result }
         ensures synced { synced_reads self.new ≡ synced_reads self.old }

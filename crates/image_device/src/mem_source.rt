@@ -43,8 +43,9 @@ impl MemSource {
 
 impl Source for MemSource {
     ghost use Rattle.image_device.specs.MemSource.{cut_of, faults_of, front_of, rest_of, IsTaken};
-    ghost use Rattle.image_device.specs.Counts.{Rose};
-    ghost use Rattle.std.specs.Prelude.{◌≡◌, ◌≤◌, ◌++◌, ◌↔◌, [], length, take, drop, min, IfOk, OnOk, OnErr};
+    ghost use Rattle.image_device.specs.Counts.{CountsFault};
+    ghost use Rattle.std.specs.Prelude.{◌≡◌, ◌≤◌, ◌++◌, ◌↔◌, [], length, take, drop, min, IfOk};
+    ghost use Rattle.std.specs.Prelude.{OnOk, OnErr};
 
     ghost told = { Unit {0} };
 
@@ -62,16 +63,18 @@ impl Source for MemSource {
         ensures bytes { IfOk result (λ count. rest_of self.old ≡ take count into.new ++ rest_of self.new) }
         ensures taken { IfOk result (λ count. front_of self.new ≡ front_of self.old ++ take count into.new) }
         ensures end { IfOk result (λ count. (count ≡ 0) ↔ (rest_of self.old ≡ [])) }
-        ensures found_end { IfOk result (λ count. ((count ≡ 0) → rest_of self.new ≡ []) × (rest_of self.old ≡ [] → count ≡ 0)) }
+        ensures found_end { IfOk result (λ count. ((count ≡ 0) → rest_of self.new ≡ [])
+            × (rest_of self.old ≡ [] → count ≡ 0)) }
         ensures stays { rest_of self.old ≡ [] → rest_of self.new ≡ [] }
-        ensures err { OnErr result ((rest_of self.new ≡ rest_of self.old) × (front_of self.new ≡ front_of self.old)) }
+        ensures err { OnErr result ((rest_of self.new ≡ rest_of self.old)
+            × (front_of self.new ≡ front_of self.old)) }
         ensures behind { IfOk result (λ count. drop count into.new ≡ drop count into.old) }
         ensures kept { OnErr result (into.new ≡ into.old) }
         ensures later { self.old.faults ≤ self.new.faults }
-        ensures faultless { OnOk result (self.new.faults ≡ self.old.faults) }
-        ensures cause { OnErr result (Rose self.old.faults self.new.faults) }
+        ensures faults { CountsFault result self.old.faults self.new.faults }
         ensures cut { IfOk result (λ count. count ≤ cut_of self.old) }
-        ensures exact { IfOk result (λ count. count ≡ min (min (length (rest_of self.old)) (cut_of self.old)) (length into.old)) }
+        ensures exact { IfOk result (λ count. count ≡ min (min (length (rest_of self.old)) (cut_of self.old))
+            (length into.old)) }
         ensures called { IsTaken self.old self.new result }
     {
         let number = self.calls;

@@ -1,6 +1,7 @@
 // Where the program's input comes from.
-ghost use Rattle.std.specs.Prelude.{◌≡◌, ◌≤◌, ◌<◌, ◌++◌, ◌↔◌, [], ℕ, List, length, take, drop, OnOk, OnErr, IfOk};
-ghost use Rattle.image_device.specs.Counts.{Rose};
+ghost use Rattle.std.specs.Prelude.{◌≡◌, ◌≤◌, ◌<◌, ◌++◌, ◌↔◌, [], ℕ, List, length, take};
+ghost use Rattle.std.specs.Prelude.{drop, OnOk, OnErr, IfOk};
+ghost use Rattle.image_device.specs.Counts.{CountsFault};
 
 use crate::Failed;
 
@@ -27,15 +28,17 @@ pub trait Source {
     fn take(&mut self, into: &mut [u8]) -> Result<usize, Failed>
         requires { 0 < length into.old }
         ensures room { IfOk result (λ count. count ≤ length into.old) }
-        ensures bytes { told → IfOk result (λ count. left_bytes self.old ≡ take count into.new ++ left_bytes self.new) }
+        ensures bytes { told → IfOk result (λ count. left_bytes self.old ≡ take count into.new
+            ++ left_bytes self.new) }
         ensures taken { told → IfOk result (λ count. taken self.new ≡ taken self.old ++ take count into.new) }
         ensures end { told → IfOk result (λ count. (count ≡ 0) ↔ (left_bytes self.old ≡ [])) }
-        ensures found_end { IfOk result (λ count. ((count ≡ 0) → ended self.new) × (ended self.old → count ≡ 0)) }
+        ensures found_end { IfOk result (λ count. ((count ≡ 0) → ended self.new) × (ended self.old
+            → count ≡ 0)) }
         ensures stays { ended self.old → ended self.new }
-        ensures err { told → OnErr result ((left_bytes self.new ≡ left_bytes self.old) × (taken self.new ≡ taken self.old)) }
+        ensures err { told → OnErr result ((left_bytes self.new ≡ left_bytes self.old)
+            × (taken self.new ≡ taken self.old)) }
         ensures behind { IfOk result (λ count. drop count into.new ≡ drop count into.old) }
         ensures kept { OnErr result (into.new ≡ into.old) }
         ensures later { faults self.old ≤ faults self.new }
-        ensures faultless { OnOk result (faults self.new ≡ faults self.old) }
-        ensures cause { OnErr result (Rose (faults self.old) (faults self.new)) };
+        ensures faults { CountsFault result (faults self.old) (faults self.new) };
 }

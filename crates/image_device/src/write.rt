@@ -1,6 +1,7 @@
 // Writes that are on the disk once the call returns.
-ghost use Rattle.std.specs.Prelude.{◌≡◌, ◌<◌, ◌+◌, ◌^◌, ◌==◌, ◌&&◌, nat_le, nat_lt, ℕ, [], length, slice_index_or, OnOk, OnErr};
-ghost use Rattle.image_device.specs.Counts.{Rose};
+ghost use Rattle.std.specs.Prelude.{◌≡◌, ◌<◌, ◌+◌, ◌^◌, ◌==◌, ◌&&◌, nat_le, nat_lt, ℕ, []};
+ghost use Rattle.std.specs.Prelude.{length, slice_index_or, OnOk, OnErr};
+ghost use Rattle.image_device.specs.Counts.{CountsFault};
 ghost use Rattle.image_device.specs.Calls.{Uses};
 ghost use Rattle.image_device.specs.Runs.{IsConfined, IsFirm};
 
@@ -13,8 +14,7 @@ pub fn write_through<D: Device>(dev: &mut D, sector: u32, from: &[u8; 512]) -> R
     ensures firm { D.told → OnOk result (IsFirm (D.view dev.new)) }
     ensures confined { D.told → IsConfined (λ n. n == sector) (D.view dev.old) (D.view dev.new) }
     ensures uses { Uses 1 (D.view dev.old) (D.view dev.new) }
-    ensures faultless { OnOk result ((D.view dev.new).faults ≡ (D.view dev.old).faults) }
-    ensures cause { OnErr result (Rose (D.view dev.old).faults (D.view dev.new).faults) }
+    ensures faults { CountsFault result (D.view dev.old).faults (D.view dev.new).faults }
 {
     dev.write(sector, from)?;
     dev.sync()
@@ -25,12 +25,13 @@ pub fn write_through<D: Device>(dev: &mut D, sector: u32, from: &[u8; 512]) -> R
 /// every other as it was.
 pub fn write_run<D: Device>(dev: &mut D, first: u32, bodies: &[[u8; 512]]) -> Result<(), Failed>
     requires { first + length bodies.now < 2 ^ 32 }
-    ensures written { D.told → OnOk result ((k : ℕ) → k < length bodies.now → (D.view dev.new).reads (first + k) ≡ slice_index_or bodies.now k []) }
+    ensures written { D.told → OnOk result ((k : ℕ) → k < length bodies.now → (D.view dev.new).reads (first + k)
+        ≡ slice_index_or bodies.now k []) }
     ensures firm { D.told → OnOk result (IsFirm (D.view dev.new)) }
-    ensures confined { D.told → IsConfined (λ n. nat_le first n && nat_lt n (first + length bodies.now)) (D.view dev.old) (D.view dev.new) }
+    ensures confined { D.told → IsConfined (λ n. nat_le first n && nat_lt n (first + length bodies.now))
+        (D.view dev.old) (D.view dev.new) }
     ensures uses { Uses (length bodies.now) (D.view dev.old) (D.view dev.new) }
-    ensures faultless { OnOk result ((D.view dev.new).faults ≡ (D.view dev.old).faults) }
-    ensures cause { OnErr result (Rose (D.view dev.old).faults (D.view dev.new).faults) }
+    ensures faults { CountsFault result (D.view dev.old).faults (D.view dev.new).faults }
 {
     let mut sector = first;
     for body in bodies {

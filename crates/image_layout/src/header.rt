@@ -11,7 +11,8 @@
 //!
 //! Numbers have their lowest byte first. All else is zero.
 
-ghost use Rattle.std.specs.Prelude.{◌≡◌, ◌+◌, ◌≤◌, ◌++◌, take, drop, List, ℕ, Result, Ok, MatchOption};
+ghost use Rattle.std.specs.Prelude.{◌≡◌, ◌+◌, ◌≤◌, ◌++◌, take, drop, List, ℕ, Result, Ok};
+ghost use Rattle.std.specs.Prelude.{MatchOption};
 ghost use Rattle.byteorder.specs.Endian.{little_from, little_bytes};
 ghost use Rattle.tsd_model.specs.Geometry.{IsLawful};
 ghost use Rattle.image_layout.specs.declared.fault.HeaderFault.{HeaderFault};
@@ -95,7 +96,8 @@ fn first_bad_field(geometry: &Geometry) -> Option<(u32, u32)>
 }
 
 /// Reads a header, or tells the first thing that is wrong with it: the magic, then the version, then the least field of
-/// the geometry. Primary blocks are a bad field also where they are not fewer than the blocks. Other bytes don't matter.
+/// the geometry. Primary blocks are a bad field also where they are not fewer than the blocks. Other bytes don't
+/// matter.
 pub fn read_header(sector: &[u8; SECTOR_BYTES]) -> Result<Header, HeaderFault>
     ensures { IsReading sector.now result }
 {
@@ -120,13 +122,15 @@ pub fn read_header(sector: &[u8; SECTOR_BYTES]) -> Result<Header, HeaderFault>
 
 /// A sector has one reading.
 pub fn readings_are_one()
-    ensures { (bytes : List ℕ) (one other : Result Header HeaderFault) → IsReading bytes one → IsReading bytes other → one ≡ other }
+    ensures { (bytes : List ℕ) (one other : Result Header HeaderFault) → IsReading bytes one
+        → IsReading bytes other → one ≡ other }
 {}
 
 /// The sector of a header. Every value is taken, right or not; one of version 1 or 2 with a lawful geometry reads back.
 pub fn write_header(header: &Header) -> [u8; SECTOR_BYTES]
     ensures bytes { result ≡ header_bytes header.now }
-    ensures reads_back { IsVersion header.now.version → IsLawful header.now.geometry → IsReading result (Ok header.now) }
+    ensures reads_back { IsVersion header.now.version → IsLawful header.now.geometry
+        → IsReading result (Ok header.now) }
 {
     let mut sector = [0; SECTOR_BYTES];
     sector[..VERSION_AT].copy_from_slice(&MAGIC);

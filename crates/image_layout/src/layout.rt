@@ -16,7 +16,8 @@ ghost use Rattle.std.specs.Prelude.{◌≡◌, ◌+◌, ◌/◌, ◌^◌, ◌<�
 ghost use Rattle.tsd_model.specs.Geometry.{IsLawful};
 ghost use Rattle.image_layout.specs.Areas.{bitmap_start, slots_start, data_start, total};
 ghost use Rattle.image_layout.specs.Lawful.{IsLawful-prop};
-ghost use Rattle.image_layout.specs.Places.{byte_in, count_place, bit_place, slot_place, cap_place, digest_place, data_sector};
+ghost use Rattle.image_layout.specs.Places.{byte_in, count_place, bit_place, slot_place, cap_place, digest_place};
+ghost use Rattle.image_layout.specs.Places.{data_sector};
 
 use crate::place::Place;
 use crate::sectors::{CAPS_START, COUNTS_START, MOST_SECTORS, SECTOR_BYTES};
@@ -114,7 +115,8 @@ impl Layout {
     pub fn bit_place(&self, block: u32) -> Place
         requires { block < self.now.geometry.blocks }
         ensures value { result ≡ bit_place self.now.geometry block }
-        ensures inside { (bitmap_start self.now.geometry ≤ result.sector) × (result.sector < slots_start self.now.geometry) }
+        ensures inside { (bitmap_start self.now.geometry ≤ result.sector)
+            × (result.sector < slots_start self.now.geometry) }
         ensures whole { result.byte < SECTOR_BYTES }
     {
         byte_in(self.bitmap_start(), block / u8::BITS)
@@ -124,7 +126,8 @@ impl Layout {
     pub fn slot_place(&self, slot: u32) -> Place
         requires { slot < self.now.geometry.slots }
         ensures value { result ≡ slot_place self.now.geometry slot }
-        ensures inside { (slots_start self.now.geometry ≤ result.sector) × (result.sector < data_start self.now.geometry) }
+        ensures inside { (slots_start self.now.geometry ≤ result.sector)
+            × (result.sector < data_start self.now.geometry) }
         ensures whole { result.byte + SLOT_BYTES ≤ SECTOR_BYTES }
     {
         byte_in(self.slots_start(), SLOT_BYTES * slot)

@@ -4,9 +4,10 @@
 //!
 //! What it promises: every place is the one of the format, as `specs/` has it; different things stand apart, all below
 //! `Layout::total`; `read_header` accepts exactly the right headers and names the first thing that is wrong with
-//! another; what `write_header` makes of version 1 or 2 and a lawful geometry reads back, and is zero outside the fields.
-//! `specs/Image.antt` says what the bytes of an image mean, for every crate that reads or writes them; `proofs/` has the
-//! lemmas that those crates cite: a sector has one reading, and the things of an image stand apart.
+//! another; what `write_header` makes of version 1 or 2 and a lawful geometry reads back, and is zero outside the
+//! fields.
+//! `specs/Image.antt` says what the bytes of an image mean, for every crate that reads or writes them; `proofs/` has
+//! the lemmas that those crates cite: a sector has one reading, and the things of an image stand apart.
 #![tactic(auto)]
 
 pub mod fault;

@@ -7,7 +7,8 @@
 //! | 115 + 2i, 116 + 2i | gate and descriptor of record i, for i from 1 to 7 |
 
 ghost use Rattle.std.specs.Prelude.{◌≡◌, ◌+◌, ◌-◌, ◌<◌, ◌≤◌};
-ghost use Rattle.image_layout.specs.Ring.{ring_start, ring_end, records, bodies, gate_sector, descriptor_sector, body_sector};
+ghost use Rattle.image_layout.specs.Ring.{ring_start, ring_end, records, bodies, gate_sector, descriptor_sector};
+ghost use Rattle.image_layout.specs.Ring.{body_sector};
 
 /// How many records the ring has.
 pub const RECORDS: u32 = 8;

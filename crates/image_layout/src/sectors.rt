@@ -1,7 +1,8 @@
 //! Sectors that stand at the same place on every image.
 
 ghost use Rattle.std.specs.Prelude.{◌≡◌};
-ghost use Rattle.image_layout.specs.Areas.{header_sector, format_gate, sweep_flag, caps_start, counts_start, most_sectors};
+ghost use Rattle.image_layout.specs.Areas.{header_sector, format_gate, sweep_flag, caps_start, counts_start};
+ghost use Rattle.image_layout.specs.Areas.{most_sectors};
 
 /// The bytes of a sector.
 pub const SECTOR_BYTES: usize = 512;

@@ -5,8 +5,11 @@ ghost use Rattle.image_layout.specs.Things.{Thing, IsOn, IsInside, AreApart};
 ghost use Rattle.tsd_model.specs.Geometry.{IsLawful};
 ghost use Rattle.tsd_model.specs.declared.geometry.Geometry.{Geometry};
 
-/// No two things of an image share a bit, and all end where the image does or before, whatever its version and geometry.
+/// No two things of an image share a bit, and all end where the image does or before, whatever its version and
+/// geometry.
 pub fn things_stand_apart()
-    ensures inside { (version : ℕ) (g : Geometry) (thing : Thing) → IsLawful g → IsOn g thing → IsInside version g thing }
-    ensures apart { (version : ℕ) (g : Geometry) (one other : Thing) → IsLawful g → IsOn g one → IsOn g other → one ≢ other → AreApart version g one other }
+    ensures inside { (version : ℕ) (g : Geometry) (thing : Thing) → IsLawful g → IsOn g thing
+        → IsInside version g thing }
+    ensures apart { (version : ℕ) (g : Geometry) (one other : Thing) → IsLawful g → IsOn g one → IsOn g other
+        → one ≢ other → AreApart version g one other }
 {}

@@ -16,9 +16,9 @@ use Rattle.intent_journal.specs.Home.{home, is_journal, AgreeBut}
 use Rattle.intent_journal.specs.Records.{has_valid_records}
 use Rattle.intent_journal.proofs.Gates.{valid_same}
 use Rattle.intent_journal.proofs.Uses.{home_unlawful, home_alike, journal_alike}
-use Rattle.image_world.specs.Alike.{AreAlike, DoAgree, AreUnused}
+use Rattle.image_world.specs.Alike.{AreAlike, ReadAlike, AreUnused}
 use Rattle.image_world.specs.Debt.{debt}
-use Rattle.image_world.specs.Faults.{IsFormatted, HasJournal, HasHeader, IsGood}
+use Rattle.image_world.specs.Faults.{IsFormatGateOpen, HasJournal, HasHeader, IsGood}
 use Rattle.image_world.specs.Stands.{world_of, Stands}
 use Rattle.image_world.specs.Tables.{header_on}
 use Rattle.image_world.proofs.AreaLaws.{same_marks}
@@ -41,17 +41,17 @@ alike_back x y alike = record {
     size : (header_on y).geometry ≡ (header_on x).geometry
     size = ap (λ bytes. (header_of bytes).geometry) alike.header
 
-pub agree_back : (image y : Image) → DoAgree image y → DoAgree y image
+pub agree_back : (image y : Image) → ReadAlike image y → ReadAlike y image
 agree_back image y agree = record { gate = sym agree.gate; journal = sym agree.journal; homes = alike_back (home image) (home y) agree.homes }
 
 -- ---- they stand for the same
-pub agree_stands : (image y : Image) (w : World) → DoAgree image y → Stands image w → Stands y w
+pub agree_stands : (image y : Image) (w : World) → ReadAlike image y → Stands image w → Stands y w
 agree_stands image y w agree stands = stands_alike image y w agree.homes (agree.gate ∙ stands.good.formatted) (agree.journal ∙ stands.good.journal) stands
 
-pub agree_both : (image y : Image) → DoAgree image y → (w : World) → Stands image w ↔ Stands y w
+pub agree_both : (image y : Image) → ReadAlike image y → (w : World) → Stands image w ↔ Stands y w
 agree_both image y agree w = (agree_stands image y w agree, agree_stands y image w (agree_back image y agree))
 
-pub agree_owe : (image y : Image) → HasHeader (home image) → DoAgree image y → debt y ≡ debt image
+pub agree_owe : (image y : Image) → HasHeader (home image) → ReadAlike image y → debt y ≡ debt image
 agree_owe image y header agree = debt_alike image y header agree.homes
 
 -- ---- homes that agree outside the journal
@@ -68,13 +68,13 @@ alike_outside x y same = record {
 pub gate_outside : (x y : Image) → home y format_gate ≡ home x format_gate → is_open (y format_gate) ≡ is_open (x format_gate)
 gate_outside x y same = ap is_open (sym (home_gate y) ∙ (same ∙ home_gate x))
 
-pub formatted_by : (x y : Image) → home y format_gate ≡ home x format_gate → IsFormatted x → IsFormatted y
+pub formatted_by : (x y : Image) → home y format_gate ≡ home x format_gate → IsFormatGateOpen x → IsFormatGateOpen y
 formatted_by x y same formatted = gate_outside x y same ∙ formatted
 
-pub outside_agree : (image y : Image) → has_valid_records y ≡ has_valid_records image → AgreeBut is_journal (home image) (home y) → DoAgree image y
+pub outside_agree : (image y : Image) → has_valid_records y ≡ has_valid_records image → AgreeBut is_journal (home image) (home y) → ReadAlike image y
 outside_agree image y valid same = record { gate = gate_outside image y (same format_gate refl); journal = valid; homes = alike_outside (home image) (home y) same }
 
-pub same_agree : (image y : Image) → IsTheSame image y → DoAgree image y
+pub same_agree : (image y : Image) → IsTheSame image y → ReadAlike image y
 same_agree image y same = outside_agree image y same.valid same.stands
 
 pub same_stand : (image y : Image) → IsTheSame image y → (w : World) → Stands image w ↔ Stands y w
@@ -83,7 +83,7 @@ same_stand image y same = agree_both image y (same_agree image y same)
 pub same_owe : (image y : Image) → HasHeader (home image) → IsTheSame image y → debt y ≡ debt image
 same_owe image y header same = agree_owe image y header (same_agree image y same)
 
-pub old_agree : (image y : Image) → IsGood image → AgreeBut is_journal (home image) (home y) → HasJournal y → DoAgree image y
+pub old_agree : (image y : Image) → IsGood image → AgreeBut is_journal (home image) (home y) → HasJournal y → ReadAlike image y
 old_agree image y good same valid = outside_agree image y (valid ∙ sym good.journal) same
 
 pub old_stands : (image y : Image) → IsGood image → AgreeBut is_journal (home image) (home y) → HasJournal y → Stands y (world_of image)
@@ -96,7 +96,7 @@ before_outside old y firm before = λ n out. before.stands n (neither n out)
     neither : (n : ℕ) → is_journal n ≡ false → (is_journal n || old.loose n) ≡ false
     neither n out = rw out (firm n)
 
-pub before_agree : (old : View) (y : Image) → IsFirm old → IsGood old.reads → IsBefore old y → DoAgree old.reads y
+pub before_agree : (old : View) (y : Image) → IsFirm old → IsGood old.reads → IsBefore old y → ReadAlike old.reads y
 before_agree old y firm good before = old_agree old.reads y good (before_outside old y firm before) before.valid
 
 pub before_stands : (old : View) (y : Image) → IsFirm old → IsGood old.reads → IsBefore old y → Stands y (world_of old.reads)
@@ -109,7 +109,7 @@ not_unused g x some unused n low = elim (cases_Bool (some n)) [
   | inr e ↦ e
 ]
 
-pub unused_agree : (image y : Image) (some : ℕ → Bool) → AreUnused (header_on (home image)).geometry (home image) some → ((n : ℕ) → some n ≡ false → y n ≡ image n) → DoAgree image y
+pub unused_agree : (image y : Image) (some : ℕ → Bool) → AreUnused (header_on (home image)).geometry (home image) some → ((n : ℕ) → some n ≡ false → y n ≡ image n) → ReadAlike image y
 unused_agree image y some unused same = record {
   gate = ap is_open (same format_gate (low format_gate (omega arith)));
   journal = valid_same image y (journal_alike image y journal);

@@ -9,7 +9,7 @@ use Rattle.image_layout.specs.Header.{IsReading}
 use Rattle.image_layout.specs.Image.{Image}
 use Rattle.intent_journal.specs.Home.{home}
 use Rattle.pointer_table.specs.Loading.{HasNoBad, IsLeastBad, IsLeastRepeated}
-use Rattle.image_world.specs.Alike.{DoAgree}
+use Rattle.image_world.specs.Alike.{ReadAlike}
 use Rattle.image_world.specs.Faults.{IsLeastPrimary, IsLeastEnd, IsLeastCount, IsTableFault, IsDamaged, IsFirstFault}
 use Rattle.image_world.specs.Tables.{header_on}
 use Rattle.image_world.proofs.AgreeLaws.{agree_back}
@@ -65,7 +65,7 @@ module _ (g : Geometry) (x y : Image) (lawful : IsLawful g) (same : SameAreas g 
   table_fault_alike (fault.Count b s f) p =
       (no_bad_alike g x y same p.0, none_repeated_alike g x y same p.1, primaries_alike g x y lawful same p.2, ends_alike g x y same p.0 p.3, count_alike b s f p.4)
 
-damage_alike : (image y : Image) → DoAgree image y → (why : ImageFault) → IsDamaged image why → IsDamaged y why
+damage_alike : (image y : Image) → ReadAlike image y → (why : ImageFault) → IsDamaged image why → IsDamaged y why
 damage_alike image y agree why p =
     let g = (header_on (home image)).geometry in
     record {
@@ -76,7 +76,7 @@ damage_alike image y agree why p =
           (table_fault_alike g (home image) (home y) p.header.2 agree.homes.areas (λ n from to. sym (agree.homes.areas n from to)) why p.tables);
     }
 
-pub fault_alike : (image y : Image) → DoAgree image y → (why : ImageFault) → IsFirstFault image why → IsFirstFault y why
+pub fault_alike : (image y : Image) → ReadAlike image y → (why : ImageFault) → IsFirstFault image why → IsFirstFault y why
 fault_alike image y agree fault.NotFormatted p = agree.gate ∙ p
 fault_alike image y agree fault.Descriptor p = (agree.gate ∙ p.0, agree.journal ∙ p.1)
 fault_alike image y agree (fault.Header why) p = (agree.gate ∙ p.0, agree.journal ∙ p.1, subst (λ bytes. IsReading bytes (Err why)) (sym agree.homes.header) p.2)
@@ -86,5 +86,5 @@ fault_alike image y agree (fault.Primary b) p = damage_alike image y agree (faul
 fault_alike image y agree (fault.EndNotLive a b) p = damage_alike image y agree (fault.EndNotLive a b) p
 fault_alike image y agree (fault.Count b s f) p = damage_alike image y agree (fault.Count b s f) p
 
-pub fault_both : (image y : Image) → DoAgree image y → (why : ImageFault) → IsFirstFault image why ↔ IsFirstFault y why
+pub fault_both : (image y : Image) → ReadAlike image y → (why : ImageFault) → IsFirstFault image why ↔ IsFirstFault y why
 fault_both image y agree why = (fault_alike image y agree why, fault_alike y image (agree_back image y agree) why)

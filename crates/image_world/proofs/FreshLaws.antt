@@ -23,7 +23,7 @@ use Rattle.intent_journal.specs.Home.{home}
 use Rattle.intent_journal.specs.Records.{open_records}
 use Rattle.intent_journal.proofs.Opened.{opened_none, home_of_empty}
 use Rattle.block_alloc.specs.LiveMap.{is_live as is_marked_in}
-use Rattle.image_world.specs.Faults.{IsFormatted, HasJournal}
+use Rattle.image_world.specs.Faults.{IsFormatGateOpen, HasJournal}
 use Rattle.image_layout.specs.Areas.{slots_start}
 use Rattle.pointer_table.specs.Fresh.{fresh_slots}
 use Rattle.pointer_table.proofs.FreshLaws.{no_pairs, empty_sector}
@@ -144,7 +144,7 @@ primary_if g bytes b live = elim (cases_lt b g.primaries) [
 ]
 
 -- ---- images
-pub fresh_stands : (g : Geometry) (caps : List CapPair) (x : Image) → IsLawful g → length caps ≡ g.primaries → IsWrittenFresh g caps x → IsFormatted x → Stands x (fresh_world g caps)
+pub fresh_stands : (g : Geometry) (caps : List CapPair) (x : Image) → IsLawful g → length caps ≡ g.primaries → IsWrittenFresh g caps x → IsFormatGateOpen x → Stands x (fresh_world g caps)
 unfolding world_of left_of
 fresh_stands g caps x lawful each fresh formatted = record {
   good = tables_good t x formatted none.1 sound had;

@@ -19,3 +19,8 @@ pub mod FreshLaws
 pub mod GrowLaws
 pub mod Examples
 pub mod DamageExamples
+pub mod EndLaws
+pub mod CountLaws
+pub mod TestLaws
+pub mod LoadLaws
+pub mod CapsLaws

@@ -24,7 +24,7 @@ use Rattle.ref_counts.proofs.StoredLaws.{one_table as one_counts, same_sectors a
 use Rattle.block_alloc.proofs.StoredLaws.{one_map, same_sectors as same_bits}
 use Rattle.cap_store.specs.Stored.{stored_record}
 use Rattle.cap_store.proofs.StoredLaws.{one_store, same_sectors as same_records}
-use Rattle.image_world.specs.Faults.{IsFormatted, HasJournal, HasHeader, AreRight, IsGood}
+use Rattle.image_world.specs.Faults.{IsFormatGateOpen, HasJournal, HasHeader, AreRight, IsGood}
 use Rattle.image_world.specs.Sound.{HasTables, AreSound}
 use Rattle.image_world.specs.Tables.{Tables, pairs_of, header_on, slots_on, tables_as, tables_of}
 use Rattle.image_world.proofs.AreaLaws.{SameAreas, live_stored, slots_stored, counts_stored, records_stored}
@@ -153,7 +153,7 @@ right_sound x header right = record {
     at k h = (slots_stored x g).each k h
 
 -- ---- images
-pub tables_good : (t : Tables) (image : Image) → IsFormatted image → HasJournal image → AreSound t → HasTables t (home image) → IsGood image
+pub tables_good : (t : Tables) (image : Image) → IsFormatGateOpen image → HasJournal image → AreSound t → HasTables t (home image) → IsGood image
 tables_good t image formatted journal sound had = record {
   formatted = formatted;
   journal = journal;

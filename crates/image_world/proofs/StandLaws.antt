@@ -16,7 +16,7 @@ use Rattle.pointer_table.specs.Loading.{is_bad, is_bad_at, HasNoBad, IsRepeatedO
 use Rattle.pointer_table.proofs.LoadLaws.{good_slot}
 use Rattle.pointer_table.proofs.SlotLaws.{slot_from_holds}
 use Rattle.image_world.specs.Alike.{AreAlike}
-use Rattle.image_world.specs.Faults.{IsFormatted, HasJournal, HasHeader, HasNoRepeated, HasPrimaries, HasEnds, are_marked, found_count, AreRight, IsGood}
+use Rattle.image_world.specs.Faults.{IsFormatGateOpen, HasJournal, HasHeader, HasNoRepeated, HasPrimaries, HasEnds, are_marked, found_count, AreRight, IsGood}
 use Rattle.image_world.specs.Tables.{header_on, slots_on}
 use Rattle.image_world.specs.Raw.{left_of}
 use Rattle.image_world.specs.Stands.{world_of, Stands}
@@ -88,7 +88,7 @@ right_alike g x y lawful same right = record {
 pub header_alike : (x y : Image) → HasHeader x → AreAlike x y → HasHeader y
 header_alike x y right alike = subst (λ bytes. IsReading bytes (Ok (header_of bytes))) (sym alike.header) right
 
-pub good_alike : (image y : Image) → IsGood image → AreAlike (home image) (home y) → IsFormatted y → HasJournal y → IsGood y
+pub good_alike : (image y : Image) → IsGood image → AreAlike (home image) (home y) → IsFormatGateOpen y → HasJournal y → IsGood y
 good_alike image y good alike formatted journal = record {
   formatted = formatted;
   journal = journal;
@@ -104,7 +104,7 @@ unfolding world_of
 world_alike image y right alike =
     (λ i. left_of (alike_tables (home image) (home y) right alike i) (alike_raw (home image) (home y) right alike i))
 
-pub stands_alike : (image y : Image) (w : World) → AreAlike (home image) (home y) → IsFormatted y → HasJournal y → Stands image w → Stands y w
+pub stands_alike : (image y : Image) (w : World) → AreAlike (home image) (home y) → IsFormatGateOpen y → HasJournal y → Stands image w → Stands y w
 stands_alike image y w alike formatted journal stands = record {
   good = good_alike image y stands.good alike formatted journal;
   world = stands.world ∙ sym (world_alike image y stands.good.header alike);

@@ -18,7 +18,7 @@ use Rattle.block_alloc.specs.LiveMap.{is_live as is_marked_in}
 use Rattle.image_world.specs.Written.{IsWritten}
 use Rattle.intent_journal.specs.Home.{home, is_journal}
 use Rattle.image_layout.specs.Header.{IsReading, header_of}
-use Rattle.image_world.specs.Faults.{IsFormatted, HasJournal, HasHeader, AreRight}
+use Rattle.image_world.specs.Faults.{IsFormatGateOpen, HasJournal, HasHeader, AreRight}
 use Rattle.image_world.specs.Stands.{world_of, Stands}
 use Rattle.image_world.specs.Tables.{Tables, header_on, tables_of}
 use Rattle.image_world.specs.Raw.{world_with, left_of, data_on, raw_of}
@@ -107,7 +107,7 @@ written_raw b bytes x y right written long live =
 
 -- ---- images
 pub written_stands : (image y : Image) (w : World) (b : ℕ) (bytes : List ℕ) → Stands image w → is_live w b ≡ true → length bytes ≡ block_len (header_on (home image)).geometry
-    → IsWritten (header_on (home image)).geometry b bytes (home image) (home y) → IsFormatted y → HasJournal y → Stands y (with_contents w b bytes)
+    → IsWritten (header_on (home image)).geometry b bytes (home image) (home y) → IsFormatGateOpen y → HasJournal y → Stands y (with_contents w b bytes)
 unfolding world_of
 written_stands image y w b bytes stands live long written formatted journal =
     let x = home image in

@@ -16,8 +16,8 @@ use Rattle.image_world.specs.Tables.{header_on, slots_on}
 -- ---- the tests one by one
 
 -- 1: the format gate is open
-abbrev pub IsFormatted : Image → Type 0
-IsFormatted image = is_open (image format_gate) ≡ true
+abbrev pub IsFormatGateOpen : Image → Type 0
+IsFormatGateOpen image = is_open (image format_gate) ≡ true
 
 -- 2: each open record of the journal has a valid descriptor
 abbrev pub HasJournal : Image → Type 0
@@ -96,14 +96,14 @@ IsTableFault x g (fault.Count b stored found) =
 
 -- all eight pass
 pub record IsGood (image : Image) : Type 0 where
-  pub formatted : IsFormatted image
+  pub formatted : IsFormatGateOpen image
   pub journal : HasJournal image
   pub header : HasHeader (home image)
   pub tables : AreRight (home image) (header_on (home image)).geometry
 
 -- the first three pass, and of the others this is the first fault
 pub record IsDamaged (image : Image) (why : ImageFault) : Type 0 where
-  pub formatted : IsFormatted image
+  pub formatted : IsFormatGateOpen image
   pub journal : HasJournal image
   pub header : HasHeader (home image)
   pub tables : IsTableFault (home image) (header_on (home image)).geometry why
@@ -111,8 +111,8 @@ pub record IsDamaged (image : Image) (why : ImageFault) : Type 0 where
 -- the first test that an image fails, with what fails it
 abbrev pub IsFirstFault : Image → ImageFault → Type 0
 IsFirstFault image fault.NotFormatted = is_open (image format_gate) ≡ false
-IsFirstFault image fault.Descriptor = IsFormatted image × (has_valid_records image ≡ false)
-IsFirstFault image (fault.Header why) = IsFormatted image × HasJournal image × IsReading (home image header_sector) (Err why)
+IsFirstFault image fault.Descriptor = IsFormatGateOpen image × (has_valid_records image ≡ false)
+IsFirstFault image (fault.Header why) = IsFormatGateOpen image × HasJournal image × IsReading (home image header_sector) (Err why)
 IsFirstFault image (fault.Slot k source target) = IsDamaged image (fault.Slot k source target)
 IsFirstFault image (fault.Repeated a b) = IsDamaged image (fault.Repeated a b)
 IsFirstFault image (fault.Primary b) = IsDamaged image (fault.Primary b)

@@ -18,7 +18,7 @@ use Rattle.cap_store.specs.Fresh.{fresh_records}
 use Rattle.cap_store.specs.Stored.{IsStored as AreKept}
 use Rattle.intent_journal.specs.Records.{is_open_gate}
 use Rattle.image_world.specs.Tables.{Tables}
-use Rattle.image_world.specs.Faults.{IsFormatted}
+use Rattle.image_world.specs.Faults.{IsFormatGateOpen}
 use Rattle.image_world.specs.Sound.{HasTables}
 use Rattle.image_world.specs.Stands.{Stands}
 
@@ -62,7 +62,7 @@ FreshSectorsHaveTheTables = (g : Geometry) (caps : List CapPair) (x : Image) →
 -- With an open format gate the image stands for the fresh world.
 abbrev pub FormattedStandsForFresh : Type 0
 FormattedStandsForFresh =
-    (g : Geometry) (caps : List CapPair) (x : Image) → IsLawful g → length caps ≡ g.primaries → IsWrittenFresh g caps x → IsFormatted x
+    (g : Geometry) (caps : List CapPair) (x : Image) → IsLawful g → length caps ≡ g.primaries → IsWrittenFresh g caps x → IsFormatGateOpen x
     → Stands x (fresh_world g caps)
 
 -- Whatever the gate's sector holds, the image is not formatted or stands for the fresh world.

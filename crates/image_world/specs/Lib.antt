@@ -10,3 +10,8 @@ pub mod Turns
 pub mod Crashes
 pub mod Changes
 pub mod Fresh
+pub mod LoadFaults
+pub mod Loaded
+pub mod Loading
+pub mod Tests
+pub mod Testing

@@ -11,7 +11,7 @@ use Rattle.ref_counts.specs.Stored.{IsStored as AreCounts}
 use Rattle.block_alloc.specs.LiveMap.{is_live}
 use Rattle.block_alloc.specs.Stored.{IsStored as AreBits}
 use Rattle.cap_store.specs.Stored.{IsStored as AreKept}
-use Rattle.image_world.specs.Faults.{IsFormatted, HasJournal, HasHeader, AreRight, IsGood}
+use Rattle.image_world.specs.Faults.{IsFormatGateOpen, HasJournal, HasHeader, AreRight, IsGood}
 use Rattle.image_world.specs.Tables.{Tables, pairs_of, header_on, tables_of}
 
 -- The sectors have these tables: the header is right and gives their version and size, and each table is stored.
@@ -54,4 +54,4 @@ RightTablesAreSound = (x : Image) → HasHeader x → AreRight x (header_on x).g
 
 abbrev pub SoundTablesPass : Type 0
 SoundTablesPass =
-    (t : Tables) (image : Image) → IsFormatted image → HasJournal image → AreSound t → HasTables t (home image) → IsGood image
+    (t : Tables) (image : Image) → IsFormatGateOpen image → HasJournal image → AreSound t → HasTables t (home image) → IsGood image

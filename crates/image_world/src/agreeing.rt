@@ -1,9 +1,10 @@
 //! Which sectors matter.
 
-ghost use Rattle.image_world.specs.Alike.{AlikeSayTheSame, AgreeingStandForTheSame, AgreeingHaveTheSameFault, AgreeingOweTheSame, UnusedMayBeAnything};
+ghost use Rattle.image_world.specs.Alike.{AlikeSayTheSame, AgreeingStandForTheSame, AgreeingHaveTheSameFault};
+ghost use Rattle.image_world.specs.Alike.{AgreeingOweTheSame, UnusedMayBeAnything};
 
-/// What an image stands for or which fault it has, and what it owes, is said by the header, the two gates, the open records, the tables and the
-/// data of live blocks. The data of free blocks and all else may be anything.
+/// What an image stands for or which fault it has, and what it owes, is said by the header, the two gates, the open
+/// records, the tables and the data of live blocks. The data of free blocks and all else may be anything.
 pub fn only_what_matters_matters()
     ensures same { AlikeSayTheSame }
     ensures stands { AgreeingStandForTheSame }

@@ -1,6 +1,7 @@
 //! Batches that are put in place.
 
-ghost use Rattle.image_world.specs.Changes.{BytesAreChange, BytesArePassedOn, CapsAreChange, UpgradesAreChange, FlagsAreChange, BlocksAreChange};
+ghost use Rattle.image_world.specs.Changes.{BytesAreChange, BytesArePassedOn, CapsAreChange, UpgradesAreChange};
+ghost use Rattle.image_world.specs.Changes.{FlagsAreChange, BlocksAreChange};
 ghost use Rattle.image_world.specs.Turns.{BatchesTurnImages};
 ghost use Rattle.image_world.specs.Written.{WrittenBytesStand};
 

@@ -1,387 +1,271 @@
--- A directory is made, and entered in the one above.
-use Rattle.std.proofs.Common.{◌≡◌, ℕ, suc, ◌+◌, ◌-◌, ◌^◌, ◌<◌, ◌≤◌, Bool, true, false, not, cond, ◌&&◌, ◌||◌, ◌==◌, nat_lt, List, [], ◌∷◌, ◌++◌, length, refl, sym, ◌∙◌, ap, subst, arith, inl, inr, ◌⊎◌, Some, None}
-use Rattle.std.proofs.lemmas.Bool.{and_parts, and_from, or_cases, or_left, or_right, eq-eqb, eqb-true, ltb-true}
-use Rattle.std.proofs.lemmas.Bool.Decides.{nat_tests}
-use Rattle.std.proofs.lemmas.List.{length-set}
-use Rattle.std.specs.Prelude.{is_some, is_none, replicate}
-use Rattle.std.specs.List.{list_all}
-use Rattle.std.specs.Option.{option_and_then}
+-- A file in the making goes on, a request at a time; where it is given up, the world is as it was.
+use Rattle.std.proofs.Common.{◌≡◌, ℕ, ◌<◌, Bool, true, false, not, ◌||◌, ◌==◌, nat_lt, List, [], ◌∷◌, ◌++◌, length, refl, sym, ◌∙◌, ap, subst, inl, inr, ◌⊎◌}
+use Rattle.std.proofs.lemmas.Bool.{and_parts, and_from, or_cases, or_left, or_right, eq-eqb, eqb-true, false_from_ne_true}
+use Rattle.std.specs.Prelude.{is_some, is_none, map}
 use Rattle.tsd_model.specs.Geometry.{block_len}
 use Rattle.tsd_model.specs.World.{World, contents, is_live, is_free, has_number}
 use Rattle.tsd_model.specs.Pairs.{holds, is_pair}
 use Rattle.tsd_model.specs.Valid.{IsValid}
-use Rattle.tsd_model.specs.Step.{filled, zeros, with_contents, with_pointer}
-use Rattle.tsd_model.specs.declared.requests.Request.{Request}
-use Rattle.disk_laws.proofs.ChangeLaws.{contents-other, contents-same, either_pair, new_pair}
-use Rattle.fs_trees.specs.Names.{Name, Path, path_max, is_name}
-use Rattle.fs_trees.specs.Tree.{none, nothing, a_file, a_dir, entry, at, is_there, with_entry, with_child, with_at}
-use Rattle.fs_trees.specs.Step.{empty_tree}
-use Rattle.fs_trees.specs.Fields.{Entry}
-use Rattle.fs_trees.specs.Inode.{directory, entries_room, are_apart, block_named, inode_in, inode_bytes, with_listed}
-use Rattle.fs_trees.specs.InodeTree.{InodeNode, InodeEntries, tree_of, inode_at, entries_by, node_by, as_dir, node_at, inode_blocks, data_blocks, named_pairs, inode_tree}
-use Rattle.fs_trees.specs.Layouts.{named_at, IsTidy}
-use Rattle.fs_trees.specs.Outside.{is_under, OthersStay}
+use Rattle.tsd_model.specs.Step.{filled, with_new_blocks}
+use Rattle.tsd_model.proofs.PairLaws.{holds-with_pair}
+use Rattle.disk_laws.proofs.ChangeLaws.{contents-other, live-with_contents, free_may}
+use Rattle.disk_laws.proofs.StayLaws.{live-new_blocks}
+use Rattle.fs_trees.specs.Tree.{is_there}
+use Rattle.fs_trees.specs.Inode.{are_apart}
+use Rattle.fs_trees.specs.InodeTree.{inode_tree}
+use Rattle.fs_trees.specs.Layouts.{Named, named_at}
+use Rattle.fs_trees.specs.Outside.{is_under}
 use Rattle.fs_trees.specs.declared.ask.ShellKind.TheVariants as kind
 use Rattle.fs_laws.specs.Outside.{is_inside}
-use Rattle.fs_laws.specs.Stays.{Keeps}
+use Rattle.fs_laws.specs.Stays.{IsUnder}
 use Rattle.fs_laws.specs.Reading.{SameTree}
 use Rattle.fs_laws.proofs.TreeLaws.{read_from_named}
+use Rattle.fs_laws.proofs.InodeLaws.{inodes_under_root}
 use Rattle.fs_laws.proofs.OutsideLaws.{outside_twice}
-use Rattle.fs_laws.proofs.ListLaws.{number_left, number_right}
-use Rattle.fs_laws.proofs.InodeLaws.{node_blocks, node_same, HasRoot, found, under_is, inodes_under_root}
-use Rattle.fs_laws.proofs.DirectoryLaws.{read_named, entry_is_read, entry_is_put, node_away, with_last, block_at, nowhere, entry_blocks_in}
-use Rattle.fs_laws.proofs.CountLaws.{times, times_none, apart_times}
-use Rattle.fs_laws.proofs.EntryLaws.{FitsIn}
-use Rattle.fs_laws.proofs.EntryLaws as deciding
 use Rattle.fs_laws.proofs.UnderLaws.{each_under, root_under, target_under}
-use Rattle.fs_asks.specs.declared.client.Client.{Client}
-use Rattle.fs_asks.specs.Client.{write_by, alloc_by}
-use Rattle.fs_steps.specs.Steps.{Leads, written}
-use Rattle.fs_changing.proofs.RunLaws.{clash_free_live}
-use Rattle.fs_changing.proofs.TrimLaws.{named_live}
-use Rattle.inode_layout.proofs.BackLaws.{reads_back}
-use Rattle.inode_walks.proofs.WalkLaws.{dir_node}
-use Rattle.fs_changing.proofs.WriteLaws.{block_long, written_elsewhere}
-use Rattle.inode_changes.proofs.ExchangeLaws.{Exchange, block_is_at, dir_stays_with, still_named, named_before, inodes_are}
-use Rattle.inode_changes.proofs.TidyLaws.{named_of, named_under, tidy_by_pairs}
-use Rattle.inode_changes.proofs.ListingLaws.{ascending_with, named_with, small_with, length_with}
-use Rattle.inode_changes.proofs.SpotLaws.{Spot, live, within, order, small, small_block, reads_as}
-use Rattle.inode_changes.proofs.RemovalLaws.{there_with}
+use Rattle.fs_laws.proofs.ListLaws.{number_right}
+use Rattle.fs_client.specs.declared.client.Client.{Client}
+use Rattle.fs_client.specs.Client.{write_by, alloc_by, link_by}
+use Rattle.fs_client.specs.Steps.{Leads, written, pointed}
+use Rattle.fs_client.proofs.RunLaws.{clash_free_live}
+use Rattle.fs_client.proofs.NewLaws.{contents_off, lives_new, holds_new, version_new, records_new}
+use Rattle.fs_client.proofs.TrimLaws.{named_live, keeps_both}
+use Rattle.inode_changes.specs.Making.{Making}
 
 clash : (t : Bool) → t ≡ true → t ≡ false → ⊥
 clash t p q = cc
 
-pub has_times : (b : ℕ) (xs : List ℕ) → 1 ≤ times b xs → has_number xs b ≡ true
-has_times b xs h = elim (has_number xs b) as (λ t. has_number xs b ≡ t → t ≡ true) [
-  | true ↦ λ e. refl
-  | false ↦ λ e. absurd (never (times b xs) h (times_none b xs e))
-] refl
+neither : (s t : Bool) → (s || t) ≡ false → (s ≡ false) × (t ≡ false)
+neither true t e = absurd (cc)
+neither false t e = (refl, e)
+
+-- ---- pairs from one block
+
+pub fan_is : (i : ℕ) (cs : List ℕ) (a b : ℕ) → holds (map (λ c. (i, c)) cs) a b ≡ true → (i ≡ a) × (has_number cs b ≡ true)
+fan_is i [] a b h = absurd (cc)
+fan_is i (c ∷ cs) a b h = elim (or_cases (is_pair a b (i, c)) (holds (map (λ k. (i, k)) cs) a b) h) [
+  | inl here ↦ let parts = and_parts (i == a) (c == b) here in (eqb-true i a parts.0, or_left (c == b) _ parts.1)
+  | inr later ↦ let rest = fan_is i cs a b later in (rest.0, or_right (c == b) _ rest.1)
+]
+
+pub fan_has : (i : ℕ) (cs : List ℕ) (b : ℕ) → has_number cs b ≡ true → holds (map (λ c. (i, c)) cs) i b ≡ true
+fan_has i [] b h = absurd (cc)
+fan_has i (c ∷ cs) b h = elim (or_cases (c == b) (has_number cs b) h) [
+  | inl here ↦ or_left (is_pair i b (i, c)) _ (and_from (i == i) (c == b) (eq-eqb i i refl) here)
+  | inr later ↦ or_right (is_pair i b (i, c)) _ (fan_has i cs b later)
+]
+
+fan_append : (i : ℕ) (xs ys : List ℕ) (a b : ℕ) → holds (map (λ c. (i, c)) (xs ++ ys)) a b ≡ (holds (map (λ c. (i, c)) xs) a b || holds (map (λ c. (i, c)) ys) a b)
+fan_append i [] ys a b = refl
+fan_append i (x ∷ xs) ys a b = ap (λ t. is_pair a b (i, x) || t) (fan_append i xs ys a b) ∙ turned (is_pair a b (i, x)) (holds (map (λ c. (i, c)) xs) a b) (holds (map (λ c. (i, c)) ys) a b)
   where
-    never : (t : ℕ) → 1 ≤ t → t ≡ 0 → ⊥
-    never t h e = omega arith
+    turned : (s t u : Bool) → (s || (t || u)) ≡ ((s || t) || u)
+    turned true t u = refl
+    turned false t u = refl
 
--- inodes at a path are among those of the root
-pub below_blocks : (p : Path) (x : InodeNode) (d : ℕ) (xs : InodeEntries) → at x p ≡ a_dir d xs → (b : ℕ) → has_number (d ∷ inode_blocks xs) b ≡ true → has_number (node_blocks x) b ≡ true
-below_blocks [] x d xs e b h = ap (λ y. has_number (node_blocks y) b) e ∙ h
-below_blocks (n ∷ ns) nothing d xs e b h = absurd (nowhere ns d xs e)
-below_blocks (n ∷ ns) (a_file f) d xs e b h = absurd (nowhere ns d xs e)
-below_blocks (n ∷ ns) (a_dir c es) d xs e b h = or_right (c == b) _ (entry_blocks_in n es b (below_blocks ns (entry n es) d xs e b h))
+-- ---- in the making
 
--- the directory is under the root
-pub dir_under_first : (c : Client) (w : World) (root : ℕ) (p : Path) (d : ℕ) (es : List Entry) → Spot w root p d es → IsValid w → root < w.geometry.primaries → is_under w root d ≡ true
-dir_under_first c w root p d es s valid primary = named_under w root valid primary (ap (λ x. is_there (tree_of w x)) (under_is w root s.old s.has)) d
-    (ap (λ m. has_number m.blocks d) (named_of w root s.old s.has) ∙ number_left (root ∷ inode_blocks s.old) (data_blocks s.old) d (block_at p (a_dir root s.old) d s.xs s.stands))
+module _ (root : ℕ) (first : World) (valid : IsValid first) (primary : root < first.geometry.primaries) (there : is_there (inode_tree first root) ≡ true) (d : ℕ) (dir : is_under first root d ≡ true) where
+  abbrev named : Named
+  named = named_at kind.Inode first root
 
-module _ (c : Client) (w : World) (root : ℕ) (p : Path) (d : ℕ) (es : List Entry) (s : Spot w root p d es) (valid : IsValid w) (primary : root < w.geometry.primaries)
-    (n : Name) (named : is_name n ≡ true) (k : block_named n es ≡ None) (room : length es < entries_room (block_len w.geometry)) (less : ℕ) (deep : s.more ≡ suc less) (i : ℕ) (free : is_free w i ≡ true) where
-  abbrev entered : Entry
-  entered = record { name = n; block = i }
+  first_under : IsUnder first root named
+  first_under = inodes_under_root first root primary there
 
-  -- with the new block, with an inode in it, and entered
-  abbrev pub w1 : World
-  w1 = with_pointer (with_contents w i (zeros w)) d i
+  -- ---- the first block
 
-  abbrev pub w2 : World
-  w2 = written w1 i (inode_bytes (directory []))
+  module _ (c : Client) (i : ℕ) (free : is_free first i ≡ true) (leads : Leads first (alloc_by c d 1) (with_new_blocks first d (i ∷ []))) where
+    begun_free : (b : ℕ) → has_number (i ∷ []) b ≡ true → is_free first b ≡ true
+    begun_free b h = elim (or_cases (i == b) false h) [
+      | inl e ↦ subst (λ x. is_free first x ≡ true) (eqb-true i b e) free
+      | inr never ↦ absurd (cc)
+    ]
 
-  abbrev bytes : List ℕ
-  bytes = inode_bytes (directory (with_listed (record { name = n; block = i }) es))
+    pub making_begins : Making root first d i [] [] (with_new_blocks first d (i ∷ []))
+    making_begins = record {
+      valid = leads.valid;
+      geometry = refl;
+      version = refl;
+      records = refl;
+      others = leads.others root primary (and_from (is_under first root d) true dir refl);
+      keeps = leads.keeps root named first_under refl;
+      free = begun_free;
+      once = refl;
+      lives = lives_new d (i ∷ []) first (λ b h. (free_may first valid.raw b (begun_free b h)).0);
+      old = λ b h. absurd (cc);
+      bytes = λ b h. contents_off d (i ∷ []) first b h;
+      pairs = λ a b. holds_new d (i ∷ []) first a b;
+    }
 
-  abbrev pub w3 : World
-  w3 = written w2 d (inode_bytes (directory (with_listed (record { name = n; block = i }) es)))
+  -- ---- going on
 
-  abbrev q1 : Request
-  q1 = alloc_by c d 1
+  module _ (i : ℕ) (shared fresh : List ℕ) (w : World) (m : Making root first d i shared fresh w) where
+    same_named : SameTree kind.Inode root first w
+    same_named = read_from_named kind.Inode first w root there m.keeps
 
-  abbrev q2 : Request
-  q2 = write_by c i (inode_bytes (directory []))
+    pub tree_same : inode_tree w root ≡ inode_tree first root
+    tree_same = same_named.tree
 
-  abbrev q3 : Request
-  q3 = write_by c d (inode_bytes (directory (with_listed (record { name = n; block = i }) es)))
+    pub there_now : is_there (inode_tree w root) ≡ true
+    there_now = ap is_there same_named.tree ∙ there
 
-  there : is_there (inode_tree w root) ≡ true
-  there = ap (λ x. is_there (tree_of w x)) (under_is w root s.old s.has)
+    pub named_same : named_at kind.Inode w root ≡ named_at kind.Inode first root
+    named_same = same_named.named
 
-  named_w : named_at kind.Inode w root ≡ record { blocks = root ∷ (inode_blocks s.old ++ data_blocks s.old); pairs = named_pairs root s.old }
-  named_w = named_of w root s.old s.has
+    pub primary_now : root < w.geometry.primaries
+    primary_now = subst (λ g. root < g.primaries) (sym m.geometry) primary
 
-  dir_live : is_live w d ≡ true
-  dir_live = live w root p d es s valid
+    still_held : (a b : ℕ) → holds first.pairs a b ≡ true → holds w.pairs a b ≡ true
+    still_held a b h = m.pairs a b ∙ or_left (holds first.pairs a b) _ h
 
-  -- the new block isn't named
-  unnamed : (b : ℕ) → has_number (named_at kind.Inode w root).blocks b ≡ true → (b == i) ≡ false
-  unnamed b h = elim (b == i) as (λ t. (b == i) ≡ t → t ≡ false) [
-    | true ↦ λ e. absurd (clash_free_live w i free (subst (λ x. is_live w x ≡ true) (eqb-true b i e) (named_live w root (named_at kind.Inode w root) valid (inodes_under_root w root primary there) b h)))
-    | false ↦ λ e. refl
-  ] refl
+    pub under_still : (b : ℕ) → is_under first root b ≡ true → is_under w root b ≡ true
+    under_still = each_under first root (λ b. is_under w root b ≡ true) (root_under w m.valid.raw root primary_now) (λ a b h k. target_under w m.valid.raw root primary_now a b (still_held a b h) k)
 
-  not_named : has_number (named_at kind.Inode w root).blocks i ≡ false
-  not_named = elim (has_number (named_at kind.Inode w root).blocks i) as (λ t. has_number (named_at kind.Inode w root).blocks i ≡ t → t ≡ false) [
-    | true ↦ λ e. absurd (clash (i == i) (eq-eqb i i refl) (unnamed i e))
-    | false ↦ λ e. refl
-  ] refl
+    pub dir_now : is_under w root d ≡ true
+    dir_now = under_still d dir
 
-  dir_named : has_number (named_at kind.Inode w root).blocks d ≡ true
-  dir_named = ap (λ m. has_number m.blocks d) named_w ∙ number_left (root ∷ inode_blocks s.old) (data_blocks s.old) d (block_at p (a_dir root s.old) d s.xs s.stands)
+    pub inode_held : holds w.pairs d i ≡ true
+    inode_held = m.pairs d i ∙ or_right (holds first.pairs d i) _ (or_left (is_pair d i (d, i)) _ (and_from (d == d) (i == i) (eq-eqb d d refl) (eq-eqb i i refl)))
 
-  within_i : i < length w.blocks
-  within_i = ltb-true i (length w.blocks) (and_parts (nat_lt i (length w.blocks)) (is_none (contents w i)) free).0
+    pub inode_under : is_under w root i ≡ true
+    inode_under = target_under w m.valid.raw root primary_now d i inode_held dir_now
 
-  -- ---- the new block
+    pub part_held : (b : ℕ) → has_number (shared ++ fresh) b ≡ true → holds w.pairs i b ≡ true
+    part_held b h = m.pairs i b ∙ or_right (holds first.pairs i b) _ (or_right (is_pair i b (d, i)) _ (fan_has i (shared ++ fresh) b h))
 
-  module _ (one : Leads w q1 w1) where
-    keeps_one : Keeps w w1 (named_at kind.Inode w root)
-    keeps_one = one.keeps root (named_at kind.Inode w root) (inodes_under_root w root primary there) refl
+    pub part_under : (b : ℕ) → has_number fresh b ≡ true → is_under w root b ≡ true
+    part_under b h = target_under w m.valid.raw root primary_now i b (part_held b (number_right shared fresh b h)) inode_under
 
-    pub same_one : SameTree kind.Inode root w w1
-    same_one = read_from_named kind.Inode w w1 root there keeps_one
+    -- a new block isn't named
+    pub new_unnamed : (b : ℕ) → has_number (i ∷ fresh) b ≡ true → has_number named.blocks b ≡ false
+    new_unnamed b h = false_from_ne_true (has_number named.blocks b) (λ k. clash_free_live first b (m.free b h) (named_live first root named valid first_under b k))
 
-    inside_one : is_inside w root (alloc_by c d 1) ≡ true
-    inside_one = and_from (is_under w root d) true (named_under w root valid primary there d dir_named) refl
+    now_under : IsUnder w root named
+    now_under = subst (IsUnder w root) named_same (inodes_under_root w root primary_now there_now)
 
-    pub others_one : OthersStay root w w1
-    others_one = one.others root primary inside_one
+    -- what was live and isn't new
+    pub was_live : (b : ℕ) → has_number (i ∷ fresh) b ≡ false → is_live w b ≡ true → is_live first b ≡ true
+    was_live b off h = ap is_some (sym (m.bytes b off)) ∙ h
 
-    there_one : is_there (inode_tree w1 root) ≡ true
-    there_one = ap is_there same_one.tree ∙ there
+    -- ---- a new block is written
 
-    dir_under_one : is_under w1 root d ≡ true
-    dir_under_one = named_under w1 root one.valid primary there_one d (ap (λ m. has_number m.blocks d) same_one.named ∙ dir_named)
+    module _ (c : Client) (b : ℕ) (x : List ℕ) (new : has_number (i ∷ fresh) b ≡ true) (leads : Leads w (write_by c b x) (written w b x)) where
+      pub new_under : is_under w root b ≡ true
+      new_under = elim (or_cases (i == b) (has_number fresh b) new) [
+        | inl here ↦ subst (λ k. is_under w root k ≡ true) (eqb-true i b here) inode_under
+        | inr part ↦ part_under b part
+      ]
 
-    new_held : holds w1.pairs d i ≡ true
-    new_held = new_pair (with_contents w i (zeros w)) d i
+      pub write_inside : is_inside w root (write_by c b x) ≡ true
+      write_inside = and_from (is_under w root b) true new_under refl
 
-    new_under_one : is_under w1 root i ≡ true
-    new_under_one = target_under w1 one.valid.raw root primary d i new_held dir_under_one
-
-    -- ---- its inode
-
-    module _ (two : Leads w1 q2 w2) where
-      spared_two : not (has_number (named_at kind.Inode w1 root).blocks i) ≡ true
-      spared_two = ap (λ m. not (has_number m.blocks i)) same_one.named ∙ ap not not_named
-
-      keeps_two : Keeps w1 w2 (named_at kind.Inode w1 root)
-      keeps_two = two.keeps root (named_at kind.Inode w1 root) (inodes_under_root w1 root primary there_one) spared_two
-
-      same_two : SameTree kind.Inode root w1 w2
-      same_two = read_from_named kind.Inode w1 w2 root there_one keeps_two
-
-      pub tree_two : inode_tree w2 root ≡ inode_tree w root
-      tree_two = same_two.tree ∙ same_one.tree
-
-      pub others_two : OthersStay root w w2
-      others_two = outside_twice root w w1 w2 others_one (two.others root primary (and_from (is_under w1 root i) true new_under_one refl))
-
-      there_two : is_there (inode_tree w2 root) ≡ true
-      there_two = ap is_there tree_two ∙ there
-
-      -- what is named has the same bytes
-      same_bytes : (b : ℕ) → has_number (named_at kind.Inode w root).blocks b ≡ true → contents w2 b ≡ contents w b
-      same_bytes b h = keeps_two.bytes b (ap (λ m. has_number m.blocks b) same_one.named ∙ h) ∙ keeps_one.bytes b h
-
-      inode_named : (b : ℕ) → has_number (root ∷ inode_blocks s.old) b ≡ true → has_number (named_at kind.Inode w root).blocks b ≡ true
-      inode_named b h = ap (λ m. has_number m.blocks b) named_w ∙ number_left (root ∷ inode_blocks s.old) (data_blocks s.old) b h
-
-      root_two : node_at w2 (suc path_max) root ≡ a_dir root s.old
-      root_two = node_same w w2 refl (suc path_max) root (ap is_there s.has.node) (λ b h. same_bytes b (inode_named b (ap (λ x. has_number (node_blocks x) b) (sym s.has.node) ∙ h))) ∙ s.has.node
-
-      has_two : HasRoot w2 root s.old
-      has_two =
-          let f = found w2 root there_two in
-          let both : a_dir root f.0 ≡ a_dir root s.old = sym f.1.node ∙ root_two in
-          let same : f.0 ≡ s.old = cc in
-          subst (HasRoot w2 root) same f.1
-
-      says_two : inode_at w2 d ≡ Some (directory es)
-      says_two = ap (option_and_then (inode_in (block_len w.geometry))) (same_bytes d dir_named) ∙ s.says
-
-      dir_w : node_at w (suc s.more) d ≡ a_dir d s.xs
-      dir_w = ap (node_by (λ b. node_at w s.more b) d) s.says ∙ ap (as_dir d) s.listed
-
-      dir_two : node_at w2 (suc s.more) d ≡ a_dir d s.xs
-      dir_two = node_same w w2 refl (suc s.more) d (ap is_there dir_w)
-          (λ b h. same_bytes b (inode_named b (below_blocks p (a_dir root s.old) d s.xs s.stands b (ap (λ x. has_number (node_blocks x) b) (sym dir_w) ∙ h)))) ∙ dir_w
-
-      listed_two : entries_by (λ b. node_at w2 s.more b) es ≡ Some s.xs
-      listed_two =
-          let f = dir_node w2 s.more d (ap is_there dir_two) es says_two in
-          let both : a_dir d f.0 ≡ a_dir d s.xs = sym f.2 ∙ dir_two in
-          let same : f.0 ≡ s.xs = cc in
-          f.1 ∙ ap (λ x. Some x) same
-
-      spot_two : Spot w2 root p d es
-      spot_two = record { more = s.more; xs = s.xs; old = s.old; has = has_two; levels = s.levels; stands = s.stands; listed = listed_two; says = says_two; room = s.room }
-
-      -- the new inode
-      made : inode_at w2 i ≡ Some (directory [])
-      made =
-          let len = block_len w.geometry in
-          let high = block_long w valid in
-          ap (option_and_then (inode_in len)) (contents-same w1 i (filled len (inode_bytes (directory []))) (subst (λ m. i < m) (sym (length-set w.blocks i (Some (zeros w)))) within_i))
-          ∙ reads_back len (directory []) (replicate (len - length (inode_bytes (directory []))) 0) (omega arith, omega arith, refl) refl
-
-      abbrev y : InodeNode
-      y = a_dir i none
-
-      made_node : node_at w2 s.more i ≡ a_dir i none
-      made_node = ap (λ m. node_at w2 m i) deep ∙ ap (node_by (λ b. node_at w2 less b) i) made
-
-      off_inode : (b : ℕ) → has_number (root ∷ inode_blocks s.old) b ≡ true → (i == b) ≡ false
-      off_inode b h = let e = unnamed b (inode_named b h) in grind (arith, nat_tests)
-
-      off_data : (b : ℕ) → has_number (data_blocks s.old) b ≡ true → has_number (i ∷ []) b ≡ false
-      off_data b h =
-          let e = unnamed b (ap (λ m. has_number m.blocks b) named_w ∙ number_right (root ∷ inode_blocks s.old) (data_blocks s.old) b h) in
-          let f : (i == b) ≡ false = grind (arith, nat_tests) in
-          ap (λ t. t || false) f
-
-      once : are_apart (root ∷ inode_blocks s.old) ≡ true
-      once = (and_parts (list_all (λ e. holds w.pairs e.0 e.1) (named_pairs root s.old)) _ (and_parts (list_all (λ e. holds w.pairs e.0 e.1) (named_pairs root s.old) && are_apart (root ∷ inode_blocks s.old)) _ s.has.right).0).1
-
-      fresh : (b : ℕ) → times b (root ∷ inode_blocks s.old) + times b (i ∷ []) ≤ 1
-      fresh b = elim (has_number (root ∷ inode_blocks s.old) b) as (λ t. has_number (root ∷ inode_blocks s.old) b ≡ t → times b (root ∷ inode_blocks s.old) + times b (i ∷ []) ≤ 1) [
-        | true ↦ λ e.
-            let few = apart_times (root ∷ inode_blocks s.old) once b in
-            let off : ◌≡◌ {A = ℕ} (cond (i == b) 1 0) 0 = ap (λ t. cond {A = ℕ} t 1 0) (off_inode b e) in
-            omega (arith, few, off)
-        | false ↦ λ e.
-            let absent = times_none b (root ∷ inode_blocks s.old) e in
-            let most = one_or_none (i == b) in
-            omega (arith, absent, most)
-      ] refl
-        where
-          one_or_none : (t : Bool) → cond {A = ℕ} t 1 0 ≤ 1
-          one_or_none true = omega arith
-          one_or_none false = omega arith
-
-      fits : FitsIn w2 root d s.old (a_dir i none)
-      fits = record {
-        inodes = fresh;
-        held = λ a b h. elim (or_cases (is_pair a b (d, i)) false h) [
-          | inl same ↦ let both = and_parts (d == a) (i == b) same in subst (λ x. holds w2.pairs x b ≡ true) (eqb-true d a both.0) (subst (λ z. holds w2.pairs d z ≡ true) (eqb-true i b both.1) new_held)
-          | inr never ↦ absurd (cc)
-        ];
-        own = λ b h. absurd (cc);
-        others = off_data;
+      pub making_written : Making root first d i shared fresh (written w b x)
+      making_written = record {
+        valid = leads.valid;
+        geometry = leads.geometry ∙ m.geometry;
+        version = m.version;
+        records = m.records;
+        others = outside_twice root first w (written w b x) m.others (leads.others root primary_now write_inside);
+        keeps = keeps_both first w (written w b x) named m.keeps (leads.keeps root named now_under (ap not (new_unnamed b new)));
+        free = m.free;
+        once = m.once;
+        lives = λ k h. live-with_contents w b k (filled (block_len w.geometry) x) (m.lives k h);
+        old = m.old;
+        bytes = λ k off. contents-other w b k (filled (block_len w.geometry) x) (λ e. clash (has_number (i ∷ fresh) b) new (ap (has_number (i ∷ fresh)) (sym e) ∙ off)) ∙ m.bytes k off;
+        pairs = m.pairs;
       }
 
-      -- ---- entered
+  -- ---- the blocks of bytes
 
-      valid_two : IsValid w2
-      valid_two = two.valid
+  module _ (c : Client) (i : ℕ) (shared : List ℕ) (w : World) (m : Making root first d i shared [] w) (count : ℕ) (fresh : List ℕ) (vacant : (b : ℕ) → has_number fresh b ≡ true → is_free w b ≡ true) (once : are_apart fresh ≡ true)
+      (leads : Leads w (alloc_by c i count) (with_new_blocks w i fresh)) where
+    off_inode : has_number fresh i ≡ false
+    off_inode = false_from_ne_true (has_number fresh i) (λ h. clash_free_live w i (vacant i h) (m.lives i (or_left (i == i) false (eq-eqb i i refl))))
 
-      reads : inode_in (block_len w.geometry) (filled (block_len w.geometry) bytes) ≡ Some (directory (with_listed (record { name = n; block = i }) es))
-      reads =
-          let most = length_with entered es in
-          let o = order w2 root p d es spot_two valid_two in
-          let below : nat_lt i (2 ^ 32) ≡ true = small_block w2 root p d es spot_two valid_two i (ap is_some (contents-same w1 i (filled (block_len w.geometry) (inode_bytes (directory []))) (subst (λ m. i < m) (sym (length-set w.blocks i (Some (zeros w)))) within_i))) in
-          reads_as w2 root p d es spot_two valid_two (with_listed (record { name = n; block = i }) es) (omega (arith, most, room)) (named_with entered es named o.0) (ascending_with entered es o.1)
-          (small_with entered es below (small w2 root p d es spot_two valid_two))
+    inside : (b : ℕ) → has_number fresh b ≡ true → b < length w.blocks
+    inside b h = (free_may w m.valid.raw b (vacant b h)).0
 
-      pub tree_three : inode_tree w3 root ≡ with_at (p ++ n ∷ []) empty_tree (inode_tree w root)
-      tree_three = deciding.entry_is_set w2 root d p s.more s.xs s.old has_two s.levels s.stands es listed_two (within w2 root p d es spot_two valid_two) (filled (block_len w.geometry) bytes)
-          (record { name = n; block = i }) (a_dir i none) made_node refl fits reads
-          ∙ ap (with_at (p ++ n ∷ []) empty_tree) tree_two
+    long : length w.blocks ≡ length first.blocks
+    long = m.valid.raw.sized.each_block ∙ (ap (λ g. g.blocks) m.geometry ∙ sym valid.raw.sized.each_block)
 
-      there_three : is_there (inode_tree w3 root) ≡ true
-      there_three = ap is_there tree_three ∙ there_with p n empty_tree (inode_tree w root) there
+    -- what is free now was free
+    was_free : (b : ℕ) → has_number fresh b ≡ true → is_free first b ≡ true
+    was_free b h =
+        let parts = and_parts (nat_lt b (length w.blocks)) (is_none (contents w b)) (vacant b h) in
+        let off : has_number (i ∷ []) b ≡ false = false_from_ne_true (has_number (i ∷ []) b) (λ k. clash_free_live w b (vacant b h) (m.lives b k)) in
+        and_from (nat_lt b (length first.blocks)) (is_none (contents first b)) (ap (nat_lt b) (sym long) ∙ parts.0) (ap is_none (sym (m.bytes b off)) ∙ parts.1)
 
-      abbrev new : InodeEntries
-      new = (dir_stays_with p n (a_dir i none) root s.old).0
+    pub making_taken : Making root first d i shared fresh (with_new_blocks w i fresh)
+    making_taken = record {
+      valid = leads.valid;
+      geometry = leads.geometry ∙ m.geometry;
+      version = version_new i fresh w ∙ m.version;
+      records = records_new i fresh w ∙ m.records;
+      others = outside_twice root first w (with_new_blocks w i fresh) m.others (leads.others root (primary_now i shared [] w m) (and_from (is_under w root i) true (inode_under i shared [] w m) refl));
+      keeps = keeps_both first w (with_new_blocks w i fresh) named m.keeps (leads.keeps root named (now_under i shared [] w m) refl);
+      free = λ b h. elim (or_cases (i == b) (has_number fresh b) h) [
+        | inl here ↦ m.free b (or_left (i == b) false here)
+        | inr part ↦ was_free b part
+      ];
+      once = and_from (not (has_number fresh i)) (are_apart fresh) (ap not off_inode) once;
+      lives = λ b h. elim (or_cases (i == b) (has_number fresh b) h) [
+        | inl here ↦ live-new_blocks i fresh w b (m.lives b (or_left (i == b) false here))
+        | inr part ↦ lives_new i fresh w inside b part
+      ];
+      old = m.old;
+      bytes = λ b h. let off = neither (i == b) (has_number fresh b) h in contents_off i fresh w b off.1 ∙ m.bytes b (ap (λ t. t || false) off.0);
+      pairs = λ a b.
+          holds_new i fresh w a b
+          ∙ (ap (λ t. t || holds (map (λ k. (i, k)) fresh) a b) (m.pairs a b ∙ ap (λ t. holds first.pairs a b || (is_pair a b (d, i) || t)) (fan_append i shared [] a b))
+          ∙ (turned (holds first.pairs a b) (is_pair a b (d, i)) (holds (map (λ k. (i, k)) shared) a b) (holds (map (λ k. (i, k)) fresh) a b)
+          ∙ ap (λ t. holds first.pairs a b || (is_pair a b (d, i) || t)) (sym (fan_append i shared fresh a b))));
+    }
+      where
+        turned : (s t u v : Bool) → ((s || (t || (u || false))) || v) ≡ (s || (t || (u || v)))
+        turned true t u v = refl
+        turned false true u v = refl
+        turned false false true v = refl
+        turned false false false v = refl
 
-      elsewhere : (b : ℕ) → (b == d) ≡ false → contents w3 b ≡ contents w2 b
-      elsewhere = written_elsewhere w2 d bytes
+  -- ---- a block is shared
 
-      put_back : inode_at w3 d ≡ Some (directory (with_listed (record { name = n; block = i }) es))
-      put_back = ap (option_and_then (inode_in (block_len w.geometry))) (contents-same w2 d (filled (block_len w.geometry) bytes) (within w2 root p d es spot_two valid_two)) ∙ reads
+  module _ (c : Client) (i : ℕ) (shared : List ℕ) (w : World) (m : Making root first d i shared [] w) (s : ℕ) (was : is_live first s ≡ true) (reached : is_under first root s ≡ true)
+      (leads : Leads w (link_by c i s) (pointed w i s)) where
+    pub making_shared : Making root first d i (shared ++ s ∷ []) [] (pointed w i s)
+    making_shared = record {
+      valid = leads.valid;
+      geometry = leads.geometry ∙ m.geometry;
+      version = m.version;
+      records = m.records;
+      others = outside_twice root first w (pointed w i s) m.others (leads.others root (primary_now i shared [] w m)
+          (and_from (is_under w root i) _ (inode_under i shared [] w m) (and_from (is_under w root s) true (under_still i shared [] w m s reached) refl)));
+      keeps = keeps_both first w (pointed w i s) named m.keeps (leads.keeps root named (now_under i shared [] w m) refl);
+      free = m.free;
+      once = m.once;
+      lives = m.lives;
+      old = λ b h. elim (in_last shared b h) [ inl before ↦ m.old b before | inr e ↦ subst (λ k. is_live first k ≡ true) e was ];
+      bytes = m.bytes;
+      pairs = λ a b.
+          holds-with_pair (i, s) w.pairs a b
+          ∙ (ap (λ t. is_pair a b (i, s) || t) (m.pairs a b ∙ ap (λ t. holds first.pairs a b || (is_pair a b (d, i) || t)) (fan_append i shared [] a b))
+          ∙ (turned (is_pair a b (i, s)) (holds first.pairs a b) (is_pair a b (d, i)) (holds (map (λ k. (i, k)) shared) a b)
+          ∙ ap (λ t. holds first.pairs a b || (is_pair a b (d, i) || t))
+          (ap (λ t. t || false) (sym (fan_append i shared (s ∷ []) a b)) ∙ sym (fan_append i (shared ++ s ∷ []) [] a b))));
+    }
+      where
+        in_last : (xs : List ℕ) (b : ℕ) → has_number (xs ++ s ∷ []) b ≡ true → (has_number xs b ≡ true) ⊎ (s ≡ b)
+        in_last [] b h = elim (or_cases (s == b) false h) [ inl e ↦ inr (eqb-true s b e) | inr never ↦ absurd (cc) ]
+        in_last (x ∷ xs) b h = elim (or_cases (x == b) _ h) [
+          | inl here ↦ inl (or_left (x == b) _ here)
+          | inr later ↦ elim (in_last xs b later) [ inl before ↦ inl (or_right (x == b) _ before) | inr e ↦ inr e ]
+        ]
 
-      made_three : node_at w3 s.more i ≡ a_dir i none
-      made_three =
-          let off : has_number (i ∷ []) d ≡ false = ap (λ t. t || false) (off_inode d (block_at p (a_dir root s.old) d s.xs s.stands)) in
-          node_away w2 w3 refl d elsewhere s.more i (ap is_there made_node) (ap (λ x. has_number (node_blocks x) d) made_node ∙ off) ∙ made_node
-
-      node_three : node_at w3 (suc path_max) root ≡ a_dir root new
-      node_three =
-          let at_path = deciding.at_path w2 root d p s.more s.xs s.old has_two s.levels s.stands in
-          let whole = deciding.whole w2 root d p s.more s.xs s.old has_two s.levels s.stands in
-          let changed = entry_is_put w2 w3 refl d elsewhere p s.more root es s.xs (record { name = n; block = i }) (a_dir i none) at_path
-          (deciding.once_whole w2 root d p s.more s.xs s.old has_two s.levels s.stands) listed_two (deciding.away w2 root d p s.more s.xs s.old has_two s.levels s.stands) put_back made_three refl in
-          ap (λ m. node_at w3 m root) (sym s.levels)
-          ∙ (changed ∙ (ap (with_at p (a_dir d (with_entry n (a_dir i none) s.xs))) whole
-          ∙ (sym (with_last p n (a_dir i none) (a_dir root s.old) ∙ ap (λ v. with_at p (with_child n (a_dir i none) v) (a_dir root s.old)) s.stands) ∙ (dir_stays_with p n (a_dir i none) root s.old).1)))
-
-      has_three : HasRoot w3 root new
-      has_three =
-          let f = found w3 root there_three in
-          let both : a_dir root f.0 ≡ a_dir root new = sym f.1.node ∙ node_three in
-          let same : f.0 ≡ new = cc in
-          subst (HasRoot w3 root) same f.1
-
-      exchange : Exchange root d p n s.xs s.old new (a_dir i none)
-      exchange = record {
-        stands = s.stands;
-        is = (dir_stays_with p n (a_dir i none) root s.old).1;
-        once = once;
-        off = (and_parts (list_all (λ e. holds w.pairs e.0 e.1) (named_pairs root s.old) && are_apart (root ∷ inode_blocks s.old)) _ s.has.right).1;
-        fresh = fresh;
-        own = λ b h. absurd (cc);
-        others = off_data;
-      }
-
-      dir_under_two : is_under w2 root d ≡ true
-      dir_under_two = each_under w1 root (λ b. is_under w2 root b ≡ true) (root_under w2 valid_two.raw root primary) (λ a b h m. target_under w2 valid_two.raw root primary a b h m) d dir_under_one
-
-      module _ (three : Leads w2 q3 w3) where
-        pub others_three : OthersStay root w w3
-        others_three = outside_twice root w w2 w3 others_two (three.others root primary (and_from (is_under w2 root d) true dir_under_two refl))
-
-        no_entry : (a b : ℕ) → block_is_at d a b (entry n s.xs) → ⊥
-        no_entry a b h = subst (block_is_at d a b) (entry_is_read (λ m. node_at w s.more m) n es s.xs s.listed ∙ ap (read_named (λ m. node_at w s.more m)) k) h
-
-        pub tidy_three : IsTidy kind.Inode w root → IsTidy kind.Inode w3 root
-        tidy_three tidy = tidy_by_pairs w3 root three.valid primary new (named_of w3 root new has_three) there_three (λ a b from h.
-            still_named root d p n s.xs s.old new (a_dir i none) exchange a b from (of_pair a b from (either_pair (with_contents w i (zeros w)) d i a b h)) (no_entry a b))
-          where
-            of_pair : (a b : ℕ) → has_number (root ∷ (inode_blocks new ++ data_blocks new)) a ≡ true → ((d ≡ a) × (i ≡ b)) ⊎ (holds w.pairs a b ≡ true)
-                → (holds (named_pairs root s.old) a b ≡ true) ⊎ (holds ((d, i) ∷ []) a b ≡ true)
-            of_pair a b from (inl same) = inr (or_left (is_pair a b (d, i)) _ (and_from (d == a) (i == b) (eq-eqb d a same.0) (eq-eqb i b same.1)))
-            of_pair a b from (inr was) = elim (named_before root d p n s.xs s.old new (a_dir i none) exchange a from) [
-              | inl before ↦ inl (ap (λ m. holds m.pairs a b) (sym named_w) ∙ (sym (tidy.pairs a b (ap (λ m. has_number m.blocks a) named_w ∙ before)) ∙ was))
-              | inr own ↦ elim own [
-                | inl inode ↦ absurd (clash_free_live w i free (subst (λ x. is_live w x ≡ true) (sym (the_block a inode)) (valid.raw.sources a b was)))
-                | inr never ↦ absurd (cc)
-              ]
-            ]
-              where
-                the_block : (a : ℕ) → has_number (i ∷ []) a ≡ true → i ≡ a
-                the_block a h = elim (or_cases (i == a) false h) [ inl e ↦ eqb-true i a e | inr never ↦ absurd (cc) ]
-
-        -- what was free and isn't now is the new block, which is named
-        pub taken_three : (b : ℕ) → is_free w b ≡ true → is_live w3 b ≡ true → has_number (named_at kind.Inode w3 root).blocks b ≡ true
-        taken_three b was lives = elim (i == b) as (λ t. (i == b) ≡ t → has_number (named_at kind.Inode w3 root).blocks b ≡ true) [
-          | true ↦ λ e. subst (λ x. has_number (named_at kind.Inode w3 root).blocks x ≡ true) (eqb-true i b e) new_named
-          | false ↦ λ e. absurd (clash_free_live w b was (still_live b e lives))
-        ] refl
-          where
-            entry_gone : entry n s.xs ≡ nothing
-            entry_gone = entry_is_read (λ m. node_at w s.more m) n es s.xs s.listed ∙ ap (read_named (λ m. node_at w s.more m)) k
-
-            new_named : has_number (named_at kind.Inode w3 root).blocks i ≡ true
-            new_named =
-                let are = inodes_are root d p n s.xs s.old new (a_dir i none) exchange i in
-                let gone : times i (node_blocks (entry n s.xs)) ≡ 0 = ap (λ v. times i (node_blocks v)) entry_gone in
-                let here : times i (i ∷ []) ≡ 1 = ap (λ t. cond {A = ℕ} t 1 0 + 0) (eq-eqb i i refl) in
-                ap (λ m. has_number m.blocks i) (named_of w3 root new has_three)
-                ∙ number_left (root ∷ inode_blocks new) (data_blocks new) i (or_right (root == i) _ (has_times i (inode_blocks new) (omega (arith, are, gone, here))))
-
-            still_live : (b : ℕ) → (i == b) ≡ false → is_live w3 b ≡ true → is_live w b ≡ true
-            still_live b e lives = elim (b == d) as (λ t. (b == d) ≡ t → is_live w b ≡ true) [
-              | true ↦ λ f. subst (λ x. is_live w x ≡ true) (sym (eqb-true b d f)) dir_live
-              | false ↦ λ f.
-                  ap is_some (sym (contents-other w i b (zeros w) (other b e)))
-                  ∙ (ap is_some (sym (contents-other w1 i b (filled (block_len w.geometry) (inode_bytes (directory []))) (other b e)))
-                  ∙ (ap is_some (sym (elsewhere b f)) ∙ lives))
-            ] refl
-              where
-                other : (b : ℕ) → (i == b) ≡ false → b ≡ i → ⊥
-                other b e f = clash (i == b) (eq-eqb i b (sym f)) e
+        turned : (x s t u : Bool) → (x || (s || (t || (u || false)))) ≡ (s || (t || ((u || (x || false)) || false)))
+        turned true true t u = refl
+        turned true false true u = refl
+        turned true false false true = refl
+        turned true false false false = refl
+        turned false true t u = refl
+        turned false false true u = refl
+        turned false false false true = refl
+        turned false false false false = refl

@@ -11,7 +11,7 @@ use Rattle.fs_trees.specs.Refusals.{directory_of}
 use Rattle.fs_laws.proofs.DirectoryLaws.{read_named}
 use Rattle.fs_laws.proofs.MapLaws.{tree-at}
 use Rattle.fs_port.specs.View.{View}
-use Rattle.fs_asks.specs.declared.client.Client.{Client}
+use Rattle.fs_client.specs.declared.client.Client.{Client}
 use Rattle.inode_layout.specs.Block.{inode_of}
 use Rattle.inode_layout.specs.Said.{is_directory, blocks_said, entries_said}
 use Rattle.inode_walks.specs.declared.finding.Place.{Place}

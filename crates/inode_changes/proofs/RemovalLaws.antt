@@ -25,9 +25,9 @@ use Rattle.fs_laws.proofs.DirectoryLaws.{read_named, entry_is_read, entry_is_dro
 use Rattle.fs_laws.proofs.CountLaws.{apart_times}
 use Rattle.fs_laws.proofs.EntryLaws as deciding
 use Rattle.fs_laws.proofs.UnderLaws.{each_under, root_under, target_under}
-use Rattle.fs_steps.specs.Steps.{written, dropped}
-use Rattle.fs_changing.proofs.DropLaws.{fewer_pairs, fewer_live, other_pair}
-use Rattle.fs_changing.proofs.WriteLaws.{written_elsewhere, written_here, written_free}
+use Rattle.fs_client.specs.Steps.{written, dropped}
+use Rattle.fs_client.proofs.DropLaws.{fewer_pairs, fewer_live, other_pair}
+use Rattle.fs_client.proofs.WriteLaws.{written_elsewhere, written_here, written_free}
 use Rattle.inode_walks.proofs.WalkLaws.{block_is, node_block, named_is_there, entry_pair}
 use Rattle.inode_changes.proofs.ExchangeLaws.{Exchange, block_is_at, dir_stays, spared, still_named, named_before}
 use Rattle.inode_changes.proofs.TidyLaws.{named_of, named_under, tidy_by_pairs}

@@ -28,26 +28,26 @@ use Rattle.fs_laws.proofs.InodeLaws.{inodes_under_root}
 use Rattle.fs_laws.proofs.OutsideLaws.{outside_twice}
 use Rattle.fs_port.specs.View.{View}
 use Rattle.fs_port.specs.Calls.{Stays}
-use Rattle.fs_port.specs.Files.{IsEitherTree, LeavesWorld}
-use Rattle.fs_asks.specs.declared.client.Client.{Client}
-use Rattle.fs_asks.specs.Client.{write_by, unlink_by}
-use Rattle.fs_asks.specs.May.{MayWrite, Looked}
-use Rattle.fs_asks.proofs.LookLaws.{may_again}
-use Rattle.fs_steps.specs.Steps.{Leads, Went, written, dropped}
+use Rattle.fs_port.specs.Files.{IsEitherTree, LeavesTidyWorld}
+use Rattle.fs_client.specs.declared.client.Client.{Client}
+use Rattle.fs_client.specs.Client.{write_by, unlink_by}
+use Rattle.fs_client.specs.May.{MayWrite, Looked}
+use Rattle.fs_client.proofs.LookLaws.{may_again}
+use Rattle.fs_client.specs.Steps.{Leads, Went, written, dropped}
 use Rattle.inode_layout.specs.Block.{inode_of}
 use Rattle.inode_layout.specs.Said.{is_directory, entries_said, blocks_said}
 use Rattle.inode_layout.proofs.ListedLaws.{entry_length}
 use Rattle.inode_walks.specs.declared.finding.Place.{Place}
 use Rattle.inode_walks.specs.Asking.{tree_of, mounted_by}
-use Rattle.inode_walks.specs.Finding.{IsPlace, no_place_found}
+use Rattle.inode_walks.specs.Finding.{IsPlace}
+use Rattle.fs_client.specs.Changing.{no_place_found, refused_on}
 use Rattle.inode_changes.proofs.SpotLaws.{Spot, spot_of, live, order}
 use Rattle.inode_changes.proofs.ListingLaws.{named_without, length_without}
 use Rattle.inode_changes.proofs.RemovalLaws as removal
-use Rattle.fs_changing.specs.Changing.{refused_on}
-use Rattle.fs_changing.proofs.RunLaws.{as_before}
-use Rattle.fs_changing.proofs.AskLaws.{after_is, rm_none}
-use Rattle.fs_changing.proofs.StepLaws.{may_still, held_live}
-use Rattle.fs_changing.proofs.WriteLaws.{block_long}
+use Rattle.fs_client.proofs.RunLaws.{as_before}
+use Rattle.fs_client.proofs.AskLaws.{after_is, rm_none}
+use Rattle.fs_client.proofs.MayLaws.{may_still, held_live}
+use Rattle.fs_client.proofs.WriteLaws.{block_long}
 use Rattle.inode_changes.proofs.PlaceLaws.{old_there, entries_at}
 
 -- ---- how long a directory's bytes are
@@ -219,7 +219,7 @@ module _ (c : Client) (first mid rd : View) (path : Path) (place : Place) (b : �
         pub tree_fin : tree_of c fin ≡ with_at path nothing (tree_of c first)
         tree_fin = ap (λ w. inode_tree w c.root) fin_is ∙ tree_last leads_last
 
-        pub left_fin : LeavesWorld (mounted_by c) first fin
+        pub left_fin : LeavesTidyWorld (mounted_by c) first fin
         left_fin = record {
           unspent = unspent;
           tidy = λ tidy. subst (λ w. IsTidy kind.Inode w c.root) (sym fin_is)

@@ -21,7 +21,7 @@ use Rattle.fs_trees.specs.Refusals.{directory_of}
 use Rattle.fs_laws.proofs.InodeLaws.{HasRoot, found, under_is}
 use Rattle.fs_laws.proofs.DirectoryLaws.{deeper, nowhere}
 use Rattle.fs_port.specs.View.{View}
-use Rattle.fs_asks.specs.declared.client.Client.{Client}
+use Rattle.fs_client.specs.declared.client.Client.{Client}
 use Rattle.inode_layout.specs.declared.inode.Inode as layout
 use Rattle.inode_layout.specs.declared.kind.InodeKind.{InodeKind}
 use Rattle.inode_layout.specs.declared.kind.InodeKind.TheVariants.{Directory, Regular}

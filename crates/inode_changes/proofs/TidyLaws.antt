@@ -11,7 +11,7 @@ use Rattle.fs_trees.specs.Outside.{is_under}
 use Rattle.fs_trees.specs.declared.ask.ShellKind.TheVariants as kind
 use Rattle.fs_laws.proofs.ListLaws.{number_left, number_right}
 use Rattle.fs_laws.proofs.InodeLaws.{HasRoot, under_is, inodes_under_root}
-use Rattle.fs_changing.proofs.TidyLaws.{named_reached, is_tidy}
+use Rattle.fs_client.proofs.TidyLaws.{named_reached, is_tidy}
 use Rattle.inode_changes.proofs.ExchangeLaws.{named_target}
 
 -- what is named, by the entries of the root

@@ -1,1 +1,11 @@
 pub mod Blocks
+pub mod Making
+pub mod Content
+pub mod Filling
+pub mod Beginning
+pub mod NewFile
+pub mod Entering
+pub mod Growing
+pub mod Directories
+pub mod Putting
+pub mod Copying

@@ -7,12 +7,11 @@ ghost use Rattle.fs_trees.specs.declared.ask.ShellAsk.TheVariants as ask;
 ghost use Rattle.fs_port.specs.Files.{Answers};
 ghost use Rattle.inode_layout.specs.Block.{inode_of};
 ghost use Rattle.inode_layout.specs.Said.{blocks_said, is_directory};
-ghost use Rattle.fs_changing.specs.Changing.{Changes};
+ghost use Rattle.fs_port.specs.Runs.{Changes};
 ghost use Rattle.inode_walks.specs.Asking.{MayAsk, mounted_by};
 
-use fs_asks::Client;
+use fs_client::{Client, drop_pointer, write_block};
 use fs_port::Blocks;
-use fs_steps::{drop_pointer, write_block};
 use fs_trees::{FsRefusal, Path};
 use inode_layout::{Inode, directory_without};
 use inode_walks::{find_place, read_inode};
@@ -24,14 +23,16 @@ fn has_entries(inode: &Inode) -> bool
     inode.is_directory() && inode.count() > 0
 }
 
-/// Takes away a file, or a directory without entries: the directory above is written without it, which decides, and then
-/// lets go of it.
+/// Takes away a file, or a directory without entries: the directory above is written without it, which decides, and
+/// then lets go of it.
 #[tactic(none)]
 pub fn remove<K: Blocks>(client: &Client, disk: &mut K, path: &Path) -> Result<(), FsRefusal>
     requires may { MayAsk K.told client.now (K.view disk.old) }
     requires named { IsTrue (is_path path.now) }
-    ensures answer { K.told → Answers (mounted_by client.now) (K.view disk.old) (K.view disk.new) (ask.Rm path.now) result (λ _ answer. answer ≡ done) }
-    ensures changes { Changes K.told (mounted_by client.now) (K.view disk.old) (K.view disk.new) (ask.Rm path.now) result }
+    ensures answer { K.told → Answers (mounted_by client.now) (K.view disk.old) (K.view disk.new) (ask.Rm path.now)
+        result (λ _ answer. answer ≡ done) }
+    ensures changes { Changes K.told (mounted_by client.now) (K.view disk.old) (K.view disk.new) (ask.Rm path.now)
+        result }
 {
     let place = match find_place(client, disk, path, FsRefusal::IsDir) {
         Ok(place) => place,

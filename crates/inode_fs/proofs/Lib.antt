@@ -1,1 +1,11 @@
-pub mod ViewLaws
+pub mod FitLaws
+pub mod ComeLaws
+pub mod WrongLaws
+pub mod SaysLaws
+pub mod RootLaws
+pub mod SeeLaws
+pub mod SeenLaws
+pub mod LoopLaws
+pub mod RightLaws
+pub mod TidyLaws
+pub mod MakeLaws

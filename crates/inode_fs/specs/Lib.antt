@@ -1,1 +1,4 @@
 pub mod View
+pub mod Marked
+pub mod Looking
+pub mod Tidying

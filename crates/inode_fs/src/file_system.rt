@@ -1,18 +1,17 @@
 //! The file system as one value.
 
-ghost use Rattle.std.specs.Prelude.{◌≡◌, true, false, IfOk, IfErr, IsTrue};
-ghost use Rattle.image_device.specs.Counts.{Rose};
+ghost use Rattle.std.specs.Prelude.{◌≡◌, IfOk, IsTrue};
 ghost use Rattle.fs_trees.specs.Names.{is_path};
 ghost use Rattle.fs_trees.specs.Answer.{done};
 ghost use Rattle.fs_trees.specs.declared.ask.ShellAsk.TheVariants as ask;
-ghost use Rattle.fs_trees.specs.declared.refusal.FsRefusal.TheVariants as no;
-ghost use Rattle.fs_port.specs.Calls.{Counts, IsValidNow, LeavesOnly, Stays};
-ghost use Rattle.fs_port.specs.Files.{Answers, HasTree, IsEitherTree, IsReady, LeavesWorld, OnAnswer};
+ghost use Rattle.fs_port.specs.Calls.{IsValidNow};
+ghost use Rattle.fs_port.specs.Files.{Answers, HasTree, IsClientReady};
+ghost use Rattle.fs_port.specs.Runs.{Changes};
 
-use fs_asks::Client;
+use crate::marks::Marks;
+use fs_client::Client;
 use fs_port::{Blocks, Files};
 use fs_trees::{FsRefusal, Name, Path};
-use inode_mount::Marks;
 use std::alloc::Global;
 use tsd_model::{Cap, Data, NoMemory};
 
@@ -27,7 +26,8 @@ pub struct InodeFs {
 impl InodeFs {
     ghost use Rattle.inode_fs.specs.View.{new_view, inode_view};
 
-    /// A file system under a root, for a session that shows this capability there; nothing is mounted. Its room is for any disk.
+    /// A file system under a root, for a session that shows this capability there; nothing is mounted. Its room is for
+    /// any disk.
     pub fn new(alloc: Global, root: u32, cap: &Cap, session: u32) -> Result<InodeFs, NoMemory>
         ensures { IfOk result (λ f. inode_view f ≡ new_view root cap.now session) }
     {
@@ -50,25 +50,19 @@ impl InodeFs {
         path: &Path,
         new: &Path,
     ) -> Result<(), FsRefusal>
-        requires ready { IsReady (inode_view self.old) (K.view disk.old) }
+        requires ready { IsClientReady (inode_view self.old) (K.view disk.old) }
         requires valid { K.told → IsValidNow (K.view disk.old) }
         requires named { IsTrue (is_path path.now) }
         requires new_named { IsTrue (is_path new.now) }
         requires tree { K.told → HasTree (inode_view self.old) (K.view disk.old) }
-        ensures answer { K.told → Answers (inode_view self.old) (K.view disk.old) (K.view disk.new) (ask.Copy path.now new.now) result (λ _ answer. answer ≡ done) }
-        ensures world { K.told → OnAnswer result (LeavesWorld (inode_view self.old) (K.view disk.old) (K.view disk.new)) }
-        ensures crash { K.told → LeavesOnly (K.view disk.old) (K.view disk.new) (IsEitherTree (inode_view self.old) (K.view disk.old) (ask.Copy path.now new.now)) }
-        ensures valid { K.told → OnAnswer result (IsValidNow (K.view disk.new)) }
-        ensures stays { OnAnswer result (Stays (K.view disk.old) (K.view disk.new)) }
-        ensures counts { Counts (K.view disk.old) (K.view disk.new) }
+        ensures answer { K.told → Answers (inode_view self.old) (K.view disk.old) (K.view disk.new)
+            (ask.Copy path.now new.now) result (λ _ answer. answer ≡ done) }
+        ensures changes { Changes K.told (inode_view self.old) (K.view disk.old) (K.view disk.new)
+            (ask.Copy path.now new.now) result }
         ensures same { inode_view self.new ≡ inode_view self.old }
-        ensures unspent { OnAnswer result ((K.view disk.new).spent ≡ false) }
-        ensures faultless { OnAnswer result ((K.view disk.new).faults ≡ (K.view disk.old).faults) }
-        ensures spent { IfErr result (λ e. e ≡ no.Device → (K.view disk.new).spent ≡ true) }
-        ensures cause { IfErr result (λ e. e ≡ no.Device → Rose (K.view disk.old).faults (K.view disk.new).faults) }
     {
         if self.mounted {
-            inode_writing::copy(&self.client, disk, path, new)
+            inode_changes::copy(&self.client, disk, path, new)
         } else {
             Err(FsRefusal::NotThisFs)
         }
@@ -85,7 +79,7 @@ impl Files for InodeFs {
     }
 
     fn make<K: Blocks>(&mut self, disk: &mut K) -> Result<(), FsRefusal> {
-        match inode_mounting::make(&self.client, disk) {
+        match crate::making::make(&self.client, disk) {
             Ok(()) => {
                 self.mounted = true;
                 Ok(())
@@ -96,7 +90,7 @@ impl Files for InodeFs {
 
     fn mount<K: Blocks>(&mut self, disk: &mut K) -> Result<(), FsRefusal> {
         self.mounted = false;
-        match inode_mount::mount(&self.client, &mut self.marks, disk) {
+        match crate::mounting::mount(&self.client, &mut self.marks, disk) {
             Ok(()) => {
                 self.mounted = true;
                 Ok(())
@@ -107,7 +101,7 @@ impl Files for InodeFs {
 
     fn put<K: Blocks>(&mut self, disk: &mut K, path: &Path, bytes: &Data) -> Result<(), FsRefusal> {
         if self.mounted {
-            inode_writing::put(&self.client, disk, path, bytes)
+            inode_changes::put(&self.client, disk, path, bytes)
         } else {
             Err(FsRefusal::NotThisFs)
         }
@@ -128,7 +122,7 @@ impl Files for InodeFs {
         bytes: &Data,
     ) -> Result<(), FsRefusal> {
         if self.mounted {
-            inode_writing::append(&self.client, disk, path, bytes)
+            inode_changes::append(&self.client, disk, path, bytes)
         } else {
             Err(FsRefusal::NotThisFs)
         }

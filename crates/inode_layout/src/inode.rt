@@ -41,7 +41,8 @@ fn has_magic(bytes: &[u8]) -> bool
 impl Inode {
     ghost use Rattle.std.specs.Prelude.{slice_index, option_map, None, IfSome};
     ghost use Rattle.tsd_model.specs.World.{has_number};
-    ghost use Rattle.inode_layout.specs.Said.{said_in, is_in_order, blocks_said, is_directory, item_size, amount_said, entry_said, next_said};
+    ghost use Rattle.inode_layout.specs.Said.{said_in, is_in_order, blocks_said, is_directory, item_size, amount_said};
+    ghost use Rattle.inode_layout.specs.Said.{entry_said, next_said};
     ghost use Rattle.inode_layout.specs.Block.{inode_of, bytes_of, body_of, block_len_of};
 
     /// The inode in a block's bytes, where its head is one's. The order of its list isn't looked at.

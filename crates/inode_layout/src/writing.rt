@@ -58,7 +58,8 @@ pub fn empty_directory() -> Data
     head(InodeKind::Directory, 0)
 }
 
-/// A file of this size: the numbers of the blocks that it shares with another, as they stand in a block, and those of others.
+/// A file of this size: the numbers of the blocks that it shares with another, as they stand in a block, and those of
+/// others.
 pub fn file_inode(size: u32, shared: &[u8], count: usize, blocks: &[u32]) -> Data
     requires all { length shared.now ≡ 4 * count }
     requires fits { 16 + 4 * (count + length blocks.now) ≤ 4096 }
@@ -74,8 +75,10 @@ pub fn file_inode(size: u32, shared: &[u8], count: usize, blocks: &[u32]) -> Dat
 pub fn directory_with(old: &Inode, name: &[u8], block: u32) -> Data
     requires dir { IsTrue (is_directory (inode_of old.now)) }
     requires named { length name.now ≤ 28 }
-    requires fits { length (with_listed (record { name = name.now; block = block }) (entries_said (inode_of old.now))) ≤ entries_room (block_len_of old.now) }
-    ensures { result ≡ inode_bytes (directory (with_listed (record { name = name.now; block = block }) (entries_said (inode_of old.now)))) }
+    requires fits { length (with_listed (record { name = name.now; block = block }) (entries_said (inode_of old.now)))
+        ≤ entries_room (block_len_of old.now) }
+    ensures { result ≡ inode_bytes (directory (with_listed (record { name = name.now; block = block })
+        (entries_said (inode_of old.now)))) }
 {
     let (before, behind) = around(old.body(), old.count(), name);
     let amount = (before.len() + behind.len()) / ENTRY_BYTES + 1;

@@ -16,12 +16,12 @@ use Rattle.fs_trees.specs.declared.refusal.FsRefusal.{FsRefusal}
 use Rattle.fs_trees.specs.declared.refusal.FsRefusal.TheVariants as no
 use Rattle.fs_port.specs.View.{View, state_of}
 use Rattle.fs_port.specs.Calls.{IsValidNow}
-use Rattle.fs_asks.specs.declared.client.Client.{Client}
-use Rattle.fs_asks.specs.Client.{shown_at}
-use Rattle.fs_asks.specs.May.{MayWrite, Looked}
+use Rattle.fs_client.specs.declared.client.Client.{Client}
+use Rattle.fs_client.specs.Client.{shown_at}
+use Rattle.fs_client.specs.May.{MayWrite, Looked}
 use Rattle.inode_layout.specs.Block.{inode_of, block_len_of}
 use Rattle.inode_walks.specs.declared.finding.Found.{Found}
-use Rattle.inode_walks.specs.Finding.{node_pairs, Stands, IsOpenNow, IsFurther, node_tree, not_found, named_block, block_said}
+use Rattle.inode_walks.specs.Finding.{node_pairs, StandsAsRead, IsOpenNow, IsFurther, node_tree, not_found, named_block, block_said}
 use Rattle.inode_walks.proofs.WalkLaws.{block_is, node_block, file_node, dir_node, child_node, child_pair, child_pairs, named_is_there, in_a_dir, in_a_file, nothing_there}
 
 -- what is read has an inode
@@ -47,7 +47,7 @@ said_block n (directory es) b h = (es, refl, some (block_named n es) b h)
     some (Some c) b h = let e : c ≡ b = cc in ap (λ x. Some x) e
 said_block n (regular size blocks) b h = absurd (cc)
 
-module _ (c : Client) (v : View) (more : ℕ) (dir : Found) (stands : Stands c v more dir) (n : Name) where
+module _ (c : Client) (v : View) (more : ℕ) (dir : Found) (stands : StandsAsRead c v more dir) (n : Name) where
   node : InodeNode
   node = node_at v.world (suc more) dir.block
 
@@ -127,7 +127,7 @@ module _ (c : Client) (v : View) (more : ℕ) (dir : Found) (stands : Stands c v
 
 -- ---- what reading there gives
 
-module _ (c : Client) (v new : View) (more : ℕ) (dir : Found) (stands : Stands c v more dir) (n : Name) (b : ℕ) (said : block_said n (inode_of dir.inode) ≡ Ok b) where
+module _ (c : Client) (v new : View) (more : ℕ) (dir : Found) (stands : StandsAsRead c v more dir) (n : Name) (b : ℕ) (said : block_said n (inode_of dir.inode) ≡ Ok b) where
   pub further_read : (result : Result Found FsRefusal) → IfOk result (λ found. found.block ≡ b) → IfOk result (λ found. inode_at v.world b ≡ Some (inode_of found.inode)) → IfOk result (λ found. block_len_of found.inode ≡ block_len v.world.geometry)
       → OnOk result (HoldsWrite (state_of new) c.session b) → OnOk result (MayWrite c new b) → OnOk result (Looked v new) → IfOk result (IsFurther c v new more dir n)
   further_read (Ok found) block is whole held may seen = further c v more dir stands n b said new found seen block is whole held may

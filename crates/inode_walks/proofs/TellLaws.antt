@@ -17,12 +17,12 @@ use Rattle.fs_trees.specs.declared.refusal.FsRefusal.TheVariants as no
 use Rattle.fs_port.specs.View.{View}
 use Rattle.fs_port.specs.Calls.{IsValidNow}
 use Rattle.fs_port.specs.Files.{Answers, TellsSize, TellsPart, TellsNext}
-use Rattle.fs_asks.specs.declared.client.Client.{Client}
+use Rattle.fs_client.specs.declared.client.Client.{Client}
 use Rattle.inode_layout.specs.Block.{inode_of, block_len_of}
 use Rattle.inode_layout.specs.Said.{is_directory, amount_said, entries_said, next_said}
 use Rattle.inode_walks.specs.declared.finding.Found.{Found}
 use Rattle.inode_walks.specs.Asking.{tree_of, mounted_by}
-use Rattle.inode_walks.specs.Finding.{IsAt, no_file_found, no_directory_found}
+use Rattle.inode_walks.specs.Finding.{StandsAtPath, no_file_found, no_directory_found}
 use Rattle.inode_walks.specs.Reading.{part, bytes_said}
 use Rattle.inode_walks.proofs.RefusalLaws.{cat_refused, cat_answered, ls_refused, ls_answered}
 use Rattle.inode_walks.proofs.FileLaws.{file_is, row_is_long, tree_there}
@@ -68,7 +68,7 @@ module _ (c : Client) (old new : View) (p : Path) (there : is_there (tree_of c o
 
 -- ---- what is told
 
-module _ (c : Client) (old new : View) (p : Path) (found : Found) (i : IsAt c new p found) (same : new.world ≡ old.world) where
+module _ (c : Client) (old new : View) (p : Path) (found : Found) (i : StandsAtPath c new p found) (same : new.world ≡ old.world) where
   module _ (is_file : is_directory (inode_of found.inode) ≡ false) (now : IsValidNow new) (whole : 16 ≤ block_len_of found.inode) where
     abbrev all : List ℕ
     all = bytes_said new.world (inode_of found.inode)

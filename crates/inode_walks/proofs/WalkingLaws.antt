@@ -11,7 +11,7 @@ use Rattle.tsd_model.specs.declared.caps.Shown.TheVariants.{Nothing, Key}
 use Rattle.tsd_model.specs.declared.requests.Level.TheVariants as level
 use Rattle.disk_laws.proofs.AttainedLaws.{attained_where}
 use Rattle.fs_laws.specs.Ways.{HoldsWrite}
-use Rattle.fs_asks.specs.Client.{shown_at}
+use Rattle.fs_client.specs.Client.{shown_at}
 use Rattle.inode_layout.specs.Block.{inode_of, block_len_of}
 use Rattle.tsd_model.specs.World.{World}
 use Rattle.fs_trees.specs.Names.{Name, Path, path_max}
@@ -21,11 +21,11 @@ use Rattle.fs_trees.specs.InodeTree as inodes
 use Rattle.fs_trees.specs.declared.refusal.FsRefusal.{FsRefusal}
 use Rattle.fs_port.specs.View.{View, state_of, IsSound}
 use Rattle.fs_port.specs.Calls.{Stays}
-use Rattle.fs_asks.specs.declared.client.Client.{Client}
-use Rattle.fs_asks.specs.May.{MayWrite, Looked, Looks}
+use Rattle.fs_client.specs.declared.client.Client.{Client}
+use Rattle.fs_client.specs.May.{MayWrite, Looked, OnlyLooks}
 use Rattle.inode_walks.specs.declared.finding.Found.{Found}
 use Rattle.inode_walks.specs.Asking.{MayAsk, tree_of}
-use Rattle.inode_walks.specs.Finding.{Stands, IsFurther, IsOpenNow, IsAt, node_pairs, node_tree, not_found}
+use Rattle.inode_walks.specs.Finding.{StandsAsRead, IsFurther, IsOpenNow, StandsAtPath, node_pairs, node_tree, not_found}
 use Rattle.inode_walks.proofs.WalkLaws.{tree_child, is_found, root_stands}
 use Rattle.inode_walks.proofs.FurtherLaws.{there_is_inode}
 
@@ -73,12 +73,12 @@ further_below w n ns (a_dir b es) h = ap (λ t. not_found t ns) (sym (tree_child
 pub record IsWalking (c : Client) (first now : View) (names : Path) (i : ℕ) (found : Found) : Type 0 where
   pub more : ℕ
   pub levels : more + i ≡ path_max
-  pub stands : Stands c now more found
+  pub stands : StandsAsRead c now more found
   pub node : at (inodes_under now.world c.root) (take i names) ≡ node_at now.world (suc more) found.block
   pub rest : not_found (tree_of c first) names ≡ not_found (node_tree now more found) (drop i names)
 
 pub record Walking (told : Type 0) (c : Client) (first now : View) (names : Path) (i : ℕ) (found : Found) : Type 0 where
-  pub looks : Looks {X = Unit {0}} told first now (Ok tt)
+  pub looks : OnlyLooks {X = Unit {0}} told first now (Ok tt)
   pub walking : told → IsWalking c first now names i found
 
 pub walks_on : (c : Client) (first now new : View) (names : Path) (i : ℕ) (found next : Found) (n : Name) → i < length names → n ≡ slice_index_or names i n → Looked now new
@@ -106,7 +106,7 @@ pub walk_ends : (c : Client) (first now : View) (names : Path) (i : ℕ) (found 
 walk_ends c first now names i found n e h is w lost = w.rest ∙ (ap (not_found (node_tree now w.more found)) (drop_first names i n h is) ∙ lost (drop (i + 1) names))
 
 -- all names were found
-pub walk_arrives : (c : Client) (first now : View) (names : Path) (i : ℕ) (found : Found) → length names ≤ i → i ≤ length names → (w : IsWalking c first now names i found) → IsAt c now names found
+pub walk_arrives : (c : Client) (first now : View) (names : Path) (i : ℕ) (found : Found) → length names ≤ i → i ≤ length names → (w : IsWalking c first now names i found) → StandsAtPath c now names found
 walk_arrives c first now names i found h k w = record {
   more = w.more;
   levels = let before = w.levels in omega (arith, before, h, k);

@@ -14,8 +14,8 @@ use Rattle.inode_layout.specs.Block.{inode_of, block_len_of}
 use Rattle.inode_layout.specs.Said.{entries_said}
 use Rattle.fs_laws.specs.Ways.{HoldsWrite}
 use Rattle.fs_port.specs.View.{View, state_of}
-use Rattle.fs_asks.specs.declared.client.Client.{Client}
-use Rattle.fs_asks.specs.May.{MayWrite}
+use Rattle.fs_client.specs.declared.client.Client.{Client}
+use Rattle.fs_client.specs.May.{MayWrite}
 use Rattle.inode_walks.specs.declared.finding.Found.{Found}
 use Rattle.inode_walks.specs.declared.finding.Place.{Place}
 
@@ -27,7 +27,7 @@ node_pairs (a_dir b es) = named_pairs b es
 
 -- What was read stands there, with at most so many names below it: it is what its block says, what it names is pointed to,
 -- and the session may write it.
-pub record Stands (c : Client) (v : View) (more : ℕ) (found : Found) : Type 0 where
+pub record StandsAsRead (c : Client) (v : View) (more : ℕ) (found : Found) : Type 0 where
   pub there : IsTrue (is_there (node_at v.world (suc more) found.block))
   pub says : inode_at v.world found.block ≡ Some (inode_of found.inode)
   pub pairs : (a b : ℕ) → IsTrue (holds (node_pairs (node_at v.world (suc more) found.block)) a b) → IsTrue (holds v.world.pairs a b)
@@ -36,7 +36,7 @@ pub record Stands (c : Client) (v : View) (more : ℕ) (found : Found) : Type 0 
   pub whole : block_len_of found.inode ≡ block_len v.world.geometry
 
 abbrev pub IsStanding : Client → View → Found → Type 0
-IsStanding c v found = (more : ℕ) × Stands c v more found
+IsStanding c v found = (more : ℕ) × StandsAsRead c v more found
 
 -- the tree there
 abbrev pub node_tree : View → ℕ → Found → Tree
@@ -62,17 +62,17 @@ block_said n (regular size blocks) = Err no.NotDir
 pub record IsFurther (c : Client) (old new : View) (more : ℕ) (dir : Found) (n : Name) (found : Found) : Type 0 where
   pub less : ℕ
   pub deeper : more ≡ suc less
-  pub stands : Stands c new less found
+  pub stands : StandsAsRead c new less found
   pub node : child n (node_at old.world (suc more) dir.block) ≡ node_at new.world (suc less) found.block
 
 -- ---- at a path
 
 -- it was read from the block of what stands at the path
-pub record IsAt (c : Client) (v : View) (path : Path) (found : Found) : Type 0 where
+pub record StandsAtPath (c : Client) (v : View) (path : Path) (found : Found) : Type 0 where
   pub more : ℕ
   -- so many names may follow
   pub levels : more + length path ≡ path_max
-  pub stands : Stands c v more found
+  pub stands : StandsAsRead c v more found
   pub node : at (inodes_under v.world c.root) path ≡ node_at v.world (suc more) found.block
 
 -- ---- the refusals of a walk, in their order
@@ -96,11 +96,6 @@ no_directory_found t path = first_of (not_found t path ∷ no_dir t path ∷ [])
 
 -- the entry that a path speaks of
 pub record IsPlace (c : Client) (v : View) (path : Path) (place : Place) : Type 0 where
-  pub above : IsAt c v (directory_of path) place.directory
+  pub above : StandsAtPath c v (directory_of path) place.directory
   pub name : path ≡ directory_of path ++ place.name.now ∷ []
   pub old : place.old ≡ block_named place.name.now (entries_said (inode_of place.directory.inode))
-
--- `/` is no entry
-abbrev pub no_place_found : Tree → Path → FsRefusal → Option FsRefusal
-no_place_found t [] at_root = Some at_root
-no_place_found t (n ∷ ns) at_root = lost_on_the_way t (n ∷ ns)

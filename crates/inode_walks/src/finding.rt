@@ -1,6 +1,7 @@
 //! The way to an inode.
 
-ghost use Rattle.std.specs.Prelude.{◌≡◌, ◌≢◌, ◌≤◌, ℕ, ◌∷◌, length, false, None, Some, is_some, IsTrue, IfOk, IfErr, OnOk, OnErr};
+ghost use Rattle.std.specs.Prelude.{◌≡◌, ◌≢◌, ◌≤◌, ℕ, ◌∷◌, length, false, None, Some};
+ghost use Rattle.std.specs.Prelude.{is_some, IsTrue, IfOk, IfErr, OnOk, OnErr};
 ghost use Rattle.tsd_model.specs.Geometry.{block_len};
 ghost use Rattle.fs_trees.specs.Names.{Path, name_max};
 ghost use Rattle.fs_trees.specs.InodeTree.{inode_at};
@@ -8,13 +9,15 @@ ghost use Rattle.fs_trees.specs.declared.refusal.FsRefusal.TheVariants as no;
 ghost use Rattle.fs_laws.specs.Ways.{HoldsWrite};
 ghost use Rattle.fs_port.specs.View.{state_of};
 ghost use Rattle.fs_port.specs.Calls.{IsValidNow};
-ghost use Rattle.fs_asks.specs.May.{MayWrite, Looks};
+ghost use Rattle.fs_client.specs.May.{MayWrite, OnlyLooks};
 ghost use Rattle.inode_layout.specs.Block.{inode_of, block_len_of};
 ghost use Rattle.inode_layout.specs.Said.{blocks_said, is_directory, said_in};
 ghost use Rattle.inode_walks.specs.Asking.{MayAsk, tree_of};
-ghost use Rattle.inode_walks.specs.Finding.{Stands, IsStanding, IsFurther, IsOpenNow, IsAt, IsPlace, block_said, node_tree, not_found, no_file_found, no_directory_found, no_place_found};
+ghost use Rattle.inode_walks.specs.Finding.{StandsAsRead, IsStanding, IsFurther, IsOpenNow, StandsAtPath, IsPlace};
+ghost use Rattle.inode_walks.specs.Finding.{block_said, node_tree, not_found, no_file_found, no_directory_found};
+ghost use Rattle.fs_client.specs.Changing.{no_place_found};
 
-use fs_asks::{Client, Names};
+use fs_client::{Client, Names};
 use fs_port::Blocks;
 use fs_trees::{FsRefusal, Name, Path};
 use inode_layout::Inode;
@@ -54,7 +57,8 @@ pub struct Place<'a> {
 /// The inode in the bytes of a block.
 fn found_in(block: u32, bytes: Data) -> Result<Found, FsRefusal>
     ensures block { IfOk result (λ found. found.block ≡ block) }
-    ensures said { 16 ≤ length bytes → IfOk result (λ found. Some (inode_of found.inode) ≡ said_in (length bytes) bytes) }
+    ensures said { 16 ≤ length bytes → IfOk result (λ found. Some (inode_of found.inode) ≡ said_in (length bytes)
+        bytes) }
     ensures kept { IfOk result (λ found. block_len_of found.inode ≡ length bytes) }
     ensures none { 16 ≤ length bytes → OnErr result (said_in (length bytes) bytes ≡ None) }
     ensures refusal { IfErr result (λ e. e ≡ no.NotThisFs) }
@@ -72,11 +76,13 @@ pub fn read_inode<K: Blocks>(client: &Client, disk: &mut K, block: u32) -> Resul
     requires may { K.told → MayWrite client.now (K.view disk.old) block }
     requires inode { K.told → IsTrue (is_some (inode_at (K.view disk.old).world block)) }
     ensures block { IfOk result (λ found. found.block ≡ block) }
-    ensures says { K.told → IfOk result (λ found. inode_at (K.view disk.old).world block ≡ Some (inode_of found.inode)) }
-    ensures whole { K.told → IfOk result (λ found. block_len_of found.inode ≡ block_len (K.view disk.old).world.geometry) }
+    ensures says { K.told → IfOk result (λ found. inode_at (K.view disk.old).world block
+        ≡ Some (inode_of found.inode)) }
+    ensures whole { K.told → IfOk result (λ found. block_len_of found.inode
+        ≡ block_len (K.view disk.old).world.geometry) }
     ensures held { K.told → OnOk result (HoldsWrite (state_of (K.view disk.new)) client.now.session block) }
     ensures only { K.told → IfErr result (λ e. e ≡ no.Device) }
-    ensures looks { Looks K.told (K.view disk.old) (K.view disk.new) result }
+    ensures looks { OnlyLooks K.told (K.view disk.old) (K.view disk.new) result }
 {
     match client.look(disk, block) {
         Ok(bytes) => found_in(block, bytes),
@@ -108,9 +114,13 @@ fn child<K: Blocks>(
     requires valid { K.told → IsValidNow (K.view disk.old) }
     requires session { K.told → IsOpenNow client.now (K.view disk.old) }
     requires stands { K.told → IsStanding client.now (K.view disk.old) directory.now }
-    ensures further { K.told → (more : ℕ) → Stands client.now (K.view disk.old) more directory.now → IfOk result (λ found. IsFurther client.now (K.view disk.old) (K.view disk.new) more directory.now name.now found) }
-    ensures lost { K.told → (more : ℕ) (ns : Path) → Stands client.now (K.view disk.old) more directory.now → IfErr result (λ e. e ≢ no.Device → not_found (node_tree (K.view disk.old) more directory.now) (name.now ∷ ns) ≡ Some e) }
-    ensures looks { Looks K.told (K.view disk.old) (K.view disk.new) result }
+    ensures further { K.told → (more : ℕ) → StandsAsRead client.now (K.view disk.old) more directory.now
+        → IfOk result (λ found. IsFurther client.now (K.view disk.old) (K.view disk.new) more directory.now name.now
+        found) }
+    ensures lost { K.told → (more : ℕ) (ns : Path) → StandsAsRead client.now (K.view disk.old) more directory.now
+        → IfErr result (λ e. e ≢ no.Device → not_found (node_tree (K.view disk.old) more directory.now)
+        (name.now ∷ ns) ≡ Some e) }
+    ensures looks { OnlyLooks K.told (K.view disk.old) (K.view disk.new) result }
 {
     match block_of_name(directory, name) {
         Ok(block) => read_inode(client, disk, block),
@@ -121,10 +131,11 @@ fn child<K: Blocks>(
 /// The inode at the end of a way from the root, each block on it read once.
 pub fn walk<K: Blocks>(client: &Client, disk: &mut K, names: &[Name]) -> Result<Found, FsRefusal>
     requires may { MayAsk K.told client.now (K.view disk.old) }
-    ensures found { K.told → IfOk result (λ found. IsAt client.now (K.view disk.new) names.now found) }
+    ensures found { K.told → IfOk result (λ found. StandsAtPath client.now (K.view disk.new) names.now found) }
     ensures none { K.told → OnOk result (not_found (tree_of client.now (K.view disk.old)) names.now ≡ None) }
-    ensures refused { K.told → IfErr result (λ e. e ≢ no.Device → not_found (tree_of client.now (K.view disk.old)) names.now ≡ Some e) }
-    ensures looks { Looks K.told (K.view disk.old) (K.view disk.new) result }
+    ensures refused { K.told → IfErr result (λ e. e ≢ no.Device
+        → not_found (tree_of client.now (K.view disk.old)) names.now ≡ Some e) }
+    ensures looks { OnlyLooks K.told (K.view disk.old) (K.view disk.new) result }
 {
     let mut found = match read_inode(client, disk, client.root) {
         Ok(root) => root,
@@ -143,11 +154,12 @@ pub fn walk<K: Blocks>(client: &Client, disk: &mut K, names: &[Name]) -> Result<
 #[tactic(none)]
 pub fn find_file<K: Blocks>(client: &Client, disk: &mut K, path: &Path) -> Result<Found, FsRefusal>
     requires may { MayAsk K.told client.now (K.view disk.old) }
-    ensures found { K.told → IfOk result (IsAt client.now (K.view disk.new) path.now) }
+    ensures found { K.told → IfOk result (StandsAtPath client.now (K.view disk.new) path.now) }
     ensures file { IfOk result (λ found. is_directory (inode_of found.inode) ≡ false) }
     ensures none { K.told → OnOk result (no_file_found (tree_of client.now (K.view disk.old)) path.now ≡ None) }
-    ensures refused { K.told → IfErr result (λ e. e ≢ no.Device → no_file_found (tree_of client.now (K.view disk.old)) path.now ≡ Some e) }
-    ensures looks { Looks K.told (K.view disk.old) (K.view disk.new) result }
+    ensures refused { K.told → IfErr result (λ e. e ≢ no.Device
+        → no_file_found (tree_of client.now (K.view disk.old)) path.now ≡ Some e) }
+    ensures looks { OnlyLooks K.told (K.view disk.old) (K.view disk.new) result }
 {
     match walk(client, disk, path.as_slice()) {
         Ok(found) => {
@@ -169,11 +181,12 @@ pub fn find_directory<K: Blocks>(
     names: &[Name],
 ) -> Result<Found, FsRefusal>
     requires may { MayAsk K.told client.now (K.view disk.old) }
-    ensures found { K.told → IfOk result (IsAt client.now (K.view disk.new) names.now) }
+    ensures found { K.told → IfOk result (StandsAtPath client.now (K.view disk.new) names.now) }
     ensures dir { IfOk result (λ found. IsTrue (is_directory (inode_of found.inode))) }
     ensures none { K.told → OnOk result (no_directory_found (tree_of client.now (K.view disk.old)) names.now ≡ None) }
-    ensures refused { K.told → IfErr result (λ e. e ≢ no.Device → no_directory_found (tree_of client.now (K.view disk.old)) names.now ≡ Some e) }
-    ensures looks { Looks K.told (K.view disk.old) (K.view disk.new) result }
+    ensures refused { K.told → IfErr result (λ e. e ≢ no.Device
+        → no_directory_found (tree_of client.now (K.view disk.old)) names.now ≡ Some e) }
+    ensures looks { OnlyLooks K.told (K.view disk.old) (K.view disk.new) result }
 {
     match walk(client, disk, names) {
         Ok(found) => {
@@ -199,9 +212,11 @@ pub fn find_place<'a, K: Blocks>(
     ensures dir { IfOk result (λ place. IsTrue (is_directory (inode_of place.directory.inode))) }
     ensures short { IfOk result (λ place. length place.name.now ≤ name_max) }
     ensures found { K.told → IfOk result (λ place. IsPlace client.now (K.view disk.new) path.now place) }
-    ensures none { K.told → OnOk result (no_place_found (tree_of client.now (K.view disk.old)) path.now at_root ≡ None) }
-    ensures refused { K.told → IfErr result (λ e. e ≢ no.Device → no_place_found (tree_of client.now (K.view disk.old)) path.now at_root ≡ Some e) }
-    ensures looks { Looks K.told (K.view disk.old) (K.view disk.new) result }
+    ensures none { K.told → OnOk result (no_place_found (tree_of client.now (K.view disk.old)) path.now at_root
+        ≡ None) }
+    ensures refused { K.told → IfErr result (λ e. e ≢ no.Device
+        → no_place_found (tree_of client.now (K.view disk.old)) path.now at_root ≡ Some e) }
+    ensures looks { OnlyLooks K.told (K.view disk.old) (K.view disk.new) result }
 {
     match path.as_slice() {
         [] => Err(at_root),

@@ -1,12 +1,13 @@
 //! What files and directories hold.
 
-ghost use Rattle.std.specs.Prelude.{◌≡◌, ◌≤◌, ◌<◌, ◌+◌, ◌++◌, [], length, false, IsTrue, IfOk, IfErr, OnOk};
+ghost use Rattle.std.specs.Prelude.{◌≡◌, ◌≤◌, ◌<◌, ◌+◌, ◌++◌, [], length, false, IsTrue, IfOk};
+ghost use Rattle.std.specs.Prelude.{IfErr, OnOk};
 ghost use Rattle.fs_trees.specs.Names.{is_path};
 ghost use Rattle.fs_trees.specs.declared.ask.ShellAsk.TheVariants as ask;
 ghost use Rattle.fs_trees.specs.declared.refusal.FsRefusal.TheVariants as no;
 ghost use Rattle.fs_port.specs.Calls.{IsValidNow};
 ghost use Rattle.fs_port.specs.Files.{Answers, TellsSize, TellsPart, TellsNext};
-ghost use Rattle.fs_asks.specs.May.{Looks};
+ghost use Rattle.fs_client.specs.May.{OnlyLooks};
 ghost use Rattle.inode_layout.specs.Block.{inode_of, block_len_of};
 ghost use Rattle.inode_layout.specs.Said.{is_directory, amount_said};
 ghost use Rattle.inode_walks.specs.Asking.{MayAsk, mounted_by};
@@ -14,7 +15,7 @@ ghost use Rattle.inode_walks.specs.Finding.{IsOpenNow, IsStanding};
 ghost use Rattle.inode_walks.specs.Reading.{part, bytes_at, bytes_said};
 
 use crate::finding::{Found, find_directory, find_file};
-use fs_asks::Client;
+use fs_client::Client;
 use fs_port::Blocks;
 use fs_trees::{FsRefusal, Name, Path};
 use tsd_model::Data;
@@ -24,8 +25,9 @@ use tsd_model::lists::DATA_MAX;
 pub fn size<K: Blocks>(client: &Client, disk: &mut K, path: &Path) -> Result<u64, FsRefusal>
     requires may { MayAsk K.told client.now (K.view disk.old) }
     requires named { IsTrue (is_path path.now) }
-    ensures answer { K.told → Answers (mounted_by client.now) (K.view disk.old) (K.view disk.new) (ask.Cat path.now) result TellsSize }
-    ensures looks { Looks K.told (K.view disk.old) (K.view disk.new) result }
+    ensures answer { K.told → Answers (mounted_by client.now) (K.view disk.old) (K.view disk.new) (ask.Cat path.now)
+        result TellsSize }
+    ensures looks { OnlyLooks K.told (K.view disk.old) (K.view disk.new) result }
 {
     match find_file(client, disk, path) {
         Ok(file) => Ok(file.inode.amount() as u64),
@@ -35,7 +37,8 @@ pub fn size<K: Blocks>(client: &Client, disk: &mut K, path: &Path) -> Result<u64
 
 /// Adds what stands in a block from one place to another, as far as it has it, and where there is room for it.
 fn add_part(into: &mut Data, bytes: &Data, first: usize, last: usize)
-    ensures { first ≤ last → last ≤ length bytes.now → length into.old + last ≤ 4096 + first → into.new ≡ into.old ++ part bytes.now first last }
+    ensures { first ≤ last → last ≤ length bytes.now → length into.old + last ≤ 4096 + first
+        → into.new ≡ into.old ++ part bytes.now first last }
 {
     let end = last.min(bytes.len());
     let start = first.min(end);
@@ -60,9 +63,11 @@ fn read_block<K: Blocks>(
     requires there { end ≤ amount_said (inode_of file.now.inode) }
     requires room { K.told → length into.old + end ≤ 4096 + at }
     ensures next { IfOk result (λ next. (at < next) × (next ≤ end)) }
-    ensures bytes { K.told → IfOk result (λ next. into.new ≡ into.old ++ part (bytes_said (K.view disk.old).world (inode_of file.now.inode)) at next) }
+    ensures bytes { K.told
+        → IfOk result (λ next. into.new ≡ into.old ++ part (bytes_said (K.view disk.old).world
+        (inode_of file.now.inode)) at next) }
     ensures only { K.told → IfErr result (λ e. e ≡ no.Device) }
-    ensures looks { Looks K.told (K.view disk.old) (K.view disk.new) result }
+    ensures looks { OnlyLooks K.told (K.view disk.old) (K.view disk.new) result }
 {
     let len = file.inode.block_len();
     match client.look(disk, file.inode.named(at / len)) {
@@ -94,9 +99,10 @@ fn read_bytes<K: Blocks>(
     requires there { end ≤ amount_said (inode_of file.now.inode) }
     requires room { end ≤ 4096 + start }
     requires empty { into.old ≡ [] }
-    ensures bytes { K.told → OnOk result (into.new ≡ part (bytes_said (K.view disk.old).world (inode_of file.now.inode)) start end) }
+    ensures bytes { K.told
+        → OnOk result (into.new ≡ part (bytes_said (K.view disk.old).world (inode_of file.now.inode)) start end) }
     ensures only { K.told → IfErr result (λ e. e ≡ no.Device) }
-    ensures looks { Looks K.told (K.view disk.old) (K.view disk.new) result }
+    ensures looks { OnlyLooks K.told (K.view disk.old) (K.view disk.new) result }
 {
     let mut at = start;
     while at < end {
@@ -118,8 +124,9 @@ pub fn read_part<K: Blocks>(
 ) -> Result<(), FsRefusal>
     requires may { MayAsk K.told client.now (K.view disk.old) }
     requires named { IsTrue (is_path path.now) }
-    ensures answer { K.told → Answers (mounted_by client.now) (K.view disk.old) (K.view disk.new) (ask.Cat path.now) result (λ _. TellsPart start into.new) }
-    ensures looks { Looks K.told (K.view disk.old) (K.view disk.new) result }
+    ensures answer { K.told → Answers (mounted_by client.now) (K.view disk.old) (K.view disk.new) (ask.Cat path.now)
+        result (λ _. TellsPart start into.new) }
+    ensures looks { OnlyLooks K.told (K.view disk.old) (K.view disk.new) result }
 {
     *into = Data::new();
     let file = match find_file(client, disk, path) {
@@ -144,8 +151,9 @@ pub fn name_after<K: Blocks>(
 ) -> Result<Option<Name>, FsRefusal>
     requires may { MayAsk K.told client.now (K.view disk.old) }
     requires named { IsTrue (is_path path.now) }
-    ensures answer { K.told → Answers (mounted_by client.now) (K.view disk.old) (K.view disk.new) (ask.Ls path.now) result (TellsNext after.now) }
-    ensures looks { Looks K.told (K.view disk.old) (K.view disk.new) result }
+    ensures answer { K.told → Answers (mounted_by client.now) (K.view disk.old) (K.view disk.new) (ask.Ls path.now)
+        result (TellsNext after.now) }
+    ensures looks { OnlyLooks K.told (K.view disk.old) (K.view disk.new) result }
 {
     match find_directory(client, disk, path.as_slice()) {
         Ok(found) => Ok(found.inode.name_after(after.as_slice())),

@@ -20,7 +20,7 @@ use Rattle.intent_journal.specs.Crash.{IsBefore}
 use Rattle.intent_journal.specs.Home.{home, overlaid, is_journal, AgreeBut}
 use Rattle.intent_journal.specs.Homes.{is_lawful_home}
 use Rattle.intent_journal.specs.Records.{Record, patches_of, is_open_gate}
-use Rattle.intent_journal.specs.Ring.{IsAt}
+use Rattle.intent_journal.specs.Ring.{IsRingAt}
 use Rattle.intent_journal.specs.Written.{ClosesGates}
 use Rattle.intent_journal.proofs.Gates.{IsAlike, opened_same, valid_same}
 use Rattle.intent_journal.proofs.Opened.{opened_none, opened_lawful, home_of_empty}
@@ -164,7 +164,7 @@ module _ (ps : List Patch) (gates : List Bool) (v : View) (listed : IsListed ps 
             pub put_done : AgreeBut is_journal (home v.reads) v3.reads
             put_done n away = run3.reads n (later_in_journal n away) ∙ others_kept n (λ e. both_ways (is_journal n) away (ap is_journal e)) ∙ placed n ∙ sym (home_old n)
 
-            pub put_at_end : ((i : ℕ) → 0 < i → i < records → is_open_gate v3.reads i ≡ false) → IsFirm v3 → IsAt [] v3
+            pub put_at_end : ((i : ℕ) → 0 < i → i < records → is_open_gate v3.reads i ≡ false) → IsFirm v3 → IsRingAt [] v3
             put_at_end closed firm3 = at_closed v3
                 (λ i less. elim (cases_eq i 0) [
                   | inl e ↦ ap (is_open_gate v3.reads) e ∙ ap is_open (run3.reads 2 refl) ∙ shut

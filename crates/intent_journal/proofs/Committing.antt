@@ -20,7 +20,7 @@ use Rattle.intent_journal.specs.Crash.{IsBefore, IsAfter, IsBeforeOrAfter}
 use Rattle.intent_journal.specs.Descriptor.{descriptor_bytes}
 use Rattle.intent_journal.specs.Home.{home, overlaid, is_journal, AgreeBut}
 use Rattle.intent_journal.specs.Records.{Record, patches_of, open_records, is_open_gate, has_valid_records}
-use Rattle.intent_journal.specs.Ring.{IsRing, IsAt, is_full_for}
+use Rattle.intent_journal.specs.Ring.{IsRing, IsRingAt, is_full_for}
 use Rattle.intent_journal.specs.Written.{IsWritten}
 use Rattle.intent_journal.proofs.Bodies.{got_within}
 use Rattle.intent_journal.proofs.Gates.{opened_same, valid_same}
@@ -31,7 +31,7 @@ use Rattle.intent_journal.proofs.Places.{gate_in, descriptor_in, body_in, gates_
 use Rattle.intent_journal.proofs.Uses.{journal_alike, at_valid}
 
 -- what the ring's disk stands for now
-pub before_now : (rs : List Record) (v : View) → IsAt rs v → (x : Image) (f : List ℕ) → IsLeftNow v x f → IsBefore v x
+pub before_now : (rs : List Record) (v : View) → IsRingAt rs v → (x : Image) (f : List ℕ) → IsLeftNow v x f → IsBefore v x
 before_now rs v at x f left =
     let alike = journal_alike v.reads x (λ n inside. left.0.agrees n (at.journal_firm n inside)) in
     record {
@@ -57,7 +57,15 @@ pub record_filled : (rs : List Record) (batch : List Patch) (new : View) (start 
     → (k : ℕ) (p : Patch) → slice_get batch k ≡ Some p → new.reads (body_sector (length (patches_of rs) + k)) ≡ p.bytes
 record_filled rs batch new start is filled k p found = ap (λ (s : ℕ). new.reads (body_sector (s + k))) (sym is) ∙ filled k p found
 
-module _ (rs : List Record) (batch : List Patch) (v : View) (at : IsAt rs v) (ring : IsRing rs) (whole : IsBatch batch) (some : batch ≢ []) (room : is_full_for rs (length batch) ≡ false) where
+-- what a batch behind these records leaves, once its gate is open
+pub record IsAdded (rs : List Record) (batch : List Patch) (v v2 : View) : Type 0 where
+  pub sent : v2.sent ≡ v.sent
+  pub any_moment : LeavesOnly v v2 (λ x f. IsBeforeOrAfter batch v x × (f ≡ v.sent))
+  pub done : AgreeBut is_journal (overlaid batch (home v.reads)) (home v2.reads)
+  pub at : IsRingAt (rs ++ batch ∷ []) v2
+  pub written : IsWritten (length rs) batch v2.reads
+
+module _ (rs : List Record) (batch : List Patch) (v : View) (at : IsRingAt rs v) (ring : IsRing rs) (whole : IsBatch batch) (some : batch ≢ []) (room : is_full_for rs (length batch) ≡ false) where
   abbrev P : Image → List ℕ → Type 0
   P x f = IsBeforeOrAfter batch v x × (f ≡ v.sent)
 
@@ -185,7 +193,7 @@ module _ (rs : List Record) (batch : List Patch) (v : View) (at : IsAt rs v) (ri
           has2 : HasRecord v2.reads
           has2 n other = run2.reads n (ne_eqb n gate (λ e. other (e ∙ is)))
 
-          pub added_sent : v2.sent ≡ v.sent
+          added_sent : v2.sent ≡ v.sent
           added_sent = run2.sent ∙ run1.sent
 
           -- in the end
@@ -193,18 +201,27 @@ module _ (rs : List Record) (batch : List Patch) (v : View) (at : IsAt rs v) (ri
             open_now : is_open_gate v2.reads (length rs) ≡ true
             open_now = ap (λ (k : ℕ). is_open (v2.reads k)) (sym is) ∙ opened
 
-            pub added_done : AgreeBut is_journal (overlaid batch (home v.reads)) (home v2.reads)
+            added_done : AgreeBut is_journal (overlaid batch (home v.reads)) (home v2.reads)
             added_done = (open_after v2.reads has2 open_now).stands
 
-            pub added_at : IsFirm v2 → IsAt (rs ++ batch ∷ []) v2
+            added_at : IsFirm v2 → IsRingAt (rs ++ batch ∷ []) v2
             added_at firm2 = record {
               shows = (opened_after v2.reads has2 open_now).0;
               others_closed = λ i more below. next_shut v2.reads has2 i (omega (arith, length_push rs batch)) below;
               journal_firm = λ n _. firm2 n;
             }
 
-          pub added_written : v2.reads gate ≡ gate_bytes true → IsWritten (length rs) batch v2.reads
+          added_written : v2.reads gate ≡ gate_bytes true → IsWritten (length rs) batch v2.reads
           added_written bytes = record {
             gate = ap v2.reads (sym is) ∙ bytes;
             descriptor = has2 (descriptor_sector (length rs)) (λ e. gate_descriptor_apart (length rs) (length rs) (sym e)) ∙ named;
+          }
+
+          pub added : v2.reads gate ≡ gate_bytes true → is_open (v2.reads gate) ≡ true → IsFirm v2 → IsAdded rs batch v v2
+          added bytes opened firm2 = record {
+            sent = added_sent;
+            any_moment = opening;
+            done = added_done opened;
+            at = added_at opened firm2;
+            written = added_written bytes;
           }

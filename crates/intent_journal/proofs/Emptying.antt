@@ -7,7 +7,7 @@ use Rattle.image_layout.specs.Ring.{records, gate_sector}
 use Rattle.image_layout.specs.declared.place.Patch.{Patch}
 use Rattle.intent_journal.specs.Closing.{IsListed, is_listed_open, one_if, later_open, closing_writes}
 use Rattle.intent_journal.specs.Records.{Record, patches_of, open_from, open_records, is_open_gate}
-use Rattle.intent_journal.specs.Ring.{IsRing, IsAt, last_patches, checkpoint_writes}
+use Rattle.intent_journal.specs.Ring.{IsRing, IsRingAt, last_patches, checkpoint_writes}
 use Rattle.image_layout.specs.Image.{gate_bytes}
 use Rattle.intent_journal.specs.Written.{ClosesGates}
 use Rattle.intent_journal.proofs.Opened.{begins}
@@ -28,7 +28,7 @@ unfolding open_records
 open_gate_of x rs is i less = let at : 0 + i ≡ i = omega arith in ap (is_open_gate x) (sym at) ∙ open_gates_from records x 0 0 rs is i less
 
 -- the gates that are to be closed
-pub listed_at : (rs : List Record) (v : View) (ps : List Patch) (gates : List Bool) (count : ℕ) → IsAt rs v → ps ≡ patches_of rs → count ≡ length rs
+pub listed_at : (rs : List Record) (v : View) (ps : List Patch) (gates : List Bool) (count : ℕ) → IsRingAt rs v → ps ≡ patches_of rs → count ≡ length rs
     → ((i : ℕ) → i < records → is_listed_open gates i ≡ nat_lt i count) → IsListed ps gates v
 listed_at rs v ps gates count at is counted listed = record {
   patches = ap patches_of at.shows ∙ sym is;
@@ -66,6 +66,6 @@ pub ring_most : (rs : List Record) → IsRing rs → checkpoint_writes rs ≤ 12
 ring_most rs ring = omega (arith, lasts_most (patches_of rs), ring.most, ring.fits)
 
 -- an empty ring has no gate to close
-pub none_to_close : (rs : List Record) (v new : View) → IsAt rs v → length rs ≡ 0 → new.reads ≡ v.reads → ClosesGates v.reads new.reads
+pub none_to_close : (rs : List Record) (v new : View) → IsRingAt rs v → length rs ≡ 0 → new.reads ≡ v.reads → ClosesGates v.reads new.reads
 none_to_close rs v new at none same i less =
     (λ j. same j (gate_sector i)) ∙ sym (cond-false (is_open_gate v.reads i) (gate_bytes false) (v.reads (gate_sector i)) (at.others_closed i (omega (arith, none)) less))

@@ -13,7 +13,7 @@ use Rattle.intent_journal.specs.Closing.{IsListed, is_listed_open, one_if, closi
 use Rattle.intent_journal.specs.Crash.{IsBefore, IsTheSame}
 use Rattle.intent_journal.specs.Home.{home, is_journal, AgreeBut}
 use Rattle.intent_journal.specs.Records.{Record, patches_of, descriptor_of, open_from, open_records, is_open_gate, has_valid_records}
-use Rattle.intent_journal.specs.Ring.{last_patches, distinct_homes, IsFound, replay_writes}
+use Rattle.intent_journal.specs.Ring.{last_patches, distinct_homes, IsReplayFound, replay_writes}
 use Rattle.intent_journal.specs.declared.ring.Replayed.TheVariants.{Nothing, Homes}
 use Rattle.intent_journal.specs.Written.{ClosesGates}
 use Rattle.intent_journal.proofs.Opened.{begins, valid_parts}
@@ -43,11 +43,11 @@ none_open x ([] ∷ rs) is none =
     absurd (omega (arith, some, b.count))
 none_open x ((p ∷ ps) ∷ rs) is none = absurd (omega (arith, none, lasts_some p (ps ++ patches_of rs)))
 
-pub found_none : (x : Image) (homes : ℕ) → homes ≡ distinct_homes (open_records x) → homes ≡ 0 → IsFound (open_records x) Nothing
+pub found_none : (x : Image) (homes : ℕ) → homes ≡ distinct_homes (open_records x) → homes ≡ 0 → IsReplayFound (open_records x) Nothing
 unfolding open_records
 found_none x homes is none = none_open x (open_from x 0 0 8) refl (sym is ∙ none)
 
-pub found_some : (x : Image) (homes : ℕ) → homes ≡ distinct_homes (open_records x) → (homes ≡ 0 → ⊥) → IsFound (open_records x) (Homes homes)
+pub found_some : (x : Image) (homes : ℕ) → homes ≡ distinct_homes (open_records x) → (homes ≡ 0 → ⊥) → IsReplayFound (open_records x) (Homes homes)
 found_some x homes is some = (λ e. some (is ∙ ap distinct_homes e), is)
 
 -- ---- how often is written

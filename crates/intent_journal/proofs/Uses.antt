@@ -13,7 +13,7 @@ use Rattle.intent_journal.specs.Homes.{is_lawful_home, is_distinct}
 use Rattle.intent_journal.specs.Batch.{homes_of, has_home, with_patch}
 use Rattle.intent_journal.specs.Home.{overlaid, home, is_journal}
 use Rattle.intent_journal.specs.Records.{Record, patches_of, open_records, is_open_gate, has_valid_records}
-use Rattle.intent_journal.specs.Ring.{IsAt}
+use Rattle.intent_journal.specs.Ring.{IsRingAt}
 use Rattle.intent_journal.proofs.Bools.{and_true_parts, not_true, equal_numbers}
 use Rattle.intent_journal.proofs.Overlays.{put_here, put_elsewhere, overlaid_alike, overlaid_missed}
 use Rattle.intent_journal.proofs.Opened.{opened_kept, opened_lawful, opened_none}
@@ -66,7 +66,7 @@ home_unlawful x n out = home_missed x n (opened_missed x n out)
 
 -- ---- where a ring is
 -- writes outside the journal leave a ring where it is
-pub at_kept : {rs : List Record} {old new : View} → IsAt rs old → ((n : ℕ) → is_journal n ≡ true → (new.reads n ≡ old.reads n) × (new.loose n ≡ false)) → IsAt rs new
+pub at_kept : {rs : List Record} {old new : View} → IsRingAt rs old → ((n : ℕ) → is_journal n ≡ true → (new.reads n ≡ old.reads n) × (new.loose n ≡ false)) → IsRingAt rs new
 at_kept {rs} {old} {new} at same = record {
   shows = opened_same old.reads new.reads (journal_alike old.reads new.reads (λ n inside. (same n inside).0)) ∙ at.shows;
   others_closed = λ index from less. ap is_open (same (gate_sector index) (gate_inside index less)).0 ∙ at.others_closed index from less;
@@ -74,16 +74,16 @@ at_kept {rs} {old} {new} at same = record {
 }
 
 -- so do calls that only read
-pub at_rested : {rs : List Record} {old new : View} → IsAt rs old → Rests old new → IsAt rs new
+pub at_rested : {rs : List Record} {old new : View} → IsRingAt rs old → Rests old new → IsRingAt rs new
 at_rested {rs} {old} {new} at rests = at_kept at (λ n inside. ((λ i. rests.reads i n), (λ i. rests.loose i n) ∙ at.journal_firm n inside))
 
 -- each record of a ring is valid where the ring is
-pub at_valid : {rs : List Record} {v : View} → IsAt rs v → has_valid_records v.reads ≡ true
+pub at_valid : {rs : List Record} {v : View} → IsRingAt rs v → has_valid_records v.reads ≡ true
 at_valid {rs} {v} at =
     (opened_kept rs v.reads v.reads at.shows (record { gates = λ i less. refl; descriptors = λ i less. refl; each_body = λ k less. refl }) (λ less. at.others_closed (length rs) (omega arith) less)).1
 
 -- where every gate reads closed, the empty ring is
-pub at_closed : (v : View) → ((index : ℕ) → index < records → is_open_gate v.reads index ≡ false) → ((n : ℕ) → is_journal n ≡ true → v.loose n ≡ false) → IsAt [] v
+pub at_closed : (v : View) → ((index : ℕ) → index < records → is_open_gate v.reads index ≡ false) → ((n : ℕ) → is_journal n ≡ true → v.loose n ≡ false) → IsRingAt [] v
 at_closed v closed firm = record {
   shows = (opened_none v.reads (closed 0 (omega arith))).0;
   others_closed = λ index from less. closed index less;

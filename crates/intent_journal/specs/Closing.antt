@@ -1,8 +1,11 @@
 -- What a disk is before records are put in place and their gates closed.
-use Rattle.std.specs.Prelude.{ℕ, suc, zero, ◌+◌, ◌<◌, ◌≡◌, ◌==◌, ◌&&◌, ◌||◌, nat_le, nat_lt, Bool, true, false, cond, List, length, slice_index_or}
+use Rattle.std.specs.Prelude.{ℕ, suc, zero, ◌+◌, ◌<◌, ◌≡◌, ◌==◌, ◌&&◌, ◌||◌, nat_le, nat_lt, not, Bool, true, false, cond, List, length, slice_index_or}
+use Rattle.image_device.specs.Image.{Image}
 use Rattle.image_device.specs.View.{View}
 use Rattle.image_layout.specs.declared.place.Patch.{Patch}
-use Rattle.image_layout.specs.Ring.{records, descriptor_sector, body_sector}
+use Rattle.image_layout.specs.Image.{gate_bytes}
+use Rattle.image_layout.specs.Ring.{records, gate_sector, descriptor_sector, body_sector}
+use Rattle.intent_journal.specs.Batch.{has_home}
 use Rattle.intent_journal.specs.Home.{is_journal}
 use Rattle.intent_journal.specs.Records.{patches_of, open_records, is_open_gate, has_valid_records}
 use Rattle.intent_journal.specs.Ring.{last_patches}
@@ -37,3 +40,14 @@ is_body_of start len n = nat_le (body_sector start) n && nat_lt n (body_sector s
 -- the sectors of a record but its gate
 abbrev pub is_in_record : ℕ → ℕ → ℕ → ℕ → Bool
 is_in_record index start len n = (n == descriptor_sector index) || is_body_of start len n
+
+-- the patch is in place unless a later one has the same home, and nothing else changed
+abbrev pub IsPutUnlessLater : Patch → List Patch → Image → Image → Type 0
+IsPutUnlessLater p later old new =
+    (n : ℕ) → new n ≡ cond ((n == p.sector) && not (has_home later p.sector)) p.bytes (old n)
+
+-- each gate from 1 on that is listed open is closed by zeros, and no other of them is written
+abbrev pub ClosesLaterGates : List Bool → Image → Image → Type 0
+ClosesLaterGates gates old new =
+    (index : ℕ) → 0 < index → index < records
+    → new (gate_sector index) ≡ cond (is_listed_open gates index) (gate_bytes false) (old (gate_sector index))

@@ -1,10 +1,10 @@
 -- The records that an image has in the ring.
-use Rattle.std.specs.Prelude.{ℕ, zero, suc, ◌+◌, ◌&&◌, Bool, true, cond, List, [], ◌∷◌, map, flat_map}
+use Rattle.std.specs.Prelude.{◌≡◌, ℕ, zero, suc, ◌+◌, ◌&&◌, Bool, true, false, cond, List, [], ◌∷◌, ◌++◌, length, map, flat_map, slice_index}
 use Rattle.std.specs.List.{range_with_len}
 use Rattle.image_layout.specs.declared.place.Patch.{Patch}
 use Rattle.image_layout.specs.Image.{Image, is_open}
 use Rattle.image_layout.specs.Ring.{records, gate_sector, descriptor_sector, body_sector}
-use Rattle.intent_journal.specs.Descriptor.{count_in, home_in, is_valid}
+use Rattle.intent_journal.specs.Descriptor.{count_in, home_in, homes_in, is_valid}
 
 -- what a record says: each of these homes is to have these bytes
 abbrev pub Record : Type 0
@@ -51,3 +51,27 @@ are_valid_from image index start (suc left) =
 -- each open record has a valid descriptor
 unfoldable pub has_valid_records : Image → Bool
 has_valid_records image = are_valid_from image 0 0 records
+
+-- ---- reading
+-- these homes, each with a body: the first with the body of this number, and so on
+abbrev pub bodied : Image → ℕ → List ℕ → List Patch
+bodied image start homes =
+    map (λ k. record { sector = slice_index homes k; bytes = image (body_sector (start + k)) })
+    (range_with_len 0 (length homes))
+
+-- the descriptor is valid where the record's bodies begin at this one, and it has these homes
+abbrev pub HasHomes : Image → ℕ → ℕ → List ℕ → Type 0
+HasHomes image index start homes =
+    (is_valid start (descriptor_of image index) ≡ true) × (homes ≡ homes_in (descriptor_of image index))
+
+-- the record is open, but its descriptor isn't valid where its bodies begin at this one
+abbrev pub IsBadRecord : Image → ℕ → ℕ → Type 0
+IsBadRecord image index start =
+    (is_open_gate image index ≡ true) × (is_valid start (descriptor_of image index) ≡ false)
+
+-- the record is open and valid behind these patches, and its own are added to them
+abbrev pub AddsRecord : Image → ℕ → List Patch → List Patch → Type 0
+AddsRecord image index old new =
+    (is_open_gate image index ≡ true)
+    × (is_valid (length old) (descriptor_of image index) ≡ true)
+    × (new ≡ old ++ record_at image index (length old))

@@ -24,7 +24,7 @@ pub record IsRing (rs : List Record) : Type 0 where
 
 -- The ring is what a device has: its records are the open ones there, every other gate reads closed, and no sector of the
 -- journal is loose.
-pub record IsAt (rs : List Record) (v : View) : Type 0 where
+pub record IsRingAt (rs : List Record) (v : View) : Type 0 where
   pub shows : open_records v.reads ≡ rs
   pub others_closed : (index : ℕ) → length rs ≤ index → index < records → is_open_gate v.reads index ≡ false
   pub journal_firm : (n : ℕ) → is_journal n ≡ true → v.loose n ≡ false
@@ -50,9 +50,9 @@ abbrev pub commit_writes : List Record → List Patch → ℕ
 commit_writes rs batch = cond (length batch == 0) 0 (length batch + 2 + cond (is_full_for rs (length batch)) (checkpoint_writes rs) 0)
 
 -- what a replay answers where these records are open
-abbrev pub IsFound : List Record → Replayed → Type 0
-IsFound rs Nothing = rs ≡ []
-IsFound rs (Homes count) = (rs ≢ []) × (count ≡ distinct_homes rs)
+abbrev pub IsReplayFound : List Record → Replayed → Type 0
+IsReplayFound rs Nothing = rs ≡ []
+IsReplayFound rs (Homes count) = (rs ≢ []) × (count ≡ distinct_homes rs)
 
 -- how many gates read open, also behind a closed one
 abbrev pub open_gates : Image → ℕ

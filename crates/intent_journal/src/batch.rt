@@ -1,6 +1,7 @@
 //! Batches: new bytes for some sectors, to be put in place as one.
 
-ghost use Rattle.std.specs.Prelude.{◌≡◌, ◌==◌, ◌⊎◌, ◌<◌, ◌≤◌, ◌+◌, [], length, true, false, IsTrue, IfOk, OnOk, OnErr, position};
+ghost use Rattle.std.specs.Prelude.{◌≡◌, ◌==◌, ◌⊎◌, ◌<◌, ◌≤◌, ◌+◌, [], length, true};
+ghost use Rattle.std.specs.Prelude.{false, IsTrue, IfOk, OnOk, OnErr, position};
 ghost use Rattle.image_layout.specs.Ring.{bodies};
 ghost use Rattle.intent_journal.specs.Homes.{is_lawful_home};
 
@@ -14,8 +15,8 @@ use tsd_model::NoMemory;
 #[derive(Clone, Copy, Debug, PartialEq, Eq)]
 pub struct BatchFull;
 
-/// New bytes for up to 113 distinct homes. Contracts see it as the list of its patches, in the order in which their homes
-/// were first put.
+/// New bytes for up to 113 distinct homes. Contracts see it as the list of its patches, in the order in which their
+/// homes were first put.
 #[derive(Drop)]
 pub struct Batch {
     patches: PatchList,

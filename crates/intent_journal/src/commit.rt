@@ -1,15 +1,17 @@
 //! Commits: a whole batch counts, or nothing of it.
 
-ghost use Rattle.std.specs.Prelude.{◌≡◌, ◌≢◌, ◌≤◌, ◌<◌, ◌+◌, ◌-◌, ◌==◌, ◌||◌, [], ◌∷◌, ◌++◌, ◌⊎◌, ℕ, length, true, false, cond, slice_get, Some, OnOk, OnErr};
+ghost use Rattle.std.specs.Prelude.{◌≡◌, ◌≢◌, ◌≤◌, ◌<◌, ◌+◌, ◌-◌, ◌==◌, ◌||◌, []};
+ghost use Rattle.std.specs.Prelude.{◌∷◌, ◌++◌, ◌⊎◌, ℕ, length, true, false, cond, slice_get, Some};
+ghost use Rattle.std.specs.Prelude.{OnOk, OnErr};
 ghost use Rattle.image_device.specs.Calls.{Uses};
-ghost use Rattle.image_device.specs.Counts.{Rose};
+ghost use Rattle.image_device.specs.Counts.{CountsFault};
 ghost use Rattle.image_device.specs.Runs.{IsConfined, IsFirm, LeavesOnly};
 ghost use Rattle.image_layout.specs.Ring.{records, bodies, gate_sector, descriptor_sector, body_sector};
 ghost use Rattle.image_layout.specs.declared.place.Patch.{Patch};
 ghost use Rattle.intent_journal.specs.Batch.{IsBatch, homes_of};
 ghost use Rattle.intent_journal.specs.Descriptor.{descriptor_bytes};
 ghost use Rattle.intent_journal.specs.Home.{home, overlaid, is_journal, AgreeBut};
-ghost use Rattle.intent_journal.specs.Ring.{IsAt, is_full_for, committed, commit_writes, checkpoint_writes};
+ghost use Rattle.intent_journal.specs.Ring.{IsRingAt, is_full_for, committed, commit_writes, checkpoint_writes};
 ghost use Rattle.intent_journal.specs.Closing.{is_body_of, is_in_record};
 ghost use Rattle.intent_journal.specs.Written.{IsWritten};
 ghost use Rattle.intent_journal.specs.Crash.{IsBefore, IsBeforeOrAfter};
@@ -24,27 +26,29 @@ use image_layout::ring::{BODIES, RECORDS, body_sector, descriptor_sector, gate_s
 
 impl Ring {
     /// Makes a whole batch count, or nothing of it. An empty batch writes nothing but syncs, and for any other a ring
-    /// without room is emptied first. `Failed` comes only where the device's count of faults rose; the ring is then as it
-    /// was, or emptied where it had no room. Ok leaves that count as it was.
+    /// without room is emptied first. `Failed` comes only where the device's count of faults rose; the ring is then as
+    /// it was, or emptied where it had no room. Ok leaves that count as it was.
     pub fn commit<D: Device>(&mut self, dev: &mut D, batch: &Batch) -> Result<(), Failed>
-        requires { D.told → IsAt self.old (D.view dev.old) }
-        ensures at { D.told → OnOk result (IsAt self.new (D.view dev.new)) }
+        requires { D.told → IsRingAt self.old (D.view dev.old) }
+        ensures at { D.told → OnOk result (IsRingAt self.new (D.view dev.new)) }
         ensures records { OnOk result (self.new ≡ committed self.old batch.now) }
-        ensures kept { OnErr result ((self.new ≡ self.old) ⊎ ((self.new ≡ []) × (is_full_for self.old (length batch.now) ≡ true))) }
-        ensures done { D.told → OnOk result (AgreeBut is_journal (overlaid batch.now (home (D.view dev.old).reads)) (home (D.view dev.new).reads)) }
-        ensures written { D.told → OnOk result (batch.now ≢ [] → IsWritten (length self.new - 1) batch.now (D.view dev.new).reads) }
+        ensures kept { OnErr result ((self.new ≡ self.old)
+            ⊎ ((self.new ≡ []) × (is_full_for self.old (length batch.now) ≡ true))) }
+        ensures done { D.told → OnOk result (AgreeBut is_journal (overlaid batch.now (home (D.view dev.old).reads))
+            (home (D.view dev.new).reads)) }
+        ensures written { D.told → OnOk result (batch.now ≢ [] → IsWritten (length self.new - 1) batch.now
+            (D.view dev.new).reads) }
         ensures firm { D.told → OnOk result (IsFirm (D.view dev.new)) }
         ensures sent { D.told → (D.view dev.new).sent ≡ (D.view dev.old).sent }
 
-        // A crash at any moment leaves what the disk stood for before, but in sectors that were loose, or that with the whole
-        // batch in place.
+        // A crash at any moment leaves what the disk stood for before, but in sectors that were loose, or that with the
+        // whole batch in place.
         ensures any_moment { D.told → LeavesOnly (D.view dev.old) (D.view dev.new)
             (λ x f. IsBeforeOrAfter batch.now (D.view dev.old) x × (f ≡ (D.view dev.old).sent)) }
 
         ensures uses { Uses (commit_writes self.old batch.now) (D.view dev.old) (D.view dev.new) }
         ensures most { checkpoint_writes self.old ≤ 121 }
-        ensures faultless { OnOk result ((D.view dev.new).faults ≡ (D.view dev.old).faults) }
-        ensures cause { OnErr result (Rose (D.view dev.old).faults (D.view dev.new).faults) }
+        ensures faults { CountsFault result (D.view dev.old).faults (D.view dev.new).faults }
     {
         // So many records and bodies as a ring has are put in place by at most 121 writes.
         let _records = self.records();
@@ -58,20 +62,22 @@ impl Ring {
 
     /// Empties the ring where it has no room for a batch of so many bodies.
     fn make_room<D: Device>(&mut self, dev: &mut D, len: u32) -> Result<(), Failed>
-        requires at { D.told → IsAt self.old (D.view dev.old) }
+        requires at { D.told → IsRingAt self.old (D.view dev.old) }
         requires few { len ≤ bodies }
-        ensures at { D.told → OnOk result (IsAt self.new (D.view dev.new)) }
+        ensures at { D.told → OnOk result (IsRingAt self.new (D.view dev.new)) }
         ensures records { OnOk result (self.new ≡ cond (is_full_for self.old len) [] self.old) }
         ensures room { OnOk result (is_full_for self.new len ≡ false) }
         ensures kept { OnErr result (self.new ≡ self.old) }
-        ensures same { D.told → OnOk result (AgreeBut is_journal (home (D.view dev.old).reads) (home (D.view dev.new).reads)) }
-        ensures loose { D.told → OnOk result ((n : ℕ) → (D.view dev.old).loose n ≡ false → (D.view dev.new).loose n ≡ false) }
+        ensures same { D.told → OnOk result (AgreeBut is_journal (home (D.view dev.old).reads)
+            (home (D.view dev.new).reads)) }
+        ensures loose { D.told → OnOk result ((n : ℕ) → (D.view dev.old).loose n ≡ false
+            → (D.view dev.new).loose n ≡ false) }
         ensures sent { D.told → (D.view dev.new).sent ≡ (D.view dev.old).sent }
         ensures any_moment { D.told → LeavesOnly (D.view dev.old) (D.view dev.new)
             (λ x f. IsBefore (D.view dev.old) x × (f ≡ (D.view dev.old).sent)) }
-        ensures uses { Uses (cond (is_full_for self.old len) (checkpoint_writes self.old) 0) (D.view dev.old) (D.view dev.new) }
-        ensures faultless { OnOk result ((D.view dev.new).faults ≡ (D.view dev.old).faults) }
-        ensures cause { OnErr result (Rose (D.view dev.old).faults (D.view dev.new).faults) }
+        ensures uses { Uses (cond (is_full_for self.old len) (checkpoint_writes self.old) 0) (D.view dev.old)
+            (D.view dev.new) }
+        ensures faults { CountsFault result (D.view dev.old).faults (D.view dev.new).faults }
     {
         if self.is_full_for(len) {
             self.checkpoint(dev)
@@ -90,21 +96,21 @@ impl Ring {
 
     /// Commits a batch for which there is room.
     fn add<D: Device>(&mut self, dev: &mut D, batch: &Batch) -> Result<(), Failed>
-        requires at { D.told → IsAt self.old (D.view dev.old) }
+        requires at { D.told → IsRingAt self.old (D.view dev.old) }
         requires some { batch.now ≢ [] }
         requires room { is_full_for self.old (length batch.now) ≡ false }
-        ensures at { D.told → OnOk result (IsAt self.new (D.view dev.new)) }
+        ensures at { D.told → OnOk result (IsRingAt self.new (D.view dev.new)) }
         ensures records { OnOk result (self.new ≡ self.old ++ batch.now ∷ []) }
         ensures kept { OnErr result (self.new ≡ self.old) }
-        ensures done { D.told → OnOk result (AgreeBut is_journal (overlaid batch.now (home (D.view dev.old).reads)) (home (D.view dev.new).reads)) }
+        ensures done { D.told → OnOk result (AgreeBut is_journal (overlaid batch.now (home (D.view dev.old).reads))
+            (home (D.view dev.new).reads)) }
         ensures written { D.told → OnOk result (IsWritten (length self.old) batch.now (D.view dev.new).reads) }
         ensures firm { D.told → OnOk result (IsFirm (D.view dev.new)) }
         ensures sent { D.told → (D.view dev.new).sent ≡ (D.view dev.old).sent }
         ensures any_moment { D.told → LeavesOnly (D.view dev.old) (D.view dev.new)
             (λ x f. IsBeforeOrAfter batch.now (D.view dev.old) x × (f ≡ (D.view dev.old).sent)) }
         ensures uses { Uses (length batch.now + 2) (D.view dev.old) (D.view dev.new) }
-        ensures faultless { OnOk result ((D.view dev.new).faults ≡ (D.view dev.old).faults) }
-        ensures cause { OnErr result (Rose (D.view dev.old).faults (D.view dev.new).faults) }
+        ensures faults { CountsFault result (D.view dev.old).faults (D.view dev.new).faults }
     {
         // The record first, behind its closed gate: the gate may be opened only once the record is whole.
         write_record(dev, self.records(), self.bodies(), batch)?;
@@ -124,13 +130,15 @@ fn write_record<D: Device>(dev: &mut D, index: u32, start: u32, batch: &Batch) -
     requires record { index < records }
     requires room { start + length batch.now ≤ bodies }
     ensures batch { IsBatch batch.now }
-    ensures bodies { D.told → OnOk result ((k : ℕ) (p : Patch) → slice_get batch.now k ≡ Some p → (D.view dev.new).reads (body_sector (start + k)) ≡ p.bytes) }
-    ensures descriptor { D.told → OnOk result ((D.view dev.new).reads (descriptor_sector index) ≡ descriptor_bytes (homes_of batch.now)) }
+    ensures bodies { D.told → OnOk result ((k : ℕ) (p : Patch) → slice_get batch.now k ≡ Some p
+        → (D.view dev.new).reads (body_sector (start + k)) ≡ p.bytes) }
+    ensures descriptor { D.told → OnOk result ((D.view dev.new).reads (descriptor_sector index) ≡ descriptor_bytes
+        (homes_of batch.now)) }
     ensures firm { D.told → OnOk result (IsFirm (D.view dev.new)) }
-    ensures confined { D.told → IsConfined (is_in_record index start (length batch.now)) (D.view dev.old) (D.view dev.new) }
+    ensures confined { D.told → IsConfined (is_in_record index start (length batch.now)) (D.view dev.old)
+        (D.view dev.new) }
     ensures uses { Uses (length batch.now + 1) (D.view dev.old) (D.view dev.new) }
-    ensures faultless { OnOk result ((D.view dev.new).faults ≡ (D.view dev.old).faults) }
-    ensures cause { OnErr result (Rose (D.view dev.old).faults (D.view dev.new).faults) }
+    ensures faults { CountsFault result (D.view dev.old).faults (D.view dev.new).faults }
 {
     write_bodies(dev, start, batch.patches())?;
     dev.write(descriptor_sector(index), &write_descriptor(batch.patches()))?;
@@ -141,11 +149,11 @@ fn write_record<D: Device>(dev: &mut D, index: u32, start: u32, batch: &Batch) -
 #[tactic(auto, using(image_device::proofs::Confined::confined_calls))]
 fn write_bodies<D: Device>(dev: &mut D, start: u32, patches: &[Patch]) -> Result<(), Failed>
     requires { start + length patches.now ≤ bodies }
-    ensures bodies { D.told → OnOk result ((k : ℕ) (p : Patch) → slice_get patches.now k ≡ Some p → (D.view dev.new).reads (body_sector (start + k)) ≡ p.bytes) }
+    ensures bodies { D.told → OnOk result ((k : ℕ) (p : Patch) → slice_get patches.now k ≡ Some p
+        → (D.view dev.new).reads (body_sector (start + k)) ≡ p.bytes) }
     ensures confined { D.told → IsConfined (is_body_of start (length patches.now)) (D.view dev.old) (D.view dev.new) }
     ensures uses { Uses (length patches.now) (D.view dev.old) (D.view dev.new) }
-    ensures faultless { OnOk result ((D.view dev.new).faults ≡ (D.view dev.old).faults) }
-    ensures cause { OnErr result (Rose (D.view dev.old).faults (D.view dev.new).faults) }
+    ensures faults { CountsFault result (D.view dev.old).faults (D.view dev.new).faults }
 {
     let mut body = start;
     for patch in patches {

@@ -7,7 +7,8 @@
 //!
 //! Numbers have their lowest byte first. What stands behind the last home is zero, and isn't read.
 
-ghost use Rattle.std.specs.Prelude.{◌≡◌, ◌+◌, ◌≤◌, ◌++◌, length, take, drop, map, true, false, MatchOption};
+ghost use Rattle.std.specs.Prelude.{◌≡◌, ◌+◌, ◌≤◌, ◌++◌, length, take, drop, map, true, false};
+ghost use Rattle.std.specs.Prelude.{MatchOption};
 ghost use Rattle.std.specs.List.{list_all, range_with_len};
 ghost use Rattle.byteorder.specs.Endian.{little_from, little_bytes};
 ghost use Rattle.image_layout.specs.Ring.{bodies};
@@ -61,13 +62,14 @@ pub(crate) fn write_descriptor(patches: &[Patch]) -> [u8; SECTOR_BYTES]
     sector
 }
 
-/// The homes in a descriptor whose bodies begin at this one. None exactly where it isn't valid: it has a home, there is a
-/// body for each, and they are distinct and lawful.
+/// The homes in a descriptor whose bodies begin at this one. None exactly where it isn't valid: it has a home, there is
+/// a body for each, and they are distinct and lawful.
 pub(crate) fn read_descriptor(
     sector: &[u8; SECTOR_BYTES],
     start: u32,
 ) -> Option<ArrayVec<u32, MOST_HOMES>>
-    ensures { MatchOption result (is_valid start sector.now ≡ false) (λ homes. (is_valid start sector.now ≡ true) × (homes.items ≡ homes_in sector.now)) }
+    ensures { MatchOption result (is_valid start sector.now ≡ false) (λ homes. (is_valid start sector.now ≡ true)
+        × (homes.items ≡ homes_in sector.now)) }
 {
     let count = number_in(sector, 0);
     if count == 0 || BODIES < count || BODIES - count < start {

@@ -1,16 +1,17 @@
 //! Replays: the open records that a disk has are put in place, and its gates are closed.
 
-ghost use Rattle.std.specs.Prelude.{◌≡◌, ◌≤◌, ◌<◌, ◌+◌, ◌++◌, [], ℕ, length, map, true, false, slice_index, OnOk, OnErr, IfOk, IsErrOf};
-ghost use Rattle.std.specs.List.{range_with_len};
+ghost use Rattle.std.specs.Prelude.{◌≡◌, ◌≤◌, ◌<◌, ◌+◌, ◌++◌, [], ℕ, length, true};
+ghost use Rattle.std.specs.Prelude.{false, OnOk, OnErr, IfOk, IsErrOf};
 ghost use Rattle.image_device.specs.Image.{Image};
 ghost use Rattle.image_device.specs.Calls.{Rests, Uses};
-ghost use Rattle.image_device.specs.Counts.{Rose};
+ghost use Rattle.image_device.specs.Counts.{CountsFault, CountsFaultOf};
 ghost use Rattle.image_device.specs.Runs.{IsFirm, LeavesOnly};
 ghost use Rattle.image_layout.specs.Ring.{records, bodies, gate_sector, body_sector};
-ghost use Rattle.intent_journal.specs.Descriptor.{homes_in, is_valid};
+ghost use Rattle.intent_journal.specs.Descriptor.{is_valid};
 ghost use Rattle.intent_journal.specs.Home.{home, is_journal, AgreeBut};
-ghost use Rattle.intent_journal.specs.Records.{patches_of, open_records, is_open_gate, descriptor_of, has_valid_records, record_at};
-ghost use Rattle.intent_journal.specs.Ring.{IsAt, IsFound, distinct_homes, replay_writes};
+ghost use Rattle.intent_journal.specs.Records.{patches_of, open_records, is_open_gate, descriptor_of};
+ghost use Rattle.intent_journal.specs.Records.{has_valid_records, bodied, AddsRecord, HasHomes, IsBadRecord};
+ghost use Rattle.intent_journal.specs.Ring.{IsRingAt, IsReplayFound, distinct_homes, replay_writes};
 ghost use Rattle.intent_journal.specs.Closing.{is_listed_open};
 ghost use Rattle.intent_journal.specs.Written.{ClosesGates};
 ghost use Rattle.intent_journal.specs.Crash.{IsTheSame};
@@ -25,16 +26,17 @@ use image_layout::gate::is_open;
 use image_layout::ring::{RECORDS, body_sector, descriptor_sector, gate_sector};
 
 impl Ring {
-    /// Puts the open records of a disk in place and closes the gates that are open. Nothing may be loose. Whatever the ring
-    /// held before, it is empty after. `BadDescriptor` comes exactly where an open record has no valid descriptor, and then
-    /// nothing was written; `Device` comes only where the device's count of faults rose.
+    /// Puts the open records of a disk in place and closes the gates that are open. Nothing may be loose. Whatever the
+    /// ring held before, it is empty after. `BadDescriptor` comes exactly where an open record has no valid descriptor,
+    /// and then nothing was written; `Device` comes only where the device's count of faults rose.
     pub fn replay<D: Device>(&mut self, dev: &mut D) -> Result<Replayed, ReplayFault>
         requires { D.told → IsFirm (D.view dev.old) }
         ensures empty { self.new ≡ [] }
-        ensures at { D.told → OnOk result (IsAt [] (D.view dev.new)) }
-        ensures found { D.told → IfOk result (λ r. IsFound (open_records (D.view dev.old).reads) r) }
+        ensures at { D.told → OnOk result (IsRingAt [] (D.view dev.new)) }
+        ensures found { D.told → IfOk result (λ r. IsReplayFound (open_records (D.view dev.old).reads) r) }
         ensures valid { D.told → OnOk result (has_valid_records (D.view dev.old).reads ≡ true) }
-        ensures bad { D.told → IsErrOf result ReplayFault.BadDescriptor → (has_valid_records (D.view dev.old).reads ≡ false) × Rests (D.view dev.old) (D.view dev.new) }
+        ensures bad { D.told → IsErrOf result ReplayFault.BadDescriptor
+            → (has_valid_records (D.view dev.old).reads ≡ false) × Rests (D.view dev.old) (D.view dev.new) }
         ensures unwritten { IsErrOf result ReplayFault.BadDescriptor → Uses 0 (D.view dev.old) (D.view dev.new) }
         ensures done { D.told → OnOk result (AgreeBut is_journal (home (D.view dev.old).reads) (D.view dev.new).reads) }
         ensures gates { D.told → OnOk result (ClosesGates (D.view dev.old).reads (D.view dev.new).reads) }
@@ -47,9 +49,7 @@ impl Ring {
 
         ensures uses { Uses 121 (D.view dev.old) (D.view dev.new) }
         ensures needed { D.told → Uses (replay_writes (D.view dev.old).reads) (D.view dev.old) (D.view dev.new) }
-        ensures faultless { OnOk result ((D.view dev.new).faults ≡ (D.view dev.old).faults) }
-        ensures bad_faultless { IsErrOf result ReplayFault.BadDescriptor → (D.view dev.new).faults ≡ (D.view dev.old).faults }
-        ensures cause { IsErrOf result ReplayFault.Device → Rose (D.view dev.old).faults (D.view dev.new).faults }
+        ensures faults { CountsFaultOf ReplayFault.Device result (D.view dev.old).faults (D.view dev.new).faults }
     {
         self.counts.clear();
         self.patches.clear();
@@ -60,9 +60,9 @@ impl Ring {
 }
 
 impl Ring {
-    /// Reads what a sector is to hold once the open records of a disk are in place, and writes nothing. Whatever it held
-    /// before, the ring is empty after. `Device` comes only where the device's count of faults rose. After an error `into`
-    /// is as it was.
+    /// Reads what a sector is to hold once the open records of a disk are in place, and writes nothing. Whatever it
+    /// held before, the ring is empty after. `Device` comes only where the device's count of faults rose. After an
+    /// error `into` is as it was.
     pub fn look<D: Device>(
         &mut self,
         dev: &mut D,
@@ -73,12 +73,11 @@ impl Ring {
         ensures bytes { D.told → OnOk result (into.new ≡ home (D.view dev.old).reads sector) }
         ensures kept { OnErr result (into.new ≡ into.old) }
         ensures valid { D.told → OnOk result (has_valid_records (D.view dev.old).reads ≡ true) }
-        ensures bad { D.told → IsErrOf result ReplayFault.BadDescriptor → has_valid_records (D.view dev.old).reads ≡ false }
+        ensures bad { D.told → IsErrOf result ReplayFault.BadDescriptor → has_valid_records (D.view dev.old).reads
+            ≡ false }
         ensures rests { D.told → Rests (D.view dev.old) (D.view dev.new) }
         ensures uses { Uses 0 (D.view dev.old) (D.view dev.new) }
-        ensures faultless { OnOk result ((D.view dev.new).faults ≡ (D.view dev.old).faults) }
-        ensures bad_faultless { IsErrOf result ReplayFault.BadDescriptor → (D.view dev.new).faults ≡ (D.view dev.old).faults }
-        ensures cause { IsErrOf result ReplayFault.Device → Rose (D.view dev.old).faults (D.view dev.new).faults }
+        ensures faults { CountsFaultOf ReplayFault.Device result (D.view dev.old).faults (D.view dev.new).faults }
     {
         self.counts.clear();
         self.patches.clear();
@@ -100,12 +99,11 @@ fn look_through<D: Device>(
     ensures bytes { D.told → OnOk result (into.new ≡ home (D.view dev.old).reads sector) }
     ensures kept { OnErr result (into.new ≡ into.old) }
     ensures valid { D.told → OnOk result (has_valid_records (D.view dev.old).reads ≡ true) }
-    ensures bad { D.told → IsErrOf result ReplayFault.BadDescriptor → has_valid_records (D.view dev.old).reads ≡ false }
+    ensures bad { D.told → IsErrOf result ReplayFault.BadDescriptor → has_valid_records (D.view dev.old).reads
+        ≡ false }
     ensures rests { D.told → Rests (D.view dev.old) (D.view dev.new) }
     ensures uses { Uses 0 (D.view dev.old) (D.view dev.new) }
-    ensures faultless { OnOk result ((D.view dev.new).faults ≡ (D.view dev.old).faults) }
-    ensures bad_faultless { IsErrOf result ReplayFault.BadDescriptor → (D.view dev.new).faults ≡ (D.view dev.old).faults }
-    ensures cause { IsErrOf result ReplayFault.Device → Rose (D.view dev.old).faults (D.view dev.new).faults }
+    ensures faults { CountsFaultOf ReplayFault.Device result (D.view dev.old).faults (D.view dev.new).faults }
 {
     read_records(dev, patches)?;
     read_over(dev, patches.as_slice(), sector, into)?;
@@ -116,10 +114,11 @@ fn look_through<D: Device>(
 fn replay_into<D: Device>(dev: &mut D, patches: &mut PatchList) -> Result<Replayed, ReplayFault>
     requires none { patches.old ≡ [] }
     requires firm { D.told → IsFirm (D.view dev.old) }
-    ensures at { D.told → OnOk result (IsAt [] (D.view dev.new)) }
-    ensures found { D.told → IfOk result (λ r. IsFound (open_records (D.view dev.old).reads) r) }
+    ensures at { D.told → OnOk result (IsRingAt [] (D.view dev.new)) }
+    ensures found { D.told → IfOk result (λ r. IsReplayFound (open_records (D.view dev.old).reads) r) }
     ensures valid { D.told → OnOk result (has_valid_records (D.view dev.old).reads ≡ true) }
-    ensures bad { D.told → IsErrOf result ReplayFault.BadDescriptor → (has_valid_records (D.view dev.old).reads ≡ false) × Rests (D.view dev.old) (D.view dev.new) }
+    ensures bad { D.told → IsErrOf result ReplayFault.BadDescriptor
+        → (has_valid_records (D.view dev.old).reads ≡ false) × Rests (D.view dev.old) (D.view dev.new) }
     ensures unwritten { IsErrOf result ReplayFault.BadDescriptor → Uses 0 (D.view dev.old) (D.view dev.new) }
     ensures done { D.told → OnOk result (AgreeBut is_journal (home (D.view dev.old).reads) (D.view dev.new).reads) }
     ensures gates { D.told → OnOk result (ClosesGates (D.view dev.old).reads (D.view dev.new).reads) }
@@ -129,9 +128,7 @@ fn replay_into<D: Device>(dev: &mut D, patches: &mut PatchList) -> Result<Replay
         (λ x f. IsTheSame (D.view dev.old).reads x × (f ≡ (D.view dev.old).sent)) }
     ensures uses { Uses 121 (D.view dev.old) (D.view dev.new) }
     ensures needed { D.told → Uses (replay_writes (D.view dev.old).reads) (D.view dev.old) (D.view dev.new) }
-    ensures faultless { OnOk result ((D.view dev.new).faults ≡ (D.view dev.old).faults) }
-    ensures bad_faultless { IsErrOf result ReplayFault.BadDescriptor → (D.view dev.new).faults ≡ (D.view dev.old).faults }
-    ensures cause { IsErrOf result ReplayFault.Device → Rose (D.view dev.old).faults (D.view dev.new).faults }
+    ensures faults { CountsFaultOf ReplayFault.Device result (D.view dev.old).faults (D.view dev.new).faults }
 {
     read_records(dev, patches)?;
     let gates = read_gates(dev)?;
@@ -141,7 +138,8 @@ fn replay_into<D: Device>(dev: &mut D, patches: &mut PatchList) -> Result<Replay
 
 /// What a replay answers that wrote to so many homes.
 fn found(homes: u32) -> Replayed
-    ensures { (image : Image) → homes ≡ distinct_homes (open_records image) → IsFound (open_records image) result }
+    ensures { (image : Image) → homes ≡ distinct_homes (open_records image)
+        → IsReplayFound (open_records image) result }
 {
     if homes == 0 {
         Replayed::Nothing
@@ -156,12 +154,11 @@ fn read_records<D: Device>(dev: &mut D, patches: &mut PatchList) -> Result<(), R
     requires { patches.old ≡ [] }
     ensures found { D.told → OnOk result (patches.new ≡ patches_of (open_records (D.view dev.old).reads)) }
     ensures valid { D.told → OnOk result (has_valid_records (D.view dev.old).reads ≡ true) }
-    ensures bad { D.told → IsErrOf result ReplayFault.BadDescriptor → has_valid_records (D.view dev.old).reads ≡ false }
+    ensures bad { D.told → IsErrOf result ReplayFault.BadDescriptor → has_valid_records (D.view dev.old).reads
+        ≡ false }
     ensures rests { D.told → Rests (D.view dev.old) (D.view dev.new) }
     ensures uses { Uses 0 (D.view dev.old) (D.view dev.new) }
-    ensures faultless { OnOk result ((D.view dev.new).faults ≡ (D.view dev.old).faults) }
-    ensures bad_faultless { IsErrOf result ReplayFault.BadDescriptor → (D.view dev.new).faults ≡ (D.view dev.old).faults }
-    ensures cause { IsErrOf result ReplayFault.Device → Rose (D.view dev.old).faults (D.view dev.new).faults }
+    ensures faults { CountsFaultOf ReplayFault.Device result (D.view dev.old).faults (D.view dev.new).faults }
 {
     for index in 0..RECORDS {
         if !read_record(dev, index, patches)? {
@@ -179,17 +176,15 @@ fn read_record<D: Device>(
     patches: &mut PatchList,
 ) -> Result<bool, ReplayFault>
     requires { index < records }
-    ensures closed { D.told → IfOk result (λ more. more ≡ false → (is_open_gate (D.view dev.old).reads index ≡ false) × (patches.new ≡ patches.old)) }
-    ensures more { D.told → IfOk result (λ more. more ≡ true → (is_open_gate (D.view dev.old).reads index ≡ true)
-        × (is_valid (length patches.old) (descriptor_of (D.view dev.old).reads index) ≡ true)
-        × (patches.new ≡ patches.old ++ record_at (D.view dev.old).reads index (length patches.old))) }
-    ensures bad { D.told → IsErrOf result ReplayFault.BadDescriptor → (is_open_gate (D.view dev.old).reads index ≡ true)
-        × (is_valid (length patches.old) (descriptor_of (D.view dev.old).reads index) ≡ false) }
+    ensures closed { D.told → IfOk result (λ more. more ≡ false
+        → (is_open_gate (D.view dev.old).reads index ≡ false) × (patches.new ≡ patches.old)) }
+    ensures more { D.told → IfOk result (λ more. more ≡ true
+        → AddsRecord (D.view dev.old).reads index patches.old patches.new) }
+    ensures bad { D.told → IsErrOf result ReplayFault.BadDescriptor
+        → IsBadRecord (D.view dev.old).reads index (length patches.old) }
     ensures rests { D.told → Rests (D.view dev.old) (D.view dev.new) }
     ensures uses { Uses 0 (D.view dev.old) (D.view dev.new) }
-    ensures faultless { OnOk result ((D.view dev.new).faults ≡ (D.view dev.old).faults) }
-    ensures bad_faultless { IsErrOf result ReplayFault.BadDescriptor → (D.view dev.new).faults ≡ (D.view dev.old).faults }
-    ensures cause { IsErrOf result ReplayFault.Device → Rose (D.view dev.old).faults (D.view dev.new).faults }
+    ensures faults { CountsFaultOf ReplayFault.Device result (D.view dev.old).faults (D.view dev.new).faults }
 {
     if !is_gate_open(dev, index)? {
         return Ok(false);
@@ -207,15 +202,13 @@ fn read_homes<D: Device>(
     start: u32,
 ) -> Result<ArrayVec<u32, MOST_HOMES>, ReplayFault>
     requires { index < records }
-    ensures valid { D.told → IfOk result (λ homes. (is_valid start (descriptor_of (D.view dev.old).reads index) ≡ true)
-        × (homes.items ≡ homes_in (descriptor_of (D.view dev.old).reads index))) }
+    ensures valid { D.told → IfOk result (λ homes. HasHomes (D.view dev.old).reads index start homes.items) }
     ensures room { IfOk result (λ homes. start + length homes.items ≤ bodies) }
-    ensures bad { D.told → IsErrOf result ReplayFault.BadDescriptor → is_valid start (descriptor_of (D.view dev.old).reads index) ≡ false }
+    ensures bad { D.told → IsErrOf result ReplayFault.BadDescriptor
+        → is_valid start (descriptor_of (D.view dev.old).reads index) ≡ false }
     ensures rests { D.told → Rests (D.view dev.old) (D.view dev.new) }
     ensures uses { Uses 0 (D.view dev.old) (D.view dev.new) }
-    ensures faultless { OnOk result ((D.view dev.new).faults ≡ (D.view dev.old).faults) }
-    ensures bad_faultless { IsErrOf result ReplayFault.BadDescriptor → (D.view dev.new).faults ≡ (D.view dev.old).faults }
-    ensures cause { IsErrOf result ReplayFault.Device → Rose (D.view dev.old).faults (D.view dev.new).faults }
+    ensures faults { CountsFaultOf ReplayFault.Device result (D.view dev.old).faults (D.view dev.new).faults }
 {
     let mut sector = [0; 512];
     dev.read(descriptor_sector(index), &mut sector)?;
@@ -230,12 +223,10 @@ fn read_homes<D: Device>(
 fn read_bodies<D: Device>(dev: &mut D, homes: &[u32], patches: &mut PatchList) -> Result<(), Failed>
     requires { length patches.old + length homes.now ≤ bodies }
     ensures read { D.told → OnOk result (patches.new ≡ patches.old
-        ++ map (λ k. record { sector = slice_index homes.now k; bytes = (D.view dev.old).reads (body_sector (length patches.old + k)) })
-        (range_with_len 0 (length homes.now))) }
+        ++ bodied (D.view dev.old).reads (length patches.old) homes.now) }
     ensures rests { D.told → Rests (D.view dev.old) (D.view dev.new) }
     ensures uses { Uses 0 (D.view dev.old) (D.view dev.new) }
-    ensures faultless { OnOk result ((D.view dev.new).faults ≡ (D.view dev.old).faults) }
-    ensures cause { OnErr result (Rose (D.view dev.old).faults (D.view dev.new).faults) }
+    ensures faults { CountsFault result (D.view dev.old).faults (D.view dev.new).faults }
 {
     let mut body = [0; 512];
     for home in homes {
@@ -252,8 +243,7 @@ fn is_gate_open<D: Device>(dev: &mut D, index: u32) -> Result<bool, Failed>
     ensures gate { D.told → IfOk result (λ b. b ≡ is_open_gate (D.view dev.old).reads index) }
     ensures rests { D.told → Rests (D.view dev.old) (D.view dev.new) }
     ensures uses { Uses 0 (D.view dev.old) (D.view dev.new) }
-    ensures faultless { OnOk result ((D.view dev.new).faults ≡ (D.view dev.old).faults) }
-    ensures cause { OnErr result (Rose (D.view dev.old).faults (D.view dev.new).faults) }
+    ensures faults { CountsFault result (D.view dev.old).faults (D.view dev.new).faults }
 {
     let mut gate = [0; 512];
     dev.read(gate_sector(index), &mut gate)?;
@@ -263,11 +253,11 @@ fn is_gate_open<D: Device>(dev: &mut D, index: u32) -> Result<bool, Failed>
 /// Reads which gates are open, also those behind a closed one.
 #[tactic(auto, using(image_device::proofs::Resting::rests_calls))]
 fn read_gates<D: Device>(dev: &mut D) -> Result<Gates, Failed>
-    ensures gates { D.told → IfOk result (λ gates. (index : ℕ) → index < records → is_listed_open gates index ≡ is_open_gate (D.view dev.old).reads index) }
+    ensures gates { D.told → IfOk result (λ gates. (index : ℕ) → index < records → is_listed_open gates index
+        ≡ is_open_gate (D.view dev.old).reads index) }
     ensures rests { D.told → Rests (D.view dev.old) (D.view dev.new) }
     ensures uses { Uses 0 (D.view dev.old) (D.view dev.new) }
-    ensures faultless { OnOk result ((D.view dev.new).faults ≡ (D.view dev.old).faults) }
-    ensures cause { OnErr result (Rose (D.view dev.old).faults (D.view dev.new).faults) }
+    ensures faults { CountsFault result (D.view dev.old).faults (D.view dev.new).faults }
 {
     let mut gates = [false; RECORD_PLACES];
     for index in 0..RECORDS {

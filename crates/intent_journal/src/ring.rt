@@ -1,9 +1,10 @@
 //! The ring of records on a disk, as memory holds it.
 
-ghost use Rattle.std.specs.Prelude.{◌≡◌, ◌≤◌, ◌+◌, [], ◌∷◌, ◌++◌, length, false, ◌≢◌, OnOk, OnErr, IfOk, IfSome, IfNone};
+ghost use Rattle.std.specs.Prelude.{◌≡◌, ◌≤◌, ◌+◌, [], ◌∷◌, ◌++◌, length, false, ◌≢◌};
+ghost use Rattle.std.specs.Prelude.{OnOk, OnErr, IfOk, IfSome, IfNone};
 ghost use Rattle.image_device.specs.Image.{Image};
 ghost use Rattle.image_device.specs.Calls.{Rests, Uses};
-ghost use Rattle.image_device.specs.Counts.{Rose};
+ghost use Rattle.image_device.specs.Counts.{CountsFault};
 ghost use Rattle.image_layout.specs.Ring.{records, bodies};
 ghost use Rattle.intent_journal.specs.Batch.{has_home};
 ghost use Rattle.intent_journal.specs.Home.{home, overlaid};
@@ -79,7 +80,7 @@ impl Model for Ring {
 }
 
 impl Ring {
-    ghost use Rattle.intent_journal.specs.Ring.{IsRing, IsAt};
+    ghost use Rattle.intent_journal.specs.Ring.{IsRing, IsRingAt};
 
     /// An empty ring, with room for 113 bodies. This alone takes memory.
     pub fn new(alloc: Global) -> Result<Ring, NoMemory>
@@ -122,13 +123,12 @@ impl Ring {
         sector: u32,
         into: &mut [u8; 512],
     ) -> Result<(), Failed>
-        requires { D.told → IsAt self.now (D.view dev.old) }
+        requires { D.told → IsRingAt self.now (D.view dev.old) }
         ensures bytes { D.told → OnOk result (into.new ≡ home (D.view dev.old).reads sector) }
         ensures kept { OnErr result (into.new ≡ into.old) }
         ensures rests { D.told → Rests (D.view dev.old) (D.view dev.new) }
         ensures uses { Uses 0 (D.view dev.old) (D.view dev.new) }
-        ensures faultless { OnOk result ((D.view dev.new).faults ≡ (D.view dev.old).faults) }
-        ensures cause { OnErr result (Rose (D.view dev.old).faults (D.view dev.new).faults) }
+        ensures faults { CountsFault result (D.view dev.old).faults (D.view dev.new).faults }
     {
         read_over(dev, self.patches.as_slice(), sector, into)
     }
@@ -184,8 +184,7 @@ pub(crate) fn read_over<D: Device>(
     ensures kept { OnErr result (into.new ≡ into.old) }
     ensures rests { D.told → Rests (D.view dev.old) (D.view dev.new) }
     ensures uses { Uses 0 (D.view dev.old) (D.view dev.new) }
-    ensures faultless { OnOk result ((D.view dev.new).faults ≡ (D.view dev.old).faults) }
-    ensures cause { OnErr result (Rose (D.view dev.old).faults (D.view dev.new).faults) }
+    ensures faults { CountsFault result (D.view dev.old).faults (D.view dev.new).faults }
 {
     match last_of(patches, sector) {
         Some(patch) => {

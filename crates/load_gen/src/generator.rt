@@ -27,8 +27,8 @@ const _: () = prove!(CAP_WORDS == 128);
 
 const _: () = prove!(DRAWS_PER_BLOCK == 4);
 
-/// The requests of a seed for a disk of some size, drawn one by one. Contracts see the key of its words, the pairs of the
-/// primary blocks, the size, and how many are drawn.
+/// The requests of a seed for a disk of some size, drawn one by one. Contracts see the key of its words, the pairs of
+/// the primary blocks, the size, and how many are drawn.
 #[derive(Drop)]
 pub struct LoadGen {
     /// From the first word of the next request on.
@@ -40,13 +40,13 @@ pub struct LoadGen {
 
 impl Model for LoadGen {
     ghost use Rattle.load_gen.specs.Load.{Load};
-    ghost use Rattle.load_gen.specs.Words.{IsReady};
+    ghost use Rattle.load_gen.specs.Words.{StandsAtRequest};
 
     ghost Value = { Load };
 
     ghost view = { λ g. record { key = g.words.key; pairs = g.caps; geometry = g.geometry; drawn = g.drawn } };
 
-    ghost invariant = { λ g. IsReady g.words g.geometry g.drawn };
+    ghost invariant = { λ g. StandsAtRequest g.words g.geometry g.drawn };
 }
 
 impl LoadGen {

@@ -82,7 +82,7 @@ abbrev pub IsSecondOut : Start → SideView → Type 0
 IsSecondOut s v = v.faults ≤ s.second_faults → v.syncs ≤ s.second_syncs
 
 -- The counts agree with which sides count.
-pub record Stands (v : SidesView) (s : Start) (c : Serving) : Type 0 where
+pub record CountsAgree (v : SidesView) (s : Start) (c : Serving) : Type 0 where
   -- counts never fell, and no count stood at its end
   pub first_later : s.first_faults ≤ v.first.faults
   pub second_later : s.second_faults ≤ v.second.faults
@@ -113,9 +113,9 @@ pub record LeftIsSound (v : SidesView) (s : Start) (c : Serving) : Type 0 where
   pub second : c ≡ Second → v.second.faults ≤ s.second_faults
 
 -- a side is lost: a call on it failed while the other one was left
-abbrev pub IsLost : Side → Serving → Type 0
-IsLost FirstSide c = c ≡ Second
-IsLost SecondSide c = c ≡ First
+abbrev pub IsSideLost : Side → Serving → Type 0
+IsSideLost FirstSide c = c ≡ Second
+IsSideLost SecondSide c = c ≡ First
 
 -- what holds of the image of each side that is sound in an item and, where neither is, of that of the side that is left
 abbrev pub EachSound : Start → Serving → Item → (Image → Type 0) → Type 0

@@ -84,7 +84,8 @@ impl MemSide {
         ensures image { IsImage (side_view self).reads (side_view self).loose (station_view result).reads }
         ensures old { pick ≡ Pick.Old → (station_view result).reads ≡ synced_side self }
         ensures new { pick ≡ Pick.New → (station_view result).reads ≡ (side_view self).reads }
-        ensures torn { (b : ℕ) → pick ≡ Pick.Torn b → (n : ℕ) → (side_view self).loose n ≡ true → (station_view result).reads n ≡ replicate 512 b }
+        ensures torn { (b : ℕ) → pick ≡ Pick.Torn b → (n : ℕ) → (side_view self).loose n ≡ true
+            → (station_view result).reads n ≡ replicate 512 b }
         ensures unused { IsNew result }
         ensures fail { failing_of result ≡ [] }
     {

@@ -1,6 +1,6 @@
 // Two stations in memory whose calls are numbered together.
 ghost use Rattle.std.specs.Prelude.{◌≡◌};
-ghost use Rattle.image_device.specs.Counts.{raised};
+ghost use Rattle.image_device.specs.Counts.{raised, CountsFault};
 ghost use Rattle.mirror_device.specs.Numbers.{is_listed};
 
 use crate::side::{Seen, Side};
@@ -39,7 +39,8 @@ impl MemSides {
     ghost use Rattle.mirror_device.specs.SidesView.{other, side_of, IsItemNow};
     ghost use Rattle.mirror_device.specs.SideCalls.{SidesElapse};
     ghost use Rattle.mirror_device.specs.MemSide.{blank_side};
-    ghost use Rattle.mirror_device.specs.MemSides.{calls_of, done_of, failing_of, mem_view, short_of, synced_of, IsRecorded};
+    ghost use Rattle.mirror_device.specs.MemSides.{calls_of, done_of, failing_of, mem_view, short_of, synced_of};
+    ghost use Rattle.mirror_device.specs.MemSides.{IsRecorded};
 
     /// Two disks of zeros, with nothing sent. Their calls and the puts are numbered together from 0,
     /// and those in `fail` fail.
@@ -86,8 +87,10 @@ impl MemSides {
     /// Sets a sector of a side as a damaged image would have it, which makes nothing loose. It is no
     /// call of the sides, and `Failed` comes only where `short` rose.
     pub fn poke(&mut self, side: Side, sector: u32, from: &[u8; 512]) -> Result<(), Failed>
-        ensures reads { OnOk result ((side_of side (mem_view self.new)).reads ≡ put_at sector from.now (side_of side (mem_view self.old)).reads) }
-        ensures loose { OnOk result ((side_of side (mem_view self.new)).loose ≡ firmed sector (side_of side (mem_view self.old)).loose) }
+        ensures reads { OnOk result ((side_of side (mem_view self.new)).reads ≡ put_at sector from.now
+            (side_of side (mem_view self.old)).reads) }
+        ensures loose { OnOk result ((side_of side (mem_view self.new)).loose ≡ firmed sector
+            (side_of side (mem_view self.old)).loose) }
         ensures synced { OnOk result (synced_of side self.new ≡ put_at sector from.now (synced_of side self.old)) }
         ensures other_synced { synced_of (other side) self.new ≡ synced_of (other side) self.old }
         ensures others { side_of (other side) (mem_view self.new) ≡ side_of (other side) (mem_view self.old) }
@@ -113,10 +116,12 @@ impl MemSides {
     /// One side as a station with nothing loose and no failing calls. `pick` says what is in the
     /// sectors of the side that were loose.
     pub fn into_side(self, side: Side, pick: Pick) -> MemStation
-        ensures image { IsImage (side_of side (mem_view self)).reads (side_of side (mem_view self)).loose (station_view result).reads }
+        ensures image { IsImage (side_of side (mem_view self)).reads (side_of side (mem_view self)).loose
+            (station_view result).reads }
         ensures old { pick ≡ Pick.Old → (station_view result).reads ≡ synced_of side self }
         ensures new { pick ≡ Pick.New → (station_view result).reads ≡ (side_of side (mem_view self)).reads }
-        ensures torn { (b : ℕ) → pick ≡ Pick.Torn b → (n : ℕ) → (side_of side (mem_view self)).loose n ≡ true → (station_view result).reads n ≡ replicate 512 b }
+        ensures torn { (b : ℕ) → pick ≡ Pick.Torn b → (n : ℕ) → (side_of side (mem_view self)).loose n
+            ≡ true → (station_view result).reads n ≡ replicate 512 b }
         ensures unused { IsNew result }
         ensures fail { station_failing result ≡ [] }
     {
@@ -131,11 +136,13 @@ impl MemSides {
 }
 
 impl Sides for MemSides {
-    ghost use Rattle.std.specs.Prelude.{◌<◌, ◌≤◌, ◌^◌, ◌++◌, ℕ, true, false, length, take, IfOk, IsOk, OnOk, OnErr};
-    ghost use Rattle.image_device.specs.Counts.{Rose};
+    ghost use Rattle.std.specs.Prelude.{◌<◌, ◌≤◌, ◌^◌, ◌++◌, ℕ, true, false, length, take, IfOk};
+    ghost use Rattle.std.specs.Prelude.{IsOk, OnOk, OnErr};
+    ghost use Rattle.image_device.specs.Counts.{Rose, CountsFault};
     ghost use Rattle.image_device.specs.Image.{zeros};
     ghost use Rattle.mirror_device.specs.SidesView.{other, side_of};
-    ghost use Rattle.mirror_device.specs.SideCalls.{IncludesPut, IsSideFirm, SideRests, SideSettles, SideSyncs, SidesAppend, SidesPut, SideTouches, SideUses};
+    ghost use Rattle.mirror_device.specs.SideCalls.{IncludesPut, IsSideFirm, SideRests, SideSettles, SideSyncs};
+    ghost use Rattle.mirror_device.specs.SideCalls.{SidesAppend, SidesPut, SideTouches, SideUses};
     ghost use Rattle.mirror_device.specs.MemSides.{is_failing, mem_sound, mem_view, synced_of, IsCalled, IsRecorded};
 
     ghost told = { Unit {0} };
@@ -149,9 +156,10 @@ impl Sides for MemSides {
         ensures kept { OnErr result (into.new ≡ into.old) }
         ensures rests { SideRests side (mem_view self.old) (mem_view self.new) }
         ensures uses { SideUses side (mem_view self.old) (mem_view self.new) }
-        ensures faultless { OnOk result ((side_of side (mem_view self.new)).faults ≡ (side_of side (mem_view self.old)).faults) }
-        ensures cause { OnErr result (Rose (side_of side (mem_view self.old)).faults (side_of side (mem_view self.new)).faults) }
-        ensures once { IsRecorded self.new → OnErr result ((side_of side (mem_view self.new)).faults ≡ raised (side_of side (mem_view self.old)).faults) }
+        ensures faults { CountsFault result (side_of side (mem_view self.old)).faults
+            (side_of side (mem_view self.new)).faults }
+        ensures once { IsRecorded self.new → OnErr result ((side_of side (mem_view self.new)).faults
+            ≡ raised (side_of side (mem_view self.old)).faults) }
         ensures called { IsCalled self.old self.new result }
         ensures synced { (s : Side) → synced_of s self.new ≡ synced_of s self.old }
         ensures answers { is_failing self.old ≡ false → IsOk result }
@@ -169,9 +177,10 @@ impl Sides for MemSides {
         ensures loose { OnOk result ((side_of side (mem_view self.new)).loose sector ≡ true) }
         ensures touches { SideTouches side sector (mem_view self.old) (mem_view self.new) }
         ensures uses { SideUses side (mem_view self.old) (mem_view self.new) }
-        ensures faultless { OnOk result ((side_of side (mem_view self.new)).faults ≡ (side_of side (mem_view self.old)).faults) }
-        ensures cause { OnErr result (Rose (side_of side (mem_view self.old)).faults (side_of side (mem_view self.new)).faults) }
-        ensures once { IsRecorded self.new → OnErr result ((side_of side (mem_view self.new)).faults ≡ raised (side_of side (mem_view self.old)).faults) }
+        ensures faults { CountsFault result (side_of side (mem_view self.old)).faults
+            (side_of side (mem_view self.new)).faults }
+        ensures once { IsRecorded self.new → OnErr result ((side_of side (mem_view self.new)).faults
+            ≡ raised (side_of side (mem_view self.old)).faults) }
         ensures rests { OnErr result (SideRests side (mem_view self.old) (mem_view self.new)) }
         ensures called { IsCalled self.old self.new result }
         ensures synced { (s : Side) → synced_of s self.new ≡ synced_of s self.old }
@@ -190,14 +199,18 @@ impl Sides for MemSides {
 
     fn sync(&mut self, side: Side) -> Result<(), Failed>
         ensures firm { OnOk result (IsSideFirm side (mem_view self.new)) }
-        ensures loose { OnErr result ((side_of side (mem_view self.new)).loose ≡ (side_of side (mem_view self.old)).loose) }
+        ensures loose { OnErr result ((side_of side (mem_view self.new)).loose
+            ≡ (side_of side (mem_view self.old)).loose) }
         ensures settles { SideSettles side (mem_view self.old) (mem_view self.new) }
         ensures uses { SideSyncs side (mem_view self.old) (mem_view self.new) }
-        ensures synced { OnOk result (Rose (side_of side (mem_view self.old)).syncs (side_of side (mem_view self.new)).syncs) }
-        ensures not_synced { OnErr result ((side_of side (mem_view self.new)).syncs ≡ (side_of side (mem_view self.old)).syncs) }
-        ensures faultless { OnOk result ((side_of side (mem_view self.new)).faults ≡ (side_of side (mem_view self.old)).faults) }
-        ensures cause { OnErr result (Rose (side_of side (mem_view self.old)).faults (side_of side (mem_view self.new)).faults) }
-        ensures once { IsRecorded self.new → OnErr result ((side_of side (mem_view self.new)).faults ≡ raised (side_of side (mem_view self.old)).faults) }
+        ensures synced { OnOk result (Rose (side_of side (mem_view self.old)).syncs
+            (side_of side (mem_view self.new)).syncs) }
+        ensures not_synced { OnErr result ((side_of side (mem_view self.new)).syncs
+            ≡ (side_of side (mem_view self.old)).syncs) }
+        ensures faults { CountsFault result (side_of side (mem_view self.old)).faults
+            (side_of side (mem_view self.new)).faults }
+        ensures once { IsRecorded self.new → OnErr result ((side_of side (mem_view self.new)).faults
+            ≡ raised (side_of side (mem_view self.old)).faults) }
         ensures called { IsCalled self.old self.new result }
         ensures synced_reads { OnOk result (synced_of side self.new ≡ (side_of side (mem_view self.old)).reads) }
         ensures other_synced { synced_of (other side) self.new ≡ synced_of (other side) self.old }
@@ -217,12 +230,14 @@ impl Sides for MemSides {
 
     fn end(&mut self, side: Side) -> Result<u64, Failed>
         ensures range { IfOk result (λ end. end ≤ 2 ^ 32) }
-        ensures zeros { IfOk result (λ end. (n : ℕ) → end ≤ n → (side_of side (mem_view self.old)).reads n ≡ zeros) }
+        ensures zeros { IfOk result (λ end. (n : ℕ) → end ≤ n → (side_of side (mem_view self.old)).reads n
+            ≡ zeros) }
         ensures rests { SideRests side (mem_view self.old) (mem_view self.new) }
         ensures uses { SideUses side (mem_view self.old) (mem_view self.new) }
-        ensures faultless { OnOk result ((side_of side (mem_view self.new)).faults ≡ (side_of side (mem_view self.old)).faults) }
-        ensures cause { OnErr result (Rose (side_of side (mem_view self.old)).faults (side_of side (mem_view self.new)).faults) }
-        ensures once { IsRecorded self.new → OnErr result ((side_of side (mem_view self.new)).faults ≡ raised (side_of side (mem_view self.old)).faults) }
+        ensures faults { CountsFault result (side_of side (mem_view self.old)).faults
+            (side_of side (mem_view self.new)).faults }
+        ensures once { IsRecorded self.new → OnErr result ((side_of side (mem_view self.new)).faults
+            ≡ raised (side_of side (mem_view self.old)).faults) }
         ensures called { IsCalled self.old self.new result }
         ensures synced { (s : Side) → synced_of s self.new ≡ synced_of s self.old }
         ensures answers { is_failing self.old ≡ false → IsOk result }
@@ -241,13 +256,14 @@ impl Sides for MemSides {
     fn put(&mut self, piece: &[u8]) -> Result<usize, Failed>
         requires { 0 < length piece.now }
         ensures some { IfOk result (λ count. (0 < count) × (count ≤ length piece.now)) }
-        ensures sent { IfOk result (λ count. (mem_view self.new).sent ≡ (mem_view self.old).sent ++ take count piece.now) }
-        ensures part { OnErr result ((count : ℕ) × (count < length piece.now) × ((mem_view self.new).sent ≡ (mem_view self.old).sent ++ take count piece.now)) }
+        ensures sent { IfOk result (λ count. (mem_view self.new).sent ≡ (mem_view self.old).sent
+            ++ take count piece.now) }
+        ensures part { OnErr result ((count : ℕ) × (count < length piece.now)
+            × ((mem_view self.new).sent ≡ (mem_view self.old).sent ++ take count piece.now)) }
         ensures appends { SidesAppend piece.now (mem_view self.old) (mem_view self.new) }
         ensures includes { OnOk result (IncludesPut piece.now (mem_view self.old) (mem_view self.new)) }
         ensures puts { SidesPut (mem_view self.old) (mem_view self.new) }
-        ensures faultless { OnOk result ((mem_view self.new).put_faults ≡ (mem_view self.old).put_faults) }
-        ensures cause { OnErr result (Rose (mem_view self.old).put_faults (mem_view self.new).put_faults) }
+        ensures faults { CountsFault result (mem_view self.old).put_faults (mem_view self.new).put_faults }
         ensures once { OnErr result ((mem_view self.new).put_faults ≡ raised (mem_view self.old).put_faults) }
         ensures called { IsCalled self.old self.new result }
         ensures synced { (s : Side) → synced_of s self.new ≡ synced_of s self.old }

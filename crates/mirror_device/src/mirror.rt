@@ -1,6 +1,6 @@
 // Two images as one device.
 ghost use Rattle.std.specs.Prelude.{◌≡◌, ◌<◌};
-ghost use Rattle.mirror_device.specs.Mirror.{AreAlike, LeftIsSound, NoneIsSound, Stands};
+ghost use Rattle.mirror_device.specs.Mirror.{AreAlike, LeftIsSound, NoneIsSound, CountsAgree};
 
 use crate::copy::{Copied, copy_all};
 use crate::ready::{Began, Ready};
@@ -19,14 +19,14 @@ pub struct Mirror<P: Sides, K: Began> {
     faults: u64,
     /// How often a write was called, up to the greatest `u64`.
     writes: u64,
-    ghost stands: { Stands (P.view sides.sides) K.start serving },
+    ghost stands: { CountsAgree (P.view sides.sides) K.start serving },
     ghost alike: { P.told → AreAlike (P.view sides.sides) serving },
     ghost failed: { 0 < faults → NoneIsSound (P.view sides.sides) K.start },
     ghost unfailed: { faults ≡ 0 → LeftIsSound (P.view sides.sides) K.start serving },
 }
 
 impl<P: Sides, K: Began> Mirror<P, K> {
-    ghost use Rattle.mirror_device.specs.Mirror.{start_at, AreAlike, IsLost, LeftIsSound, NoneIsSound, Stands};
+    ghost use Rattle.mirror_device.specs.Mirror.{start_at, AreAlike, IsSideLost, LeftIsSound, NoneIsSound, CountsAgree};
     ghost use Rattle.mirror_device.specs.Sending.{SendsLate};
     ghost use Rattle.mirror_device.specs.Copying.{CopyCounts, Copying, IsLeftOfFirst};
     ghost use Rattle.image_device.specs.Image.{Image};
@@ -39,17 +39,22 @@ impl<P: Sides, K: Began> Mirror<P, K> {
     /// Where the first side fails, it gives the sides back.
     pub fn new(sides: P) -> Result<Mirror<P, K>, P>
         requires { K.start ≡ start_at (P.view sides) }
-        ensures reads { P.told → IfOk result (λ m. (⟦<Mirror<P, K> as Device>⟧.view m).reads ≡ (P.view sides).first.reads) }
+        ensures reads { P.told → IfOk result (λ m. (⟦<Mirror<P, K> as Device>⟧.view m).reads
+            ≡ (P.view sides).first.reads) }
         ensures firm { P.told → IfOk result (λ m. IsFirm (⟦<Mirror<P, K> as Device>⟧.view m)) }
-        ensures sent { P.told → IfOk result (λ m. (⟦<Mirror<P, K> as Device>⟧.view m).sent ≡ (P.view sides).sent) }
+        ensures sent { P.told → IfOk result (λ m. (⟦<Mirror<P, K> as Device>⟧.view m).sent
+            ≡ (P.view sides).sent) }
 
         // A crash inside leaves what a crash before it leaves of the first side.
-        ensures left { P.told → IfOk result (λ m. (x : Image) (f : List ℕ) → (⟦<Mirror<P, K> as Device>⟧.view m).left (P.view sides).clock x f → IsLeftOfFirst (P.view sides) x f) }
+        ensures left { P.told → IfOk result (λ m. (x : Image) (f : List ℕ)
+            → (⟦<Mirror<P, K> as Device>⟧.view m).left (P.view sides).clock x f
+            → IsLeftOfFirst (P.view sides) x f) }
 
         ensures clock { IfOk result (λ m. (P.view sides).clock ≤ (⟦<Mirror<P, K> as Device>⟧.view m).clock) }
         ensures faults { IfOk result (λ m. (⟦<Mirror<P, K> as Device>⟧.view m).faults ≡ 0) }
         ensures writes { IfOk result (λ m. (⟦<Mirror<P, K> as Device>⟧.view m).writes ≡ 0) }
-        ensures put_faults { IfOk result (λ m. (⟦<Mirror<P, K> as Device>⟧.view m).put_faults ≡ (P.view sides).put_faults) }
+        ensures put_faults { IfOk result (λ m. (⟦<Mirror<P, K> as Device>⟧.view m).put_faults
+            ≡ (P.view sides).put_faults) }
 
         // Where it gives the sides back, the first one is as it was and nothing was sent.
         ensures given_back { P.told → IfErr result (λ rest. Copying (P.view sides) (P.view rest)) }
@@ -77,7 +82,7 @@ impl<P: Sides, K: Began> Mirror<P, K> {
 
     /// A mirror of these sides, which has answered nothing yet.
     fn begin(sides: P, serving: Serving) -> Mirror<P, K>
-        requires stands { Stands (P.view sides) K.start serving }
+        requires stands { CountsAgree (P.view sides) K.start serving }
         requires alike { P.told → AreAlike (P.view sides) serving }
         requires late { P.told → SendsLate (P.view sides) K.start }
         requires unfailed { LeftIsSound (P.view sides) K.start serving }
@@ -101,8 +106,9 @@ impl<P: Sides, K: Began> Mirror<P, K> {
     pub fn into_sides(self) -> P
         ensures sides { result ≡ self.sides.sides }
         ensures failed { 0 < (⟦<Mirror<P, K> as Device>⟧.view self).faults → NoneIsSound (P.view result) K.start }
-        ensures unfailed { (⟦<Mirror<P, K> as Device>⟧.view self).faults ≡ 0 → LeftIsSound (P.view result) K.start self.serving }
-        ensures stands { Stands (P.view result) K.start self.serving }
+        ensures unfailed { (⟦<Mirror<P, K> as Device>⟧.view self).faults ≡ 0
+            → LeftIsSound (P.view result) K.start self.serving }
+        ensures stands { CountsAgree (P.view result) K.start self.serving }
         ensures late { P.told → SendsLate (P.view result) K.start }
     {
         let Mirror {
@@ -118,7 +124,7 @@ impl<P: Sides, K: Began> Mirror<P, K> {
     /// Whether a side is lost: a call on it failed while the other one was left, or it failed in the
     /// copying.
     pub fn lost(&self, side: Side) -> bool
-        ensures { IsTrue result ↔ IsLost side self.now.serving }
+        ensures { IsTrue result ↔ IsSideLost side self.now.serving }
     {
         match side {
             Side::First => self.serving == Serving::Second,
@@ -135,7 +141,9 @@ impl<P: Sides, K: Began> Device for Mirror<P, K> {
 
     ghost view = { λ m. mirror_view (P.view m.sides.sides) K.start m.serving m.faults m.writes };
 
-    ghost sound = { λ m told. mirror_sound (P.view m.sides.sides) K.start m.serving m.faults m.writes (P.sound m.sides.sides told) m.stands (m.alike told) };
+    ghost sound = { λ m told.
+        mirror_sound (P.view m.sides.sides) K.start m.serving m.faults m.writes
+        (P.sound m.sides.sides told) m.stands (m.alike told) };
 
     fn read(&mut self, sector: u32, into: &mut [u8; 512]) -> Result<(), Failed> {
         match self.serving {

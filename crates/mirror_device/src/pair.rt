@@ -132,10 +132,14 @@ impl Pair {
 
     /// One side with nothing loose and no failing calls, as a crash leaves it.
     pub(crate) fn into_side(self, side: Side, pick: Pick) -> MemStation
-        ensures image { IsImage (side_of side (still (pair_view self))).reads (side_of side (still (pair_view self))).loose (station_view result).reads }
+        ensures image { IsImage (side_of side (still (pair_view self))).reads
+            (side_of side (still (pair_view self))).loose (station_view result).reads }
         ensures old { pick ≡ Pick.Old → (station_view result).reads ≡ synced_on side self }
-        ensures new { pick ≡ Pick.New → (station_view result).reads ≡ (side_of side (still (pair_view self))).reads }
-        ensures torn { (b : ℕ) → pick ≡ Pick.Torn b → (n : ℕ) → (side_of side (still (pair_view self))).loose n ≡ true → (station_view result).reads n ≡ replicate 512 b }
+        ensures new { pick ≡ Pick.New → (station_view result).reads
+            ≡ (side_of side (still (pair_view self))).reads }
+        ensures torn { (b : ℕ) → pick ≡ Pick.Torn b → (n : ℕ)
+            → (side_of side (still (pair_view self))).loose n ≡ true → (station_view result).reads n
+            ≡ replicate 512 b }
         ensures unused { IsNew result }
         ensures fail { failing_of result ≡ [] }
     {

@@ -1,9 +1,11 @@
 // What two images under one clock mean.
-ghost use Rattle.std.specs.Prelude.{◌≡◌, ◌<◌, ◌≤◌, ◌+◌, ◌^◌, ◌++◌, ℕ, true, length, take, OnOk, OnErr, IfOk};
-ghost use Rattle.image_device.specs.Counts.{Rose};
+ghost use Rattle.std.specs.Prelude.{◌≡◌, ◌<◌, ◌≤◌, ◌+◌, ◌^◌, ◌++◌, ℕ, true, length, take};
+ghost use Rattle.std.specs.Prelude.{OnOk, OnErr, IfOk};
+ghost use Rattle.image_device.specs.Counts.{Rose, CountsFault};
 ghost use Rattle.image_device.specs.Image.{zeros};
 ghost use Rattle.mirror_device.specs.SidesView.{side_of, AreSound, SidesView};
-ghost use Rattle.mirror_device.specs.SideCalls.{IncludesPut, IsSideFirm, SideRests, SideSettles, SideSyncs, SidesAppend, SidesPut, SideTouches, SideUses};
+ghost use Rattle.mirror_device.specs.SideCalls.{IncludesPut, IsSideFirm, SideRests, SideSettles, SideSyncs};
+ghost use Rattle.mirror_device.specs.SideCalls.{SidesAppend, SidesPut, SideTouches, SideUses};
 
 use crate::side::{Seen, Side};
 use image_device::Failed;
@@ -25,8 +27,8 @@ pub trait Sides {
         ensures kept { OnErr result (into.new ≡ into.old) }
         ensures rests { told → SideRests side (view self.old) (view self.new) }
         ensures uses { SideUses side (view self.old) (view self.new) }
-        ensures faultless { OnOk result ((side_of side (view self.new)).faults ≡ (side_of side (view self.old)).faults) }
-        ensures cause { OnErr result (Rose (side_of side (view self.old)).faults (side_of side (view self.new)).faults) };
+        ensures faults { CountsFault result (side_of side (view self.old)).faults
+            (side_of side (view self.new)).faults };
 
     /// Writes a sector of a side. `Failed` comes only where the side's `faults` rose.
     fn write(&mut self, side: Side, sector: u32, from: &[u8; 512]) -> Result<(), Failed>
@@ -34,30 +36,33 @@ pub trait Sides {
         ensures loose { told → OnOk result ((side_of side (view self.new)).loose sector ≡ true) }
         ensures touches { told → SideTouches side sector (view self.old) (view self.new) }
         ensures uses { SideUses side (view self.old) (view self.new) }
-        ensures faultless { OnOk result ((side_of side (view self.new)).faults ≡ (side_of side (view self.old)).faults) }
-        ensures cause { OnErr result (Rose (side_of side (view self.old)).faults (side_of side (view self.new)).faults) };
+        ensures faults { CountsFault result (side_of side (view self.old)).faults
+            (side_of side (view self.new)).faults };
 
     /// Waits until all that was written on a side is on its disk. Its `syncs` rise exactly where
     /// this answers Ok. `Failed` comes only where the side's `faults` rose.
     fn sync(&mut self, side: Side) -> Result<(), Failed>
         ensures firm { told → OnOk result (IsSideFirm side (view self.new)) }
-        ensures loose { told → OnErr result ((side_of side (view self.new)).loose ≡ (side_of side (view self.old)).loose) }
+        ensures loose { told → OnErr result ((side_of side (view self.new)).loose
+            ≡ (side_of side (view self.old)).loose) }
         ensures settles { told → SideSettles side (view self.old) (view self.new) }
         ensures uses { SideSyncs side (view self.old) (view self.new) }
         ensures synced { OnOk result (Rose (side_of side (view self.old)).syncs (side_of side (view self.new)).syncs) }
-        ensures not_synced { OnErr result ((side_of side (view self.new)).syncs ≡ (side_of side (view self.old)).syncs) }
-        ensures faultless { OnOk result ((side_of side (view self.new)).faults ≡ (side_of side (view self.old)).faults) }
-        ensures cause { OnErr result (Rose (side_of side (view self.old)).faults (side_of side (view self.new)).faults) };
+        ensures not_synced { OnErr result ((side_of side (view self.new)).syncs
+            ≡ (side_of side (view self.old)).syncs) }
+        ensures faults { CountsFault result (side_of side (view self.old)).faults
+            (side_of side (view self.new)).faults };
 
     /// A number from which on every sector of a side reads as zeros. `Failed` comes only where the
     /// side's `faults` rose.
     fn end(&mut self, side: Side) -> Result<u64, Failed>
         ensures range { IfOk result (λ end. end ≤ 2 ^ 32) }
-        ensures zeros { told → IfOk result (λ end. (n : ℕ) → end ≤ n → (side_of side (view self.old)).reads n ≡ zeros) }
+        ensures zeros { told → IfOk result (λ end. (n : ℕ) → end ≤ n → (side_of side (view self.old)).reads n
+            ≡ zeros) }
         ensures rests { told → SideRests side (view self.old) (view self.new) }
         ensures uses { SideUses side (view self.old) (view self.new) }
-        ensures faultless { OnOk result ((side_of side (view self.new)).faults ≡ (side_of side (view self.old)).faults) }
-        ensures cause { OnErr result (Rose (side_of side (view self.old)).faults (side_of side (view self.new)).faults) };
+        ensures faults { CountsFault result (side_of side (view self.old)).faults
+            (side_of side (view self.new)).faults };
 
     /// Both counts of a side.
     fn seen(&self, side: Side) -> Seen
@@ -69,13 +74,14 @@ pub trait Sides {
     fn put(&mut self, piece: &[u8]) -> Result<usize, Failed>
         requires { 0 < length piece.now }
         ensures some { IfOk result (λ count. (0 < count) × (count ≤ length piece.now)) }
-        ensures sent { told → IfOk result (λ count. (view self.new).sent ≡ (view self.old).sent ++ take count piece.now) }
-        ensures part { told → OnErr result ((count : ℕ) × (count < length piece.now) × ((view self.new).sent ≡ (view self.old).sent ++ take count piece.now)) }
+        ensures sent { told → IfOk result (λ count. (view self.new).sent ≡ (view self.old).sent
+            ++ take count piece.now) }
+        ensures part { told → OnErr result ((count : ℕ) × (count < length piece.now)
+            × ((view self.new).sent ≡ (view self.old).sent ++ take count piece.now)) }
         ensures appends { told → SidesAppend piece.now (view self.old) (view self.new) }
         ensures includes { told → OnOk result (IncludesPut piece.now (view self.old) (view self.new)) }
         ensures puts { SidesPut (view self.old) (view self.new) }
-        ensures faultless { OnOk result ((view self.new).put_faults ≡ (view self.old).put_faults) }
-        ensures cause { OnErr result (Rose (view self.old).put_faults (view self.new).put_faults) };
+        ensures faults { CountsFault result (view self.old).put_faults (view self.new).put_faults };
 
     /// What holds of them at each moment.
     ghost sound: { (d : Self) → told → AreSound (view d) };

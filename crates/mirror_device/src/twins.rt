@@ -64,7 +64,8 @@ impl Twins {
         sector: u32,
         from: &[u8; 512],
     ) -> Result<(), AllocError>
-        ensures kept { OnOk result ((bytes : _) × (bytes.value ≡ from.now) × (entries_of self.new ≡ entries_of self.old ++ Write side sector bytes ∷ [])) }
+        ensures kept { OnOk result ((bytes : _) × (bytes.value ≡ from.now)
+            × (entries_of self.new ≡ entries_of self.old ++ Write side sector bytes ∷ [])) }
         ensures same { OnErr result (entries_of self.new ≡ entries_of self.old) }
         ensures put_faults { self.new.put_faults ≡ self.old.put_faults }
         ensures synced { (s : Side) → synced_on s self.new.pair ≡ synced_on s self.old.pair }
@@ -109,10 +110,12 @@ impl Twins {
         sector: u32,
         from: &[u8; 512],
     ) -> Result<(), AllocError>
-        ensures kept { OnOk result ((bytes : _) × (bytes.value ≡ from.now) × (entries_of self.new ≡ entries_of self.old ++ Poke side sector bytes ∷ [])) }
+        ensures kept { OnOk result ((bytes : _) × (bytes.value ≡ from.now)
+            × (entries_of self.new ≡ entries_of self.old ++ Poke side sector bytes ∷ [])) }
         ensures same { OnErr result (entries_of self.new ≡ entries_of self.old) }
         ensures put_faults { self.new.put_faults ≡ self.old.put_faults }
-        ensures synced { OnOk result (synced_on side self.new.pair ≡ put_at sector from.now (synced_on side self.old.pair)) }
+        ensures synced { OnOk result (synced_on side self.new.pair ≡ put_at sector from.now
+            (synced_on side self.old.pair)) }
         ensures other_synced { synced_on (other side) self.new.pair ≡ synced_on (other side) self.old.pair }
         ensures same_synced { OnErr result (synced_on side self.new.pair ≡ synced_on side self.old.pair) }
     {
@@ -134,7 +137,8 @@ impl Twins {
 
     /// Puts a piece, or leaves all as it was.
     pub(crate) fn put(&mut self, piece: &[u8]) -> Result<(), AllocError>
-        ensures kept { OnOk result ((text : _) × (text.items ≡ piece.now) × (entries_of self.new ≡ entries_of self.old ++ Put text ∷ [])) }
+        ensures kept { OnOk result ((text : _) × (text.items ≡ piece.now)
+            × (entries_of self.new ≡ entries_of self.old ++ Put text ∷ [])) }
         ensures same { OnErr result (entries_of self.new ≡ entries_of self.old) }
         ensures put_faults { self.new.put_faults ≡ self.old.put_faults }
         ensures synced { (s : Side) → synced_on s self.new.pair ≡ synced_on s self.old.pair }
@@ -152,7 +156,8 @@ impl Twins {
         ensures rests { SideRests side (twins_view self.old) (twins_view self.new) }
         ensures uses { SideUses side (twins_view self.old) (twins_view self.new) }
         ensures cause { Rose (side_of side (twins_view self.old)).faults (side_of side (twins_view self.new)).faults }
-        ensures once { self.new.lapse ≡ Lapse.Never → (side_of side (twins_view self.new)).faults ≡ raised (side_of side (twins_view self.old)).faults }
+        ensures once { self.new.lapse ≡ Lapse.Never → (side_of side (twins_view self.new)).faults
+            ≡ raised (side_of side (twins_view self.old)).faults }
         ensures synced { (s : Side) → synced_on s self.new.pair ≡ synced_on s self.old.pair }
     {
         match self.lapse {
@@ -210,10 +215,12 @@ impl Twins {
 
     /// One side with nothing loose and no failing calls, as a crash leaves it.
     pub(crate) fn into_side(self, side: Side, pick: Pick) -> MemStation
-        ensures image { IsImage (side_of side (twins_view self)).reads (side_of side (twins_view self)).loose (station_view result).reads }
+        ensures image { IsImage (side_of side (twins_view self)).reads (side_of side (twins_view self)).loose
+            (station_view result).reads }
         ensures old { pick ≡ Pick.Old → (station_view result).reads ≡ synced_on side self.pair }
         ensures new { pick ≡ Pick.New → (station_view result).reads ≡ (side_of side (twins_view self)).reads }
-        ensures torn { (b : ℕ) → pick ≡ Pick.Torn b → (n : ℕ) → (side_of side (twins_view self)).loose n ≡ true → (station_view result).reads n ≡ replicate 512 b }
+        ensures torn { (b : ℕ) → pick ≡ Pick.Torn b → (n : ℕ) → (side_of side (twins_view self)).loose n
+            ≡ true → (station_view result).reads n ≡ replicate 512 b }
         ensures unused { IsNew result }
         ensures fail { failing_of result ≡ [] }
     {

@@ -1,9 +1,13 @@
 //! What each session holds.
 
-ghost use Rattle.std.specs.Prelude.{◌≡◌, ◌-◌, ◌+◌, ◌<◌, ◌≤◌, length, map, replicate, slice_set, slice_index_or, filter, ◌==◌, cond, [], Some, None, option_map, IfOk, OnOk, OnErr, MatchOption};
+ghost use Rattle.std.specs.Prelude.{◌≡◌, ◌-◌, ◌+◌, ◌<◌, ◌≤◌, length, map, replicate, slice_set};
+ghost use Rattle.std.specs.Prelude.{slice_index_or, filter, ◌==◌, cond, [], Some, None, option_map, IfOk, OnOk};
+ghost use Rattle.std.specs.Prelude.{OnErr, MatchOption};
 ghost use Rattle.std.specs.List.{enumerate_from};
 ghost use Rattle.tsd_model.specs.Pairs.{sources_to};
-ghost use Rattle.tsd_model.specs.Sessions.{held_by, is_open, level_from, levels_from, levels_in, level_of, greatest, no_sessions, with_held, begun, ended, raised, raised_held, raised_level, dropped_from, levels_at_live, fitted};
+ghost use Rattle.tsd_model.specs.Sessions.{held_by, is_open, level_from, levels_from, levels_in, level_of, greatest};
+ghost use Rattle.tsd_model.specs.Sessions.{no_sessions, with_held, begun, ended, raised, raised_held, raised_level};
+ghost use Rattle.tsd_model.specs.Sessions.{dropped_from, levels_at_live, fitted};
 ghost use Rattle.tsd_model.specs.Attained.{shown_level, led_level, attained_from, attained};
 ghost use Rattle.tsd_model.specs.declared.requests.Level.TheVariants as level;
 
@@ -140,7 +144,8 @@ impl Holding {
         session: u32,
         need: &Need,
     ) -> Result<Holding, AllocError>
-        ensures { IfOk result (λ h. h ≡ raised_held need.now.block (attained_from world.now before.now session need.now.block need.now.shown) self.now) }
+        ensures { IfOk result (λ h. h ≡ raised_held need.now.block (attained_from world.now before.now session
+            need.now.block need.now.shown) self.now) }
     {
         let mut tables = Vec::new(alloc);
         let held = self.tables.as_slice();
@@ -209,7 +214,8 @@ impl Sessions {
 
     /// What a session holds, None exactly where it isn't open.
     fn holding(&self, session: u32) -> Option<&Holding>
-        ensures { MatchOption result (held_by self.now session ≡ None) (λ held. held_by self.now session ≡ Some held.now) }
+        ensures { MatchOption result (held_by self.now session ≡ None) (λ held. held_by self.now session
+            ≡ Some held.now) }
     {
         let place = session.checked_sub(1)?;
         match self.held.as_slice().get(place as usize) {
@@ -220,7 +226,8 @@ impl Sessions {
 
     /// The levels that a session holds from an origin; none where there are none.
     fn table(&self, session: u32, origin: u32) -> Option<&LevelTable>
-        ensures { MatchOption result (levels_from self.now session origin ≡ []) (λ table. levels_from self.now session origin ≡ table.now) }
+        ensures { MatchOption result (levels_from self.now session origin ≡ [])
+            (λ table. levels_from self.now session origin ≡ table.now) }
     {
         self.holding(session)?.tables.get(origin as usize)
     }
@@ -313,7 +320,8 @@ impl Sessions {
         session: u32,
         need: &Need,
     ) -> Result<Sessions, AllocError>
-        ensures { IfOk result (λ v. v ≡ raised self session need.now.block (attained_from world.now before.now session need.now.block need.now.shown)) }
+        ensures { IfOk result (λ v. v ≡ raised self session need.now.block (attained_from world.now before.now
+            session need.now.block need.now.shown)) }
     {
         let raised = match self.holding(session) {
             None => None,

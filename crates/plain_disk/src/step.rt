@@ -1,6 +1,7 @@
 //! One request: what it changes and what is answered.
 
-ghost use Rattle.std.specs.Prelude.{◌≡◌, ◌≤◌, ◌<◌, ◌+◌, ◌^◌, ◌++◌, ◌∷◌, ◌==◌, ◌&&◌, [], false, take, cond, nat_le, length, unwrap_or, None, IfOk};
+ghost use Rattle.std.specs.Prelude.{◌≡◌, ◌≤◌, ◌<◌, ◌+◌, ◌^◌, ◌++◌, ◌∷◌, ◌==◌};
+ghost use Rattle.std.specs.Prelude.{◌&&◌, [], false, take, cond, nat_le, length, unwrap_or, None, IfOk};
 ghost use Rattle.std.specs.Option.{ForSome};
 ghost use Rattle.std.specs.List.{range_with_len};
 ghost use Rattle.tsd_model.specs.Geometry.{block_len};
@@ -10,7 +11,9 @@ ghost use Rattle.tsd_model.specs.Sessions.{begun, ended, dropped_from};
 ghost use Rattle.tsd_model.specs.Reach.{swept};
 ghost use Rattle.tsd_model.specs.Doomed.{settle};
 ghost use Rattle.tsd_model.specs.Placing.{chosen, chosen_run};
-ghost use Rattle.tsd_model.specs.Step.{gives, done, filled, with_contents, with_pointer, with_caps, raised_by, run_at, without_pointer, targets_from, with_new_blocks, allocated, reclaimed, change, step};
+ghost use Rattle.tsd_model.specs.Step.{gives, done, filled, with_contents, with_pointer, with_caps, raised_by, run_at};
+ghost use Rattle.tsd_model.specs.Step.{without_pointer, targets_from, with_new_blocks, allocated, reclaimed, change};
+ghost use Rattle.tsd_model.specs.Step.{step};
 ghost use Rattle.tsd_model.specs.Valid.{IsValid};
 ghost use Rattle.tsd_model.specs.Verdict.{has_bad_count, has_bad_size, has_no_room};
 ghost use Rattle.disk_laws.specs.Reached.{KeepsWhatIsReached};
@@ -29,8 +32,8 @@ use tsd_model::{BlockList, CapPair, Data, Hint, NoMemory, PlaceKind, Reply, Requ
 /// Carries out one request: the world and the sessions after it, and the reply. The reply is never `Reply::NoMemory`;
 /// want of memory is `Err(NoMemory)` at every request.
 ///
-/// At a valid world a request reclaims no block that is reached after it; and one that isn't a sweep reclaims exactly the
-/// blocks that have lost their last pointer.
+/// At a valid world a request reclaims no block that is reached after it; and one that isn't a sweep reclaims exactly
+/// the blocks that have lost their last pointer.
 pub fn plain_step(
     alloc: Global,
     kind: PlaceKind,
@@ -38,9 +41,11 @@ pub fn plain_step(
     sessions: &Sessions,
     request: &Request,
 ) -> Result<(World, Sessions, Reply), NoMemory>
-    ensures value { IfOk result (λ r. gives r.0 r.1 r.2 ≡ step kind (record { world = world.now; sessions = sessions.now }) request.now) }
+    ensures value { IfOk result (λ r. gives r.0 r.1 r.2
+        ≡ step kind (record { world = world.now; sessions = sessions.now }) request.now) }
     ensures reached { IsValid world.now → IfOk result (λ r. KeepsWhatIsReached world.now r.0) }
-    ensures last_pointer { IsValid world.now → is_sweep request.now ≡ false → IfOk result (λ r. ReclaimsTheLost world.now r.0) }
+    ensures last_pointer { IsValid world.now → is_sweep request.now ≡ false
+        → IfOk result (λ r. ReclaimsTheLost world.now r.0) }
 {
     carry_out(alloc, kind, world, sessions, request)
 }
@@ -53,7 +58,8 @@ fn carry_out(
     sessions: &Sessions,
     request: &Request,
 ) -> Result<Changed, NoMemory>
-    ensures { IfOk result (λ r. gives r.0 r.1 r.2 ≡ step kind (record { world = world.now; sessions = sessions.now }) request.now) }
+    ensures { IfOk result (λ r. gives r.0 r.1 r.2 ≡ step kind (record { world = world.now; sessions = sessions.now })
+        request.now) }
 {
     match verdict(world, sessions, request) {
         Err(rule) => Ok((
@@ -174,7 +180,8 @@ fn write(
     bytes: &Data,
 ) -> Result<Changed, NoMemory>
     requires { length bytes.now ≤ block_len world.now.geometry }
-    ensures { IfOk result (λ r. gives r.0 r.1 r.2 ≡ done (with_contents world.now block (filled (block_len world.now.geometry) bytes.now)) sessions) }
+    ensures { IfOk result (λ r. gives r.0 r.1 r.2
+        ≡ done (with_contents world.now block (filled (block_len world.now.geometry) bytes.now)) sessions) }
 {
     let mut next = world.copy(alloc)?;
     let filled = Block::filled(alloc, world.block_len(), bytes.as_slice())?;
@@ -193,7 +200,8 @@ fn allocate(
 ) -> Result<Changed, NoMemory>
     requires counted { count ≤ 32 }
     requires room { length world.now.pairs + count ≤ world.now.geometry.slots }
-    ensures { IfOk result (λ r. gives r.0 r.1 r.2 ≡ allocated world.now sessions source (chosen kind world.now hint.now count)) }
+    ensures { IfOk result (λ r. gives r.0 r.1 r.2 ≡ allocated world.now sessions source
+        (chosen kind world.now hint.now count)) }
 {
     let blocks = choose(alloc, kind, world, hint, count)?;
     take(alloc, world, sessions, source, blocks.as_slice())
@@ -210,7 +218,8 @@ fn allocate_run(
 ) -> Result<Changed, NoMemory>
     requires counted { count ≤ 32 }
     requires room { length world.now.pairs + count ≤ world.now.geometry.slots }
-    ensures { IfOk result (λ r. gives r.0 r.1 r.2 ≡ allocated world.now sessions source (run_at (chosen_run kind world.now hint.now count) count)) }
+    ensures { IfOk result (λ r. gives r.0 r.1 r.2 ≡ allocated world.now sessions source
+        (run_at (chosen_run kind world.now hint.now count) count)) }
 {
     let first = choose_run(alloc, kind, world, hint, count)?;
     let blocks = run_at(alloc, first, count)?;
@@ -258,7 +267,8 @@ fn delete(
     source: u32,
     target: u32,
 ) -> Result<Changed, NoMemory>
-    ensures { IfOk result (λ r. gives r.0 r.1 r.2 ≡ reclaimed world.now sessions (settle (without_pointer world.now source target))) }
+    ensures { IfOk result (λ r. gives r.0 r.1 r.2 ≡ reclaimed world.now sessions
+        (settle (without_pointer world.now source target))) }
 {
     let raw = world.without_pointer(alloc, source, target)?;
     let doomed = plain_doomed(alloc, &raw)?;
@@ -295,7 +305,9 @@ fn set_caps(
     block: u32,
     caps: &CapPair,
 ) -> Result<Changed, NoMemory>
-    ensures { IfOk result (λ r. gives r.0 r.1 r.2 ≡ done (with_caps world.now block (kept world.now.version caps.now)) (dropped_from (length world.now.blocks) block sessions)) }
+    ensures { IfOk result (λ r. gives r.0 r.1 r.2
+        ≡ done (with_caps world.now block (kept world.now.version caps.now)) (dropped_from (length world.now.blocks)
+        block sessions)) }
 {
     let mut next = world.copy(alloc)?;
     next.set_record(block, kept(world.version(), caps));

@@ -2,7 +2,11 @@
 
 ghost use Rattle.std.specs.Prelude.{◌≡◌, nat_le, true, false, Some, None, OnOk, IfErr};
 ghost use Rattle.tsd_model.specs.Needs.{named_blocks};
-ghost use Rattle.tsd_model.specs.Verdict.{denied, is_already_open, is_not_open, has_bad_count, has_bad_size, names_missing_block, names_free_block, sets_caps_elsewhere, points_to_primary, adds_held_pair, deletes_missing_pair, wants_too_many, finds_no_run, has_no_room, first_rule, session_rules, block_rules, level_rules, pair_rules, room_rules, verdict};
+ghost use Rattle.tsd_model.specs.Verdict.{denied, is_already_open, is_not_open, has_bad_count, has_bad_size};
+ghost use Rattle.tsd_model.specs.Verdict.{names_missing_block, names_free_block, sets_caps_elsewhere};
+ghost use Rattle.tsd_model.specs.Verdict.{points_to_primary, adds_held_pair, deletes_missing_pair, wants_too_many};
+ghost use Rattle.tsd_model.specs.Verdict.{finds_no_run, has_no_room, first_rule, session_rules, block_rules};
+ghost use Rattle.tsd_model.specs.Verdict.{level_rules, pair_rules, room_rules, verdict};
 
 use crate::placing::has_run;
 use crate::sessions::{Sessions, attained};
@@ -120,7 +124,8 @@ fn check_blocks(world: &World, request: &Request) -> Result<(), Rule>
 
 fn check_level(world: &World, sessions: &Sessions, session: u32, need: &Need) -> Result<(), Rule>
     ensures ok { OnOk result ((denied world.now sessions.now session need.now).applies ≡ false) }
-    ensures err { IfErr result (λ r. ((denied world.now sessions.now session need.now).applies ≡ true) × ((denied world.now sessions.now session need.now).answer ≡ r)) }
+    ensures err { IfErr result (λ r. ((denied world.now sessions.now session need.now).applies ≡ true)
+        × ((denied world.now sessions.now session need.now).answer ≡ r)) }
 {
     let found = attained(world, sessions, session, need.block, &need.shown);
     if level_le(need.level, found) {

@@ -1,6 +1,8 @@
 //! The disk as a plain value.
 
-ghost use Rattle.std.specs.Prelude.{◌≡◌, ◌+◌, ◌-◌, ◌*◌, ◌++◌, ◌<◌, ◌≤◌, cond, not, filter, length, map, replicate, slice_set, Some, None, IfOk, IfSome, MatchOption, OnOk, OnErr};
+ghost use Rattle.std.specs.Prelude.{◌≡◌, ◌+◌, ◌-◌, ◌*◌, ◌++◌, ◌<◌, ◌≤◌, cond, not};
+ghost use Rattle.std.specs.Prelude.{filter, length, map, replicate, slice_set, Some, None, IfOk, IfSome, MatchOption};
+ghost use Rattle.std.specs.Prelude.{OnOk, OnErr};
 ghost use Rattle.tsd_model.specs.Geometry.{IsLawful, block_len};
 ghost use Rattle.tsd_model.specs.Pairs.{holds};
 ghost use Rattle.tsd_model.specs.Records.{kept, upgraded, upgraded_record};
@@ -82,9 +84,21 @@ impl Model for World {
 
     ghost Value = { Value_of };
 
-    ghost view = { λ w. record { geometry = w.geometry; version = w.version; blocks = w.blocks.items; pairs = w.pairs.items; records = w.records.items } };
+    ghost view = { λ w. record {
+      geometry = w.geometry;
+      version = w.version;
+      blocks = w.blocks.items;
+      pairs = w.pairs.items;
+      records = w.records.items;
+    } };
 
-    ghost invariant = { λ w. IsSized (record { geometry = w.geometry; version = w.version; blocks = w.blocks.items; pairs = w.pairs.items; records = w.records.items }) };
+    ghost invariant = { λ w. IsSized (record {
+      geometry = w.geometry;
+      version = w.version;
+      blocks = w.blocks.items;
+      pairs = w.pairs.items;
+      records = w.records.items;
+    }) };
 }
 
 impl World {
@@ -123,7 +137,8 @@ impl World {
 
     /// The bytes of a block, None exactly where it is free or there is no such block.
     pub fn bytes_of(&self, block: u32) -> Option<&[u8]>
-        ensures value { MatchOption result (contents self.now block ≡ None) (λ bytes. contents self.now block ≡ Some bytes.now) }
+        ensures value { MatchOption result (contents self.now block ≡ None) (λ bytes. contents self.now block
+            ≡ Some bytes.now) }
         ensures full { IfSome result (λ bytes. length bytes.now ≡ block_len self.now.geometry) }
     {
         match self.blocks.get(block as usize) {
@@ -282,7 +297,8 @@ impl World {
         listed: &[u32],
         keep_listed: bool,
     ) -> Result<World, AllocError>
-        ensures { IfOk result (λ w. w ≡ restricted self.now (λ b. cond keep_listed (has_number listed.now b) (not (has_number listed.now b)))) }
+        ensures { IfOk result (λ w. w ≡ restricted self.now (λ b. cond keep_listed (has_number listed.now b)
+            (not (has_number listed.now b)))) }
     {
         Ok(World {
             geometry: self.geometry,
@@ -300,7 +316,8 @@ impl World {
         listed: &[u32],
         keep_listed: bool,
     ) -> Result<Vec<Option<Block>>, AllocError>
-        ensures { IfOk result (λ v. v.items ≡ blocks_that self.now (λ b. cond keep_listed (has_number listed.now b) (not (has_number listed.now b)))) }
+        ensures { IfOk result (λ v. v.items ≡ blocks_that self.now (λ b. cond keep_listed (has_number listed.now b)
+            (not (has_number listed.now b)))) }
     {
         let mut blocks = Vec::new(alloc);
         let count = self.geometry().blocks;
@@ -336,7 +353,8 @@ fn pairs_from(
     listed: &[u32],
     keep_listed: bool,
 ) -> Result<Vec<(u32, u32)>, AllocError>
-    ensures { IfOk result (λ v. v.items ≡ filter (λ e. cond keep_listed (has_number listed.now e.0) (not (has_number listed.now e.0))) pairs.now) }
+    ensures { IfOk result (λ v. v.items ≡ filter (λ e. cond keep_listed (has_number listed.now e.0)
+        (not (has_number listed.now e.0))) pairs.now) }
 {
     pairs
         .iter()
@@ -369,7 +387,9 @@ fn upgraded_records(alloc: Global, records: &[Record]) -> Result<Vec<Record>, Al
 
 fn fresh_blocks(alloc: Global, geometry: &Geometry) -> Result<Vec<Option<Block>>, AllocError>
     requires { IsLawful geometry.now }
-    ensures { IfOk result (λ v. v.items ≡ replicate geometry.now.primaries (Some (replicate (block_len geometry.now) 0)) ++ replicate (geometry.now.blocks - geometry.now.primaries) None) }
+    ensures { IfOk result (λ v. v.items ≡ replicate geometry.now.primaries
+        (Some (replicate (block_len geometry.now) 0))
+        ++ replicate (geometry.now.blocks - geometry.now.primaries) None) }
 {
     let mut blocks = zero_blocks(alloc, geometry.primaries, 512 * geometry.sectors as usize)?;
     let free = geometry.blocks - geometry.primaries;

@@ -12,7 +12,7 @@ use Rattle.tsd_model.specs.declared.geometry.Geometry.{Geometry}
 use Rattle.tsd_model.proofs.PlaceLaws.{same_pair}
 use Rattle.image_layout.specs.Areas.{slots_start, data_start}
 use Rattle.image_layout.specs.Image.{Image, source_field, target_field}
-use Rattle.pointer_table.specs.Loading.{is_bad, is_bad_at, HasNoBad, IsLeastBad, IsLeastRepeated, IsLoaded, IsJudged, IsLoading}
+use Rattle.pointer_table.specs.Loading.{is_bad, is_bad_at, HasNoBad, IsLeastBad, IsLeastRepeated, IsLoaded, IsJudged, AnswersPointers}
 use Rattle.pointer_table.specs.Sectors.{stored_slot, IsStored}
 use Rattle.pointer_table.specs.Table.{Table}
 use Rattle.pointer_table.specs.declared.fault.TableFault.{TableFault}
@@ -54,7 +54,7 @@ same_table image g t u one other =
     (λ k inside. let all = one.stored.count in sym (one.stored.each k (omega arith)) ∙ other.stored.each k (omega arith)) in
     λ i. Ok (record { geometry = size i; slots = slots i })
 
-pub one_answer : (image : Image) (g : Geometry) (one other : Result Table TableFault) → IsJudged one → IsJudged other → IsLoading image g one → IsLoading image g other → one ≡ other
+pub one_answer : (image : Image) (g : Geometry) (one other : Result Table TableFault) → IsJudged one → IsJudged other → AnswersPointers image g one → AnswersPointers image g other → one ≡ other
 one_answer image g (Err fault.NoMemory) other j k a b = absurd j
 one_answer image g (Err fault.Device) other j k a b = absurd j
 one_answer image g (Ok t) (Ok u) j k a b = same_table image g t u a b

@@ -14,7 +14,7 @@ use Rattle.pointer_table.specs.declared.fault.TableFault.TheVariants as fault
 use Rattle.pointer_table.specs.declared.raw.RawSlot.{RawSlot}
 use Rattle.pointer_table.specs.Raw.{slot_in, slots_in}
 use Rattle.pointer_table.specs.Repeating.{IsRepeating}
-use Rattle.pointer_table.specs.Loading.{IsRepeatedOn, IsLeastRepeated, IsLoading}
+use Rattle.pointer_table.specs.Loading.{IsRepeatedOn, IsLeastRepeated, AnswersPointers}
 use Rattle.pointer_table.specs.Reading.{IsReadTo, AreWithinTo}
 use Rattle.pointer_table.specs.Repeats.{IsRepeatedIn, IsLeastOfAll}
 use Rattle.pointer_table.specs.Slots.{slot_at}
@@ -167,7 +167,7 @@ least_on image g slots e count read least = record {
 
 -- what a loading answers, from what was read and what the search for repeated pairs gave
 pub load_answers : (image : Image) (g : Geometry) (slots : List (Option (ℕ × ℕ))) (result : Result Table TableFault) → length slots ≡ g.slots → IsReadTo image g g.slots slots
-    → IfOk result (λ t. (t.geometry ≡ g) × (t.slots ≡ slots)) → IsRepeating slots result → IsLoading image g result
+    → IfOk result (λ t. (t.geometry ≡ g) × (t.slots ≡ slots)) → IsRepeating slots result → AnswersPointers image g result
 load_answers image g slots (Ok t) count read is found = record {
   size = is.0;
   no_bad = read.no_bad;

@@ -8,6 +8,10 @@ use Rattle.pointer_table.specs.declared.threads.Threads.{Threads}
 use Rattle.pointer_table.specs.declared.way.Way.{Way}
 use Rattle.pointer_table.specs.declared.way.Way.TheVariants as way
 
+-- the slots are threaded as these threads say
+abbrev pub AreThreadsOf : (ℕ → Option (ℕ × ℕ)) → Threads → Type 0
+AreThreadsOf held t = AreThreads held (group t.way (length t.heads.items)) t.heads.items t.next.items
+
 -- the slots are threaded this way
 pub record IsThreadedBy (way : Way) (held : ℕ → Option (ℕ × ℕ)) (t : Threads) : Type 0 where
   pub way_is : t.way ≡ way

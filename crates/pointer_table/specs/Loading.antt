@@ -46,12 +46,12 @@ pub record IsLoaded (image : Image) (g : Geometry) (t : Table) : Type 0 where
 
 -- What a loading answers. Where neither memory nor the device is at fault, each answer comes exactly where its line holds,
 -- since no two of them hold together.
-abbrev pub IsLoading : Image → Geometry → Result Table TableFault → Type 0
-IsLoading image g (Ok t) = IsLoaded image g t
-IsLoading image g (Err fault.NoMemory) = ⊤
-IsLoading image g (Err fault.Device) = ⊤
-IsLoading image g (Err (fault.Slot k source target)) = IsLeastBad image g k source target
-IsLoading image g (Err (fault.Repeated a b)) = HasNoBad image g × IsLeastRepeated image g (a, b)
+abbrev pub AnswersPointers : Image → Geometry → Result Table TableFault → Type 0
+AnswersPointers image g (Ok t) = IsLoaded image g t
+AnswersPointers image g (Err fault.NoMemory) = ⊤
+AnswersPointers image g (Err fault.Device) = ⊤
+AnswersPointers image g (Err (fault.Slot k source target)) = IsLeastBad image g k source target
+AnswersPointers image g (Err (fault.Repeated a b)) = HasNoBad image g × IsLeastRepeated image g (a, b)
 
 -- neither memory nor the device was at fault
 abbrev pub IsJudged : Result Table TableFault → Type 0

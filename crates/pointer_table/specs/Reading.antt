@@ -1,11 +1,13 @@
 -- How far the slots of an image were read.
-use Rattle.std.specs.Prelude.{◌≡◌, ℕ, ◌<◌, false, List, Option, Some, Result, Ok, Err, ⊤}
+use Rattle.std.specs.Prelude.{◌≡◌, ℕ, ◌+◌, ◌*◌, ◌<◌, min, false, List, Option, Some, Result, Ok, Err, OnOk, MatchResult, ⊤}
 use Rattle.tsd_model.specs.declared.geometry.Geometry.{Geometry}
+use Rattle.image_layout.specs.Areas.{slots_start}
 use Rattle.image_layout.specs.Image.{Image}
 use Rattle.pointer_table.specs.Slots.{slot_at}
 use Rattle.pointer_table.specs.Table.{IsWithin}
-use Rattle.pointer_table.specs.Sectors.{stored_slot}
+use Rattle.pointer_table.specs.Sectors.{per_sector, stored_slot}
 use Rattle.pointer_table.specs.Loading.{is_bad_at, IsLeastBad}
+use Rattle.pointer_table.specs.declared.load.BadSlot.{BadSlot}
 use Rattle.pointer_table.specs.declared.fault.TableFault.{TableFault}
 use Rattle.pointer_table.specs.declared.fault.TableFault.TheVariants as fault
 
@@ -25,3 +27,17 @@ IsReading image g slots (Err fault.NoMemory) = ⊥
 IsReading image g slots (Err fault.Device) = ⊤
 IsReading image g slots (Err (fault.Slot k source target)) = IsLeastBad image g k source target
 IsReading image g slots (Err (fault.Repeated a b)) = ⊥
+
+-- the end of the slots that this one of their sectors has
+abbrev pub end_of : Geometry → ℕ → ℕ
+end_of g part = min g.slots (per_sector * part + per_sector)
+
+-- what comes of taking this sector's slots, which an image has as this one of its slots' sectors, behind those before it
+abbrev pub IsTaking : Geometry → ℕ → List ℕ → List (Option (ℕ × ℕ)) → List (Option (ℕ × ℕ)) → Result (Unit {0}) BadSlot → Type 0
+IsTaking g part sector old new result =
+    (image : Image) → image (slots_start g + part) ≡ sector → IsReadTo image g (per_sector * part) old
+    → MatchResult result (λ _. IsReadTo image g (end_of g part) new) (λ bad. IsLeastBad image g bad.slot bad.source bad.target)
+
+-- the pairs in the slots that were taken may be held
+abbrev pub TakesWithin : Geometry → ℕ → List (Option (ℕ × ℕ)) → List (Option (ℕ × ℕ)) → Result (Unit {0}) BadSlot → Type 0
+TakesWithin g part old new result = AreWithinTo g (per_sector * part) old → OnOk result (AreWithinTo g (end_of g part) new)

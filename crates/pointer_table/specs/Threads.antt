@@ -109,6 +109,10 @@ pub record IsWith (held : ℕ → Option (ℕ × ℕ)) (place : ℕ) (e : ℕ ×
   pub filled : now place ≡ Some e
   pub others : (k : ℕ) → (k ≡ place → ⊥) → now k ≡ held k
 
+-- the pair e comes before each pair that is held
+abbrev pub IsBelowAll : (ℕ → Option (ℕ × ℕ)) → (ℕ × ℕ) → Type 0
+IsBelowAll held e = (k : ℕ) (f : ℕ × ℕ) → held k ≡ Some f → rank e < rank f
+
 -- the link behind a slot, or the head of a group
 abbrev pub after : List ℕ → List ℕ → ℕ → Option ℕ → ℕ
 after heads next of None = slice_index_or heads of 0

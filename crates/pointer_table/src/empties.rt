@@ -19,7 +19,8 @@ pub(crate) fn link_empties(slots: &[RawSlot], by_bucket: &mut Threads) -> u32
     requires threads { IsThreadedBy Way.Bucket (slot_at (slots_in slots.now)) by_bucket.old }
     ensures threads { IsThreadedBy Way.Bucket (slot_at (slots_in slots.now)) by_bucket.new }
     ensures many { length by_bucket.new.next.items ≡ length slots.now }
-    ensures empties { AreEmpties (slots_in slots.now) (count_by is_some (slots_in slots.now)) result by_bucket.new.next.items }
+    ensures empties { AreEmpties (slots_in slots.now) (count_by is_some (slots_in slots.now)) result
+        by_bucket.new.next.items }
 {
     let mut first = NO_LINK;
     let mut left = slots.len();

@@ -9,8 +9,8 @@ pub enum TableFault {
     /// A read failed, and the device's count of faults rose.
     Device,
 
-    /// This is the least bad slot, with its two numbers as they stand: the source is no block, or the target is no block or
-    /// is primary.
+    /// This is the least bad slot, with its two numbers as they stand: the source is no block, or the target is no
+    /// block or is primary.
     Slot {
         /// The slot, from 0.
         slot: u32,

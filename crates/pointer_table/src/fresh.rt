@@ -18,10 +18,11 @@ pub fn fresh_sector() -> [u8; SECTOR_BYTES]
     [0; SECTOR_BYTES]
 }
 
-/// An image whose sectors of slots are written as those of a table has the slots of that table. The slots of a fresh disk are
-/// a table that holds no pair, and their sectors are zeros.
+/// An image whose sectors of slots are written as those of a table has the slots of that table. The slots of a fresh
+/// disk are a table that holds no pair, and their sectors are zeros.
 pub fn written_sectors_have_the_slots()
-    ensures stored { (t : Table) (x : Image) → IsTable t → AreWritten t.slots t.geometry x → IsStored t.slots t.geometry x }
+    ensures stored { (t : Table) (x : Image) → IsTable t → AreWritten t.slots t.geometry x
+        → IsStored t.slots t.geometry x }
     ensures fresh { (g : Geometry) → IsLawful g → IsTable (record { geometry = g; slots = fresh_slots g }) }
     ensures no_pairs { (g : Geometry) → pairs (record { geometry = g; slots = fresh_slots g }) ≡ [] }
     ensures zeros { (g : Geometry) (part : ℕ) → slot_sector_bytes (fresh_slots g) part ≡ zeros }

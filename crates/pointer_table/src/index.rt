@@ -1,6 +1,7 @@
 //! The index of the slots: by source, by target and by pair, and the empty ones.
 
-ghost use Rattle.std.specs.Prelude.{◌≡◌, ℕ, ◌<◌, length, slice_index_or, slice_set, count_by, is_some, Option, Some, None, IfOk, OnOk, IfErr};
+ghost use Rattle.std.specs.Prelude.{◌≡◌, ℕ, ◌<◌, length, slice_index_or, slice_set, count_by, is_some};
+ghost use Rattle.std.specs.Prelude.{Option, Some, None, IfOk, OnOk, IfErr};
 ghost use Rattle.tsd_model.specs.Geometry.{IsLawful};
 ghost use Rattle.tsd_model.specs.Next.{IsNextSource, IsNextTarget};
 ghost use Rattle.pointer_table.specs.Empties.{AreEmpties};
@@ -75,7 +76,8 @@ fn target_in(slots: &[RawSlot], place: u32) -> Option<u32>
 }
 
 impl Index {
-    /// The index of slots that were read, of which none is bad. Slot numbers are sorted before the links by bucket are taken.
+    /// The index of slots that were read, of which none is bad. Slot numbers are sorted before the links by bucket are
+    /// taken.
     pub(crate) fn of(
         alloc: Global,
         geometry: &Geometry,
@@ -87,7 +89,8 @@ impl Index {
         ensures none { OnOk result (IsLeastOfAll (slots_in slots.now) None) }
         ensures index { IfOk result (IsIndex (slot_at (slots_in slots.now))) }
         ensures room { IfOk result (HasRoom geometry.now.blocks geometry.now.slots) }
-        ensures empties { IfOk result (λ x. AreEmpties (slots_in slots.now) (count_by is_some (slots_in slots.now)) x.empty x.by_bucket.next.items) }
+        ensures empties { IfOk result (λ x. AreEmpties (slots_in slots.now) (count_by is_some (slots_in slots.now))
+            x.empty x.by_bucket.next.items) }
         ensures err { IfErr result (IsRefusal (slots_in slots.now)) }
     {
         let (by_source, by_target) = by_ends(alloc, geometry, slots)?;
@@ -120,8 +123,8 @@ impl Index {
         }
     }
 
-    /// The least target of the pairs from a block that is not below `start`. The walk begins at the pair with the target right
-    /// below `start`, where that is held.
+    /// The least target of the pairs from a block that is not below `start`. The walk begins at the pair with the
+    /// target right below `start`, where that is held.
     pub(crate) fn next_target(&self, slots: &[RawSlot], source: u32, start: u32) -> Option<u32>
         requires { IsIndex (slot_at (slots_in slots.now)) self.now }
         ensures { IsNextTarget (pairs_in (slots_in slots.now)) source start result }
@@ -141,8 +144,8 @@ impl Index {
         target_in(slots, place)
     }
 
-    /// The least source of the pairs to a block that is not below `start`. The walk begins at the pair with the source right
-    /// below `start`, where that is held.
+    /// The least source of the pairs to a block that is not below `start`. The walk begins at the pair with the source
+    /// right below `start`, where that is held.
     pub(crate) fn next_source(&self, slots: &[RawSlot], target: u32, start: u32) -> Option<u32>
         requires { IsIndex (slot_at (slots_in slots.now)) self.now }
         ensures { IsNextSource (pairs_in (slots_in slots.now)) target start result }
@@ -174,7 +177,8 @@ impl Index {
         requires few { length slots.now < no_link }
         requires empty { slot_at (slots_in slots.now) place ≡ None }
         requires absent { (k : ℕ) → slot_at (slots_in slots.now) k ≡ Some (source, target) → ⊥ }
-        ensures index { (now : ℕ → Option (ℕ × ℕ)) → IsWith (slot_at (slots_in slots.now)) place (source, target) now → IsIndex now self.new }
+        ensures index { (now : ℕ → Option (ℕ × ℕ)) → IsWith (slot_at (slots_in slots.now)) place
+            (source, target) now → IsIndex now self.new }
         ensures room { (blocks places : ℕ) → HasRoom blocks places self.old → HasRoom blocks places self.new }
         ensures empty { self.new.empty ≡ self.old.empty }
         ensures empties { (k : ℕ) → slot_at (slots_in slots.now) k ≡ None → (k ≡ place → ⊥)
@@ -189,7 +193,8 @@ impl Index {
     pub(crate) fn remove(&mut self, slots: &[RawSlot], place: u32, source: u32, target: u32)
         requires index { IsIndex (slot_at (slots_in slots.now)) self.old }
         requires held { slot_at (slots_in slots.now) place ≡ Some (source, target) }
-        ensures index { (left : ℕ → Option (ℕ × ℕ)) → IsWith left place (source, target) (slot_at (slots_in slots.now)) → IsIndex left self.new }
+        ensures index { (left : ℕ → Option (ℕ × ℕ))
+            → IsWith left place (source, target) (slot_at (slots_in slots.now)) → IsIndex left self.new }
         ensures room { (blocks places : ℕ) → HasRoom blocks places self.old → HasRoom blocks places self.new }
         ensures empty { self.new.empty ≡ self.old.empty }
         ensures empties { (k : ℕ) → slot_at (slots_in slots.now) k ≡ None
@@ -204,7 +209,10 @@ impl Index {
     pub(crate) fn take_empty(&mut self) -> u32
         requires { self.old.empty < length self.old.by_bucket.next.items }
         ensures place { result ≡ self.old.empty }
-        ensures now { self.new ≡ record self.old { empty = slice_index_or self.old.by_bucket.next.items self.old.empty 0 } }
+        ensures now { self.new ≡ record self.old {
+          empty = slice_index_or self.old.by_bucket.next.items self.old.empty
+              0;
+        } }
     {
         let place = self.empty;
         self.empty = self.by_bucket.next[place as usize];
@@ -216,7 +224,8 @@ impl Index {
         requires { place < length self.old.by_bucket.next.items }
         ensures empty { self.new.empty ≡ place }
         ensures next { self.new.by_bucket.next.items ≡ slice_set self.old.by_bucket.next.items place self.old.empty }
-        ensures index { (held : ℕ → Option (ℕ × ℕ)) → held place ≡ None → IsIndex held self.old → IsIndex held self.new }
+        ensures index { (held : ℕ → Option (ℕ × ℕ)) → held place ≡ None → IsIndex held self.old
+            → IsIndex held self.new }
         ensures room { (blocks places : ℕ) → HasRoom blocks places self.old → HasRoom blocks places self.new }
     {
         self.by_bucket.link_empty(place, self.empty);

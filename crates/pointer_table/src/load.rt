@@ -1,12 +1,12 @@
 //! Reading the slots of an image, a sector at a time.
 
-ghost use Rattle.std.specs.Prelude.{◌≡◌, ℕ, ◌+◌, ◌*◌, ◌^◌, ◌<◌, ◌≤◌, List, min, length, vec_len, IfOk, OnOk, IfErr, IsErrOf, MatchResult};
+ghost use Rattle.std.specs.Prelude.{◌≡◌, ◌*◌, ◌<◌, length};
+ghost use Rattle.std.specs.Prelude.{vec_len, IfOk, OnOk, IfErr};
 ghost use Rattle.image_device.specs.Calls.{Rests, Uses};
-ghost use Rattle.image_device.specs.Counts.{Rose};
-ghost use Rattle.image_layout.specs.Areas.{slots_start};
-ghost use Rattle.pointer_table.specs.Loading.{is_bad, IsLeastBad};
+ghost use Rattle.image_device.specs.Counts.{CountsFaultOf};
+ghost use Rattle.pointer_table.specs.Loading.{is_bad};
 ghost use Rattle.pointer_table.specs.Raw.{slots_in};
-ghost use Rattle.pointer_table.specs.Reading.{IsReadTo, IsReading, AreWithinTo};
+ghost use Rattle.pointer_table.specs.Reading.{IsReading, IsTaking, AreWithinTo, TakesWithin};
 ghost use Rattle.tsd_model.specs.Geometry.{IsLawful};
 
 use crate::fault::TableFault;
@@ -57,15 +57,8 @@ fn take_sector(
     requires lawful { IsLawful geometry.now }
     requires all { length slots.old ≡ geometry.now.slots }
     requires inside { PER_SECTOR * part < geometry.now.slots }
-    ensures read { let end = min geometry.now.slots (PER_SECTOR * part + PER_SECTOR) in
-        (image : ℕ → List ℕ) → image (slots_start geometry.now + part) ≡ sector.now
-        → IsReadTo image geometry.now (PER_SECTOR * part) (slots_in slots.old)
-        → MatchResult result
-        (λ _. IsReadTo image geometry.now end (slots_in slots.new))
-        (λ bad. IsLeastBad image geometry.now bad.slot bad.source bad.target) }
-    ensures within { let end = min geometry.now.slots (PER_SECTOR * part + PER_SECTOR) in
-        AreWithinTo geometry.now (PER_SECTOR * part) (slots_in slots.old)
-        → OnOk result (AreWithinTo geometry.now end (slots_in slots.new)) }
+    ensures read { IsTaking geometry.now part sector.now (slots_in slots.old) (slots_in slots.new) result }
+    ensures within { TakesWithin geometry.now part (slots_in slots.old) (slots_in slots.new) result }
 {
     let first = PER_SECTOR * part;
     let end = slots.len().min(first + PER_SECTOR);
@@ -95,8 +88,7 @@ pub(crate) fn read_slots<D: Device>(
     ensures within { OnOk result (AreWithinTo geometry.now geometry.now.slots (slots_in slots.new)) }
     ensures rests { D.told → Rests (D.view dev.old) (D.view dev.new) }
     ensures uses { Uses 0 (D.view dev.old) (D.view dev.new) }
-    ensures faultless { ¬ IsErrOf result TableFault.Device → (D.view dev.new).faults ≡ (D.view dev.old).faults }
-    ensures cause { IsErrOf result TableFault.Device → Rose (D.view dev.old).faults (D.view dev.new).faults }
+    ensures faults { CountsFaultOf TableFault.Device result (D.view dev.old).faults (D.view dev.new).faults }
 {
     let layout = Layout::of(geometry);
     let start = layout.slots_start();

@@ -1,6 +1,7 @@
 //! The targets of a block in a row, and how many pairs are held.
 
-ghost use Rattle.std.specs.Prelude.{◌≡◌, ℕ, ◌+◌, ◌^◌, ◌<◌, length, count_by, is_some, Option, None, IsTrue};
+ghost use Rattle.std.specs.Prelude.{◌≡◌, ℕ, ◌+◌, ◌^◌, ◌<◌, length, count_by, is_some, Option, None};
+ghost use Rattle.std.specs.Prelude.{IsTrue};
 ghost use Rattle.tsd_model.specs.Pairs.{holds};
 ghost use Rattle.tsd_model.specs.Step.{targets_from};
 ghost use Rattle.pointer_table.specs.Indexed.{IsIndex};

@@ -1,7 +1,8 @@
-//! The sectors of slots: 64 slots of eight bytes, each one more than the source, or 0, and the target, the lowest byte of
-//! each number first.
+//! The sectors of slots: 64 slots of eight bytes, each one more than the source, or 0, and the target, the lowest byte
+//! of each number first.
 
-ghost use Rattle.std.specs.Prelude.{◌≡◌, ◌+◌, ◌*◌, ◌^◌, ◌<◌, ◌≤◌, ◌++◌, ◌==◌, if◌then◌else◌, take, drop};
+ghost use Rattle.std.specs.Prelude.{◌≡◌, ◌+◌, ◌*◌, ◌^◌, ◌<◌, ◌≤◌, ◌++◌, ◌==◌};
+ghost use Rattle.std.specs.Prelude.{if◌then◌else◌, take, drop};
 ghost use Rattle.byteorder.specs.Endian.{little_from, little_bytes};
 ghost use Rattle.pointer_table.specs.Raw.{slot_in, slots_in};
 ghost use Rattle.pointer_table.specs.Sectors.{slot_bytes, slot_sector_bytes};
@@ -61,7 +62,8 @@ fn target_to_write(slot: &RawSlot) -> u32
 /// Sets a slot of a sector, from 0.
 fn write_slot(sector: &mut [u8; SECTOR_BYTES], index: usize, slot: &RawSlot)
     requires { index < PER_SECTOR }
-    ensures { sector.new ≡ take (8 * index) sector.old ++ slot_bytes (slot_in slot.now) ++ drop (8 * index + 8) sector.old }
+    ensures { sector.new ≡ take (8 * index) sector.old ++ slot_bytes (slot_in slot.now) ++ drop (8 * index + 8)
+        sector.old }
 {
     let at = SLOT_BYTES * index;
     put_number(sector, at, slot.source);

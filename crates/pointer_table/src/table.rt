@@ -1,13 +1,14 @@
 //! The table.
 
-ghost use Rattle.std.specs.Prelude.{◌≡◌, ◌↔◌, ◌<◌, ◌/◌, false, None, Some, length, IsErr, IfOk, OnOk, OnErr, IsErrOf};
+ghost use Rattle.std.specs.Prelude.{◌≡◌, ◌↔◌, ◌<◌, ◌/◌, false, None, Some, length, IsErr, IfOk};
+ghost use Rattle.std.specs.Prelude.{OnOk, OnErr};
 ghost use Rattle.image_device.specs.Calls.{Rests, Uses};
-ghost use Rattle.image_device.specs.Counts.{Rose};
+ghost use Rattle.image_device.specs.Counts.{CountsFaultOf};
 ghost use Rattle.tsd_model.specs.Geometry.{IsLawful};
 ghost use Rattle.tsd_model.specs.Pairs.{holds, with_pair, without_pair};
 ghost use Rattle.tsd_model.specs.Step.{targets_from};
 ghost use Rattle.pointer_table.specs.Changes.{IsChange, IsSlotSector, KeepsStored};
-ghost use Rattle.pointer_table.specs.Loading.{IsLoading};
+ghost use Rattle.pointer_table.specs.Loading.{AnswersPointers};
 ghost use Rattle.tsd_model.specs.Next.{IsNextSource, IsNextTarget};
 ghost use Rattle.pointer_table.specs.Raw.{slots_in};
 ghost use Rattle.pointer_table.specs.Reading.{AreWithinTo};
@@ -28,8 +29,8 @@ use std::alloc::Global;
 use std::marker::Model;
 use tsd_model::{BlockList, Geometry};
 
-/// The pointers of a disk. Contracts see the size of the disk and the list of the slots, each a pair or empty; the pairs that
-/// the slots hold, ascending, are `pairs` of that.
+/// The pointers of a disk. Contracts see the size of the disk and the list of the slots, each a pair or empty; the
+/// pairs that the slots hold, ascending, are `pairs` of that.
 #[derive(Drop)]
 pub struct PointerTable {
     geometry: Geometry,
@@ -63,8 +64,9 @@ impl Model for PointerTable {
 impl PointerTable {
     /// Reads the table of a disk. The device is only read.
     ///
-    /// Fails with `NoMemory` where memory is short; with `Device` only where the device's faults rose, and with every other answer it stays; with `Slot` where a slot
-    /// is bad, for the least one; with `Repeated` where none is bad and two slots hold one pair, for the least such pair.
+    /// Fails with `NoMemory` where memory is short; with `Device` only where the device's faults rose, and with every
+    /// other answer it stays; with `Slot` where a slot is bad, for the least one; with `Repeated` where none is bad and
+    /// two slots hold one pair, for the least such pair.
     pub fn load<D: Device>(
         alloc: Global,
         dev: &mut D,
@@ -72,11 +74,10 @@ impl PointerTable {
     ) -> Result<PointerTable, TableFault>
         requires { IsLawful geometry.now }
         ensures table { IfOk result (λ t. (t.geometry ≡ geometry.now) × IsTable t) }
-        ensures read { D.told → IsLoading (D.view dev.old).reads geometry.now result }
+        ensures read { D.told → AnswersPointers (D.view dev.old).reads geometry.now result }
         ensures rests { D.told → Rests (D.view dev.old) (D.view dev.new) }
         ensures uses { Uses 0 (D.view dev.old) (D.view dev.new) }
-        ensures faultless { ¬ IsErrOf result TableFault.Device → (D.view dev.new).faults ≡ (D.view dev.old).faults }
-        ensures cause { IsErrOf result TableFault.Device → Rose (D.view dev.old).faults (D.view dev.new).faults }
+        ensures faults { CountsFaultOf TableFault.Device result (D.view dev.old).faults (D.view dev.new).faults }
     {
         let mut slots = empty_slots(alloc, geometry)?;
         read_slots(dev, geometry, &mut slots)?;

@@ -1,5 +1,5 @@
-//! All slots of a table threaded, as a load does it: by source and by target in the order of the pairs, without a walk; by
-//! bucket in the order of the slots.
+//! All slots of a table threaded, as a load does it: by source and by target in the order of the pairs, without a walk;
+//! by bucket in the order of the slots.
 
 ghost use Rattle.std.specs.Prelude.{◌≡◌, ℕ, ◌<◌, length, None, IfOk, OnOk, IfErr};
 ghost use Rattle.tsd_model.specs.Geometry.{IsLawful};
@@ -21,8 +21,8 @@ use crate::way::Way;
 use std::alloc::Global;
 use tsd_model::Geometry;
 
-/// The slots threaded one way with a group for each block, from the last pair of their order to the first: each becomes the
-/// first of its group.
+/// The slots threaded one way with a group for each block, from the last pair of their order to the first: each becomes
+/// the first of its group.
 fn by_order(
     alloc: Global,
     way: Way,
@@ -51,7 +51,8 @@ fn by_order(
     Ok(threads)
 }
 
-/// The slots threaded by source and by target, where no pair stands in two. The memory of their order is given back at the end.
+/// The slots threaded by source and by target, where no pair stands in two. The memory of their order is given back at
+/// the end.
 pub(crate) fn by_ends(
     alloc: Global,
     geometry: &Geometry,
@@ -63,8 +64,10 @@ pub(crate) fn by_ends(
     ensures none { OnOk result (IsLeastOfAll (slots_in slots.now) None) }
     ensures sources { IfOk result (λ t. IsThreadedBy Way.Source (slot_at (slots_in slots.now)) t.0) }
     ensures targets { IfOk result (λ t. IsThreadedBy Way.Target (slot_at (slots_in slots.now)) t.1) }
-    ensures groups { IfOk result (λ t. (length t.0.heads.items ≡ geometry.now.blocks) × (length t.1.heads.items ≡ geometry.now.blocks)) }
-    ensures slots { IfOk result (λ t. (length t.0.next.items ≡ geometry.now.slots) × (length t.1.next.items ≡ geometry.now.slots)) }
+    ensures groups { IfOk result (λ t. (length t.0.heads.items ≡ geometry.now.blocks)
+        × (length t.1.heads.items ≡ geometry.now.blocks)) }
+    ensures slots { IfOk result (λ t. (length t.0.next.items ≡ geometry.now.slots)
+        × (length t.1.next.items ≡ geometry.now.slots)) }
     ensures err { IfErr result (IsRefusal (slots_in slots.now)) }
 {
     let mut order = holders(alloc, slots)?;

@@ -1,10 +1,12 @@
 //! Threads through the slots: of each group of pairs an ascending list, by heads and links.
 
-ghost use Rattle.std.specs.Prelude.{◌≡◌, ℕ, ◌+◌, ◌<◌, ◌≤◌, List, length, slice_index_or, slice_set, replicate, Option, Some, None, IfSome, IfOk, IfErr};
-ghost use Rattle.pointer_table.specs.Raw.{slot_in, slots_in};
+ghost use Rattle.std.specs.Prelude.{◌≡◌, ℕ, ◌<◌, length, slice_index_or};
+ghost use Rattle.std.specs.Prelude.{slice_set, replicate, Option, Some, None, IfSome, IfOk, IfErr};
+ghost use Rattle.pointer_table.specs.Indexed.{AreThreadsOf};
+ghost use Rattle.pointer_table.specs.Raw.{slots_in};
 ghost use Rattle.pointer_table.specs.Slots.{slot_at};
 ghost use Rattle.pointer_table.specs.Threads.{rank, is_below, group, linked, no_link, after, heads_with, next_with};
-ghost use Rattle.pointer_table.specs.Threads.{IsMember, LeadsTo, IsBefore, IsNear, AreThreads, IsWith};
+ghost use Rattle.pointer_table.specs.Threads.{LeadsTo, IsBefore, IsBelowAll, IsNear, IsWith};
 
 use crate::fault::TableFault;
 use crate::raw::RawSlot;
@@ -23,7 +25,8 @@ pub(crate) struct Threads {
     /// For each group the slot of its first pair.
     pub heads: Vec<u32>,
 
-    /// For each slot that holds a pair the slot of the next pair of its group. What stands at an empty slot no thread asks.
+    /// For each slot that holds a pair the slot of the next pair of its group. What stands at an empty slot no thread
+    /// asks.
     pub next: Vec<u32>,
 
     /// For each group the slot that was last added at its end, where that is kept. A wrong one costs time alone.
@@ -106,7 +109,8 @@ impl Threads {
     /// A slot of a group whose pair is below a rank: this one, if it is.
     fn near(&self, slots: &[RawSlot], of: usize, limit: u64, place: u32) -> Option<u32>
         requires { of < length self.now.heads.items }
-        ensures { IsNear (slot_at (slots_in slots.now)) (group self.now.way (length self.now.heads.items)) of limit result }
+        ensures { IsNear (slot_at (slots_in slots.now)) (group self.now.way (length self.now.heads.items)) of limit
+            result }
     {
         let (source, target) = slots.get(place as usize)?.pair()?;
         if self.group(source, target) == of && rank(source, target) < limit {
@@ -116,12 +120,13 @@ impl Threads {
         }
     }
 
-    /// The slot of the last pair of a group below a rank. The walk begins at `near`, where that is a slot of the group below
-    /// the rank, and at the head otherwise.
+    /// The slot of the last pair of a group below a rank. The walk begins at `near`, where that is a slot of the group
+    /// below the rank, and at the head otherwise.
     fn before(&self, slots: &[RawSlot], of: usize, limit: u64, near: u32) -> Option<u32>
         requires group { of < length self.now.heads.items }
-        requires threads { AreThreads (slot_at (slots_in slots.now)) (group self.now.way (length self.now.heads.items)) self.now.heads.items self.now.next.items }
-        ensures { IsBefore (slot_at (slots_in slots.now)) (group self.now.way (length self.now.heads.items)) of limit result }
+        requires threads { AreThreadsOf (slot_at (slots_in slots.now)) self.now }
+        ensures { IsBefore (slot_at (slots_in slots.now)) (group self.now.way (length self.now.heads.items)) of limit
+            result }
     {
         let mut before = self.near(slots, of, limit, near);
         let mut link = self.after(of, before);
@@ -135,8 +140,9 @@ impl Threads {
     /// The slot of the first pair of a group that isn't below a rank. The walk begins as that of `before`.
     pub(crate) fn first(&self, slots: &[RawSlot], of: usize, from: u64, near: u32) -> Option<u32>
         requires group { of < length self.now.heads.items }
-        requires threads { AreThreads (slot_at (slots_in slots.now)) (group self.now.way (length self.now.heads.items)) self.now.heads.items self.now.next.items }
-        ensures { LeadsTo (slot_at (slots_in slots.now)) (group self.now.way (length self.now.heads.items)) of from result }
+        requires threads { AreThreadsOf (slot_at (slots_in slots.now)) self.now }
+        ensures { LeadsTo (slot_at (slots_in slots.now)) (group self.now.way (length self.now.heads.items)) of from
+            result }
     {
         let before = self.before(slots, of, from, near);
         linked(self.after(of, before))
@@ -144,7 +150,8 @@ impl Threads {
 }
 
 impl Threads {
-    /// Threads of no slot, with room for so many groups and slots. The ends of the groups are kept where that is wanted.
+    /// Threads of no slot, with room for so many groups and slots. The ends of the groups are kept where that is
+    /// wanted.
     pub(crate) fn none(
         alloc: Global,
         way: Way,
@@ -188,14 +195,16 @@ impl Threads {
     /// Threads the pair of a slot that was empty.
     pub(crate) fn add(&mut self, slots: &[RawSlot], place: u32, source: u32, target: u32)
         requires some { 0 < length self.old.heads.items }
-        requires threads { AreThreads (slot_at (slots_in slots.now)) (group self.old.way (length self.old.heads.items)) self.old.heads.items self.old.next.items }
-        requires group { group self.old.way (length self.old.heads.items) (source, target) < length self.old.heads.items }
+        requires threads { AreThreadsOf (slot_at (slots_in slots.now)) self.old }
+        requires group { group self.old.way (length self.old.heads.items) (source, target)
+            < length self.old.heads.items }
         requires empty { slot_at (slots_in slots.now) place ≡ None }
         requires place { place < length self.old.next.items }
         requires link { place < no_link }
         requires absent { (k : ℕ) → slot_at (slots_in slots.now) k ≡ Some (source, target) → ⊥ }
-        ensures threads { (now : ℕ → Option (ℕ × ℕ)) → IsWith (slot_at (slots_in slots.now)) place (source, target) now
-            → AreThreads now (group self.new.way (length self.new.heads.items)) self.new.heads.items self.new.next.items }
+        ensures threads { (now : ℕ → Option (ℕ × ℕ)) → IsWith (slot_at (slots_in slots.now)) place
+            (source, target) now
+            → AreThreadsOf now self.new }
         ensures way { self.new.way ≡ self.old.way }
         ensures groups { length self.new.heads.items ≡ length self.old.heads.items }
         ensures slots { length self.new.next.items ≡ length self.old.next.items }
@@ -211,10 +220,11 @@ impl Threads {
     /// Takes a pair out of the threads, while its slot still holds it.
     pub(crate) fn remove(&mut self, slots: &[RawSlot], place: u32, source: u32, target: u32)
         requires some { 0 < length self.old.heads.items }
-        requires threads { AreThreads (slot_at (slots_in slots.now)) (group self.old.way (length self.old.heads.items)) self.old.heads.items self.old.next.items }
+        requires threads { AreThreadsOf (slot_at (slots_in slots.now)) self.old }
         requires held { slot_at (slots_in slots.now) place ≡ Some (source, target) }
-        ensures threads { (left : ℕ → Option (ℕ × ℕ)) → IsWith left place (source, target) (slot_at (slots_in slots.now))
-            → AreThreads left (group self.new.way (length self.new.heads.items)) self.new.heads.items self.new.next.items }
+        ensures threads { (left : ℕ → Option (ℕ × ℕ))
+            → IsWith left place (source, target) (slot_at (slots_in slots.now))
+            → AreThreadsOf left self.new }
         ensures way { self.new.way ≡ self.old.way }
         ensures groups { length self.new.heads.items ≡ length self.old.heads.items }
         ensures slots { length self.new.next.items ≡ length self.old.next.items }
@@ -231,13 +241,12 @@ impl Threads {
     /// Threads the pair of a slot, which is below all pairs of its group that are threaded.
     pub(crate) fn add_first(&mut self, place: u32, source: u32, target: u32)
         requires some { 0 < length self.old.heads.items }
-        requires group { group self.old.way (length self.old.heads.items) (source, target) < length self.old.heads.items }
+        requires group { group self.old.way (length self.old.heads.items) (source, target)
+            < length self.old.heads.items }
         requires place { place < length self.old.next.items }
         requires link { place < no_link }
         ensures threads { (held now : ℕ → Option (ℕ × ℕ)) → IsWith held place (source, target) now
-            → ((k : ℕ) (f : ℕ × ℕ) → held k ≡ Some f → rank (source, target) < rank f)
-            → AreThreads held (group self.old.way (length self.old.heads.items)) self.old.heads.items self.old.next.items
-            → AreThreads now (group self.new.way (length self.new.heads.items)) self.new.heads.items self.new.next.items }
+            → IsBelowAll held (source, target) → AreThreadsOf held self.old → AreThreadsOf now self.new }
         ensures way { self.new.way ≡ self.old.way }
         ensures groups { length self.new.heads.items ≡ length self.old.heads.items }
         ensures slots { length self.new.next.items ≡ length self.old.next.items }

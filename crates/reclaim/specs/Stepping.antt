@@ -1,11 +1,11 @@
 -- The step that is taken next.
-use Rattle.std.specs.Prelude.{◌≡◌, ℕ, ◌+◌, ◌<◌, ◌≤◌, length, IsTrue, ◌⊎◌}
+use Rattle.std.specs.Prelude.{◌≡◌, ℕ, ◌<◌, ◌≤◌, length, IsTrue, ◌⊎◌}
 use Rattle.tsd_model.specs.Pairs.{holds}
 use Rattle.tsd_model.specs.World.{World, has_number}
-use Rattle.tsd_model.specs.Doomed.{doomed, settle}
+use Rattle.tsd_model.specs.Doomed.{settle}
 use Rattle.tsd_model.specs.Valid.{IsRaw}
 use Rattle.pointer_table.specs.declared.out_step.OutStep.{OutStep}
-use Rattle.graph_laws.specs.Counts.{doomed_pairs}
+use Rattle.graph_laws.specs.Counts.{doomed_size}
 use Rattle.graph_laws.specs.Graph.{HasGraphOf}
 use Rattle.graph_laws.specs.Steps.{stepped, IsStep, IsLost}
 
@@ -23,10 +23,6 @@ TakesAll w s = (b : ℕ) → IsTrue (holds w.pairs s.block b) → IsTrue (has_nu
 -- the world once the step is carried out
 abbrev pub after_step : World → OutStep → World
 after_step w s = stepped w s.block s.targets s.freed
-
--- how many blocks are doomed, and how many pairs come from them
-abbrev pub doomed_size : World → ℕ
-doomed_size w = length (doomed w) + length (doomed_pairs w)
 
 -- Carried out, a step leaves a raw world raw and what it settles to as it was, and less that is doomed.
 pub record IsKeptBy (r : World) (s : OutStep) : Type 0 where

@@ -1,6 +1,7 @@
 //! What is doomed, told before it is taken away.
 
-ghost use Rattle.std.specs.Prelude.{◌≡◌, ℕ, ◌+◌, ◌<◌, ◌&&◌, ◌==◌, not, [], false, length, replicate, IfOk};
+ghost use Rattle.std.specs.Prelude.{◌≡◌, ℕ, ◌+◌, ◌<◌, ◌&&◌, ◌==◌, not, [], false, length};
+ghost use Rattle.std.specs.Prelude.{replicate, IfOk};
 ghost use Rattle.tsd_model.specs.World.{World, has_number};
 ghost use Rattle.tsd_model.specs.World.{is_live as is_live_in};
 ghost use Rattle.tsd_model.specs.Doomed.{doomed, settle};
@@ -21,12 +22,12 @@ use std::alloc::Global;
 use std::marker::Model;
 use tsd_model::NoMemory;
 
-/// What is doomed on a disk from which nothing is taken away yet: of each block the number of pairs to it from blocks that
-/// aren't doomed, and whether it is doomed; how many blocks are, and how many pairs come from them.
+/// What is doomed on a disk from which nothing is taken away yet: of each block the number of pairs to it from blocks
+/// that aren't doomed, and whether it is doomed; how many blocks are, and how many pairs come from them.
 ///
-/// It is right of a disk once `reset` took the disk's counts, and stays right as long as it is told of each pair that is
-/// added or deleted and of each step. With the list of blocks that `lower` works through it takes eight bytes and a bit a
-/// block.
+/// It is right of a disk once `reset` took the disk's counts, and stays right as long as it is told of each pair that
+/// is added or deleted and of each step. With the list of blocks that `lower` works through it takes eight bytes and a
+/// bit a block.
 #[derive(Drop)]
 pub struct Ahead {
     tally: Tally,
@@ -50,7 +51,13 @@ impl Model for Ahead {
 impl Ahead {
     /// Nothing is doomed, and no pair leads to any of so many blocks. No other call takes memory.
     pub fn new(alloc: Global, blocks: u32) -> Result<Ahead, NoMemory>
-        ensures { IfOk result (λ a. a ≡ record { counts = replicate blocks 0; gone = replicate blocks false; doomed = 0; pairs = 0 }) }
+        ensures { IfOk result (λ a. a ≡ record {
+          counts = replicate blocks 0;
+          gone = replicate blocks false;
+          doomed =
+              0;
+          pairs = 0;
+        }) }
     {
         let counts = vec![in alloc; 0u32; blocks as usize]?;
         let gone = BitArray::new(alloc, blocks)?;
@@ -93,7 +100,8 @@ impl Ahead {
     /// Takes the counts of a disk on which nothing is doomed.
     pub fn reset(&mut self, counts: &RefCounts)
         requires sizes { length self.old.counts ≡ counts.now.geometry.blocks }
-        ensures ahead { (w : World) → w.geometry.blocks ≡ counts.now.geometry.blocks → doomed w ≡ [] → AreCounts counts.now.counts w → IsAheadOf w self.new }
+        ensures ahead { (w : World) → w.geometry.blocks ≡ counts.now.geometry.blocks → doomed w ≡ []
+            → AreCounts counts.now.counts w → IsAheadOf w self.new }
         ensures gone { (b : ℕ) → is_gone self.new.gone b ≡ false }
     {
         self.tally.reset(counts);
@@ -102,18 +110,20 @@ impl Ahead {
     /// A pair to a block was added.
     pub fn raise(&mut self, target: u32)
         requires told { (w : World) × (a : ℕ) × IsAdding w a target self.old }
-        ensures ahead { (w : World) (a : ℕ) → IsAdding w a target self.old → IsAheadOf (with_pointer w a target) self.new }
+        ensures ahead { (w : World) (a : ℕ) → IsAdding w a target self.old
+            → IsAheadOf (with_pointer w a target) self.new }
         ensures gone { self.new.gone ≡ self.old.gone }
     {
         self.tally.raise(target);
     }
 
-    /// Blocks were allocated: each of these, which were free, is live, and a pair to it was added. Nothing is doomed then: room
-    /// for blocks is made by reclaiming all first. So whichever block the pairs come from, none of the new blocks is doomed,
-    /// and there is no need to name it.
+    /// Blocks were allocated: each of these, which were free, is live, and a pair to it was added. Nothing is doomed
+    /// then: room for blocks is made by reclaiming all first. So whichever block the pairs come from, none of the new
+    /// blocks is doomed, and there is no need to name it.
     pub fn raise_all(&mut self, targets: &[u32])
         requires told { (w : World) × IsGrowing w targets.now self.old }
-        ensures ahead { (w : World) (a : ℕ) → IsGrowing w targets.now self.old → IsAheadOf (with_new_blocks w a targets.now) self.new }
+        ensures ahead { (w : World) (a : ℕ) → IsGrowing w targets.now self.old
+            → IsAheadOf (with_new_blocks w a targets.now) self.new }
         ensures gone { self.new.gone ≡ self.old.gone }
     {
         self.tally.raise_all(targets);
@@ -123,12 +133,14 @@ impl Ahead {
     pub fn lower(&mut self, pointers: &PointerTable, live: &mut LiveMap, target: u32) -> u32
         requires tables { AreTables pointers.now live.old }
         requires hidden { Hides live.old (is_gone self.old.gone) }
-        requires deleted { (w : World) × (a : ℕ) × IsDeleting w a target self.old × (graph_of pointers.now live.old ≡ without_pointer w a target) }
+        requires deleted { (w : World) × (a : ℕ) × IsDeleting w a target self.old
+            × (graph_of pointers.now live.old ≡ without_pointer w a target) }
         ensures ahead { IsAheadOf (graph_of pointers.now live.new) self.new }
         ensures hidden { Hides live.new (is_gone self.new.gone) }
 
         // So the map answers by the settled disk.
-        ensures settled { (b : ℕ) → b < pointers.now.geometry.blocks → is_live live.new.unhidden b ≡ is_live_in (settle (graph_of pointers.now live.new)) b }
+        ensures settled { (b : ℕ) → b < pointers.now.geometry.blocks → is_live live.new.unhidden b
+            ≡ is_live_in (settle (graph_of pointers.now live.new)) b }
 
         // The bitmap stays.
         ensures raw { live.new ≡ record live.old { unhidden = live.new.unhidden } }
@@ -141,7 +153,8 @@ impl Ahead {
     pub fn done(&mut self, step: &OutStep)
         requires told { (w : World) × IsStepping w step.now self.old }
         ensures ahead { (w : World) → IsStepping w step.now self.old → IsAheadOf (after_step w step.now) self.new }
-        ensures gone { (b : ℕ) → is_gone self.new.gone b ≡ (is_gone self.old.gone b && not (step.now.freed && (b == step.now.block))) }
+        ensures gone { (b : ℕ) → is_gone self.new.gone b
+            ≡ (is_gone self.old.gone b && not (step.now.freed && (b == step.now.block))) }
     {
         let taken = step.targets.len() as u32;
         self.tally.take(step.block, taken, step.freed);

@@ -1,6 +1,7 @@
 //! Blocks that may be lost, and the step at one of them.
 
-ghost use Rattle.std.specs.Prelude.{◌≡◌, ◌⊎◌, true, length, ℕ, ◌<◌, [], IfSome, IsNone, IsTrue, ◌↔◌};
+ghost use Rattle.std.specs.Prelude.{◌≡◌, ◌⊎◌, true, length, ℕ, ◌<◌, [], IfSome, IsNone, IsTrue};
+ghost use Rattle.std.specs.Prelude.{◌↔◌};
 ghost use Rattle.tsd_model.specs.Doomed.{doomed};
 ghost use Rattle.graph_laws.specs.Steps.{IsLost};
 ghost use Rattle.reclaim.specs.Stepping.{MayStep, TakesAll, AreKeptBy};
@@ -17,8 +18,8 @@ use tsd_model::NoMemory;
 /// How many guesses there is room for.
 const GUESSES: usize = 4_096;
 
-/// Some blocks that may be lost, so that no step has to look at all blocks for one. Each is looked at before it is used: a
-/// wrong one costs time and no answer, and so does one that is missing. They take 16 KiB.
+/// Some blocks that may be lost, so that no step has to look at all blocks for one. Each is looked at before it is
+/// used: a wrong one costs time and no answer, and so does one that is missing. They take 16 KiB.
 #[derive(Drop)]
 pub struct Guesses {
     blocks: Vec<u32>,
@@ -91,7 +92,8 @@ impl Guesses {
         requires tables { AreTables pointers.now live.now }
         requires counts { HaveCounts pointers.now live.now counts.now }
         ensures lost { IfSome result (λ b. IsLost (graph_of pointers.now live.now) b) }
-        ensures none { IsNone result → (b : ℕ) → b < pointers.now.geometry.blocks → IsLost (graph_of pointers.now live.now) b → ⊥ }
+        ensures none { IsNone result → (b : ℕ) → b < pointers.now.geometry.blocks
+            → IsLost (graph_of pointers.now live.now) b → ⊥ }
     {
         let mut first = None;
         let blocks = pointers.geometry().blocks;
@@ -109,11 +111,11 @@ impl Guesses {
     }
 }
 
-/// The next step, as `next_step` names it, at a block that is guessed where a guess is right. Only where none is, all blocks
-/// are looked at. None exactly where nothing is doomed.
+/// The next step, as `next_step` names it, at a block that is guessed where a guess is right. Only where none is, all
+/// blocks are looked at. None exactly where nothing is doomed.
 ///
-/// Carrying the step out means to take away the pairs from the block to these targets and, if it is freed, the block. Each
-/// target to which no pair is left is a good guess then.
+/// Carrying the step out means to take away the pairs from the block to these targets and, if it is freed, the block.
+/// Each target to which no pair is left is a good guess then.
 pub fn find_step(
     pointers: &PointerTable,
     counts: &RefCounts,

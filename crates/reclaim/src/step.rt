@@ -1,6 +1,7 @@
 //! The next step of reclamation.
 
-ghost use Rattle.std.specs.Prelude.{◌≡◌, ◌⊎◌, true, length, ℕ, ◌&&◌, ◌==◌, not, [], IfSome, IsNone, IsTrue, ◌↔◌};
+ghost use Rattle.std.specs.Prelude.{◌≡◌, ◌⊎◌, true, length, ℕ, ◌&&◌, ◌==◌, not, [], IfSome};
+ghost use Rattle.std.specs.Prelude.{IsNone, IsTrue, ◌↔◌};
 ghost use Rattle.tsd_model.specs.World.{has_number};
 ghost use Rattle.tsd_model.specs.Doomed.{doomed};
 ghost use Rattle.graph_laws.specs.Steps.{IsLost};
@@ -13,11 +14,11 @@ use block_alloc::LiveMap;
 use pointer_table::{OutStep, PointerTable};
 use ref_counts::RefCounts;
 
-/// The next step, at a block that waits: its first 16 targets, or all where it has no more, and then it is freed. A block
-/// that is freed waits no longer, one that isn't waits still. None exactly where nothing is doomed.
+/// The next step, at a block that waits: its first 16 targets, or all where it has no more, and then it is freed. A
+/// block that is freed waits no longer, one that isn't waits still. None exactly where nothing is doomed.
 ///
-/// Carrying the step out means to take away the pairs from the block to these targets and, if it is freed, the block; and
-/// to push each target to which no pair is left.
+/// Carrying the step out means to take away the pairs from the block to these targets and, if it is freed, the block;
+/// and to push each target to which no pair is left.
 pub fn next_step(
     pointers: &PointerTable,
     counts: &RefCounts,
@@ -38,7 +39,8 @@ pub fn next_step(
     ensures none { IsNone result ↔ (doomed (graph_of pointers.now live.now) ≡ []) }
     ensures room { work.new.room ≡ work.old.room }
     ensures idle { IsNone result → work.new ≡ work.old }
-    ensures work { IfSome result (λ s. (b : ℕ) → has_number work.new.blocks b ≡ (has_number work.old.blocks b && not (s.freed && (s.block == b)))) }
+    ensures work { IfSome result (λ s. (b : ℕ) → has_number work.new.blocks b
+        ≡ (has_number work.old.blocks b && not (s.freed && (s.block == b)))) }
 {
     let block = work.pop()?;
     let step = step_at(pointers, live, block);

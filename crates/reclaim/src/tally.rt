@@ -1,6 +1,7 @@
 //! Which blocks are doomed, found with a work list.
 
-ghost use Rattle.std.specs.Prelude.{◌≡◌, ℕ, ◌+◌, ◌-◌, ◌<◌, ◌≤◌, ◌||◌, ◌&&◌, ◌==◌, [], false, not, cond, length, slice_index, slice_set, IsTrue};
+ghost use Rattle.std.specs.Prelude.{◌≡◌, ℕ, ◌+◌, ◌-◌, ◌<◌, ◌≤◌, ◌||◌, ◌&&◌, ◌==◌};
+ghost use Rattle.std.specs.Prelude.{[], false, not, cond, length, slice_index, slice_set, IsTrue};
 ghost use Rattle.tsd_model.specs.World.{World, has_number};
 ghost use Rattle.tsd_model.specs.Step.{without_pointer};
 ghost use Rattle.reclaim.specs.Ahead.{is_gone, Hides, IsAheadOf, IsDeleting, kept};
@@ -33,11 +34,13 @@ impl Tally {
     pub(crate) fn reset(&mut self, counts: &RefCounts)
         requires counts { length self.old.counts.items ≡ counts.now.geometry.blocks }
         requires gone { length self.old.gone ≡ counts.now.geometry.blocks }
-        ensures counts { (b : ℕ) → b < counts.now.geometry.blocks → slice_index self.new.counts.items b ≡ slice_index counts.now.counts b }
+        ensures counts { (b : ℕ) → b < counts.now.geometry.blocks → slice_index self.new.counts.items b
+            ≡ slice_index counts.now.counts b }
         ensures gone { (b : ℕ) → is_gone self.new.gone b ≡ false }
         ensures doomed { self.new.doomed ≡ 0 }
         ensures pairs { self.new.pairs ≡ 0 }
-        ensures long { (length self.new.counts.items ≡ length self.old.counts.items) × (length self.new.gone ≡ length self.old.gone) }
+        ensures long { (length self.new.counts.items ≡ length self.old.counts.items)
+            × (length self.new.gone ≡ length self.old.gone) }
         ensures waiting { self.new.waiting ≡ self.old.waiting }
     {
         let blocks = counts.geometry().blocks;
@@ -53,7 +56,8 @@ impl Tally {
     pub(crate) fn raise(&mut self, target: u32)
         requires within { target < length self.old.counts.items }
         requires fits { slice_index self.old.counts.items target < 4294967295 }
-        ensures counts { self.new.counts.items ≡ slice_set self.old.counts.items target (slice_index self.old.counts.items target + 1) }
+        ensures counts { self.new.counts.items ≡ slice_set self.old.counts.items target
+            (slice_index self.old.counts.items target + 1) }
         ensures others { HasSameMarks self.old self.new }
     {
         self.counts[target as usize] += 1;
@@ -63,8 +67,10 @@ impl Tally {
     pub(crate) fn raise_all(&mut self, targets: &[u32])
         requires once { IsTrue (all_apart targets.now) }
         requires within { (b : ℕ) → IsTrue (has_number targets.now b) → b < length self.old.counts.items }
-        requires fits { (b : ℕ) → IsTrue (has_number targets.now b) → slice_index self.old.counts.items b < 4294967295 }
-        ensures counts { (b : ℕ) → slice_index self.new.counts.items b ≡ cond (has_number targets.now b) 1 0 + slice_index self.old.counts.items b }
+        requires fits { (b : ℕ) → IsTrue (has_number targets.now b) → slice_index self.old.counts.items b
+            < 4294967295 }
+        ensures counts { (b : ℕ) → slice_index self.new.counts.items b ≡ cond (has_number targets.now b) 1 0 +
+            slice_index self.old.counts.items b }
         ensures long { length self.new.counts.items ≡ length self.old.counts.items }
         ensures others { HasSameMarks self.old self.new }
     {
@@ -78,7 +84,8 @@ impl Tally {
         requires within { block < length self.old.gone }
         requires some { cond freed 1 0 ≤ self.old.doomed }
         requires pairs { pairs ≤ self.old.pairs }
-        ensures gone { (b : ℕ) → is_gone self.new.gone b ≡ (is_gone self.old.gone b && not (freed && (b == block))) }
+        ensures gone { (b : ℕ) → is_gone self.new.gone b
+            ≡ (is_gone self.old.gone b && not (freed && (b == block))) }
         ensures long { length self.new.gone ≡ length self.old.gone }
         ensures doomed { self.old.doomed ≡ cond freed 1 0 + self.new.doomed }
         ensures taken { self.old.pairs ≡ pairs + self.new.pairs }
@@ -98,8 +105,10 @@ impl Tally {
         requires room { self.old.waiting.room ≡ pointers.now.geometry.blocks }
         requires none { self.old.waiting.blocks ≡ [] }
         requires hidden { Hides live.old (is_gone self.old.gone) }
-        requires deleted { (w : World) × (a : ℕ) × IsDeleting w a target (kept self.old.counts.items self.old.gone self.old.doomed self.old.pairs) × (graph_of pointers.now live.old ≡ without_pointer w a target) }
-        ensures ahead { IsAheadOf (graph_of pointers.now live.new) (kept self.new.counts.items self.new.gone self.new.doomed self.new.pairs) }
+        requires deleted { (w : World) × (a : ℕ) × IsDeleting w a target (kept self.old.counts.items self.old.gone
+            self.old.doomed self.old.pairs) × (graph_of pointers.now live.old ≡ without_pointer w a target) }
+        ensures ahead { IsAheadOf (graph_of pointers.now live.new) (kept self.new.counts.items self.new.gone
+            self.new.doomed self.new.pairs) }
         ensures hidden { Hides live.new (is_gone self.new.gone) }
         ensures raw { live.new ≡ record live.old { unhidden = live.new.unhidden } }
         ensures more { self.new.doomed ≡ self.old.doomed + result }
@@ -125,16 +134,22 @@ impl Tally {
         requires room { self.old.waiting.room ≡ pointers.now.geometry.blocks }
         requires marked { IsTrue (is_gone self.old.gone block) }
         requires out { has_number self.old.waiting.blocks block ≡ false }
-        requires counting { IsCounting (graph_of pointers.now live.now) self.old.counts.items self.old.gone self.old.waiting.blocks self.old.doomed self.old.pairs (left_at self.old.gone self.old.waiting.blocks block 0) }
-        ensures counting { IsCounting (graph_of pointers.now live.now) self.new.counts.items self.new.gone self.new.waiting.blocks self.new.doomed self.new.pairs (left_at self.new.gone self.new.waiting.blocks pointers.now.geometry.blocks 0) }
+        requires counting { IsCounting (graph_of pointers.now live.now) self.old.counts.items self.old.gone
+            self.old.waiting.blocks self.old.doomed self.old.pairs (left_at self.old.gone self.old.waiting.blocks block
+            0) }
+        ensures counting { IsCounting (graph_of pointers.now live.now) self.new.counts.items self.new.gone
+            self.new.waiting.blocks self.new.doomed self.new.pairs (left_at self.new.gone self.new.waiting.blocks
+            pointers.now.geometry.blocks 0) }
         ensures counts { length self.new.counts.items ≡ length self.old.counts.items }
         ensures gone { length self.new.gone ≡ length self.old.gone }
         ensures room { self.new.waiting.room ≡ self.old.waiting.room }
-        ensures balance { self.new.doomed + length self.old.waiting.blocks ≡ self.old.doomed + length self.new.waiting.blocks }
+        ensures balance { self.new.doomed + length self.old.waiting.blocks ≡ self.old.doomed + length
+            self.new.waiting.blocks }
         ensures more { self.old.doomed ≤ self.new.doomed }
 
         // A block that is doomed now waits, if it wasn't doomed before.
-        ensures done { (b : ℕ) → (is_gone self.new.gone b && not (has_number self.new.waiting.blocks b)) ≡ (is_gone self.old.gone b && not (has_number self.old.waiting.blocks b)) }
+        ensures done { (b : ℕ) → (is_gone self.new.gone b && not (has_number self.new.waiting.blocks b))
+            ≡ (is_gone self.old.gone b && not (has_number self.old.waiting.blocks b)) }
     {
         let mut from = 0;
         while let Some(target) = pointers.next_target(block, from) {
@@ -151,13 +166,19 @@ impl Tally {
         requires room { self.old.waiting.room ≡ length self.old.counts.items }
         requires some { 0 < slice_index self.old.counts.items target }
         requires fresh { is_gone self.old.gone target ≡ false }
-        requires waits { (b : ℕ) → IsTrue (has_number self.old.waiting.blocks b) → IsTrue (is_gone self.old.gone b) }
+        requires waits { (b : ℕ) → IsTrue (has_number self.old.waiting.blocks b)
+            → IsTrue (is_gone self.old.gone b) }
         requires fits { self.old.doomed < 4294967295 }
-        ensures counts { self.new.counts.items ≡ slice_set self.old.counts.items target (slice_index self.old.counts.items target - 1) }
-        ensures gone { (b : ℕ) → is_gone self.new.gone b ≡ (is_gone self.old.gone b || ((b == target) && (slice_index self.old.counts.items target == 1))) }
-        ensures waiting { (b : ℕ) → has_number self.new.waiting.blocks b ≡ (has_number self.old.waiting.blocks b || ((b == target) && (slice_index self.old.counts.items target == 1))) }
+        ensures counts { self.new.counts.items ≡ slice_set self.old.counts.items target
+            (slice_index self.old.counts.items target - 1) }
+        ensures gone { (b : ℕ) → is_gone self.new.gone b
+            ≡ (is_gone self.old.gone b || ((b == target) && (slice_index self.old.counts.items target == 1))) }
+        ensures waiting { (b : ℕ) → has_number self.new.waiting.blocks b
+            ≡ (has_number self.old.waiting.blocks b || ((b == target) && (slice_index self.old.counts.items target ==
+            1))) }
         ensures doomed { self.new.doomed ≡ self.old.doomed + cond (slice_index self.old.counts.items target == 1) 1 0 }
-        ensures balance { self.new.doomed + length self.old.waiting.blocks ≡ self.old.doomed + length self.new.waiting.blocks }
+        ensures balance { self.new.doomed + length self.old.waiting.blocks ≡ self.old.doomed + length
+            self.new.waiting.blocks }
         ensures pairs { self.new.pairs ≡ self.old.pairs }
         ensures long { length self.new.gone ≡ length self.old.gone }
         ensures room { self.new.waiting.room ≡ self.old.waiting.room }

@@ -1,6 +1,7 @@
 //! The blocks that wait.
 
-ghost use Rattle.std.specs.Prelude.{◌≡◌, ℕ, ◌<◌, ◌∷◌, [], ◌++◌, false, ◌&&◌, nat_lt, length, IfOk, IfSome, IsNone, ◌↔◌};
+ghost use Rattle.std.specs.Prelude.{◌≡◌, ℕ, ◌<◌, ◌∷◌, [], ◌++◌, false, ◌&&◌, nat_lt, length};
+ghost use Rattle.std.specs.Prelude.{IfOk, IfSome, IsNone, ◌↔◌};
 ghost use Rattle.tsd_model.specs.World.{has_number};
 ghost use Rattle.pointer_table.specs.Table.{Table};
 ghost use Rattle.reclaim.specs.Held.{IsPopped};
@@ -28,7 +29,8 @@ impl Model for Work {
 
     ghost view = { λ w. record { room = length w.blocks.items; blocks = take w.len w.blocks.items } };
 
-    ghost invariant = { λ w. (w.len ≤ length w.blocks.items) × IsHeld (record { room = length w.blocks.items; blocks = take w.len w.blocks.items }) };
+    ghost invariant = { λ w. (w.len ≤ length w.blocks.items)
+        × IsHeld (record { room = length w.blocks.items; blocks = take w.len w.blocks.items }) };
 }
 
 impl Work {
@@ -50,10 +52,12 @@ impl Work {
         requires room { self.old.room ≡ counts.now.geometry.blocks }
         requires sizes { live.now.geometry ≡ counts.now.geometry }
         ensures room { self.new.room ≡ self.old.room }
-        ensures value { (b : ℕ) → has_number self.new.blocks b ≡ (nat_lt b counts.now.geometry.blocks && is_uncounted live.now.live counts.now.counts primaries b) }
+        ensures value { (b : ℕ) → has_number self.new.blocks b
+            ≡ (nat_lt b counts.now.geometry.blocks && is_uncounted live.now.live counts.now.counts primaries b) }
 
         // Where the counts are those of the pairs of a table, these are the lost blocks.
-        ensures lost { (t : Table) → AreTables t live.now → HaveCounts t live.now counts.now → primaries ≡ t.geometry.primaries → HoldsLost (graph_of t live.now) self.new }
+        ensures lost { (t : Table) → AreTables t live.now → HaveCounts t live.now counts.now
+            → primaries ≡ t.geometry.primaries → HoldsLost (graph_of t live.now) self.new }
     {
         self.clear();
         let blocks = counts.geometry().blocks;

@@ -20,8 +20,7 @@ use Rattle.image_world.proofs.FreshLaws.{fresh_sound}
 use Rattle.image_world.proofs.SoundLaws.{has_one}
 use Rattle.intent_journal.specs.Home.{home}
 use Rattle.intent_journal.proofs.Opened.{opened_none, home_of_empty}
-use Rattle.volume_laws.specs.Graphs.{graph_in}
-use Rattle.volume_laws.specs.Moments.{owed}
+use Rattle.image_world.specs.Debt.{graph_in, owed}
 use Rattle.volume_laws.specs.Quiet.{IsQuiet}
 use Rattle.volume_laws.proofs.TableWorlds.{none_owed}
 

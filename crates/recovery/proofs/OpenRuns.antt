@@ -8,7 +8,7 @@ use Rattle.image_device.proofs.Moments.{started, after_sync, after_read, joined,
 use Rattle.image_layout.specs.declared.header.Header.{Header}
 use Rattle.image_layout.specs.Header.{IsReading}
 use Rattle.image_layout.specs.Image.{Image, is_open}
-use Rattle.image_world.specs.Alike.{DoAgree}
+use Rattle.image_world.specs.Alike.{ReadAlike}
 use Rattle.image_world.specs.Faults.{HasHeader, IsGood}
 use Rattle.image_world.specs.Fresh.{AreClosed}
 use Rattle.image_world.specs.Stands.{Stands}
@@ -21,15 +21,16 @@ use Rattle.intent_journal.specs.Crash.{IsTheSame}
 use Rattle.intent_journal.specs.Home.{home, is_journal, AgreeBut}
 use Rattle.intent_journal.specs.Records.{open_records, has_valid_records}
 use Rattle.intent_journal.specs.Ring.{replay_writes, distinct_homes, open_gates, checkpoint_writes}
-use Rattle.intent_journal.specs.Ring.{IsAt as IsRingAt}
+use Rattle.intent_journal.specs.Ring.{IsRingAt}
 use Rattle.intent_journal.proofs.Opened.{opened_none, home_of_empty}
 use Rattle.intent_journal.proofs.Uses.{at_valid}
-use Rattle.volume.specs.Loading.{IsLoading}
+use Rattle.volume.specs.Loading.{AnswersVolume}
 use Rattle.volume.specs.declared.fault.VolumeFault.{VolumeFault}
 use Rattle.volume.specs.declared.fault.VolumeFault.TheVariants as loading
-use Rattle.volume_laws.specs.Moments.{LeavesWorld, LeavesOwed, owed}
+use Rattle.volume_laws.specs.Moments.{LeavesWorld, LeavesOwed}
+use Rattle.image_world.specs.Debt.{owed}
 use Rattle.volume_laws.specs.Quiet.{IsQuiet}
-use Rattle.volume_laws.specs.Volume.{Volume, IsAt, world_on}
+use Rattle.volume_laws.specs.Volume.{Volume, IsVolumeAt, world_on}
 use Rattle.volume_laws.specs.Writes.{due, IsPaid}
 use Rattle.recovery.specs.declared.fault.OpenFault.{OpenFault}
 use Rattle.recovery.specs.declared.fault.OpenFault.TheVariants as fault
@@ -82,13 +83,13 @@ opened_replay v0 v2 v3 so_far still leaves =
 -- nothing is loose, and the device agrees with what it was
 pub record IsReplayed (v0 v : View) : Type 0 where
   pub firm : IsFirm v
-  pub agree : DoAgree v0.reads v.reads
+  pub agree : ReadAlike v0.reads v.reads
   pub sent : v.sent ≡ v0.sent
 
 pub replayed : (v0 v2 v3 : View) → IsStill v0 v2 → IsRingAt [] v3 → AgreeBut is_journal (home v2.reads) v3.reads → has_valid_records v2.reads ≡ true → IsFirm v3 → v3.sent ≡ v2.sent → IsReplayed v0 v3
 replayed v0 v2 v3 still at done valid firm sent = record {
   firm = firm;
-  agree = subst (λ (r : Image). DoAgree r v3.reads) still.reads (same_agree v2.reads v3.reads (record {
+  agree = subst (λ (r : Image). ReadAlike r v3.reads) still.reads (same_agree v2.reads v3.reads (record {
     valid = at_valid at ∙ sym valid;
     stands = λ n out. (λ i. home_of_empty v3.reads at.shows i n) ∙ done n out;
   }));
@@ -98,7 +99,7 @@ replayed v0 v2 v3 still at done valid firm sent = record {
 pub loaded : (v0 v3 v4 : View) → IsReplayed v0 v3 → Rests v3 v4 → IsReplayed v0 v4
 loaded v0 v3 v4 done rests = record {
   firm = λ n. (λ i. rests.loose i n) ∙ done.firm n;
-  agree = subst (λ (r : Image). DoAgree v0.reads r) (sym rests.reads) done.agree;
+  agree = subst (λ (r : Image). ReadAlike v0.reads r) (sym rests.reads) done.agree;
   sent = rests.sent ∙ done.sent;
 }
 
@@ -122,7 +123,7 @@ opened_finish v0 v4 v5 so_far done good leaves =
     ))
 
 -- ---- what it answers
-pub opened_fault : (v0 v3 : View) (why : VolumeFault) → IsReplayed v0 v3 → IsLoading v3.reads (Err why) → IsOpening v0.reads (Err (of_volume why))
+pub opened_fault : (v0 v3 : View) (why : VolumeFault) → IsReplayed v0 v3 → AnswersVolume v3.reads (Err why) → IsOpening v0.reads (Err (of_volume why))
 opened_fault v0 v3 loading.NoMemory done p = tt
 opened_fault v0 v3 loading.Device done p = tt
 opened_fault v0 v3 (loading.Image why) done p = fault_alike v3.reads v0.reads (agree_back v0.reads v3.reads done.agree) why p
@@ -134,15 +135,15 @@ quiet_replay x closed =
     let shut : open_gates x ≡ 0 = rw (closed 0 (omega arith), closed 1 (omega arith), closed 2 (omega arith), closed 3 (omega arith), closed 4 (omega arith), closed 5 (omega arith), closed 6 (omega arith), closed 7 (omega arith)) refl in
     omega (arith, none, shut)
 
-pub same_tables : (v0 v4 : View) (vol : Volume) → IsReplayed v0 v4 → IsAt vol v4 → vol.tables ≡ tables_of (home v0.reads)
+pub same_tables : (v0 v4 : View) (vol : Volume) → IsReplayed v0 v4 → IsVolumeAt vol v4 → vol.tables ≡ tables_of (home v0.reads)
 same_tables v0 v4 vol done at =
     let good = (stood v0 v4 done at.good).good in
     sym at.tables ∙ alike_tables (home v0.reads) (home v4.reads) good.header done.agree.homes
 
-pub quiet_flag : (v0 v4 : View) (vol : Volume) → IsQuiet v0.reads → IsReplayed v0 v4 → IsAt vol v4 → vol.tables.is_sweeping ≡ false
+pub quiet_flag : (v0 v4 : View) (vol : Volume) → IsQuiet v0.reads → IsReplayed v0 v4 → IsVolumeAt vol v4 → vol.tables.is_sweeping ≡ false
 quiet_flag v0 v4 vol quiet done at = ap (λ (t : Tables). t.is_sweeping) (same_tables v0 v4 vol done at) ∙ quiet.still
 
-pub quiet_due : (v0 v4 : View) (vol : Volume) → IsQuiet v0.reads → IsReplayed v0 v4 → IsAt vol v4 → vol.ring ≡ [] → due vol ≡ 0
+pub quiet_due : (v0 v4 : View) (vol : Volume) → IsQuiet v0.reads → IsReplayed v0 v4 → IsVolumeAt vol v4 → vol.ring ≡ [] → due vol ≡ 0
 quiet_due v0 v4 vol quiet done at none =
     let settled : owed vol.tables ≡ 0 = ap owed (same_tables v0 v4 vol done at) ∙ quiet.settled in
     let empty : checkpoint_writes vol.ring ≡ 0 = ap checkpoint_writes none in
@@ -153,11 +154,11 @@ quiet_uses v0 v1 v2 v3 still quiet one two three =
     let nothing = quiet_replay v2.reads (subst AreClosed (sym still.reads) quiet.closed) in
     uses_and 0 0 0 v0 v2 v3 (omega arith) (uses_and 0 0 0 v0 v1 v2 (omega arith) one two) (subst (λ (n : ℕ). Uses n v2 v3) nothing three)
 
-pub quiet_finish : (v0 v4 v5 : View) (vol : Volume) → IsQuiet v0.reads → IsReplayed v0 v4 → IsAt vol v4 → vol.ring ≡ [] → Uses 0 v0 v4 → (vol.tables.is_sweeping ≡ false → Uses (due vol) v4 v5) → Uses 0 v0 v5
+pub quiet_finish : (v0 v4 v5 : View) (vol : Volume) → IsQuiet v0.reads → IsReplayed v0 v4 → IsVolumeAt vol v4 → vol.ring ≡ [] → Uses 0 v0 v4 → (vol.tables.is_sweeping ≡ false → Uses (due vol) v4 v5) → Uses 0 v0 v5
 quiet_finish v0 v4 v5 vol quiet done at none four five =
     uses_and 0 0 0 v0 v4 v5 (omega arith) four (subst (λ (n : ℕ). Uses n v4 v5) (quiet_due v0 v4 vol quiet done at none) (five (quiet_flag v0 v4 vol quiet done at)))
 
-pub opened_err : (v0 v3 : View) (why : VolumeFault) (r : Result Volume OpenFault) → IsErrAnd r (λ made. made ≡ of_volume why) → IsReplayed v0 v3 → IsLoading v3.reads (Err why) → IsOpening v0.reads r
+pub opened_err : (v0 v3 : View) (why : VolumeFault) (r : Result Volume OpenFault) → IsErrAnd r (λ made. made ≡ of_volume why) → IsReplayed v0 v3 → AnswersVolume v3.reads (Err why) → IsOpening v0.reads r
 opened_err v0 v3 why (Ok v) is done p = absurd is
 opened_err v0 v3 why (Err made) is done p = subst (λ (e : OpenFault). IsOpening v0.reads (Err e)) (sym is) (opened_fault v0 v3 why done p)
 
@@ -165,7 +166,7 @@ pub opened_device : (v0 : View) (r : Result Volume OpenFault) → IsErrAnd r (λ
 opened_device v0 (Ok v) is = absurd is
 opened_device v0 (Err made) is = subst (λ (e : OpenFault). IsOpening v0.reads (Err e)) (sym is) tt
 
-pub quiet_paid : (v0 v4 v5 : View) (vol now : Volume) → IsQuiet v0.reads → IsReplayed v0 v4 → IsAt vol v4 → vol.ring ≡ [] → Uses 0 v0 v4 → (vol.tables.is_sweeping ≡ false → IsPaid 0 vol v4 now v5) → v5.writes + due now ≤ v0.writes
+pub quiet_paid : (v0 v4 v5 : View) (vol now : Volume) → IsQuiet v0.reads → IsReplayed v0 v4 → IsVolumeAt vol v4 → vol.ring ≡ [] → Uses 0 v0 v4 → (vol.tables.is_sweeping ≡ false → IsPaid 0 vol v4 now v5) → v5.writes + due now ≤ v0.writes
 quiet_paid v0 v4 v5 vol now quiet done at none four five =
     omega (arith, quiet_due v0 v4 vol quiet done at none, five (quiet_flag v0 v4 vol quiet done at), four.most)
 
@@ -195,27 +196,27 @@ owed_head v0 v1 v2 so_far still rests = after_read v0 v1 v2 (OwesNoMore v0) so_f
 head_right : (x : Image) (h : Header) → IsReading (x 0) (Ok h) → HasHeader x
 head_right x h reading = subst (λ (k : Header). IsReading (x 0) (Ok k)) reading.3 reading
 
-agree_owes : (v0 : View) (x : Image) → HasHeader (home v0.reads) → DoAgree v0.reads x → owed (tables_of (home x)) ≤ owed (tables_of (home v0.reads))
+agree_owes : (v0 : View) (x : Image) → HasHeader (home v0.reads) → ReadAlike v0.reads x → owed (tables_of (home x)) ≤ owed (tables_of (home v0.reads))
 agree_owes v0 x header agree = omega (arith, ap owed (alike_tables (home v0.reads) (home x) header agree.homes))
 
 pub owed_replay : (v0 v2 v3 : View) (h : Header) → LeavesOnly v0 v2 (OwesNoMore v0) → IsStill v0 v2 → HasHead v2.reads h → LeavesOnly v2 v3 (λ x f. IsTheSame v2.reads x × (f ≡ v2.sent)) → LeavesOnly v0 v3 (OwesNoMore v0)
 owed_replay v0 v2 v3 h so_far still head leaves =
     let right = subst (λ (r : Image). HasHeader (home r)) still.reads (head_right (home v2.reads) h head.header) in
     joined v0 v2 v3 (OwesNoMore v0) (λ x f. IsTheSame v2.reads x × (f ≡ v2.sent)) so_far leaves
-    (λ x f left. agree_owes v0 x right (subst (λ (r : Image). DoAgree r x) still.reads (same_agree v2.reads x left.0)))
+    (λ x f left. agree_owes v0 x right (subst (λ (r : Image). ReadAlike r x) still.reads (same_agree v2.reads x left.0)))
 
 pub owed_load : (v0 v3 v4 : View) → HasHeader (home v0.reads) → LeavesOnly v0 v3 (OwesNoMore v0) → IsReplayed v0 v3 → Rests v3 v4 → LeavesOnly v0 v4 (OwesNoMore v0)
 owed_load v0 v3 v4 right so_far done rests = after_read v0 v3 v4 (OwesNoMore v0) so_far rests
-    (λ x f left. agree_owes v0 x right (subst (DoAgree v0.reads) (sym (firm_image v3 done.firm x f left)) done.agree))
+    (λ x f left. agree_owes v0 x right (subst (ReadAlike v0.reads) (sym (firm_image v3 done.firm x f left)) done.agree))
 
 pub right_head : (v0 v2 : View) (h : Header) → IsStill v0 v2 → HasHead v2.reads h → HasHeader (home v0.reads)
 right_head v0 v2 h still head = subst (λ (r : Image). HasHeader (home r)) still.reads (head_right (home v2.reads) h head.header)
 
-still_flag : (v0 v4 : View) (vol : Volume) → is_open (home v0.reads 131) ≡ false → IsReplayed v0 v4 → IsAt vol v4 → vol.tables.is_sweeping ≡ false
+still_flag : (v0 v4 : View) (vol : Volume) → is_open (home v0.reads 131) ≡ false → IsReplayed v0 v4 → IsVolumeAt vol v4 → vol.tables.is_sweeping ≡ false
 unfolding tables_of
 still_flag v0 v4 vol flag done at = ap (λ (t : Tables). t.is_sweeping) (same_tables v0 v4 vol done at) ∙ flag
 
-pub owed_finish : (v0 v4 v5 : View) (vol : Volume) → is_open (home v0.reads 131) ≡ false → LeavesOnly v0 v4 (OwesNoMore v0) → IsReplayed v0 v4 → IsAt vol v4 → (vol.tables.is_sweeping ≡ false → LeavesOwed v4 v5 (owed vol.tables)) → LeavesOnly v0 v5 (OwesNoMore v0)
+pub owed_finish : (v0 v4 v5 : View) (vol : Volume) → is_open (home v0.reads 131) ≡ false → LeavesOnly v0 v4 (OwesNoMore v0) → IsReplayed v0 v4 → IsVolumeAt vol v4 → (vol.tables.is_sweeping ≡ false → LeavesOwed v4 v5 (owed vol.tables)) → LeavesOnly v0 v5 (OwesNoMore v0)
 owed_finish v0 v4 v5 vol flag so_far done at leaves =
     joined v0 v4 v5 (OwesNoMore v0) (λ x f. owed (tables_of (home x)) ≤ owed vol.tables) so_far (leaves (still_flag v0 v4 vol flag done at))
     (λ x f left. omega (arith, left, ap owed (same_tables v0 v4 vol done at)))

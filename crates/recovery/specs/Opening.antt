@@ -6,7 +6,7 @@ use Rattle.image_layout.specs.Areas.{header_sector}
 use Rattle.image_layout.specs.Header.{IsReading}
 use Rattle.image_layout.specs.Image.{Image}
 use Rattle.intent_journal.specs.Home.{home}
-use Rattle.image_world.specs.Faults.{IsFormatted, HasJournal, IsGood, IsFirstFault}
+use Rattle.image_world.specs.Faults.{IsFormatGateOpen, HasJournal, IsGood, IsFirstFault}
 use Rattle.image_world.specs.Stands.{Stands}
 use Rattle.volume_laws.specs.Volume.{Volume}
 use Rattle.recovery.specs.declared.fault.OpenFault.{OpenFault}
@@ -14,7 +14,7 @@ use Rattle.recovery.specs.declared.fault.OpenFault.TheVariants as fault
 
 -- the first three tests pass, and the header is this
 pub record HasHead (image : Image) (h : Header) : Type 0 where
-  pub formatted : IsFormatted image
+  pub formatted : IsFormatGateOpen image
   pub journal : HasJournal image
   pub header : IsReading (home image header_sector) (Ok h)
 

@@ -1,11 +1,12 @@
 //! All that formatting writes but the format gate.
 
-ghost use Rattle.std.specs.Prelude.{◌≡◌, ℕ, ◌+◌, ◌-◌, ◌<◌, ◌≤◌, ◌==◌, ◌&&◌, nat_le, not, false, length, OnOk, OnErr};
+ghost use Rattle.std.specs.Prelude.{◌≡◌, ℕ, ◌+◌, ◌-◌, ◌<◌, ◌≤◌, ◌==◌, ◌&&◌, nat_le};
+ghost use Rattle.std.specs.Prelude.{not, false, length, OnOk, OnErr};
 ghost use Rattle.tsd_model.specs.Geometry.{IsLawful};
 ghost use Rattle.cap_store.specs.Fresh.{fresh_records};
 ghost use Rattle.cap_store.specs.Store.{AreRecords};
 ghost use Rattle.image_device.specs.Calls.{Uses};
-ghost use Rattle.image_device.specs.Counts.{Rose};
+ghost use Rattle.image_device.specs.Counts.{CountsFault};
 ghost use Rattle.image_device.specs.Image.{Image};
 ghost use Rattle.image_device.specs.Runs.{IsConfined, IsFirm};
 ghost use Rattle.image_layout.specs.Areas.{format_gate, sweep_flag};
@@ -42,8 +43,7 @@ fn close_gates<D: Device>(dev: &mut D) -> Result<(), Failed>
     ensures closed { D.told → OnOk result (AreClosed (D.view dev.new).reads) }
     ensures confined { D.told → IsConfined is_journal (D.view dev.old) (D.view dev.new) }
     ensures uses { Uses 8 (D.view dev.old) (D.view dev.new) }
-    ensures faultless { OnOk result ((D.view dev.new).faults ≡ (D.view dev.old).faults) }
-    ensures cause { OnErr result (Rose (D.view dev.old).faults (D.view dev.new).faults) }
+    ensures faults { CountsFault result (D.view dev.old).faults (D.view dev.new).faults }
 {
     for index in 0..RECORDS {
         dev.write(gate_sector(index), &gate_bytes(false))?;
@@ -54,12 +54,12 @@ fn close_gates<D: Device>(dev: &mut D) -> Result<(), Failed>
 /// Writes the tables of a fresh disk and zeros to its primary blocks.
 #[tactic(auto, using(image_device::proofs::Confined::confined_calls))]
 fn write_tables<D: Device>(dev: &mut D, layout: &Layout, caps: &CapList) -> Result<(), Failed>
-    ensures fresh { D.told → OnOk result ((n : ℕ) → sweep_flag ≤ n → n < fresh_end layout.now.geometry → (D.view dev.new).reads n ≡ fresh_bytes layout.now.geometry caps.now n) }
+    ensures fresh { D.told → OnOk result ((n : ℕ) → sweep_flag ≤ n → n < fresh_end layout.now.geometry
+        → (D.view dev.new).reads n ≡ fresh_bytes layout.now.geometry caps.now n) }
     ensures kept { OnOk result (AreRecords 1 (fresh_records caps.now)) }
     ensures confined { D.told → IsConfined (nat_le sweep_flag) (D.view dev.old) (D.view dev.new) }
     ensures uses { Uses (fresh_end layout.now.geometry - sweep_flag) (D.view dev.old) (D.view dev.new) }
-    ensures faultless { OnOk result ((D.view dev.new).faults ≡ (D.view dev.old).faults) }
-    ensures cause { OnErr result (Rose (D.view dev.old).faults (D.view dev.new).faults) }
+    ensures faults { CountsFault result (D.view dev.old).faults (D.view dev.new).faults }
 {
     let end = layout.data_start() + layout.geometry.sectors * layout.geometry.primaries;
     for sector in SWEEP_FLAG..end {
@@ -76,12 +76,12 @@ pub(crate) fn write_areas<D: Device>(
 ) -> Result<(), Failed>
     requires lawful { IsLawful geometry.now }
     requires each { length caps.now ≡ geometry.now.primaries }
-    ensures written { D.told → OnOk result ((x : Image) → ((n : ℕ) → (n == format_gate) ≡ false → x n ≡ (D.view dev.new).reads n) → IsWrittenFresh geometry.now caps.now x) }
+    ensures written { D.told → OnOk result ((x : Image) → ((n : ℕ) → (n == format_gate) ≡ false
+        → x n ≡ (D.view dev.new).reads n) → IsWrittenFresh geometry.now caps.now x) }
     ensures firm { D.told → OnOk result (IsFirm (D.view dev.new)) }
     ensures confined { D.told → IsConfined (λ n. not (n == format_gate)) (D.view dev.old) (D.view dev.new) }
     ensures uses { Uses (fresh_end geometry.now - 122) (D.view dev.old) (D.view dev.new) }
-    ensures faultless { OnOk result ((D.view dev.new).faults ≡ (D.view dev.old).faults) }
-    ensures cause { OnErr result (Rose (D.view dev.old).faults (D.view dev.new).faults) }
+    ensures faults { CountsFault result (D.view dev.old).faults (D.view dev.new).faults }
 {
     let header = Header {
         version: PLAIN_VERSION,

@@ -4,7 +4,7 @@ ghost use Rattle.std.specs.Prelude.{◌≡◌, ◌-◌, length, OnOk, OnErr};
 ghost use Rattle.tsd_model.specs.Geometry.{IsLawful};
 ghost use Rattle.tsd_model.specs.Run.{fresh_world};
 ghost use Rattle.image_device.specs.Calls.{Uses};
-ghost use Rattle.image_device.specs.Counts.{Rose};
+ghost use Rattle.image_device.specs.Counts.{CountsFault};
 ghost use Rattle.image_device.specs.Runs.{IsFirm, LeavesOnly};
 ghost use Rattle.image_world.specs.Stands.{Stands};
 ghost use Rattle.volume_laws.specs.Quiet.{IsQuiet};
@@ -17,9 +17,9 @@ use image_layout::gate::gate_bytes;
 use image_layout::sectors::FORMAT_GATE;
 use tsd_model::{CapList, Geometry};
 
-/// Formats a disk of this size, with these capabilities of its primary blocks. Nothing is left to be done on it: all gates of
-/// the journal are closed, no sweep is open, and nothing is doomed. `Failed` comes only where the device's count of faults
-/// rose. It takes no memory.
+/// Formats a disk of this size, with these capabilities of its primary blocks. Nothing is left to be done on it: all
+/// gates of the journal are closed, no sweep is open, and nothing is doomed. `Failed` comes only where the device's
+/// count of faults rose. It takes no memory.
 pub fn format<D: Device>(dev: &mut D, geometry: &Geometry, caps: &CapList) -> Result<(), Failed>
     requires lawful { IsLawful geometry.now }
     requires each { length caps.now ≡ geometry.now.primaries }
@@ -33,8 +33,7 @@ pub fn format<D: Device>(dev: &mut D, geometry: &Geometry, caps: &CapList) -> Re
         (λ x f. IsFormatting (D.view dev.old) (fresh_world geometry.now caps.now) x f × (f ≡ (D.view dev.old).sent)) }
 
     ensures uses { Uses (fresh_end geometry.now - 120) (D.view dev.old) (D.view dev.new) }
-    ensures faultless { OnOk result ((D.view dev.new).faults ≡ (D.view dev.old).faults) }
-    ensures cause { OnErr result (Rose (D.view dev.old).faults (D.view dev.new).faults) }
+    ensures faults { CountsFault result (D.view dev.old).faults (D.view dev.new).faults }
 {
     // An image whose format gate is closed stands for no world.
     write_through(dev, FORMAT_GATE, &gate_bytes(false))?;

@@ -1,18 +1,19 @@
 //! Opening.
 
-ghost use Rattle.std.specs.Prelude.{◌≡◌, ◌+◌, ◌≤◌, false, IfOk, OnOk, IsErrOf};
+ghost use Rattle.std.specs.Prelude.{◌≡◌, ◌+◌, ◌≤◌, false, IfOk, OnOk};
 ghost use Rattle.image_layout.specs.declared.header.Header.{Header};
 ghost use Rattle.image_device.specs.Calls.{Uses};
-ghost use Rattle.image_device.specs.Counts.{Rose};
+ghost use Rattle.image_device.specs.Counts.{CountsFaultOf};
 ghost use Rattle.image_device.specs.Runs.{IsFirm, LeavesOnly};
 ghost use Rattle.image_layout.specs.Areas.{sweep_flag};
 ghost use Rattle.image_layout.specs.Image.{is_open};
 ghost use Rattle.image_world.specs.Stands.{world_of};
 ghost use Rattle.image_world.specs.Tables.{tables_of};
 ghost use Rattle.intent_journal.specs.Home.{home};
-ghost use Rattle.volume_laws.specs.Moments.{LeavesOwed, owed};
+ghost use Rattle.volume_laws.specs.Moments.{LeavesOwed};
+ghost use Rattle.image_world.specs.Debt.{owed};
 ghost use Rattle.volume_laws.specs.Quiet.{IsQuiet};
-ghost use Rattle.volume_laws.specs.Volume.{IsAt, IsReady, world_on};
+ghost use Rattle.volume_laws.specs.Volume.{IsVolumeAt, IsVolumeReady, world_on};
 ghost use Rattle.volume_laws.specs.Writes.{due, Works};
 ghost use Rattle.recovery.specs.Opening.{HasHead, IsOpening, StandAlike};
 
@@ -23,37 +24,38 @@ use intent_journal::Ring;
 use std::alloc::Global;
 use volume::Volume;
 
-/// Opens an image: a sync, the tests that need no write, a replay of the journal, the other tests, and then the end of an
-/// open sweep and of what is doomed. The answer is the volume of the world for which the image stands, with nothing doomed. The
-/// fault `Image` comes exactly where it stands for none, `Device` only where the device's count of faults rose. Where nothing
-/// is left to be done on the image, nothing is written.
+/// Opens an image: a sync, the tests that need no write, a replay of the journal, the other tests, and then the end of
+/// an open sweep and of what is doomed. The answer is the volume of the world for which the image stands, with nothing
+/// doomed. The fault `Image` comes exactly where it stands for none, `Device` only where the device's count of faults
+/// rose. Where nothing is left to be done on the image, nothing is written.
 pub fn open_image<D: Device>(alloc: Global, dev: &mut D) -> Result<Volume, OpenFault>
     ensures read { D.told → IsOpening (D.view dev.old).reads result }
-    ensures at { D.told → IfOk result (λ v. IsAt v (D.view dev.new)) }
+    ensures at { D.told → IfOk result (λ v. IsVolumeAt v (D.view dev.new)) }
     ensures done { D.told → OnOk result (world_on (D.view dev.new) ≡ world_of (D.view dev.old).reads) }
-    ensures ready { IfOk result (λ v. IsReady v) }
+    ensures ready { IfOk result (λ v. IsVolumeReady v) }
     ensures settled { IfOk result (λ v. owed v.tables ≡ 0) }
     ensures unspent { IfOk result (λ v. v.is_spent ≡ false) }
     ensures sent { D.told → (D.view dev.new).sent ≡ (D.view dev.old).sent }
 
-    // A crash at any moment leaves an image of the same world, or of none where the image stood for none. So opening what
-    // an opening left, stopped anywhere and any number of times, opens the same world.
+    // A crash at any moment leaves an image of the same world, or of none where the image stood for none. So opening
+    // what an opening left, stopped anywhere and any number of times, opens the same world.
     ensures any_moment { D.told → IsFirm (D.view dev.old) → LeavesOnly (D.view dev.old) (D.view dev.new)
         (λ x f. StandAlike (D.view dev.old).reads x × (f ≡ (D.view dev.old).sent)) }
 
     // Where one of the tests fails that need no write, nothing is written.
-    ensures untouched { D.told → ((h : Header) → ¬ HasHead (D.view dev.old).reads h) → Uses 0 (D.view dev.old) (D.view dev.new) }
+    ensures untouched { D.told → ((h : Header) → ¬ HasHead (D.view dev.old).reads h)
+        → Uses 0 (D.view dev.old) (D.view dev.new) }
 
     ensures unwritten { D.told → IsQuiet (D.view dev.old).reads → Uses 0 (D.view dev.old) (D.view dev.new) }
-    ensures paid { D.told → IsQuiet (D.view dev.old).reads → IfOk result (λ v. (D.view dev.new).writes + due v ≤ (D.view dev.old).writes) }
+    ensures paid { D.told → IsQuiet (D.view dev.old).reads → IfOk result (λ v. (D.view dev.new).writes + due v
+        ≤ (D.view dev.old).writes) }
 
     // Where no sweep had begun, it never owes more than at the start.
     ensures any_owed { D.told → IsFirm (D.view dev.old) → is_open (home (D.view dev.old).reads sweep_flag) ≡ false
         → LeavesOwed (D.view dev.old) (D.view dev.new) (owed (tables_of (home (D.view dev.old).reads))) }
 
     ensures works { Works (D.view dev.old) (D.view dev.new) }
-    ensures faultless { ¬ IsErrOf result OpenFault.Device → (D.view dev.new).faults ≡ (D.view dev.old).faults }
-    ensures cause { IsErrOf result OpenFault.Device → Rose (D.view dev.old).faults (D.view dev.new).faults }
+    ensures faults { CountsFaultOf OpenFault.Device result (D.view dev.old).faults (D.view dev.new).faults }
 {
     let mut ring = Ring::new(alloc)?;
     dev.sync()?;

@@ -3,9 +3,9 @@
 //! What it stands on: `tsd_model` for the size of a disk, `image_device` for the reads, `image_layout` for the places,
 //! `byteorder` for numbers in bytes.
 //!
-//! What it promises: after `load` the table is what the sectors say, whatever numbers they have; `patch` is the sector of
-//! a block's count as it must read now, so that table and image agree again once it stands there; `fresh_sector` is a
-//! sector of a fresh disk, with no count above 0. The table takes four bytes a block, and only `load` takes memory.
+//! What it promises: after `load` the table is what the sectors say, whatever numbers they have; `patch` is the sector
+//! of a block's count as it must read now, so that table and image agree again once it stands there; `fresh_sector` is
+//! a sector of a fresh disk, with no count above 0. The table takes four bytes a block, and only `load` takes memory.
 #![tactic(auto)]
 
 mod fault;

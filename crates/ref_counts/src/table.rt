@@ -1,15 +1,14 @@
 //! The table of counts.
 
-ghost use Rattle.std.specs.Prelude.{◌≡◌, ℕ, ◌+◌, ◌-◌, ◌^◌, ◌<◌, ◌≤◌, ◌==◌, ◌||◌, Bool, slice_index, slice_set, IfOk, OnOk, IsErrOf};
+ghost use Rattle.std.specs.Prelude.{◌≡◌, ℕ, ◌+◌, ◌-◌, ◌^◌, ◌<◌, ◌≤◌};
+ghost use Rattle.std.specs.Prelude.{slice_index, slice_set, IfOk};
 ghost use Rattle.tsd_model.specs.Geometry.{IsLawful};
 ghost use Rattle.image_layout.specs.Areas.{bitmap_start, counts_start};
-ghost use Rattle.image_layout.specs.Image.{Image};
-ghost use Rattle.image_device.specs.Image.{put_at};
 ghost use Rattle.image_device.specs.Calls.{Rests, Uses};
-ghost use Rattle.image_device.specs.Counts.{Rose};
+ghost use Rattle.image_device.specs.Counts.{CountsFaultOf};
 ghost use Rattle.ref_counts.specs.Table.{IsTable};
-ghost use Rattle.ref_counts.specs.Changes.{patch_of, KeepsStored};
-ghost use Rattle.ref_counts.specs.Stored.{IsStored, IsStoredBut, sector_of, counts_sector_bytes, part_of};
+ghost use Rattle.ref_counts.specs.Changes.{patch_of, KeepsElsewhere, KeepsStored, Completes, CompletesBut};
+ghost use Rattle.ref_counts.specs.Stored.{IsStored, sector_of, counts_sector_bytes, part_of};
 
 use crate::fault::LoadFault;
 use crate::loading::read_counts;
@@ -57,9 +56,7 @@ impl RefCounts {
         ensures stored { D.told → IfOk result (λ t. IsStored t.counts t.geometry (D.view dev.old).reads) }
         ensures rests { D.told → Rests (D.view dev.old) (D.view dev.new) }
         ensures uses { Uses 0 (D.view dev.old) (D.view dev.new) }
-        ensures faultless { OnOk result ((D.view dev.new).faults ≡ (D.view dev.old).faults) }
-        ensures short { IsErrOf result LoadFault.NoMemory → (D.view dev.new).faults ≡ (D.view dev.old).faults }
-        ensures cause { IsErrOf result LoadFault.Device → Rose (D.view dev.old).faults (D.view dev.new).faults }
+        ensures faults { CountsFaultOf LoadFault.Device result (D.view dev.old).faults (D.view dev.new).faults }
     {
         let mut counts = vec![in alloc; 0u32; geometry.blocks as usize]?;
         read_counts(dev, &mut counts)?;
@@ -91,10 +88,13 @@ impl RefCounts {
     pub fn raise(&mut self, block: u32)
         requires block { block < self.old.geometry.blocks }
         requires room { slice_index self.old.counts block < self.old.geometry.blocks }
-        ensures raised { self.new ≡ record self.old { counts = slice_set self.old.counts block (slice_index self.old.counts block + 1) } }
+        ensures raised { self.new ≡ record self.old {
+          counts = slice_set self.old.counts block
+              (slice_index self.old.counts block + 1);
+        } }
 
         // What an image had of the table it has still, but for the sector of this count.
-        ensures elsewhere { (some : ℕ → Bool) (x : Image) → IsStoredBut some self.old.counts self.old.geometry x → IsStoredBut (λ n. n == sector_of self.old.geometry block || some n) self.new.counts self.new.geometry x }
+        ensures elsewhere { KeepsElsewhere block self.old self.new }
 
         // With the patch of this count, an image that had the table before has the new one.
         ensures stored { KeepsStored self.old self.new (patch_of self.new block) }
@@ -107,10 +107,13 @@ impl RefCounts {
     pub fn lower(&mut self, block: u32)
         requires block { block < self.old.geometry.blocks }
         requires some { 0 < slice_index self.old.counts block }
-        ensures lowered { self.new ≡ record self.old { counts = slice_set self.old.counts block (slice_index self.old.counts block - 1) } }
+        ensures lowered { self.new ≡ record self.old {
+          counts = slice_set self.old.counts block
+              (slice_index self.old.counts block - 1);
+        } }
 
         // What an image had of the table it has still, but for the sector of this count.
-        ensures elsewhere { (some : ℕ → Bool) (x : Image) → IsStoredBut some self.old.counts self.old.geometry x → IsStoredBut (λ n. n == sector_of self.old.geometry block || some n) self.new.counts self.new.geometry x }
+        ensures elsewhere { KeepsElsewhere block self.old self.new }
 
         // With the patch of this count, an image that had the table before has the new one.
         ensures stored { KeepsStored self.old self.new (patch_of self.new block) }
@@ -119,8 +122,8 @@ impl RefCounts {
         self.counts[block as usize] -= 1;
     }
 
-    /// The sector that has the count of a block, as it must read now. It depends on the counts as they are now alone, so
-    /// the patches of one sector replace each other.
+    /// The sector that has the count of a block, as it must read now. It depends on the counts as they are now alone,
+    /// so the patches of one sector replace each other.
     pub fn patch(&self, block: u32) -> Patch
         requires { block < self.now.geometry.blocks }
         ensures value { result ≡ patch_of self.now block }
@@ -129,10 +132,10 @@ impl RefCounts {
         ensures bytes { result.bytes ≡ counts_sector_bytes self.now.counts (part_of block) }
 
         // An image that has the counts of all other sectors has all of them, once the patch stands there.
-        ensures stored { (x : Image) → IsStoredBut (λ n. n == result.sector) self.now.counts self.now.geometry x → IsStored self.now.counts self.now.geometry (put_at result.sector result.bytes x) }
+        ensures stored { Completes self.now result }
 
         // The same where more sectors are still to be patched.
-        ensures more { (some : ℕ → Bool) (x : Image) → IsStoredBut (λ n. n == result.sector || some n) self.now.counts self.now.geometry x → IsStoredBut some self.now.counts self.now.geometry (put_at result.sector result.bytes x) }
+        ensures more { CompletesBut self.now result }
     {
         let place = Layout::of(&self.geometry).count_place(block);
         let part = place.sector - COUNTS_START;

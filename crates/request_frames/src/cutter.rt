@@ -2,7 +2,9 @@
 //!
 //! However the text is cut into pieces, the frames are the same: those of the text itself.
 
-ghost use Rattle.std.specs.Prelude.{◌≡◌, ◌≢◌, ◌↔◌, ◌+◌, ◌-◌, ◌^◌, ◌<◌, ◌≤◌, ◌++◌, ℕ, List, [], ◌∷◌, length, take, drop, slice_index, min, cond, nat_le, true, false, IsTrue, IfOk};
+ghost use Rattle.std.specs.Prelude.{◌≡◌, ◌≢◌, ◌↔◌, ◌+◌, ◌-◌, ◌^◌, ◌<◌, ◌≤◌};
+ghost use Rattle.std.specs.Prelude.{◌++◌, ℕ, List, [], ◌∷◌, length, take, drop, slice_index, min, cond};
+ghost use Rattle.std.specs.Prelude.{nat_le, true, false, IsTrue, IfOk};
 ghost use Rattle.std.specs.Vec.{vec_capacity};
 ghost use Rattle.request_frames.specs.Frames.{IsCut, frame_of, frames, unended, frame_size, has_frame};
 ghost use Rattle.request_frames.specs.Cutting.{Cutting, Cuts, FollowOn, WasFed, bodies_held, body, rest, text_fed};
@@ -72,7 +74,8 @@ impl FrameCutter {
         ensures held { self.new.held ≡ rest self.old ++ take result.used piece.now }
         // After any text, the bytes that were used end its next frame, or they end none.
         ensures cuts { (text : List ℕ) → WasFed text self.old → Cuts text (take result.used piece.now) self.new }
-        ensures fed { (text : List ℕ) → WasFed text self.old → WasFed (text ++ take result.used piece.now) self.new }
+        ensures fed { (text : List ℕ) → WasFed text self.old
+            → WasFed (text ++ take result.used piece.now) self.new }
     {
         begin_anew(&mut self.held, self.whole);
         let fed = take_frame(&mut self.held, piece);
@@ -116,8 +119,10 @@ fn take_frame(held: &mut Vec<u8>, piece: &[u8]) -> Fed
     ensures items { held.new.items ≡ held.old.items ++ take result.used piece.now }
     ensures room { ROOM ≤ vec_capacity held.new }
     ensures within { result.used ≤ length piece.now }
-    ensures whole { result.whole ≡ true → (length held.new.items ≡ frame_size held.new.items) × (0 < result.used) }
-    ensures none { result.whole ≡ false → (has_frame held.new.items ≡ false) × (result.used ≡ length piece.now) }
+    ensures whole { result.whole ≡ true → (length held.new.items ≡ frame_size held.new.items)
+        × (0 < result.used) }
+    ensures none { result.whole ≡ false → (has_frame held.new.items ≡ false)
+        × (result.used ≡ length piece.now) }
 {
     let of_length = fill(held, LENGTH_BYTES, piece);
     let size = known_size(held.as_slice());
@@ -154,14 +159,17 @@ fn known_size(held: &[u8]) -> usize
 /// However a text is cut into pieces, the bodies that a cutter holds whole, one after another, are those of the text's
 /// frames.
 pub fn any_cutting()
-    ensures { (feeds : List (List ℕ × Cutting)) → FollowOn [] feeds → bodies_held feeds ≡ frames (text_fed feeds) }
+    ensures { (feeds : List (List ℕ × Cutting)) → FollowOn [] feeds
+        → bodies_held feeds ≡ frames (text_fed feeds) }
 {}
 
 /// What the frames of a text are: the text is these frames, one after another, and then bytes that begin a frame and
 /// don't end it, or none. A text is so in one way.
 pub fn frames_are()
-    ensures cut { (text : List ℕ) → ((i : ℕ) → slice_index text i < 256) → IsCut text (frames text) (unended text) }
-    ensures only { (text : List ℕ) (bodies : List (List ℕ)) (more : List ℕ) → IsCut text bodies more → (frames text ≡ bodies) × (unended text ≡ more) }
+    ensures cut { (text : List ℕ) → ((i : ℕ) → slice_index text i < 256)
+        → IsCut text (frames text) (unended text) }
+    ensures only { (text : List ℕ) (bodies : List (List ℕ)) (more : List ℕ) → IsCut text bodies more
+        → (frames text ≡ bodies) × (unended text ≡ more) }
 {}
 
 /// Frames one behind the other part in one way. So the frames of what was sent count the replies that were sent whole.
@@ -169,7 +177,9 @@ pub fn frames_part()
     // The frames of a text come first in a longer one: more bytes change no frame that is whole.
     ensures stay { (x y : List ℕ) → frames (x ++ y) ≡ frames x ++ frames (unended x ++ y) }
     // A frame before bytes is the first of their frames.
-    ensures first { (body behind : List ℕ) → length body < 2 ^ 16 → frames (frame_of body ++ behind) ≡ body ∷ frames behind }
+    ensures first { (body behind : List ℕ) → length body < 2 ^ 16 → frames (frame_of body ++ behind)
+        ≡ body ∷ frames behind }
     // A front of a frame that isn't all of it has none.
-    ensures none { (body front back : List ℕ) → length body < 2 ^ 16 → frame_of body ≡ front ++ back → 0 < length back → frames front ≡ [] }
+    ensures none { (body front back : List ℕ) → length body < 2 ^ 16 → frame_of body ≡ front ++ back
+        → 0 < length back → frames front ≡ [] }
 {}

@@ -3,7 +3,9 @@
 ghost use Rattle.std.specs.Prelude.{◌≡◌, ◌<◌, ◌⊎◌, length};
 ghost use Rattle.tsd_model.specs.declared.requests.Request.{Request};
 ghost use Rattle.request_frames.specs.Requests.{IsBody};
-ghost use Rattle.request_frames.specs.Reading.{begin_of, end_of, read_of, write_of, alloc_of, contig_of, free_of, create_of, delete_of, set_cap_of, sweep_of, list_of, coded, asked, request_of, ends};
+ghost use Rattle.request_frames.specs.Reading.{begin_of, end_of, read_of, write_of, alloc_of, contig_of, free_of};
+ghost use Rattle.request_frames.specs.Reading.{create_of, delete_of, set_cap_of, sweep_of, list_of, coded, asked};
+ghost use Rattle.request_frames.specs.Reading.{request_of, ends};
 
 use crate::codes::{
     ALLOC, BEGIN, CONTIG, CREATE, DELETE, END, GET_FREE, LIST, READ, SET_CAP, SWEEP, WRITE,

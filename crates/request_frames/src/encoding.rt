@@ -133,7 +133,8 @@ fn put_request(into: &mut FrameBuf, request: &Request)
 /// What most requests begin with.
 fn place(into: &mut FrameBuf, code: u8, session: u32, block: u32, cap: &Shown)
     requires { into.old ≡ 0 ∷ 0 ∷ [] }
-    ensures bytes { into.new ≡ 0 ∷ 0 ∷ bytes_of (Code code ∷ Number session ∷ Number block ∷ Show cap.now ∷ []) }
+    ensures bytes { into.new ≡ 0 ∷ 0 ∷ bytes_of (Code code ∷ Number session ∷ Number block ∷ Show cap.now
+        ∷ []) }
     ensures fits { AllFit (Number session ∷ Number block ∷ Show cap.now ∷ []) }
     ensures room { length into.new ≤ PLACE_ROOM }
 {

@@ -1,8 +1,8 @@
 //! Requests and replies as frames of bytes.
 //!
 //! A client sends requests as frames and is sent replies as frames. A frame is the length of its body in two bytes, the
-//! lowest first, and the body. A body is a code byte and the fields that this code has, with nothing after them; numbers
-//! have four bytes, the lowest first.
+//! lowest first, and the body. A body is a code byte and the fields that this code has, with nothing after them;
+//! numbers have four bytes, the lowest first.
 //!
 //! What it stands on: the types of `tsd_model`; `arrayvec` for buffers, `byteorder` for numbers in bytes.
 //!
@@ -14,8 +14,8 @@
 //!   [`decode_reply`] the same of replies. The spellings are stated apart from both directions (`specs/Fields.antt`,
 //!   `specs/Requests.antt`, `specs/Replies.antt`).
 //! - [`encode_request`] and [`encode_reply`] leave the frame of the one body.
-//! - Frames one behind the other part in one way, and more bytes change no frame that is whole ([`cutter::frames_part`]);
-//!   a reply's body fits a frame ([`bodies_fit`]).
+//! - Frames one behind the other part in one way, and more bytes change no frame that is whole
+//!   ([`cutter::frames_part`]); a reply's body fits a frame ([`bodies_fit`]).
 //!
 //! Room for the longest frame is taken when a cutter is made. No other call takes memory.
 #![tactic(auto)]

@@ -1,7 +1,8 @@
 //! The bytes of a body, read from its front field by field.
 
 ghost use Rattle.std.specs.Prelude.{◌≡◌, ◌↔◌, [], IsTrue, MatchOption};
-ghost use Rattle.request_frames.specs.Reading.{byte_of, num_of, cap_of, shown_of, hint_of, level_of, data_of, list_of_blocks, place_of};
+ghost use Rattle.request_frames.specs.Reading.{byte_of, num_of, cap_of, shown_of, hint_of, level_of, data_of};
+ghost use Rattle.request_frames.specs.Reading.{list_of_blocks, place_of};
 
 use crate::codes::{ABSENT, LEVEL_NONE, LEVEL_READ, LEVEL_WRITE, PRESENT};
 use byteorder::{ByteOrder, LittleEndian};

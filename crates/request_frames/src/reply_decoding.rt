@@ -4,7 +4,9 @@ ghost use Rattle.std.specs.Prelude.{◌≡◌, MatchOption};
 ghost use Rattle.tsd_model.specs.declared.replies.Reply.{Reply};
 ghost use Rattle.request_frames.specs.Replies.{IsReply};
 ghost use Rattle.request_frames.specs.Reading.{ends};
-ghost use Rattle.request_frames.specs.ReplyReading.{is_block_size, bare, bytes_reply, blocks_reply, free_reply, gone_reply, targets_reply, denied_reply, full_reply, no_run_reply, pointers_full_reply, ruled, refused_reply, answered, reply_of};
+ghost use Rattle.request_frames.specs.ReplyReading.{is_block_size, bare, bytes_reply, blocks_reply, free_reply};
+ghost use Rattle.request_frames.specs.ReplyReading.{gone_reply, targets_reply, denied_reply, full_reply, no_run_reply};
+ghost use Rattle.request_frames.specs.ReplyReading.{pointers_full_reply, ruled, refused_reply, answered, reply_of};
 
 use crate::codes;
 use crate::reader::BodyReader;

@@ -3,7 +3,8 @@
 //! However the text is cut into pieces, the lines are the same: those of the text itself. A line of more than 8,400
 //! bytes is held cut to 8,401, so that it is told apart from every shorter one.
 
-ghost use Rattle.std.specs.Prelude.{◌≡◌, ◌<◌, ◌≤◌, ◌++◌, ℕ, List, [], length, map, take, true, false};
+ghost use Rattle.std.specs.Prelude.{◌≡◌, ◌<◌, ◌≤◌, ◌++◌, ℕ, List, [], length, map, take, true};
+ghost use Rattle.std.specs.Prelude.{false};
 ghost use Rattle.script_text.specs.Pieces.{lines};
 ghost use Rattle.script_text.specs.Lines.{Cutting, Cuts, FollowOn, WasFed, lines_held, rest, text_fed};
 ghost use Rattle.arrayvec.specs.ArrayVec.{array_vec_len};
@@ -62,7 +63,8 @@ impl LineCutter {
         ensures whole { self.new.whole ≡ result.whole }
         // After any text, the bytes that were used end its next line, or they end none.
         ensures cuts { (text : List ℕ) → WasFed text self.old → Cuts text (take result.used piece.now) self.new }
-        ensures fed { (text : List ℕ) → WasFed text self.old → WasFed (text ++ take result.used piece.now) self.new }
+        ensures fed { (text : List ℕ) → WasFed text self.old
+            → WasFed (text ++ take result.used piece.now) self.new }
     {
         if self.whole {
             self.line.clear();
@@ -119,7 +121,8 @@ fn push_all(line: &mut ArrayVec<u8, HELD_MAX>, bytes: &[u8])
 /// However a text is cut into pieces, the lines that a cutter holds whole, one after another, are those of the text,
 /// each cut to 8,401 bytes.
 pub fn any_cutting()
-    ensures { (feeds : List (List ℕ × Cutting)) → FollowOn [] feeds → lines_held feeds ≡ map (take 8401) (lines (text_fed feeds)) }
+    ensures { (feeds : List (List ℕ × Cutting)) → FollowOn [] feeds
+        → lines_held feeds ≡ map (take 8401) (lines (text_fed feeds)) }
 {}
 
 /// The lines of a text come first among those of a longer text: more bytes change no line that is whole.

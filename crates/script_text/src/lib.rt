@@ -14,8 +14,8 @@
 //!   spellings are a grammar of their own (`specs/Grammar.antt`).
 //! - [`print_request`] leaves a line that reads as the request, and [`print_reply`] exactly the reply's text
 //!   (`specs/Texts.antt`).
-//! - Replies as they are sent part in one way: each has one line feed, its last byte ([`replies_part`]). More bytes change
-//!   no line that is whole ([`cutter::lines_stay`]).
+//! - Replies as they are sent part in one way: each has one line feed, its last byte ([`replies_part`]). More bytes
+//!   change no line that is whole ([`cutter::lines_stay`]).
 //!
 //! No call takes memory. That a line is read in time linear in its length is shown by the code, and is no clause.
 #![tactic(auto)]

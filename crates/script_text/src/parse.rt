@@ -5,7 +5,9 @@
 ghost use Rattle.std.specs.Prelude.{◌≡◌, ◌⊎◌, ℕ, List, take};
 ghost use Rattle.tsd_model.specs.declared.requests.Request.{Request};
 ghost use Rattle.script_text.specs.Grammar.{IsLine};
-ghost use Rattle.script_text.specs.Reading.{begin_of, end_of, read_of, write_of, alloc_of, contig_of, free_of, create_of, delete_of, set_cap_of, sweep_of, list_of, named, asked, request_of, ends};
+ghost use Rattle.script_text.specs.Reading.{begin_of, end_of, read_of, write_of, alloc_of, contig_of, free_of};
+ghost use Rattle.script_text.specs.Reading.{create_of, delete_of, set_cap_of, sweep_of, list_of, named, asked};
+ghost use Rattle.script_text.specs.Reading.{request_of, ends};
 
 use crate::words::Words;
 use tsd_model::{CapPair, Request};

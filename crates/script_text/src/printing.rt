@@ -1,6 +1,7 @@
 //! Words of lines as they are printed, each with the space before it.
 
-ghost use Rattle.std.specs.Prelude.{◌≡◌, ◌+◌, ◌*◌, ◌≤◌, [], ◌∷◌, ◌++◌, length, flat_map, decimal};
+ghost use Rattle.std.specs.Prelude.{◌≡◌, ◌+◌, ◌*◌, ◌≤◌, [], ◌∷◌, ◌++◌, length, flat_map};
+ghost use Rattle.std.specs.Prelude.{decimal};
 ghost use Rattle.hex.specs.Hex.{decode_of, encode_lower};
 ghost use Rattle.script_text.specs.Grammar.{IsField, Number, Show, New, Near, Bytes};
 ghost use Rattle.script_text.specs.Texts.{field_text, data_text};

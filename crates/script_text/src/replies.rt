@@ -1,6 +1,7 @@
 //! Replies as they are printed.
 
-ghost use Rattle.std.specs.Prelude.{◌≡◌, ◌+◌, ◌*◌, ◌<◌, ◌≤◌, ℕ, List, [], ◌∷◌, ◌++◌, length, decimal};
+ghost use Rattle.std.specs.Prelude.{◌≡◌, ◌+◌, ◌*◌, ◌<◌, ◌≤◌, ℕ, List, [], ◌∷◌};
+ghost use Rattle.std.specs.Prelude.{◌++◌, length, decimal};
 ghost use Rattle.std.specs.List.{join_with_byte};
 ghost use Rattle.tsd_model.specs.ReplyForm.{HasNumbers};
 ghost use Rattle.tsd_model.specs.declared.replies.Reply.{Reply};
@@ -121,7 +122,8 @@ fn rule(into: &mut OutBuf, rule: &Rule)
 fn pair(into: &mut OutBuf, name: &[u8], first: u32, second: u32)
     requires short { length name.now < 14 }
     requires room { length into.old + RULE_ROOM ≤ LINE_MAX }
-    ensures text { into.new ≡ into.old ++ 32 ∷ join_with_byte 32 (name.now ∷ decimal first ∷ decimal second ∷ []) }
+    ensures text { into.new ≡ into.old ++ 32 ∷ join_with_byte 32 (name.now ∷ decimal first ∷ decimal second ∷
+        []) }
     ensures room { length into.new ≤ length into.old + RULE_ROOM }
 {
     put_word(into, name);
@@ -148,7 +150,9 @@ pub fn replies_part()
     // No byte of a reply's text is a line feed.
     ensures text { (r : Reply) → HasNumbers r → line_feeds (reply_text r) ≡ 0 }
     // A whole reply counts as one, whatever follows.
-    ensures whole { (r : Reply) (behind : List ℕ) → HasNumbers r → line_feeds ((reply_text r ++ 10 ∷ []) ++ behind) ≡ 1 + line_feeds behind }
+    ensures whole { (r : Reply) (behind : List ℕ) → HasNumbers r
+        → line_feeds ((reply_text r ++ 10 ∷ []) ++ behind) ≡ 1 + line_feeds behind }
     // A front of a reply that isn't all of it counts as none.
-    ensures part { (r : Reply) (front back : List ℕ) → HasNumbers r → reply_text r ++ 10 ∷ [] ≡ front ++ back → 0 < length back → line_feeds front ≡ 0 }
+    ensures part { (r : Reply) (front back : List ℕ) → HasNumbers r → reply_text r ++ 10 ∷ [] ≡ front ++ back
+        → 0 < length back → line_feeds front ≡ 0 }
 {}

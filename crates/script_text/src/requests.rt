@@ -137,7 +137,8 @@ fn request_words(into: &mut OutBuf, request: &Request)
 fn place(into: &mut OutBuf, name: &[u8], session: u32, block: u32, cap: &Shown)
     requires short { length name.now ≤ NAME_MAX }
     requires empty { into.old ≡ [] }
-    ensures text { into.new ≡ join_with_byte 32 (name.now ∷ field_text (Number session) ∷ field_text (Number block) ∷ field_text (Show cap.now) ∷ []) }
+    ensures text { into.new ≡ join_with_byte 32 (name.now ∷ field_text (Number session) ∷ field_text
+        (Number block) ∷ field_text (Show cap.now) ∷ []) }
     ensures room { length into.new ≤ PLACE_ROOM }
     ensures session { IsField (Number session) (field_text (Number session)) }
     ensures block { IsField (Number block) (field_text (Number block)) }

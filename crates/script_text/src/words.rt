@@ -46,7 +46,8 @@ impl<'a> Words<'a> {
 
     /// The next word.
     pub fn next(&mut self) -> Option<&'a [u8]>
-        ensures { MatchOption result ((self.old ≡ []) × (self.new ≡ [])) (λ word. self.old ≡ word.now ∷ self.new) }
+        ensures { MatchOption result ((self.old ≡ []) × (self.new ≡ [])) (λ word. self.old
+            ≡ word.now ∷ self.new) }
     {
         match self.rest {
             None => None,
@@ -67,7 +68,8 @@ impl<'a> Words<'a> {
 
     /// The next word as a number.
     pub fn number(&mut self) -> Option<u32>
-        ensures { MatchOption result (reads num_of self.old ≡ None) (λ n. reads num_of self.old ≡ Some (n, self.new)) }
+        ensures { MatchOption result (reads num_of self.old ≡ None) (λ n. reads num_of self.old
+            ≡ Some (n, self.new)) }
     {
         let word = self.next()?;
         parse_number(word)
@@ -75,7 +77,8 @@ impl<'a> Words<'a> {
 
     /// The next word as what is shown.
     pub fn shown(&mut self) -> Option<Shown>
-        ensures { MatchOption result (reads shown_of self.old ≡ None) (λ c. reads shown_of self.old ≡ Some (c, self.new)) }
+        ensures { MatchOption result (reads shown_of self.old ≡ None) (λ c. reads shown_of self.old
+            ≡ Some (c, self.new)) }
     {
         let word = self.next()?;
         parse_shown(word)
@@ -83,7 +86,8 @@ impl<'a> Words<'a> {
 
     /// The next word as a capability.
     pub fn new_cap(&mut self) -> Option<Cap>
-        ensures { MatchOption result (reads new_of self.old ≡ None) (λ c. reads new_of self.old ≡ Some (c, self.new)) }
+        ensures { MatchOption result (reads new_of self.old ≡ None) (λ c. reads new_of self.old
+            ≡ Some (c, self.new)) }
     {
         let word = self.next()?;
         parse_cap(word)
@@ -91,7 +95,8 @@ impl<'a> Words<'a> {
 
     /// The next word as a hint.
     pub fn hint(&mut self) -> Option<Hint>
-        ensures { MatchOption result (reads hint_of self.old ≡ None) (λ h. reads hint_of self.old ≡ Some (h, self.new)) }
+        ensures { MatchOption result (reads hint_of self.old ≡ None) (λ h. reads hint_of self.old
+            ≡ Some (h, self.new)) }
     {
         let word = self.next()?;
         parse_hint(word)
@@ -99,7 +104,8 @@ impl<'a> Words<'a> {
 
     /// The next word as bytes.
     pub fn bytes(&mut self) -> Option<Data>
-        ensures { MatchOption result (reads data_of self.old ≡ None) (λ d. reads data_of self.old ≡ Some (d, self.new)) }
+        ensures { MatchOption result (reads data_of self.old ≡ None) (λ d. reads data_of self.old
+            ≡ Some (d, self.new)) }
     {
         let word = self.next()?;
         parse_data(word)

@@ -6,7 +6,7 @@ use Rattle.image_device.specs.Runs.{LeavesOnly}
 use Rattle.image_device.proofs.Moments.{joined, weakened, ends_in}
 use Rattle.tsd_model.specs.declared.requests.Request.{Request}
 use Rattle.tsd_model.specs.declared.replies.Reply.{Reply}
-use Rattle.serving.specs.Handling.{DiskRules, IsBeforeOrAfter}
+use Rattle.serving.specs.Handling.{DiskRules, StandsBeforeOrAfter}
 use Rattle.serving.specs.Service.{IsAnswering, IsInAnswer}
 use Rattle.serving.specs.Voice.{Voice, spoken}
 
@@ -15,11 +15,11 @@ module _ (k : DiskRules) (v : Voice) (s : k.States) (q : Request) where
   unfoldable pub answering : (before now : List ℕ) (r : Reply) (t : k.States) (front back : List ℕ) → k.gives s q r t → v.text r ≡ front ++ back → now ≡ before ++ front → IsAnswering (spoken k v) s q before now
   answering before now r t front back given whole sent = record { answer = v.text r; next = t; given = (r, refl, given); front = front; back = back; whole = whole; sent = sent }
 
-  module _ (v0 v1 : View) (leaves : LeavesOnly v0 v1 (λ x f. IsBeforeOrAfter k s q x × (f ≡ v0.sent))) where
+  module _ (v0 v1 : View) (leaves : LeavesOnly v0 v1 (λ x f. StandsBeforeOrAfter k s q x × (f ≡ v0.sent))) where
     -- while the request is carried out
     pub any_applied : LeavesOnly v0 v1 (IsInAnswer (spoken k v) s q v0.sent)
     unfolding answering
-    any_applied = weakened v0 v1 (λ x f. IsBeforeOrAfter k s q x × (f ≡ v0.sent)) (IsInAnswer (spoken k v) s q v0.sent) leaves
+    any_applied = weakened v0 v1 (λ x f. StandsBeforeOrAfter k s q x × (f ≡ v0.sent)) (IsInAnswer (spoken k v) s q v0.sent) leaves
         (λ x f left. elim left.0 [
           | inl old ↦ inl (old, left.1)
           | inr new ↦ inr (answering v0.sent f new.0 new.1 [] (v.text new.0) new.2 refl (left.1 ∙ sym (append-nil v0.sent)), inl new.3)

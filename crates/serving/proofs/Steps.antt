@@ -10,7 +10,7 @@ use Rattle.serving.specs.Work.{Work, used}
 use Rattle.serving.specs.Debts.{Debt, HasDebt, debt_of}
 use Rattle.serving.specs.Runs.{Run, Served, IsBroken, IsAcknowledged}
 use Rattle.serving.specs.Input.{Spelling}
-use Rattle.serving.specs.Ran.{AskedBy, ByStatus, Ends, Ran}
+use Rattle.serving.specs.Ran.{AskedBy, ByStatus, Ends, Ran, Taking, Moments}
 use Rattle.serving.specs.Goes.{Goes}
 use Rattle.serving.proofs.Runs.{run_next, sent_next, broken, cut_off, served_next, at_rest, in_answer, longer, broken_longer, cut_off_longer, all_sent, some_or_none}
 use Rattle.serving.proofs.Costs.{front_all, next_all, costs_next, paid_longer}
@@ -166,6 +166,6 @@ module _ {Q : Type 0} (k : Service Q) (w : Work Q k.States) (s final : k.States)
   }
 
 -- a run as a whole
-pub ran_of : {Q : Type 0} (r : Status) (k : Service Q) (w : Work Q k.States) (p : Spelling Q) (s final : k.States) (limit counted : ℕ) (came : List ℕ → Type 0) (ended tells : Type 0) (due : ℕ) (v0 v : View) (bytes : List ℕ) (qs : List Q)
-    → counted ≡ limit → came bytes → AskedBy r p counted bytes ended qs → (tells → Ends r k w s final due v0 v qs) → Ran r k w p s final limit came ended tells due v0 v
-ran_of r k w p s final limit counted came ended tells due v0 v bytes qs same c asked ends = record { bytes = bytes; came_in = c; asked = qs; these = subst (λ n. AskedBy r p n bytes ended qs) same asked; ends = ends }
+pub ran_of : {Q : Type 0} (r : Status) (k : Service Q) (w : Work Q k.States) (p : Spelling Q) (s final : k.States) (limit counted : ℕ) (source : Taking) (due : ℕ) (port : Moments) (bytes : List ℕ) (qs : List Q)
+    → counted ≡ limit → source.came bytes → AskedBy r p counted bytes source.at_end qs → (port.tells → Ends r k w s final due port.old port.new qs) → Ran r k w p s final limit source due port
+ran_of r k w p s final limit counted source due port bytes qs same came asked ends = record { bytes = bytes; came_in = came; asked = qs; these = subst (λ n. AskedBy r p n bytes source.at_end qs) same asked; ends = ends }

@@ -14,14 +14,14 @@ pub record DiskRules : Type 1 where
   pub stands : States → Image → Type 0
 
 -- nothing is loose, and what is held in memory fits what a read gives
-abbrev pub IsAt : (Image → Type 0) → View → Type 0
-IsAt holds v = IsFirm v × holds v.reads
+abbrev pub FitsDevice : (Image → Type 0) → View → Type 0
+FitsDevice holds v = IsFirm v × holds v.reads
 
 -- the image stands for the state, or for the one that a reply to the request leads to
-abbrev pub IsBeforeOrAfter : (k : DiskRules) → k.States → Request → Image → Type 0
-IsBeforeOrAfter k s q x = k.stands s x ⊎ ((r : Reply) × (t : k.States) × k.gives s q r t × k.stands t x)
+abbrev pub StandsBeforeOrAfter : (k : DiskRules) → k.States → Request → Image → Type 0
+StandsBeforeOrAfter k s q x = k.stands s x ⊎ ((r : Reply) × (t : k.States) × k.gives s q r t × k.stands t x)
 
 -- the counts of failures over calls that put nothing
-pub record Works (old new : View) : Type 0 where
+pub record CountsRise (old new : View) : Type 0 where
   pub faults : old.faults ≤ new.faults
   pub put_faults : new.put_faults ≡ old.put_faults

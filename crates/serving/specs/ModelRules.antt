@@ -4,10 +4,9 @@ use Rattle.image_device.specs.Image.{Image}
 use Rattle.tsd_model.specs.World.{World}
 use Rattle.tsd_model.specs.Step.{State}
 use Rattle.tsd_model.specs.ReplyForm.{HasForm}
-use Rattle.tsd_model.specs.Run.{answer, replies, after}
+use Rattle.tsd_model.specs.Run.{IsAnswer, replies, after}
 use Rattle.tsd_model.specs.declared.requests.PlaceKind.{PlaceKind}
 use Rattle.tsd_model.specs.declared.requests.Request.{Request}
-use Rattle.tsd_model.specs.declared.replies.Reply.{Reply}
 use Rattle.serving.specs.Handling.{DiskRules}
 use Rattle.serving.specs.Voice.{Voice}
 
@@ -15,12 +14,6 @@ use Rattle.serving.specs.Voice.{Voice}
 pub record Placed : Type 0 where
   pub kind : PlaceKind
   pub state : State
-
--- One request's reply, and the state after it; whether no memory was found for a Begin stands open.
-pub record IsAnswer (kind : PlaceKind) (s : State) (q : Request) (r : Reply) (now : State) : Type 0 where
-  pub want : Bool
-  pub reply : r ≡ (answer kind s q want).reply
-  pub state : now ≡ (answer kind s q want).state
 
 abbrev pub model_rules : (Image → World → Type 0) → DiskRules
 model_rules stands = record {

@@ -22,6 +22,30 @@ pub record IsAtEnd (tells ended : Type 0) (left : List ℕ) : Type 0 where
   pub found : ended
   pub nothing : tells → left ≡ []
 
+-- What was taken of a source between two moments: which bytes came in, that it has come to its end, and that it is as it was.
+pub record Taking : Type 1 where
+  pub came : List ℕ → Type 0
+  pub at_end : Type 0
+  pub untouched : Type 0
+
+-- the same of a source that tells so much of itself
+abbrev pub taking : {S : Type 0} → Type 0 → (S → List ℕ) → (S → List ℕ) → (S → Type 0) → S → S → Taking
+taking tells taken left ended old new = record {
+  came = Came tells (taken old) (taken new) (left old) (left new);
+  at_end = IsAtEnd tells (ended new) (left new);
+  untouched = new ≡ old;
+}
+
+-- What a port was at two moments, whether it tells that, and that it is as it was.
+pub record Moments : Type 1 where
+  pub tells : Type 0
+  pub untouched : Type 0
+  pub old : View
+  pub new : View
+
+abbrev pub moments : {P : Type 0} → Type 0 → (P → View) → P → P → Moments
+moments tells view old new = record { tells = tells; untouched = new ≡ old; old = view old; new = view new }
+
 -- Which requests a run that ended so was asked, by the bytes x that came in. At most `limit` bytes are served; after a
 -- take that goes past them no more is taken, and a take gives at most 512. What the end of the input makes whole counts only
 -- where the input has come to its end.
@@ -49,10 +73,10 @@ pub record Ends {Q : Type 0} (r : Status) (k : Service Q) (w : Work Q k.States) 
   pub most : IsPaidFor k w s qs (used due old) new.writes
   pub debt : All w.bounded qs → LeavesOnly old new (HasDebt k w s old.sent (w.debt old.reads) qs)
 
--- Bytes that came in, the requests that they hold, and how the run over these ended, where the device tells.
-pub record Ran {Q : Type 0} (r : Status) (k : Service Q) (w : Work Q k.States) (p : Spelling Q) (s final : k.States) (limit : ℕ) (came : List ℕ → Type 0) (ended tells : Type 0) (due : ℕ) (old new : View) : Type 0 where
+-- Bytes that came in, the requests that they hold, and how the run over these ended, where the port tells.
+pub record Ran {Q : Type 0} (r : Status) (k : Service Q) (w : Work Q k.States) (p : Spelling Q) (s final : k.States) (limit : ℕ) (source : Taking) (due : ℕ) (port : Moments) : Type 0 where
   pub bytes : List ℕ
-  pub came_in : came bytes
+  pub came_in : source.came bytes
   pub asked : List Q
-  pub these : AskedBy r p limit bytes ended asked
-  pub ends : tells → Ends r k w s final due old new asked
+  pub these : AskedBy r p limit bytes source.at_end asked
+  pub ends : port.tells → Ends r k w s final due port.old port.new asked

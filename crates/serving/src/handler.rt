@@ -1,13 +1,14 @@
 //! What carries out requests.
 
-ghost use Rattle.std.specs.Prelude.{◌≡◌, ◌↔◌, ◌<◌, ◌≤◌, ◌+◌, ◌-◌, ℕ, OnOk, OnErr, IfOk, IsTrue};
-ghost use Rattle.image_device.specs.Counts.{Rose};
+ghost use Rattle.std.specs.Prelude.{◌≡◌, ◌↔◌, ◌<◌, ◌≤◌, ◌+◌, ◌-◌, ℕ, OnOk, OnErr, IfOk};
+ghost use Rattle.std.specs.Prelude.{IsTrue};
+ghost use Rattle.image_device.specs.Counts.{CountsFault};
 ghost use Rattle.image_device.specs.Image.{Image};
 ghost use Rattle.image_device.specs.Runs.{LeavesOnly};
 ghost use Rattle.tsd_model.specs.ReplyForm.{HasForm};
 ghost use Rattle.tsd_model.specs.declared.requests.Request.{Request as Asked};
 ghost use Rattle.tsd_model.specs.declared.replies.Reply.{Reply as Answered};
-ghost use Rattle.serving.specs.Handling.{DiskRules, IsAt, IsBeforeOrAfter, Works};
+ghost use Rattle.serving.specs.Handling.{DiskRules, FitsDevice, StandsBeforeOrAfter, CountsRise};
 ghost use Rattle.serving.specs.Work.{Work, used};
 
 use image_device::{Device, Failed};
@@ -46,67 +47,85 @@ pub trait Handler {
     /// `faults` rose, and it is spent then; else they are as they were.
     fn apply<D: Device>(&mut self, dev: &mut D, request: &Request) -> Result<Reply, Failed>
         requires ready { is_ready self.old }
-        requires at { D.told → IsAt (holds self.old) (D.view dev.old) }
+        requires at { D.told → FitsDevice (holds self.old) (D.view dev.old) }
         ensures lender { lender self.new ≡ lender self.old }
         ensures ready { OnOk result (is_ready self.new) }
-        ensures at { D.told → OnOk result (IsAt (holds self.new) (D.view dev.new)) }
+        ensures at { D.told → OnOk result (FitsDevice (holds self.new) (D.view dev.new)) }
         ensures spent { OnErr result (is_spent self.new) }
         ensures form { IfOk result HasForm }
-        ensures given { D.told → IfOk result (λ r. rules.gives (state self.old (D.view dev.old).reads) request.now r (state self.new (D.view dev.new).reads)) }
+        ensures given { D.told → IfOk result (λ r. rules.gives (state self.old (D.view dev.old).reads) request.now r
+            (state self.new (D.view dev.new).reads)) }
         ensures sent { D.told → (D.view dev.new).sent ≡ (D.view dev.old).sent }
-        ensures any_moment { D.told → LeavesOnly (D.view dev.old) (D.view dev.new) (λ x f. IsBeforeOrAfter rules (state self.old (D.view dev.old).reads) request.now x × (f ≡ (D.view dev.old).sent)) }
-        ensures debt { D.told → work.bounded request.now → LeavesOnly (D.view dev.old) (D.view dev.new) (λ x f. (work.debt x ≤ work.debt (D.view dev.old).reads + work.made (state self.old (D.view dev.old).reads) request.now) × (f ≡ (D.view dev.old).sent)) }
-        ensures paid { D.told → work.bounded request.now → OnOk result (used (due self.new (D.view dev.new).reads) (D.view dev.new) ≤ used (due self.old (D.view dev.old).reads) (D.view dev.old) + work.cost (state self.old (D.view dev.old).reads) request.now) }
-        ensures most { D.told → work.bounded request.now → (D.view dev.new).writes ≤ used (due self.old (D.view dev.old).reads) (D.view dev.old) + work.cost (state self.old (D.view dev.old).reads) request.now }
-        ensures works { Works (D.view dev.old) (D.view dev.new) }
-        ensures faultless { OnOk result ((D.view dev.new).faults ≡ (D.view dev.old).faults) }
-        ensures cause { OnErr result (Rose (D.view dev.old).faults (D.view dev.new).faults) };
+        ensures any_moment { D.told → LeavesOnly (D.view dev.old) (D.view dev.new) (λ x f. StandsBeforeOrAfter rules
+            (state self.old (D.view dev.old).reads) request.now x × (f ≡ (D.view dev.old).sent)) }
+        ensures debt { D.told → work.bounded request.now → LeavesOnly (D.view dev.old) (D.view dev.new)
+            (λ x f. (work.debt x ≤ work.debt (D.view dev.old).reads + work.made
+            (state self.old (D.view dev.old).reads) request.now) × (f ≡ (D.view dev.old).sent)) }
+        ensures paid { D.told → work.bounded request.now
+            → OnOk result (used (due self.new (D.view dev.new).reads) (D.view dev.new)
+            ≤ used (due self.old (D.view dev.old).reads) (D.view dev.old) + work.cost
+            (state self.old (D.view dev.old).reads) request.now) }
+        ensures most { D.told → work.bounded request.now → (D.view dev.new).writes
+            ≤ used (due self.old (D.view dev.old).reads) (D.view dev.old) + work.cost
+            (state self.old (D.view dev.old).reads) request.now }
+        ensures works { CountsRise (D.view dev.old) (D.view dev.new) }
+        ensures faults { CountsFault result (D.view dev.old).faults (D.view dev.new).faults };
 
-    /// Does some of what is left to be done; true where more is left, where the disk tells. The state stays. `Failed` comes
-    /// only where `faults` rose, and it is spent then; else they are as they were.
+    /// Does some of what is left to be done; true where more is left, where the disk tells. The state stays. `Failed`
+    /// comes only where `faults` rose, and it is spent then; else they are as they were.
     fn settle_some<D: Device>(&mut self, dev: &mut D) -> Result<bool, Failed>
         requires ready { is_ready self.old }
-        requires at { D.told → IsAt (holds self.old) (D.view dev.old) }
+        requires at { D.told → FitsDevice (holds self.old) (D.view dev.old) }
         ensures lender { lender self.new ≡ lender self.old }
         ensures ready { OnOk result (is_ready self.new) }
-        ensures at { D.told → OnOk result (IsAt (holds self.new) (D.view dev.new)) }
+        ensures at { D.told → OnOk result (FitsDevice (holds self.new) (D.view dev.new)) }
         ensures spent { OnErr result (is_spent self.new) }
-        ensures state { D.told → OnOk result (state self.new (D.view dev.new).reads ≡ state self.old (D.view dev.old).reads) }
+        ensures state { D.told → OnOk result (state self.new (D.view dev.new).reads ≡ state self.old
+            (D.view dev.old).reads) }
         ensures sent { D.told → (D.view dev.new).sent ≡ (D.view dev.old).sent }
-        ensures any_moment { D.told → LeavesOnly (D.view dev.old) (D.view dev.new) (λ x f. rules.stands (state self.old (D.view dev.old).reads) x × (f ≡ (D.view dev.old).sent)) }
-        ensures debt { D.told → LeavesOnly (D.view dev.old) (D.view dev.new) (λ x f. (work.debt x ≤ work.debt (D.view dev.old).reads) × (f ≡ (D.view dev.old).sent)) }
+        ensures any_moment { D.told → LeavesOnly (D.view dev.old) (D.view dev.new)
+            (λ x f. rules.stands (state self.old (D.view dev.old).reads) x × (f ≡ (D.view dev.old).sent)) }
+        ensures debt { D.told → LeavesOnly (D.view dev.old) (D.view dev.new)
+            (λ x f. (work.debt x ≤ work.debt (D.view dev.old).reads) × (f ≡ (D.view dev.old).sent)) }
         ensures more { D.told → IfOk result (λ more. IsTrue more ↔ (0 < work.debt (D.view dev.new).reads)) }
         // It does four, or all that is left.
-        ensures less { D.told → OnOk result (work.debt (D.view dev.new).reads ≤ work.debt (D.view dev.old).reads - 4) }
-        ensures paid { D.told → OnOk result (used (due self.new (D.view dev.new).reads) (D.view dev.new) ≤ used (due self.old (D.view dev.old).reads) (D.view dev.old)) }
-        ensures most { D.told → (D.view dev.new).writes ≤ used (due self.old (D.view dev.old).reads) (D.view dev.old) }
-        ensures works { Works (D.view dev.old) (D.view dev.new) }
-        ensures faultless { OnOk result ((D.view dev.new).faults ≡ (D.view dev.old).faults) }
-        ensures cause { OnErr result (Rose (D.view dev.old).faults (D.view dev.new).faults) };
+        ensures less { D.told → OnOk result (work.debt (D.view dev.new).reads ≤ work.debt (D.view dev.old).reads -
+            4) }
+        ensures paid { D.told → OnOk result (used (due self.new (D.view dev.new).reads) (D.view dev.new)
+            ≤ used (due self.old (D.view dev.old).reads) (D.view dev.old)) }
+        ensures most { D.told → (D.view dev.new).writes ≤ used (due self.old (D.view dev.old).reads)
+            (D.view dev.old) }
+        ensures works { CountsRise (D.view dev.old) (D.view dev.new) }
+        ensures faults { CountsFault result (D.view dev.old).faults (D.view dev.new).faults };
 
     /// Does all that is left to be done. The state stays. `Failed` comes only where `faults` rose, and it is spent
     /// then; else they are as they were.
     fn close<D: Device>(&mut self, dev: &mut D) -> Result<(), Failed>
         requires ready { is_ready self.old }
-        requires at { D.told → IsAt (holds self.old) (D.view dev.old) }
+        requires at { D.told → FitsDevice (holds self.old) (D.view dev.old) }
         ensures lender { lender self.new ≡ lender self.old }
         ensures ready { OnOk result (is_ready self.new) }
-        ensures at { D.told → OnOk result (IsAt (holds self.new) (D.view dev.new)) }
+        ensures at { D.told → OnOk result (FitsDevice (holds self.new) (D.view dev.new)) }
         ensures spent { OnErr result (is_spent self.new) }
-        ensures state { D.told → OnOk result (state self.new (D.view dev.new).reads ≡ state self.old (D.view dev.old).reads) }
+        ensures state { D.told → OnOk result (state self.new (D.view dev.new).reads ≡ state self.old
+            (D.view dev.old).reads) }
         ensures closed { D.told → OnOk result (is_closed (D.view dev.new).reads) }
         ensures sent { D.told → (D.view dev.new).sent ≡ (D.view dev.old).sent }
-        ensures any_moment { D.told → LeavesOnly (D.view dev.old) (D.view dev.new) (λ x f. rules.stands (state self.old (D.view dev.old).reads) x × (f ≡ (D.view dev.old).sent)) }
-        ensures debt { D.told → LeavesOnly (D.view dev.old) (D.view dev.new) (λ x f. (work.debt x ≤ work.debt (D.view dev.old).reads) × (f ≡ (D.view dev.old).sent)) }
-        ensures paid { D.told → OnOk result (used (due self.new (D.view dev.new).reads) (D.view dev.new) ≤ used (due self.old (D.view dev.old).reads) (D.view dev.old)) }
-        ensures most { D.told → (D.view dev.new).writes ≤ used (due self.old (D.view dev.old).reads) (D.view dev.old) }
-        ensures works { Works (D.view dev.old) (D.view dev.new) }
-        ensures faultless { OnOk result ((D.view dev.new).faults ≡ (D.view dev.old).faults) }
-        ensures cause { OnErr result (Rose (D.view dev.old).faults (D.view dev.new).faults) };
+        ensures any_moment { D.told → LeavesOnly (D.view dev.old) (D.view dev.new)
+            (λ x f. rules.stands (state self.old (D.view dev.old).reads) x × (f ≡ (D.view dev.old).sent)) }
+        ensures debt { D.told → LeavesOnly (D.view dev.old) (D.view dev.new)
+            (λ x f. (work.debt x ≤ work.debt (D.view dev.old).reads) × (f ≡ (D.view dev.old).sent)) }
+        ensures paid { D.told → OnOk result (used (due self.new (D.view dev.new).reads) (D.view dev.new)
+            ≤ used (due self.old (D.view dev.old).reads) (D.view dev.old)) }
+        ensures most { D.told → (D.view dev.new).writes ≤ used (due self.old (D.view dev.old).reads)
+            (D.view dev.old) }
+        ensures works { CountsRise (D.view dev.old) (D.view dev.new) }
+        ensures faults { CountsFault result (D.view dev.old).faults (D.view dev.new).faults };
 
     /// A disk stands for the state that it is in.
     ghost stands_now: { (h : Self) (x : Image) → holds h x → rules.stands (state h x) x };
 
     /// Only replies of a form that can be sent are given.
-    ghost given_form: { (s : rules.States) (q : Asked) (r : Answered) (t : rules.States) → rules.gives s q r t → HasForm r };
+    ghost given_form: { (s : rules.States) (q : Asked) (r : Answered) (t : rules.States) → rules.gives s q r t
+        → HasForm r };
 }

@@ -3,19 +3,19 @@
 //! What it stands on: the types of `tsd_model`, the outside (`image_device`), lines (`script_text`), frames
 //! (`request_frames`), and the statuses of `tsd_words`.
 //!
-//! The loop is one, [`serve`], over any [`Protocol`], which reads requests out of bytes, and any [`Server`] of it, which
-//! answers a request. Lines and frames are protocols. Whatever carries out the requests of a disk is a [`Handler`], and
-//! with the [`Replies`] of a protocol it is a server of it: it carries a request out, sends the reply, and then does some of
-//! the work that it left for later.
+//! The loop is one, [`serve`], over any [`Protocol`], which reads requests out of bytes, and any [`Server`] of it,
+//! which answers a request. Lines and frames are protocols. Whatever carries out the requests of a disk is a
+//! [`Handler`], and with the [`Replies`] of a protocol it is a server of it: it carries a request out, sends the reply,
+//! and then does some of the work that it left for later.
 //!
 //! What it promises, of every run and whatever the protocol and the server are (`specs/Ran.antt`): by its status, which
-//! bytes came in, which requests they hold and what of the answers was sent. Where the device tells: what a crash at any
-//! moment may have left, as the whole answers among the bytes sent say (`specs/Runs.antt`); how many writes there were
-//! (`specs/Costs.antt`); and how much was left to be done in each image that a crash may have left (`specs/Debts.antt`).
-//! A count of faults rose only where the status is that fault's.
+//! bytes came in, which requests they hold and what of the answers was sent. Where the device tells: what a crash at
+//! any moment may have left, as the whole answers among the bytes sent say (`specs/Runs.antt`); how many writes there
+//! were (`specs/Costs.antt`); and how much was left to be done in each image that a crash may have left
+//! (`specs/Debts.antt`). A count of faults rose only where the status is that fault's.
 //!
-//! The loop takes no memory; what carries out the requests may. That the answers come in time is shown by the code and no clause; that none is late is: where a
-//! take fails, every whole request before is answered.
+//! The loop takes no memory; what carries out the requests may. That the answers come in time is shown by the code and
+//! no clause; that none is late is: where a take fails, every whole request before is answered.
 #![tactic(auto)]
 
 mod disk;

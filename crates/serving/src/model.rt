@@ -6,8 +6,9 @@ ghost use Rattle.serving.specs.ModelRules.{Placed, model_rules, IsModelRun};
 ghost use Rattle.serving.specs.Runs.{Run};
 ghost use Rattle.serving.specs.Voice.{Voice, spoken};
 
-/// A run by the rules of the abstract disk has the replies and the state of the model's own run, for some places at which
-/// no memory was found.
+/// A run by the rules of the abstract disk has the replies and the state of the model's own run, for some places at
+/// which no memory was found.
 pub fn runs_of_the_model()
-    ensures { (v : Voice) (s : Placed) (qs : List Request) (answers : List (List ℕ)) (t : Placed) → Run (spoken (model_rules (λ x w. Unit {0})) v) s qs answers t → IsModelRun v s qs answers t }
+    ensures { (v : Voice) (s : Placed) (qs : List Request) (answers : List (List ℕ)) (t : Placed)
+        → Run (spoken (model_rules (λ x w. Unit {0})) v) s qs answers t → IsModelRun v s qs answers t }
 {}

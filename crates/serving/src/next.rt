@@ -1,10 +1,11 @@
 //! One request after another.
 
-ghost use Rattle.std.specs.Prelude.{◌≡◌, ◌≢◌, ◌≤◌, ◌<◌, ◌+◌, ◌-◌, ◌^◌, ◌++◌, [], ℕ, true, false, cond, List, min, IsSome, IsNone};
+ghost use Rattle.std.specs.Prelude.{◌≡◌, ◌≢◌, ◌≤◌, ◌<◌, ◌+◌, ◌-◌, ◌^◌, ◌++◌, []};
+ghost use Rattle.std.specs.Prelude.{ℕ, true, false, cond, List, min, IsSome, IsNone};
 ghost use Rattle.image_device.specs.Counts.{Rose};
 ghost use Rattle.serving.specs.Goes.{SameCounts, held, left_in, IsNextAtEnd, Handed, Reads, Found};
 ghost use Rattle.serving.specs.Input.{asked};
-ghost use Rattle.serving.specs.Ran.{Came, IsAtEnd};
+ghost use Rattle.serving.specs.Ran.{IsAtEnd, taking};
 
 use crate::intake::{INPUT_MAX, Intake, Next, TAKE_MAX};
 use crate::protocol::{Ending, Protocol};
@@ -29,16 +30,19 @@ impl Intake {
         }
     }
 
-    /// What comes next. That a request is handed out before more bytes are taken is shown by the code, and no clause says it.
+    /// What comes next. That a request is handed out before more bytes are taken is shown by the code, and no clause
+    /// says it.
     pub fn next<S: Source, R: Protocol>(
         &mut self,
         protocol: &mut R,
         source: &mut S,
     ) -> Next<R::Request>
         ensures limit { self.new.limit ≡ self.old.limit }
-        ensures found { (bytes : List ℕ) (qs : List R.Request) → Handed R.spelling (λ x. R.was_fed x protocol.old) (IsAtEnd S.told (S.ended source.old) (S.left_bytes source.old)) self.old bytes qs →
-            (more : List ℕ) × Came S.told (S.taken source.old) (S.taken source.new) (S.left_bytes source.old) (S.left_bytes source.new) more
-            × Found R.spelling (λ x. R.was_fed x protocol.new) (IsAtEnd S.told (S.ended source.new) (S.left_bytes source.new)) self.new (bytes ++ more) qs result }
+        ensures found { (bytes : List ℕ) (qs : List R.Request) → Handed R.spelling (λ x. R.was_fed x protocol.old)
+            (IsAtEnd S.told (S.ended source.old) (S.left_bytes source.old)) self.old bytes qs
+            → let took = taking S.told S.taken S.left_bytes S.ended source.old source.new in
+            (more : List ℕ) × took.came more
+            × Found R.spelling (λ x. R.was_fed x protocol.new) took.at_end self.new (bytes ++ more) qs result }
         ensures less { (q : R.Request) → result ≡ Next.Request q → left_in self.new < left_in self.old }
         ensures source_fault { result ≡ Next.Fault → Rose (S.faults source.old) (S.faults source.new) }
         ensures no_source_fault { result ≢ Next.Fault → S.faults source.new ≡ S.faults source.old }
@@ -70,7 +74,8 @@ impl Intake {
         ensures all { IsNone result → self.new.from ≡ self.new.to }
         ensures some { IsSome result → self.old.from < self.new.from }
         ensures later { self.old.from ≤ self.new.from }
-        ensures handed { (bytes : List ℕ) (qs : List R.Request) → Reads R.spelling (λ x. R.was_fed x protocol.old) self.old bytes qs →
+        ensures handed { (bytes : List ℕ) (qs : List R.Request) → Reads R.spelling (λ x. R.was_fed x protocol.old)
+            self.old bytes qs →
             Reads R.spelling (λ x. R.was_fed x protocol.new) self.new bytes (qs ++ asked result) }
     {
         let fed = protocol.feed(&self.room[self.from..self.to]);

@@ -43,7 +43,8 @@ pub trait Protocol {
         ensures some { IsSome result.request → 0 < result.used }
         ensures all { IsNone result.request → result.used ≡ length piece.now }
         ensures fed { (x : List ℕ) → was_fed x self.old → was_fed (x ++ take result.used piece.now) self.new }
-        ensures asked { (x : List ℕ) → was_fed x self.old → spelling.requests (x ++ take result.used piece.now) ≡ spelling.requests x ++ asked result.request };
+        ensures asked { (x : List ℕ) → was_fed x self.old → spelling.requests (x ++ take result.used piece.now)
+            ≡ spelling.requests x ++ asked result.request };
 
     /// What stands after the last whole request, the input having come to its end.
     fn ending(&self) -> Ending<Self::Request>

@@ -2,8 +2,8 @@
 
 ghost use Rattle.std.specs.Prelude.{◌≡◌, ◌≢◌, ◌≤◌, [], ℕ, List};
 ghost use Rattle.image_device.specs.Counts.{Rose};
-ghost use Rattle.serving.specs.Handling.{IsAt};
-ghost use Rattle.serving.specs.Ran.{Came, IsAtEnd, Ran};
+ghost use Rattle.serving.specs.Handling.{FitsDevice};
+ghost use Rattle.serving.specs.Ran.{Ran, moments, taking};
 
 use crate::intake::{INPUT_MAX, Intake, Next};
 use crate::protocol::Protocol;
@@ -14,8 +14,8 @@ use tsd_words::Status;
 /// Serves the requests of an input until it ends. Each answer is sent whole before the next request is carried out.
 /// In the end all that is left to be done is done.
 ///
-/// The status is Done, or SourceFault, DeviceFault or PutFault where that count rose, TooLong where a byte after the first
-/// `limit` came, or Truncated where the input ended inside a request.
+/// The status is Done, or SourceFault, DeviceFault or PutFault where that count rose, TooLong where a byte after the
+/// first `limit` came, or Truncated where the input ended inside a request.
 ///
 /// That no answer waits for a further take is shown by the code, and no clause says it.
 pub fn serve<S: Source, P: Port, R: Protocol, H: Server<R>>(
@@ -28,14 +28,17 @@ pub fn serve<S: Source, P: Port, R: Protocol, H: Server<R>>(
     requires few { limit ≤ INPUT_MAX }
     requires fresh { R.was_fed [] protocol.old }
     requires ready { H.is_ready server.old }
-    requires at { P.told → IsAt (H.holds server.old) (P.view port.old) }
-    // What came in and what was sent, by status; and where the device tells, what a crash at any moment may have left, how
-    // many writes there were, and how much was left to be done.
-    ensures ran { Ran result H.service H.work R.spelling (H.state server.old (P.view port.old).reads) (H.state server.new (P.view port.new).reads) limit (Came S.told (S.taken source.old) (S.taken source.new) (S.left_bytes source.old) (S.left_bytes source.new)) (IsAtEnd S.told (S.ended source.new) (S.left_bytes source.new)) P.told (H.due server.old (P.view port.old).reads) (P.view port.old) (P.view port.new) }
+    requires at { P.told → FitsDevice (H.holds server.old) (P.view port.old) }
+    // What came in and what was sent, by status; and where the device tells, what a crash at any moment may have left,
+    // how many writes there were, and how much was left to be done.
+    ensures ran { Ran result H.service H.work R.spelling (H.state server.old (P.view port.old).reads)
+        (H.state server.new (P.view port.new).reads) limit
+        (taking S.told S.taken S.left_bytes S.ended source.old source.new)
+        (H.due server.old (P.view port.old).reads) (moments P.told P.view port.old port.new) }
     ensures lender { H.lender server.new ≡ H.lender server.old }
     // Unless the device failed, the server may be used again; else it is spent.
     ensures ready { result ≢ Status.DeviceFault → H.is_ready server.new }
-    ensures at { result ≢ Status.DeviceFault → P.told → IsAt (H.holds server.new) (P.view port.new) }
+    ensures at { result ≢ Status.DeviceFault → P.told → FitsDevice (H.holds server.new) (P.view port.new) }
     ensures spent { result ≡ Status.DeviceFault → H.is_spent server.new }
     ensures closed { result ≡ Status.Done → P.told → H.is_closed (P.view port.new).reads }
     // A count of faults rose only where the status is that fault's.

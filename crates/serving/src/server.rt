@@ -1,10 +1,11 @@
 //! What answers requests.
 
-ghost use Rattle.std.specs.Prelude.{◌≡◌, ◌≢◌, ◌≤◌, ◌+◌, ◌-◌, ◌++◌, ◌⊎◌, ℕ, List, Err, OnOk, OnErr, IfErr};
-ghost use Rattle.image_device.specs.Counts.{Rose};
+ghost use Rattle.std.specs.Prelude.{◌≡◌, ◌≢◌, ◌≤◌, ◌+◌, ◌-◌, ◌++◌, ◌⊎◌, ℕ, List};
+ghost use Rattle.std.specs.Prelude.{Err, OnOk, OnErr, IfErr};
+ghost use Rattle.image_device.specs.Counts.{CountsFault, CountsFaultOf};
 ghost use Rattle.image_device.specs.Image.{Image};
 ghost use Rattle.image_device.specs.Runs.{LeavesOnly};
-ghost use Rattle.serving.specs.Handling.{IsAt, Works};
+ghost use Rattle.serving.specs.Handling.{FitsDevice, CountsRise};
 ghost use Rattle.serving.specs.Service.{Service, IsCounted, IsInAnswer, LeftBy};
 ghost use Rattle.serving.specs.Work.{Work, used};
 
@@ -12,8 +13,8 @@ use crate::protocol::Protocol;
 use image_device::{Device, Failed, Port};
 use tsd_words::Status;
 
-/// Answers the requests of a protocol on a disk with a port beside it. What is said of contents, of the state, of what was
-/// sent and of writes is said where the disk tells.
+/// Answers the requests of a protocol on a disk with a port beside it. What is said of contents, of the state, of what
+/// was sent and of writes is said where the disk tells.
 pub trait Server<R: Protocol> {
     /// What is served, by its rules.
     ghost service: { Service R.Request };
@@ -46,46 +47,59 @@ pub trait Server<R: Protocol> {
     /// DeviceFault where `faults` rose, and PutFault where `put_faults` rose; else both are as they were.
     fn answer<P: Port>(&mut self, port: &mut P, request: &R::Request) -> Result<(), Status>
         requires ready { is_ready self.old }
-        requires at { P.told → IsAt (holds self.old) (P.view port.old) }
+        requires at { P.told → FitsDevice (holds self.old) (P.view port.old) }
         ensures lender { lender self.new ≡ lender self.old }
-        // Unless the device failed, it may be used again, also where the answer couldn't be sent whole; else it is spent.
+        // Unless the device failed, it may be used again, also where the answer couldn't be sent whole; else it is
+        // spent.
         ensures ready { result ≢ Err Status.DeviceFault → is_ready self.new }
-        ensures at { result ≢ Err Status.DeviceFault → P.told → IsAt (holds self.new) (P.view port.new) }
+        ensures at { result ≢ Err Status.DeviceFault → P.told → FitsDevice (holds self.new) (P.view port.new) }
         ensures spent { result ≡ Err Status.DeviceFault → is_spent self.new }
-        ensures answered { P.told → OnOk result ((answer : List ℕ) × service.gives (state self.old (P.view port.old).reads) request.now answer (state self.new (P.view port.new).reads) × ((P.view port.new).sent ≡ (P.view port.old).sent ++ answer)) }
-        ensures left { P.told → IfErr result (λ why. LeftBy why service (state self.old (P.view port.old).reads) request.now (state self.new (P.view port.new).reads) (P.view port.old).sent (P.view port.new).sent) }
-        ensures any_moment { P.told → LeavesOnly (P.view port.old) (P.view port.new) (IsInAnswer service (state self.old (P.view port.old).reads) request.now (P.view port.old).sent) }
-        ensures debt { P.told → work.bounded request.now → LeavesOnly (P.view port.old) (P.view port.new) (λ x f. work.debt x ≤ work.debt (P.view port.old).reads + work.made (state self.old (P.view port.old).reads) request.now) }
+        ensures answered { P.told → OnOk result ((answer : List ℕ)
+            × service.gives (state self.old (P.view port.old).reads) request.now answer
+            (state self.new (P.view port.new).reads) × ((P.view port.new).sent ≡ (P.view port.old).sent ++ answer)) }
+        ensures left { P.told → IfErr result (λ why. LeftBy why service (state self.old (P.view port.old).reads)
+            request.now (state self.new (P.view port.new).reads) (P.view port.old).sent (P.view port.new).sent) }
+        ensures any_moment { P.told → LeavesOnly (P.view port.old) (P.view port.new)
+            (IsInAnswer service (state self.old (P.view port.old).reads) request.now (P.view port.old).sent) }
+        ensures debt { P.told → work.bounded request.now → LeavesOnly (P.view port.old) (P.view port.new)
+            (λ x f. work.debt x ≤ work.debt (P.view port.old).reads + work.made
+            (state self.old (P.view port.old).reads) request.now) }
         // Four are done, or all that is left.
-        ensures less { P.told → work.bounded request.now → OnOk result (work.debt (P.view port.new).reads ≤ work.debt (P.view port.old).reads + work.made (state self.old (P.view port.old).reads) request.now - 4) }
-        ensures paid { P.told → work.bounded request.now → OnOk result (used (due self.new (P.view port.new).reads) (P.view port.new) ≤ used (due self.old (P.view port.old).reads) (P.view port.old) + work.cost (state self.old (P.view port.old).reads) request.now) }
-        ensures most { P.told → work.bounded request.now → (P.view port.new).writes ≤ used (due self.old (P.view port.old).reads) (P.view port.old) + work.cost (state self.old (P.view port.old).reads) request.now }
+        ensures less { P.told → work.bounded request.now → OnOk result (work.debt (P.view port.new).reads
+            ≤ work.debt (P.view port.old).reads + work.made (state self.old (P.view port.old).reads) request.now - 4) }
+        ensures paid { P.told → work.bounded request.now
+            → OnOk result (used (due self.new (P.view port.new).reads) (P.view port.new)
+            ≤ used (due self.old (P.view port.old).reads) (P.view port.old) + work.cost
+            (state self.old (P.view port.old).reads) request.now) }
+        ensures most { P.told → work.bounded request.now → (P.view port.new).writes
+            ≤ used (due self.old (P.view port.old).reads) (P.view port.old) + work.cost
+            (state self.old (P.view port.old).reads) request.now }
         ensures stops { IfErr result (λ why. (why ≡ Status.DeviceFault) ⊎ (why ≡ Status.PutFault)) }
-        ensures device_fault { IfErr result (λ why. why ≡ Status.DeviceFault → Rose (P.view port.old).faults (P.view port.new).faults) }
-        ensures put_fault { IfErr result (λ why. why ≡ Status.PutFault → Rose (P.view port.old).put_faults (P.view port.new).put_faults) }
-        ensures no_device_fault { IfErr result (λ why. why ≢ Status.DeviceFault → (P.view port.new).faults ≡ (P.view port.old).faults) }
-        ensures no_put_fault { IfErr result (λ why. why ≢ Status.PutFault → (P.view port.new).put_faults ≡ (P.view port.old).put_faults) }
-        ensures faultless { OnOk result ((P.view port.new).faults ≡ (P.view port.old).faults) }
-        ensures put_faultless { OnOk result ((P.view port.new).put_faults ≡ (P.view port.old).put_faults) };
+        ensures faults { CountsFaultOf Status.DeviceFault result (P.view port.old).faults (P.view port.new).faults }
+        ensures put_faults { CountsFaultOf Status.PutFault result (P.view port.old).put_faults
+            (P.view port.new).put_faults };
 
     /// Does all that is left to be done. The state stays. `Failed` comes only where `faults` rose, and it is spent
     /// then; else they are as they were.
     fn close<D: Device>(&mut self, dev: &mut D) -> Result<(), Failed>
         requires ready { is_ready self.old }
-        requires at { D.told → IsAt (holds self.old) (D.view dev.old) }
+        requires at { D.told → FitsDevice (holds self.old) (D.view dev.old) }
         ensures lender { lender self.new ≡ lender self.old }
         ensures ready { OnOk result (is_ready self.new) }
-        ensures at { D.told → OnOk result (IsAt (holds self.new) (D.view dev.new)) }
+        ensures at { D.told → OnOk result (FitsDevice (holds self.new) (D.view dev.new)) }
         ensures spent { OnErr result (is_spent self.new) }
-        ensures state { D.told → OnOk result (state self.new (D.view dev.new).reads ≡ state self.old (D.view dev.old).reads) }
+        ensures state { D.told → OnOk result (state self.new (D.view dev.new).reads ≡ state self.old
+            (D.view dev.old).reads) }
         ensures closed { D.told → OnOk result (is_closed (D.view dev.new).reads) }
         ensures sent { D.told → (D.view dev.new).sent ≡ (D.view dev.old).sent }
-        ensures any_moment { D.told → LeavesOnly (D.view dev.old) (D.view dev.new) (λ x f. service.stands (state self.old (D.view dev.old).reads) x × (f ≡ (D.view dev.old).sent)) }
-        ensures debt { D.told → LeavesOnly (D.view dev.old) (D.view dev.new) (λ x f. (work.debt x ≤ work.debt (D.view dev.old).reads) × (f ≡ (D.view dev.old).sent)) }
-        ensures most { D.told → (D.view dev.new).writes ≤ used (due self.old (D.view dev.old).reads) (D.view dev.old) }
-        ensures works { Works (D.view dev.old) (D.view dev.new) }
-        ensures faultless { OnOk result ((D.view dev.new).faults ≡ (D.view dev.old).faults) }
-        ensures cause { OnErr result (Rose (D.view dev.old).faults (D.view dev.new).faults) };
+        ensures any_moment { D.told → LeavesOnly (D.view dev.old) (D.view dev.new)
+            (λ x f. service.stands (state self.old (D.view dev.old).reads) x × (f ≡ (D.view dev.old).sent)) }
+        ensures debt { D.told → LeavesOnly (D.view dev.old) (D.view dev.new)
+            (λ x f. (work.debt x ≤ work.debt (D.view dev.old).reads) × (f ≡ (D.view dev.old).sent)) }
+        ensures most { D.told → (D.view dev.new).writes ≤ used (due self.old (D.view dev.old).reads)
+            (D.view dev.old) }
+        ensures works { CountsRise (D.view dev.old) (D.view dev.new) }
+        ensures faults { CountsFault result (D.view dev.old).faults (D.view dev.new).faults };
 
     /// A disk stands for the state that it is in.
     ghost stands_now: { (h : Self) (x : Image) → holds h x → service.stands (state h x) x };

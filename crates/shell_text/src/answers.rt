@@ -1,6 +1,7 @@
 //! Answers as they are printed.
 
-ghost use Rattle.std.specs.Prelude.{◌≡◌, ◌≢◌, ◌+◌, ◌<◌, ◌≤◌, ℕ, List, [], ◌∷◌, ◌++◌, length, flat_map, codes, decimal};
+ghost use Rattle.std.specs.Prelude.{◌≡◌, ◌≢◌, ◌+◌, ◌<◌, ◌≤◌, ℕ, List, [], ◌∷◌};
+ghost use Rattle.std.specs.Prelude.{◌++◌, length, flat_map, codes, decimal};
 ghost use Rattle.std.specs.List.{join_with_byte};
 ghost use Rattle.hex.specs.Hex.{encode_lower};
 ghost use Rattle.fs_trees.specs.Names.{Name};
@@ -92,8 +93,8 @@ fn pair(into: &mut OutBuf, name: &[u8], first: u32, second: u32)
     put_number(into, second);
 }
 
-/// Replaces the bytes by what stands before the digits of a file's bytes, or, where it has no bytes, by the line but its
-/// line feed.
+/// Replaces the bytes by what stands before the digits of a file's bytes, or, where it has no bytes, by the line but
+/// its line feed.
 pub fn print_data_head(empty: bool, into: &mut OutBuf)
     ensures { into.new ≡ data_head empty }
 {
@@ -117,7 +118,8 @@ pub fn print_data_part(part: &[u8], into: &mut OutBuf)
     into.put(digits);
 }
 
-/// Replaces the bytes by what stands before the names in a directory, or, where it has none, by the line but its line feed.
+/// Replaces the bytes by what stands before the names in a directory, or, where it has none, by the line but its line
+/// feed.
 pub fn print_names_head(none: bool, into: &mut OutBuf)
     ensures { into.new ≡ names_head none }
 {

@@ -4,7 +4,8 @@ ghost use Rattle.std.specs.Prelude.{◌≡◌, ◌⊎◌, ℕ, List, take};
 ghost use Rattle.script_text.specs.Reading.{ends};
 ghost use Rattle.fs_trees.specs.declared.ask.ShellAsk.{ShellAsk};
 ghost use Rattle.shell_text.specs.Grammar.{IsShellLine};
-ghost use Rattle.shell_text.specs.Reading.{put_of, append_of, cat_of, ls_of, rm_of, make_dir_of, copy_of, of_inodes, named, asked, ask_of};
+ghost use Rattle.shell_text.specs.Reading.{put_of, append_of, cat_of, ls_of, rm_of, make_dir_of, copy_of, of_inodes};
+ghost use Rattle.shell_text.specs.Reading.{named, asked, ask_of};
 
 use crate::words::ShellWords;
 use fs_trees::{ShellAsk, ShellKind};

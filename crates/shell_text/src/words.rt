@@ -36,7 +36,8 @@ impl<'a> ShellWords<'a> {
 
     /// The next word.
     pub fn next(&mut self) -> Option<&'a [u8]>
-        ensures { MatchOption result ((self.old ≡ []) × (self.new ≡ [])) (λ word. self.old ≡ word.now ∷ self.new) }
+        ensures { MatchOption result ((self.old ≡ []) × (self.new ≡ [])) (λ word. self.old
+            ≡ word.now ∷ self.new) }
     {
         match self.rest {
             None => None,
@@ -57,7 +58,8 @@ impl<'a> ShellWords<'a> {
 
     /// The next word as a path.
     pub fn path(&mut self) -> Option<Path>
-        ensures { MatchOption result (reads path_of self.old ≡ None) (λ p. reads path_of self.old ≡ Some (p, self.new)) }
+        ensures { MatchOption result (reads path_of self.old ≡ None) (λ p. reads path_of self.old
+            ≡ Some (p, self.new)) }
     {
         let word = self.next()?;
         parse_path(word)
@@ -65,7 +67,8 @@ impl<'a> ShellWords<'a> {
 
     /// The next word as bytes.
     pub fn bytes(&mut self) -> Option<Data>
-        ensures { MatchOption result (reads data_of self.old ≡ None) (λ d. reads data_of self.old ≡ Some (d, self.new)) }
+        ensures { MatchOption result (reads data_of self.old ≡ None) (λ d. reads data_of self.old
+            ≡ Some (d, self.new)) }
     {
         let word = self.next()?;
         parse_data(word)

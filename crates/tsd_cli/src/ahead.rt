@@ -1,18 +1,14 @@
 //! Sectors of a file that are read together, where reads follow one another.
 
+use crate::image_file::{ImageFile, SECTOR};
 use std::alloc::Global;
-use std::fs::File;
-use std::io;
-use std::os::unix::fs::FileExt;
-
-/// The bytes of a sector.
-pub const SECTOR: usize = 512;
 
 /// How many sectors are read together at most.
 const MOST: usize = 128;
 
-/// Sectors that were read before they were asked for. The file is locked, so no other process writes it, and each write of this
-/// one forgets them all: what is held is what the file has.
+/// Sectors that were read before they were asked for. Each write of this process forgets them all, so what is held is
+/// what the file has, as long as no other process writes it. Its lock keeps out those that ask for it; it is advisory,
+/// and binds nobody else.
 #[derive(Drop)]
 pub struct Ahead {
     /// Room for the bytes of 128 sectors, or none where there was no memory for it.
@@ -67,9 +63,9 @@ impl Ahead {
         }
     }
 
-    /// Notes that a sector is asked for. Where it isn't held and comes in a row, it is read with as many behind it as came before
-    /// it. Where that fails nothing is held: nobody asked for the sectors behind it.
-    pub fn follow(&mut self, file: &File, sector: u32) {
+    /// Notes that a sector is asked for. Where it isn't held and comes in a row, it is read with as many behind it as
+    /// came before it. Where that fails nothing is held: nobody asked for the sectors behind it.
+    pub fn follow(&mut self, file: &ImageFile, sector: u32) {
         let is_next = sector == self.next;
         self.row = if is_next {
             self.row.saturating_add(1).min(MOST)
@@ -84,28 +80,14 @@ impl Ahead {
     }
 
     /// Reads as many sectors as came in a row, this one and those behind it.
-    fn fill(&mut self, file: &File, sector: u32) {
+    fn fill(&mut self, file: &ImageFile, sector: u32) {
         self.count = 0;
         let row = self.row.min(self.room.len() / SECTOR);
         let room = &mut self.room[..row * SECTOR];
         room.fill(0);
-        if read_bytes(file, sector, room).is_ok() {
+        if file.read(sector, room).is_ok() {
             self.first = sector;
             self.count = row;
         }
     }
-}
-
-/// Reads a file's bytes from a sector on into a room of zeros. What is past the file's end stays zero.
-pub fn read_bytes(file: &File, sector: u32, room: &mut [u8]) -> io::Result<()> {
-    let start = u64::from(sector) * SECTOR as u64;
-    let mut got = 0;
-    while got < room.len() {
-        let count = file.read_at(&mut room[got..], start + got as u64)?;
-        if count == 0 {
-            return Ok(());
-        }
-        got += count;
-    }
-    Ok(())
 }

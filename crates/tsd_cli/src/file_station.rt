@@ -1,87 +1,63 @@
 //! An image in a file, with an output beside it.
 
-ghost use Rattle.std.specs.Prelude.{ℕ, List};
+ghost use Rattle.std.specs.Prelude.{ℕ, List, ◌≡◌, ◌≢◌, None, Some};
+ghost use Rattle.std.specs.Io.{WritesAtMost};
 
-use crate::ahead::{Ahead, SECTOR, read_bytes};
+use crate::ahead::Ahead;
+use crate::image_file::{ImageFile, Kind, SECTOR};
+use crate::progress::Progress;
+use crate::trouble::Trouble;
 use image_device::{Device, Failed, Port};
-use std::fmt::{self, Formatter};
-use std::fs::{File, OpenOptions, TryLockError};
+use std::alloc::Global;
 use std::io::{self, ErrorKind, Write};
-use std::os::unix::fs::{FileExt, OpenOptionsExt};
-use std::path::Path;
+use std::time::Clock;
 
-/// A new image is for its owner alone: it holds capabilities.
-const OWNER_ALONE: u32 = 0o600;
-
-/// Why a call on an image failed.
-#[derive(Clone, Copy, Debug)]
-pub enum Trouble {
-    /// The system says why.
-    System(io::Error),
-
-    /// Another process has the image open.
-    InUse,
-
-    /// The image couldn't be opened before.
-    NotOpen,
-}
-
-impl From<io::Error> for Trouble {
-    fn from(error: io::Error) -> Trouble {
-        Trouble::System(error)
-    }
-}
-
-impl fmt::Display for Trouble {
-    fn fmt<W: fmt::Write>(&self, f: &mut Formatter<W>) -> fmt::Result {
-        match self {
-            Trouble::System(error) => write!(f, "{error}"),
-            Trouble::InUse => f.write_str("in use by another process"),
-            Trouble::NotOpen => f.write_str("not open"),
-        }
-    }
-}
-
-/// The file of an image.
+/// The file of an image, or why there is none.
 #[derive(Drop)]
 enum Image {
-    /// No call came yet.
-    Untried,
-
-    /// It is open, and locked.
-    Open(File),
+    /// It is open.
+    Open(ImageFile),
 
     /// It couldn't be opened.
-    Lost,
+    Lost(Trouble),
 }
 
-/// An image in a file, which is opened at the first call on the disk and read and written by offset, and an output. A
-/// sector past the file's end reads as zeros. It tells nothing of its contents: what a system keeps, no clause can say.
+/// An image in a file, read and written by offset, and an output. It tells nothing of its contents: what a system
+/// keeps, no clause can say. Where there is a terminal `E` with a clock `C`, long work is told there.
 #[derive(Drop)]
-pub struct FileStation<'a, O> {
-    rt: &'a HostRuntime,
-    path: &'a str,
-    makes: bool,
+pub struct FileStation<O, C, E> {
     image: Image,
     ahead: Ahead,
     output: O,
+    progress: Progress<C, E>,
     trouble: Option<Trouble>,
+    unsure: Option<Kind>,
+    output_trouble: Option<Trouble>,
     faults: u64,
     put_faults: u64,
     writes: u64,
 }
 
-impl<'a, O> FileStation<'a, O> {
-    /// The image at a path. Where the file is missing it is made at the first call, if `makes`; else each call on it fails.
-    pub fn new(rt: &'a HostRuntime, path: &'a str, makes: bool, output: O) -> FileStation<'a, O> {
+impl<O, C, E> FileStation<O, C, E> {
+    /// An image that was opened, or failed to be: then each call on it fails. The output keeps nothing back: what a
+    /// write to it took was sent.
+    pub fn new(
+        alloc: Global,
+        image: Result<ImageFile, Trouble>,
+        output: O,
+        progress: Progress<C, E>,
+    ) -> FileStation<O, C, E> {
         FileStation {
-            rt,
-            path,
-            makes,
-            image: Image::Untried,
-            ahead: Ahead::none(rt.alloc()),
+            image: match image {
+                Ok(file) => Image::Open(file),
+                Err(trouble) => Image::Lost(trouble),
+            },
+            ahead: Ahead::none(alloc),
             output,
+            progress,
             trouble: None,
+            unsure: None,
+            output_trouble: None,
             faults: 0,
             put_faults: 0,
             writes: 0,
@@ -93,53 +69,28 @@ impl<'a, O> FileStation<'a, O> {
         self.trouble
     }
 
+    /// What the image is kept in, where a write or a sync of it failed: the system may then show what the medium
+    /// doesn't hold.
+    pub fn unsure(&self) -> Option<Kind> {
+        self.unsure
+    }
+
+    /// Why the first put failed that did.
+    pub fn output_trouble(&self) -> Option<Trouble> {
+        self.output_trouble
+    }
+
     /// The output.
     pub fn output(&self) -> &O {
         &self.output
     }
 }
 
-/// Opens the image, unless that was tried before.
-fn open_once(image: &mut Image, rt: &HostRuntime, path: &str, makes: bool) -> Result<(), Trouble> {
-    if !matches!(image, Image::Untried) {
-        return Ok(());
+impl<O, C: Clock, E: Write> FileStation<O, C, E> {
+    /// Wipes what is told of long work, before anything else is written.
+    pub fn wipe(&mut self) {
+        self.progress.wipe();
     }
-    *image = Image::Lost;
-    let file = open(rt, path, makes)?;
-    match file.try_lock() {
-        Ok(()) => {}
-        Err(TryLockError::WouldBlock) => return Err(Trouble::InUse),
-        Err(TryLockError::Error(error)) => return Err(Trouble::System(error)),
-    }
-    *image = Image::Open(file);
-    Ok(())
-}
-
-/// Opens the file, or makes it where it is missing and may be made.
-fn open(rt: &HostRuntime, path: &str, makes: bool) -> io::Result<File> {
-    let mut options = OpenOptions::new();
-    options.read(true).write(true);
-    match options.open(rt, path) {
-        Err(error) if makes && error.kind() == ErrorKind::NotFound => make(rt, path),
-        other => other,
-    }
-}
-
-/// Makes the file, and has its folder on the disk too.
-fn make(rt: &HostRuntime, path: &str) -> io::Result<File> {
-    let mut options = OpenOptions::new();
-    options
-        .read(true)
-        .write(true)
-        .create_new(true)
-        .mode(OWNER_ALONE);
-    let file = options.open(rt, path)?;
-    let folder = match Path::new(path).parent() {
-        Some(folder) if folder.as_str() != "" => folder.as_str(),
-        _ => ".",
-    };
-    File::open(rt, folder)?.sync_all()?;
-    Ok(file)
 }
 
 /// Reads a sector into a room of zeros, with those behind it where reads follow one another.
@@ -149,42 +100,67 @@ fn read_sector(
     sector: u32,
     room: &mut [u8; SECTOR],
 ) -> Result<(), Trouble> {
-    let Image::Open(file) = image else {
-        return Err(Trouble::NotOpen);
-    };
-    ahead.follow(file, sector);
-    if !ahead.copy(sector, room) {
-        read_bytes(file, sector, room)?;
+    match image {
+        Image::Open(file) => {
+            ahead.follow(file, sector);
+            if ahead.copy(sector, room) {
+                return Ok(());
+            }
+            file.read(sector, room)
+        }
+        Image::Lost(trouble) => Err(*trouble),
     }
-    Ok(())
 }
 
 /// Writes a sector.
 fn write_sector(image: &Image, sector: u32, from: &[u8; SECTOR]) -> Result<(), Trouble> {
-    let Image::Open(file) = image else {
-        return Err(Trouble::NotOpen);
-    };
-    file.write_all_at(from, u64::from(sector) * SECTOR as u64)?;
-    Ok(())
+    match image {
+        Image::Open(file) => file.write(sector, from),
+        Image::Lost(trouble) => Err(*trouble),
+    }
 }
 
-/// Has all that was written on the disk.
+/// Has all that was written on the medium.
 fn sync_image(image: &Image) -> Result<(), Trouble> {
-    let Image::Open(file) = image else {
-        return Err(Trouble::NotOpen);
-    };
-    file.sync_data()?;
-    Ok(())
+    match image {
+        Image::Open(file) => file.sync(),
+        Image::Lost(trouble) => Err(*trouble),
+    }
 }
 
 /// Keeps the first trouble.
-fn note(first: &mut Option<Trouble>, trouble: Trouble) {
+fn note(first: &mut Option<Trouble>, trouble: Trouble)
+    ensures noted { first.old ≡ None → first.new ≡ Some trouble }
+    ensures kept { first.old ≢ None → first.new ≡ first.old }
+{
     if first.is_none() {
         *first = Some(trouble);
     }
 }
 
-impl<'a, O: Write> Device for FileStation<'a, O> {
+/// What an image that is open is kept in.
+fn kind_of(image: &Image) -> Option<Kind> {
+    match image {
+        Image::Open(file) => Some(file.kind()),
+        Image::Lost(_) => None,
+    }
+}
+
+/// Sends a front of a piece, which is none only where the output takes nothing. A write that a signal interrupts is
+/// made again.
+fn send<O: Write>(output: &mut O, piece: &[u8]) -> io::Result<usize>
+    ensures { WritesAtMost result piece.now }
+{
+    for _ in 0..u64::MAX {
+        match output.write(piece) {
+            Err(error) if error.kind() == ErrorKind::Interrupted => {}
+            other => return other,
+        }
+    }
+    Err(io::Error::from(ErrorKind::Interrupted))
+}
+
+impl<O: Write, C: Clock, E: Write> Device for FileStation<O, C, E> {
     ghost use Rattle.image_device.specs.Counts.{Rose};
     ghost use Rattle.image_device.specs.View.{View, untold};
     ghost use Rattle.image_device.specs.Calls.{Uses};
@@ -197,12 +173,9 @@ impl<'a, O: Write> Device for FileStation<'a, O> {
     ghost sound = { λ s told. absurd told };
 
     fn read(&mut self, sector: u32, into: &mut [u8; 512]) -> Result<(), Failed> {
+        self.progress.count_read();
         let mut room = [0u8; SECTOR];
-        let mut answer = open_once(&mut self.image, self.rt, self.path, self.makes);
-        if answer.is_ok() {
-            answer = read_sector(&self.image, &mut self.ahead, sector, &mut room);
-        }
-        match answer {
+        match read_sector(&self.image, &mut self.ahead, sector, &mut room) {
             Ok(()) => {
                 *into = room;
                 Ok(())
@@ -216,16 +189,14 @@ impl<'a, O: Write> Device for FileStation<'a, O> {
     }
 
     fn write(&mut self, sector: u32, from: &[u8; 512]) -> Result<(), Failed> {
+        self.progress.count_write();
         self.writes = self.writes.saturating_add(1);
         self.ahead.forget();
-        let mut answer = open_once(&mut self.image, self.rt, self.path, self.makes);
-        if answer.is_ok() {
-            answer = write_sector(&self.image, sector, from);
-        }
-        match answer {
+        match write_sector(&self.image, sector, from) {
             Ok(()) => Ok(()),
             Err(trouble) => {
                 note(&mut self.trouble, trouble);
+                self.unsure = kind_of(&self.image);
                 self.faults = self.faults.saturating_add(1);
                 Err(Failed)
             }
@@ -233,14 +204,12 @@ impl<'a, O: Write> Device for FileStation<'a, O> {
     }
 
     fn sync(&mut self) -> Result<(), Failed> {
-        let mut answer = open_once(&mut self.image, self.rt, self.path, self.makes);
-        if answer.is_ok() {
-            answer = sync_image(&self.image);
-        }
-        match answer {
+        self.progress.note_sync();
+        match sync_image(&self.image) {
             Ok(()) => Ok(()),
             Err(trouble) => {
                 note(&mut self.trouble, trouble);
+                self.unsure = kind_of(&self.image);
                 self.faults = self.faults.saturating_add(1);
                 Err(Failed)
             }
@@ -248,25 +217,22 @@ impl<'a, O: Write> Device for FileStation<'a, O> {
     }
 }
 
-impl<'a, O: Write> Port for FileStation<'a, O> {
+impl<O: Write, C: Clock, E: Write> Port for FileStation<O, C, E> {
     ghost use Rattle.image_device.specs.Counts.{Rose};
     ghost use Rattle.image_device.specs.Calls.{Puts};
     ghost use Rattle.std.specs.Prelude.{◌≡◌, ◌<◌, ◌≤◌, length, IfOk, OnOk, OnErr};
 
+    /// What the output took was sent, whatever comes after: so nothing is flushed, and no front that was sent is told
+    /// as a fault.
     fn put(&mut self, piece: &[u8]) -> Result<usize, Failed> {
-        let answer = match self.output.write(piece) {
-            Ok(count) if count != 0 => match self.output.flush() {
-                Ok(()) => Some(count),
-                Err(_) => None,
-            },
-            _ => None,
+        self.progress.wipe();
+        let trouble = match send(&mut self.output, piece) {
+            Ok(count) if count != 0 => return Ok(count),
+            Ok(_) => Trouble::from(io::Error::from(ErrorKind::WriteZero)),
+            Err(error) => Trouble::from(error),
         };
-        match answer {
-            Some(count) => Ok(count),
-            None => {
-                self.put_faults = self.put_faults.saturating_add(1);
-                Err(Failed)
-            }
-        }
+        note(&mut self.output_trouble, trouble);
+        self.put_faults = self.put_faults.saturating_add(1);
+        Err(Failed)
     }
 }

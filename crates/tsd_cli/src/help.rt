@@ -1,70 +1,204 @@
-//! What `--help` and `--version` print.
+//! What `--help`, `help TOPIC` and `--version` print. The script `tsd` at the top takes these texts out of this file.
 
 /// The version of the program.
-pub const VERSION: &str = "tsd 0.1.0\n";
+pub const VERSION: &str = "tsd 0.2.0\n";
 
-/// The commands, each with an example.
+/// What a command line may be. The help has it as a line.
+pub const USAGE: &str = "usage: tsd IMAGE COMMAND | help [TOPIC] | --help | --version";
+
+/// The topics of the help.
+pub const TOPICS: &str = "fresh, format, run, serve, check, load, upgrade, requests and replies";
+
+/// The text of a topic of the help.
+pub fn text_of(topic: &str) -> Option<&'static str> {
+    match topic {
+        "fresh" => Some(FRESH),
+        "format" => Some(FORMAT),
+        "run" => Some(RUN),
+        "serve" => Some(SERVE),
+        "check" => Some(CHECK),
+        "load" => Some(LOAD),
+        "upgrade" => Some(UPGRADE),
+        "requests" => Some(REQUESTS),
+        "replies" => Some(REPLIES),
+        _ => None,
+    }
+}
+
+/// The commands and the statuses, and where more is told.
 pub const HELP: &str =
     "tsd: a type-safe disk. It knows which block points to which, owns free space,
 reclaims a block when its last pointer goes, and admits a client to a block by
 a capability or along a pointer from a block already granted.
 
-usage: tsd IMAGE COMMAND
+usage: tsd IMAGE COMMAND | help [TOPIC] | --help | --version
 
-IMAGE is a file, or `-` for a disk in memory that is gone when the program ends.
-A file is open for one process at a time. Where it can't be read or written, or
-another process has it open, a second line on standard error says why.
+IMAGE is a file or a block device, or `-` for a disk in memory that is gone when
+the program ends. It is open for one process at a time. A file that is named
+help is given as ./help. A word of COMMAND that begins with `@`, as @FILE,
+stands for the first word in that file: so a capability stays off the command
+line, which other users see.
 
 commands
 
-  fresh BLOCKS SECTORS READCAP WRITECAP PLACE
-      Makes a disk of BLOCKS blocks (8 to 1048576) of SECTORS sectors (1, 2, 4
-      or 8) of 512 bytes, with one primary block, 0, whose capabilities are
-      READCAP and WRITECAP, 32 hexadecimal digits each. PLACE is low, near,
-      spread or zone. What the file held is lost; a missing file is made. Then
-      it answers the lines of standard input.
+  fresh    makes a disk with one primary block, and answers lines
+  format   makes a disk with the capabilities of a seed, and prints them
+  run      opens the disk and answers lines
+  serve    opens the disk and answers frames
+  check    tells how full the disk is, or what is wrong with the image
+  load     carries out requests drawn from a seed, and counts the answers
+  upgrade  keeps digests in place of capabilities from then on
 
-      printf 'open 1\\nwrite 1 0 %032d 6869\\n' 2 \\
-        | tsd disk.img fresh 8 1 $(printf %032d 1) $(printf %032d 2) near
+exit status, told on standard error by a line and, where more is known of why,
+by those behind it
 
-  run PLACE
-      Opens the disk, which no session has open, and answers the lines of
-      standard input.
+  0  done
+  2  faulty command line
+  3  no image, with the first thing that is wrong with it
+  4  device fault: the image can't be opened, read, written or synced
+  5  input fault
+  6  output fault
+  7  input too long
+  8  no memory
+  9  input ends inside a frame
 
-      printf 'open 1\\nread 1 0 %032d\\n' 1 | tsd disk.img run near
+more
 
-  serve PLACE
-      The same over frames: two bytes of length, the lower first, and a body.
+  tsd help COMMAND   the words of a command, what it does, and an example
+  tsd help requests  the lines of requests
+  tsd help replies   the lines of replies, and the refusals
+  man tsd            the man page tsd.1, which has all of these
+  docs/FORMAT.md     the bytes of an image, the lines, the frames and the faults
+                     of an image; it is in the folder of the script `tsd`
+";
 
-      printf '\\001\\000\\007' | tsd disk.img serve near | od -An -tu1
+/// The topic `fresh`.
+pub const FRESH: &str = "tsd IMAGE fresh BLOCKS SECTORS READCAP WRITECAP PLACE
 
-  format BLOCKS SECTORS SLOTS PRIMARIES SEED
-      Makes a disk with PRIMARIES primary blocks (1 to 16) and room for SLOTS
-      pointers. Their capabilities come of SEED, 64 hexadecimal digits: for each
-      block a line with its number and its capabilities to read and to write.
+Makes a disk with one primary block, 0, and with four pointer slots for each
+block. Then it answers the lines of standard input. What the file held is lost;
+a missing file is made, for its owner alone.
 
-      tsd disk.img format 64 1 256 2 $(head -c 32 /dev/urandom | od -An -tx1 | tr -d ' \\n')
+  BLOCKS    how many blocks, 8 to 1048576
+  SECTORS   how many sectors of 512 bytes a block has: 1, 2, 4 or 8
+  READCAP   the capability to read block 0: 32 hexadecimal digits
+  WRITECAP  the capability to write it: 32 hexadecimal digits
+  PLACE     which free block is taken first: low (the lowest), near (the nearest
+            to the hint), spread (from the hint on, round the disk) or zone (by
+            zones of 256 blocks, from the hint's on)
 
-  check
-      Tells how many blocks are live and free and how many pointers are held,
-      or the first thing that is wrong with the image.
+Other users see the words of a command line. @FILE stands for the first word in
+that file.
 
-      tsd disk.img check
+example
 
-  load SEED COUNT PLACE
-      Carries out COUNT requests drawn from SEED, and tells how many were granted.
+  printf 'open 1\\nwrite 1 0 %032d 6869\\n' 2 \\
+    | tsd disk.img fresh 8 1 $(printf %032d 1) $(printf %032d 2) near
+";
 
-      tsd disk.img format 64 1 256 2 $(printf %064d 0)
-      tsd disk.img load $(printf %064d 0) 2000 zone
+/// The topic `format`.
+pub const FORMAT: &str = "tsd IMAGE format BLOCKS SECTORS SLOTS PRIMARIES SEED
 
-  upgrade
-      Keeps digests in place of capabilities from then on.
+Makes a disk whose capabilities come of a seed, and prints them: for each
+primary block a line `cap` with its number, its capability to read and that to
+write. What the file held is lost; a missing file is made, for its owner alone.
 
-      tsd disk.img upgrade
+  BLOCKS     how many blocks, 8 to 1048576
+  SECTORS    how many sectors of 512 bytes a block has: 1, 2, 4 or 8
+  SLOTS      for how many pointers there is room, 1 to 4194304
+  PRIMARIES  how many primary blocks, 1 to 16 and fewer than BLOCKS
+  SEED       64 hexadecimal digits
 
-A reply is sent when the disk holds what it tells.
+Other users see the words of a command line. @FILE stands for the first word in
+that file.
 
-request lines
+example
+
+  head -c 32 /dev/urandom | od -An -v -tx1 | tr -d ' \\n' > seed
+  tsd disk.img format 64 1 256 2 @seed
+";
+
+/// The topic `run`.
+pub const RUN: &str = "tsd IMAGE run PLACE
+
+Opens the disk, which no session has open, and answers the lines of standard
+input. A reply is sent when the disk holds what it tells.
+
+  PLACE  which free block is taken first: low (the lowest), near (the nearest to
+         the hint), spread (from the hint on, round the disk) or zone (by zones
+         of 256 blocks, from the hint's on)
+
+The lines are in `tsd help requests` and `tsd help replies`.
+
+example
+
+  printf 'open 1\\nread 1 0 %032d\\n' 1 | tsd disk.img run near
+";
+
+/// The topic `serve`.
+pub const SERVE: &str = "tsd IMAGE serve PLACE
+
+Opens the disk, which no session has open, and answers the frames of standard
+input: two bytes of length, the lower first, and a body. A reply is sent when
+the disk holds what it tells.
+
+  PLACE  which free block is taken first: low (the lowest), near (the nearest to
+         the hint), spread (from the hint on, round the disk) or zone (by zones
+         of 256 blocks, from the hint's on)
+
+The bodies are in docs/FORMAT.md.
+
+example
+
+  printf '\\001\\000\\007' | tsd disk.img serve near | od -An -tu1
+";
+
+/// The topic `check`.
+pub const CHECK: &str = "tsd IMAGE check
+
+Opens the disk and prints `clean LIVE FREE POINTERS`: how many blocks are live
+and how many free, and how many pointers are held. Where the image stands for no
+disk, it prints the first thing that is wrong with it, and the status is 3.
+
+example
+
+  tsd disk.img check
+";
+
+/// The topic `load`.
+pub const LOAD: &str = "tsd IMAGE load SEED COUNT PLACE
+
+Opens the disk, carries out requests drawn from a seed, and prints how many were
+granted and how many refused, and how many blocks are free and pointers held in
+the end.
+
+  SEED   64 hexadecimal digits; the primary blocks need the capabilities that
+         `format` gives them of this seed
+  COUNT  how many requests, 1 to 200000
+  PLACE  which free block is taken first: low (the lowest), near (the nearest to
+         the hint), spread (from the hint on, round the disk) or zone (by zones
+         of 256 blocks, from the hint's on)
+
+example
+
+  tsd disk.img format 64 1 256 2 $(printf %064d 0)
+  tsd disk.img load $(printf %064d 0) 2000 zone
+";
+
+/// The topic `upgrade`.
+pub const UPGRADE: &str = "tsd IMAGE upgrade
+
+Opens the disk, keeps digests in place of capabilities from then on, and prints
+`version 2`. The capabilities stay as they are for those who have them; the
+image no longer tells them.
+
+example
+
+  tsd disk.img upgrade
+";
+
+/// The topic `requests`.
+pub const REQUESTS: &str = "request lines, of words that are parted by one space
 
   open S                  opens session S, 1 to 64
   close S                 closes it and ends what it holds
@@ -79,9 +213,38 @@ request lines
   sweep S CAP             reclaims all that no primary block leads to
   list S A CAP START      targets of A's pointers from START on, at most 64
 
-  CAP is a capability or `-`, HINT a block or `-`, DATA hexadecimal or `-`.
+CAP is a capability or `-`, HINT a block or `-`, DATA hexadecimal or `-`. Each
+line is answered by one: `tsd help replies`. docs/FORMAT.md has the details.
+";
 
-exit status: 0 done, 2 faulty command line, 3 no image, 4 device fault,
-5 input fault, 6 output fault, 7 input too long, 8 no memory, 9 input ends
-inside a frame
+/// The topic `replies`.
+pub const REPLIES: &str = "reply lines, one for each request, sent when the disk holds what it tells
+
+  ok                      it is done
+  data DATA               the bytes of a block up to the last that isn't zero
+  blocks B ..             new blocks
+  free N                  how many blocks are free
+  gone N                  how many blocks were reclaimed
+  list B ..               targets of pointers, or `-`
+  no memory               there is no memory to open a session
+  no REFUSAL              the request is refused, and changed nothing
+
+refusals
+
+  bad-request             the line is no request
+  bad-session             the session isn't in 1 to 64
+  not-open                the session isn't open
+  already-open            the session is open already
+  bad-count               the count isn't in 1 to 32
+  bad-size                more bytes than a block has
+  no-such-block           the disk has no block of this number
+  free-block              the block is free
+  not-primary             only primary blocks have capabilities
+  is-primary              nothing points to a primary block
+  denied ATTAINED NEEDED  the level attained, none, read or write, is too low
+  pointer-exists          the pointer is held already
+  no-pointer              the pointer isn't held
+  full FREE WANTED        fewer blocks are free than were asked for
+  run FREE WANTED         enough blocks are free, but not in a row
+  pointers-full HELD MAX  there is no room for the new pointers
 ";

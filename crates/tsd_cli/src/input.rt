@@ -1,33 +1,55 @@
 //! Standard input as a source.
 
 ghost use Rattle.std.specs.Prelude.{ℕ, List, []};
+ghost use Rattle.std.specs.Io.{ReadsAtMost};
 
+use crate::trouble::Trouble;
 use image_device::{Failed, Source};
-use std::io::{Read, Stdin};
+use std::io::{self, ErrorKind, Read};
 
 /// The most bytes that one take asks for.
 const PIECE_MAX: usize = 4_096;
 
-/// Standard input. It tells nothing of its bytes: what a system gives, no clause can say.
+/// Standard input, or another reader. It tells nothing of its bytes: what a system gives, no clause can say.
 #[derive(Drop)]
-pub struct InputSource {
-    input: Stdin,
+pub struct InputSource<R> {
+    input: R,
     ended: bool,
     faults: u64,
+    trouble: Option<Trouble>,
 }
 
-impl InputSource {
-    /// The standard input of this process.
-    pub fn new(input: Stdin) -> InputSource {
+impl<R> InputSource<R> {
+    /// A source of what this reader gives.
+    pub fn new(input: R) -> InputSource<R> {
         InputSource {
             input,
             ended: false,
             faults: 0,
+            trouble: None,
         }
+    }
+
+    /// Why the last take failed that did.
+    pub fn trouble(&self) -> Option<Trouble> {
+        self.trouble
     }
 }
 
-impl Source for InputSource {
+/// Reads once. A read that a signal interrupts is made again.
+fn read_some<R: Read>(input: &mut R, room: &mut [u8]) -> io::Result<usize>
+    ensures { ReadsAtMost result room.new }
+{
+    for _ in 0..u64::MAX {
+        match input.read(room) {
+            Err(error) if error.kind() == ErrorKind::Interrupted => {}
+            other => return other,
+        }
+    }
+    Err(io::Error::from(ErrorKind::Interrupted))
+}
+
+impl<R: Read> Source for InputSource<R> {
     ghost use Rattle.image_device.specs.Counts.{Rose};
     ghost use Rattle.std.specs.Prelude.{◌≡◌, ◌≤◌, ◌++◌, ◌↔◌, [], true, length, take, IfOk, OnErr};
 
@@ -49,13 +71,14 @@ impl Source for InputSource {
         // A read may leave anything in all of its room, so it gets a room of its own.
         let mut piece = [0u8; PIECE_MAX];
         let most = into.len().min(PIECE_MAX);
-        match self.input.read(&mut piece[..most]) {
+        match read_some(&mut self.input, &mut piece[..most]) {
             Ok(count) => {
                 into[..count].copy_from_slice(&piece[..count]);
                 self.ended = count == 0;
                 Ok(count)
             }
-            Err(_) => {
+            Err(error) => {
+                self.trouble = Some(Trouble::from(error));
                 self.faults = self.faults.saturating_add(1);
                 Err(Failed)
             }

@@ -3,64 +3,77 @@
 //! What it stands on: `tsd_serve` for the top call; the outside of `image_device`, with standard input as a source; the
 //! closures that rank blocks are made here.
 //!
-//! What it promises: the contract of the top call over the objects that are made here. What standard input, standard
-//! output and the command line are on a real machine is trusted, and shown by the stored run alone.
+//! What it promises: the contract of the top call over the objects that are made here. What files, the standard streams
+//! and the command line are on a real machine is trusted. Tests alone show it: those of this crate, its stored run, and
+//! the script `tests/edge`, which runs the built program.
 #![tactic(auto)]
 
 mod ahead;
 mod file_station;
 mod help;
+mod image_file;
 mod input;
 #[cfg(test)]
 mod input_tests;
+mod progress;
+#[cfg(test)]
+mod progress_tests;
 mod run;
+mod standard;
 #[cfg(test)]
 mod station_tests;
 #[cfg(test)]
 mod tests;
+mod trouble;
+mod usage;
+#[cfg(test)]
+mod usage_tests;
+mod words;
+#[cfg(test)]
+mod words_tests;
 
 use input::InputSource;
 use run::{run, tell};
+use standard::StandIns;
+use std::io::{self, Stderr, Write};
 use std::process::ExitCode;
-use std::{env, io};
+use trouble::Trouble;
 use tsd_serve::Status;
+use words::arguments;
 
 fn main(rt: HostRuntime) -> ExitCode {
     let mut errors = rt.stderr();
-    let status = match arguments(&rt) {
-        Err(status) => {
-            tell(&mut errors, &status);
-            status
-        }
-        Ok(words) => {
-            let mut input = InputSource::new(rt.stdin());
-            let mut output = io::writer(&rt);
-            run(&rt, words, &mut input, &mut output, &mut errors)
+    // Before anything else is opened.
+    let status = match StandIns::take(&rt) {
+        Ok(_held) => answer(&rt, &mut errors),
+        Err(error) => {
+            tell(&mut errors, &Status::DeviceFault);
+            tell_stream(&mut errors, "streams", &Trouble::from(error));
+            Status::DeviceFault
         }
     };
     ExitCode::from(status.code())
 }
 
-/// The words of the command line, without the program's name.
-fn arguments(rt: &HostRuntime) -> Result<Vec<String>, Status> {
-    let alloc = rt.alloc();
-    let args = match env::args(rt) {
-        Ok(args) => args,
-        Err(error) => return Err(argument_fault(&error)),
-    };
-    let mut words = Vec::new(alloc);
-    for word in args.skip(1) {
-        if words.push(word).is_err() {
-            return Err(Status::NoMemory);
+/// Does what the command line says, over the standard streams.
+fn answer(rt: &HostRuntime, errors: &mut Stderr) -> Status {
+    let words = match arguments(rt) {
+        Ok(words) => words,
+        Err(status) => {
+            tell(errors, &status);
+            return status;
         }
+    };
+    let mut input = InputSource::new(rt.stdin());
+    let mut output = io::writer(rt);
+    let status = run(rt, words, &mut input, &mut output, errors);
+    if let Some(trouble) = input.trouble() {
+        tell_stream(errors, "input", &trouble);
     }
-    Ok(words)
+    status
 }
 
-/// A word that isn't UTF-8 makes the command line faulty.
-fn argument_fault(error: &io::Error) -> Status {
-    match error.kind() {
-        io::ErrorKind::OutOfMemory => Status::NoMemory,
-        _ => Status::Usage,
-    }
+/// Writes why a call on a standard stream failed.
+fn tell_stream<E: Write>(errors: &mut E, name: &str, trouble: &Trouble) {
+    let _told = writeln!(errors, "tsd: standard {name}: {trouble}");
 }

@@ -2,11 +2,12 @@
 
 ghost use Rattle.std.specs.Prelude.{◌<◌};
 
-use crate::help::{HELP, VERSION};
+use crate::help::{HELP, REPLIES, REQUESTS, TOPICS, USAGE, VERSION, text_of};
 use crate::run::run;
 use image_device::MemSource;
 use image_layout::ImageFault;
 use std::fs;
+use std::io::{self, Write};
 use std::test::Fail;
 use tsd_serve::Status;
 
@@ -45,9 +46,12 @@ const FRESH: &str =
     "- fresh 8 1 aaaaaaaaaaaaaaaaaaaaaaaaaaaaaaaa bbbbbbbbbbbbbbbbbbbbbbbbbbbbbbbb near";
 
 /// The words, the input and the take that fails; the status, the output and the errors.
-const RUNS: [(&str, &str, u64, Status, &str, &str); 8] = [
+const RUNS: [(&str, &str, u64, Status, &str, &str); 13] = [
     ("--help", "free\n", NEVER, Status::Done, HELP, ""),
     ("--version", "free\n", NEVER, Status::Done, VERSION, ""),
+    ("help", "free\n", NEVER, Status::Done, HELP, ""),
+    ("help requests", "free\n", NEVER, Status::Done, REQUESTS, ""),
+    ("help replies", "free\n", NEVER, Status::Done, REPLIES, ""),
     (
         FRESH,
         "free\nfree",
@@ -64,14 +68,21 @@ const RUNS: [(&str, &str, u64, Status, &str, &str); 8] = [
         "free 7\n",
         "tsd: input fault\n",
     ),
-    ("", "free\n", NEVER, Status::Usage, "", "tsd: usage\n"),
+    (
+        "",
+        "free\n",
+        NEVER,
+        Status::Usage,
+        "",
+        "tsd: usage\ntsd: behind IMAGE stands a command: fresh, format, run, serve, check, load or upgrade\n",
+    ),
     (
         "- fresh 8",
         "free\n",
         NEVER,
         Status::Usage,
         "",
-        "tsd: usage\n",
+        "tsd: usage\ntsd: fresh takes BLOCKS SECTORS READCAP WRITECAP PLACE, and 1 word came\n",
     ),
     (
         "disk.img run",
@@ -79,7 +90,23 @@ const RUNS: [(&str, &str, u64, Status, &str, &str); 8] = [
         NEVER,
         Status::Usage,
         "",
-        "tsd: usage\n",
+        "tsd: usage\ntsd: run takes PLACE, and no word came\n",
+    ),
+    (
+        "disk.img ran near",
+        "free\n",
+        NEVER,
+        Status::Usage,
+        "",
+        "tsd: usage\ntsd: no command is called ran; there are fresh, format, run, serve, check, load and upgrade\n",
+    ),
+    (
+        "disk.img check near",
+        "free\n",
+        NEVER,
+        Status::Usage,
+        "",
+        "tsd: usage\ntsd: check takes no words, and 1 word came\n",
     ),
     (
         "- run near",
@@ -133,8 +160,172 @@ fn runs_over_a_file(rt: HostRuntime) -> Result<(), Fail> {
     Ok(())
 }
 
+/// Words that stand in files, and one that stands in none.
+#[test]
+fn runs_with_words_of_files(rt: HostRuntime) -> Result<(), Fail> {
+    fs::write(
+        &rt,
+        "tests_read",
+        "aaaaaaaaaaaaaaaaaaaaaaaaaaaaaaaa\nand more",
+    )?;
+    fs::write(&rt, "tests_write", " bbbbbbbbbbbbbbbbbbbbbbbbbbbbbbbb")?;
+    let words = "- fresh 8 1 @tests_read @tests_write near";
+    let input = "open 1\nread 1 0 aaaaaaaaaaaaaaaaaaaaaaaaaaaaaaaa\n";
+    let end = ran(&rt, words, input, NEVER)?;
+    assert_eq!(rt; end.status, Status::Done);
+    assert_eq!(rt; end.output.as_slice(), b"ok\ndata -\n".as_slice());
+    fs::remove_file(&rt, "tests_read")?;
+    fs::remove_file(&rt, "tests_write")?;
+
+    let end = ran(&rt, words, input, NEVER)?;
+    assert_eq!(rt; end.status, Status::Usage);
+    assert!(rt; end.output.is_empty());
+    assert!(rt;
+        end.errors
+            .starts_with(b"tsd: usage\ntsd: @tests_read: No such file")
+    );
+    Ok(())
+}
+
+/// An output that takes nothing.
+#[derive(Drop)]
+struct Closed;
+
+impl Write for Closed {
+    fn write(&mut self, _buf: &[u8]) -> io::Result<usize> {
+        Err(io::Error::from(io::ErrorKind::BrokenPipe))
+    }
+
+    fn flush(&mut self) -> io::Result<()> {
+        Ok(())
+    }
+}
+
+#[test]
+fn an_output_that_fails_says_why(rt: HostRuntime) -> Result<(), Fail> {
+    let alloc = rt.alloc();
+    let mut errors = Vec::new(alloc);
+    let mut words = Vec::new(alloc);
+    words.push(String::from_str(alloc, "--help")?)?;
+    let mut source = MemSource::new(Vec::new(alloc), 7, Vec::new(alloc));
+    let status = run(&rt, words, &mut source, &mut Closed, &mut errors);
+    assert_eq!(rt; status, Status::PutFault);
+    let told = b"tsd: output fault\ntsd: standard output: broken pipe\n";
+    assert_eq!(rt; errors.as_slice(), told.as_slice());
+    Ok(())
+}
+
+/// The words that a reader of the help looks for: each command, each status, and where more is told.
+const TOLD: [&str; 20] = [
+    USAGE,
+    "\n  fresh ",
+    "\n  format ",
+    "\n  run ",
+    "\n  serve ",
+    "\n  check ",
+    "\n  load ",
+    "\n  upgrade ",
+    "\n  0  ",
+    "\n  2  ",
+    "\n  3  ",
+    "\n  4  ",
+    "\n  5  ",
+    "\n  6  ",
+    "\n  7  ",
+    "\n  8  ",
+    "\n  9  ",
+    "@FILE",
+    "tsd help COMMAND",
+    "docs/FORMAT.md",
+];
+
+/// The words of request lines.
+const REQUEST_WORDS: [&str; 12] = [
+    "open", "close", "read", "write", "alloc", "contig", "free", "create", "delete", "setcap",
+    "sweep", "list",
+];
+
+/// The words of reply lines, and those of refusals.
+const REPLY_WORDS: [&str; 23] = [
+    "ok",
+    "data",
+    "blocks",
+    "free",
+    "gone",
+    "list",
+    "no memory",
+    "bad-request",
+    "bad-session",
+    "not-open",
+    "already-open",
+    "bad-count",
+    "bad-size",
+    "no-such-block",
+    "free-block",
+    "not-primary",
+    "is-primary",
+    "denied",
+    "pointer-exists",
+    "no-pointer",
+    "full",
+    "run FREE",
+    "pointers-full",
+];
+
+/// Whether a line of a text begins with two spaces and these words.
+fn tells(text: &str, words: &str) -> bool {
+    text.lines().any(|line| match line.strip_prefix("  ") {
+        Some(rest) => rest.starts_with(words),
+        None => false,
+    })
+}
+
+#[test]
+fn the_help_tells_all(rt: HostRuntime) {
+    for word in TOLD {
+        assert!(rt; HELP.contains(word), "{word}");
+    }
+    for word in REQUEST_WORDS {
+        assert!(rt; tells(REQUESTS, word), "{word}");
+    }
+    for word in REPLY_WORDS {
+        assert!(rt; tells(REPLIES, word), "{word}");
+    }
+}
+
+/// The commands.
+const COMMANDS: [&str; 7] = [
+    "fresh", "format", "run", "serve", "check", "load", "upgrade",
+];
+
+#[test]
+fn each_command_is_a_topic(rt: HostRuntime) -> Result<(), Fail> {
+    let alloc = rt.alloc();
+    for command in COMMANDS {
+        assert!(rt; TOPICS.contains(command), "{command}");
+        let begins = format!(in alloc; "tsd IMAGE {command}")?;
+        let words = format!(in alloc; "help {command}")?;
+        let end = ran(&rt, words.as_str(), "", NEVER)?;
+        assert_eq!(rt; end.status, Status::Done, "{command}");
+        assert!(rt; end.output.starts_with(begins.as_bytes()), "{command}");
+        match text_of(command) {
+            Some(text) => assert!(rt; text.contains("\nexample\n"), "{command}"),
+            None => panic!(rt; "{command}"),
+        }
+    }
+    let end = ran(&rt, "help gc", "", NEVER)?;
+    assert_eq!(rt; end.status, Status::Usage);
+    assert!(rt; end.output.is_empty());
+    let behind = "and an image of the name help is ./help";
+    let wanted = format!(in alloc;
+        "tsd: usage\ntsd: no topic is called gc; there are {TOPICS}, {behind}\n"
+    )?;
+    assert_eq!(rt; end.errors.as_slice(), wanted.as_bytes());
+    Ok(())
+}
+
 #[test]
 fn texts(rt: HostRuntime) {
-    assert_eq!(rt; VERSION, "tsd 0.1.0\n");
+    assert_eq!(rt; VERSION, "tsd 0.2.0\n");
     assert!(rt; HELP.starts_with("tsd: a type-safe disk."));
 }

@@ -22,15 +22,17 @@ use Rattle.disk_laws.proofs.FitLaws.{geometry-change}
 use Rattle.tsd_model.specs.declared.geometry.Geometry.{Geometry}
 use Rattle.graph_laws.specs.Counts.{doomed_pairs}
 use Rattle.grant_table.specs.Table.{Table, IsTable, IsMadeFor, with_sessions}
-use Rattle.core_laws.specs.Seen.{world_after, reply_to, is_read, IsOver, IsAnswer, IsStarved, state_over}
-use Rattle.core_laws.proofs.StepSeen.{step_over, verdict_over}
-use Rattle.core_laws.proofs.AnswerSeen.{refused_over, granted_over, starved_over, reply_like, without_like}
-use Rattle.core_laws.proofs.FormLaws.{refusal_fits}
+use Rattle.tsd_core.specs.Seen.{world_after, reply_to, is_read, IsOver, IsStarved, state_over}
+use Rattle.tsd_model.specs.Run.{IsAnswer}
+use Rattle.tsd_core.proofs.StepSeen.{step_over, verdict_over}
+use Rattle.tsd_core.proofs.AnswerSeen.{refused_over, granted_over, starved_over, reply_like, without_like}
+use Rattle.tsd_core.proofs.FormLaws.{refusal_fits}
 use Rattle.volume_laws.specs.Volume.{Volume, world_on}
-use Rattle.volume_laws.specs.Volume.{IsAt as IsVolumeAt}
-use Rattle.volume_laws.specs.Moments.{LeavesEither, LeavesOwed, owed, made}
+use Rattle.volume_laws.specs.Volume.{IsVolumeAt}
+use Rattle.image_world.specs.Debt.{owed}
+use Rattle.volume_laws.specs.Moments.{LeavesEither, LeavesOwed, made}
 use Rattle.volume_laws.specs.Writes.{due}
-use Rattle.tsd_core.specs.Core.{Core, IsReady, IsAt, told_world, sessions_of, state_on}
+use Rattle.tsd_core.specs.Core.{Core, IsCoreReady, IsCoreAt, told_world, sessions_of, state_on}
 use Rattle.tsd_core.specs.Work.{made_by, made_in, cost_of, LeavesDebt}
 use Rattle.tsd_core.specs.Carrying.{IsKnown, IsChanged, IsCarriedOut}
 use Rattle.tsd_core.specs.Applying.{IsToldAnswer, told_verdict, is_refusal, asks_nothing, next_world, IsApplied}
@@ -41,7 +43,7 @@ use Rattle.tsd_core.proofs.Quiet.{still_stands, still_owes}
 
 -- ---- the core over a world
 
-over : (c : Core) (w : World) → IsReady c → IsKnown c.volume → IsTable c.grants → AreLike (told_world c) w → IsOver c.grants (told_world c) w
+over : (c : Core) (w : World) → IsCoreReady c → IsKnown c.volume → IsTable c.grants → AreLike (told_world c) w → IsOver c.grants (told_world c) w
 over c w ready known table like = record {
   like = like;
   table = table;
@@ -76,7 +78,7 @@ made_like t w (ask.Sweep s shown) like = refl
 made_like t w (ask.List s a shown start) like = refl
 
 -- the verdict by what is seen of the table is that by all of it
-verdict_as_told : (c : Core) (q : Request) → IsReady c → IsKnown c.volume → IsTable c.grants → told_verdict c q ≡ verdict (told_world c) c.grants.sessions q
+verdict_as_told : (c : Core) (q : Request) → IsCoreReady c → IsKnown c.volume → IsTable c.grants → told_verdict c q ≡ verdict (told_world c) c.grants.sessions q
 verdict_as_told c q ready known table = verdict_over c.grants (told_world c) (told_world c) q (over c (told_world c) ready known table (like_itself (told_world c)))
 
 -- what is granted makes what it makes in its world
@@ -95,8 +97,8 @@ owes vol v w x few more at same owing either =
 
 -- ---- refused
 
-pub refused_applied : (told : Type 0) (kind : PlaceKind) (q : Request) (c : Core) (v : View) (r : Rule) → IsReady c → IsKnown c.volume → IsTable c.grants
-    → (told → IsSound v) → (told → IsAt c v) → verdict (told_world c) c.grants.sessions q ≡ Some r → IsApplied told kind q c c v v (Ok (reply.Refused r))
+pub refused_applied : (told : Type 0) (kind : PlaceKind) (q : Request) (c : Core) (v : View) (r : Rule) → IsCoreReady c → IsKnown c.volume → IsTable c.grants
+    → (told → IsSound v) → (told → IsCoreAt c v) → verdict (told_world c) c.grants.sessions q ≡ Some r → IsApplied told kind q c c v v (Ok (reply.Refused r))
 refused_applied told kind q c v r ready known table sound at refusal = record {
   ready = ready;
   at = at;
@@ -117,8 +119,7 @@ refused_applied told kind q c v r ready known table sound at refusal = record {
   most = λ t b. omega arith;
   limit = λ b. omega arith;
   works = record { clock = omega arith; faults = omega arith; put_faults = refl; writes = omega arith };
-  faultless = refl;
-  cause = tt;
+  faults = refl;
 }
 
 -- ---- granted
@@ -214,7 +215,7 @@ made_after kind old q u new made like same =
     }
 
 -- what is told of the answer
-told_answer : (kind : PlaceKind) (q : Request) (old new : Core) (r : Reply) → IsReady old → IsKnown old.volume → IsTable old.grants
+told_answer : (kind : PlaceKind) (q : Request) (old new : Core) (r : Reply) → IsCoreReady old → IsKnown old.volume → IsTable old.grants
     → ◌≡◌ {A = Option Rule} (verdict (told_world old) old.grants.sessions q) None → AreLike (told_world new) (world_after kind (told_world old) q)
     → (IsChanged kind (told_world old) (risen_in old q).grants q r new.grants ⊎ IsStarved (risen_in old q).grants q r new.grants)
     → IsToldAnswer kind old q r new
@@ -252,12 +253,13 @@ refused_keeps kind q old new r (inr starved) stays e =
     let volume : new.volume ≡ old.volume = stays (begin_asks q starved.begin) in
     λ i. record { volume = volume i; grants = table i }
 
-granted_risen : (told : Type 0) (kind : PlaceKind) (q : Request) (old new : Core) (v w : View) (result : Result Reply Failed) → IsReady old → IsKnown old.volume → IsTable old.grants
-    → (told → IsAt old v) → ◌≡◌ {A = Option Rule} (verdict (told_world old) old.grants.sessions q) None
+granted_risen : (told : Type 0) (kind : PlaceKind) (q : Request) (old new : Core) (v w : View) (result : Result Reply Failed) → IsCoreReady old → IsKnown old.volume → IsTable old.grants
+    → (told → IsCoreAt old v) → ◌≡◌ {A = Option Rule} (verdict (told_world old) old.grants.sessions q) None
     → IsCarriedOut told kind q (risen_in old q) new v w result → (asks_nothing q ≡ true → new.volume ≡ old.volume) → (asks_nothing q ≡ true → IsOk result)
     → IsApplied told kind q old new v w result
 granted_risen told kind q old new v w result ready known table at granted carried stays answered =
-    let op = carried.volume in
+    let does = carried.volume in
+    let op = does.operation in
     let t = told_world old in
     let there : told → IsVolumeAt old.volume v = λ h. at_volume old v (at h) in
     let like : told → AreLike t (world_on v) = λ h. like_at old.volume v (there h) in
@@ -265,30 +267,29 @@ granted_risen told kind q old new v w result ready known table at granted carrie
     let same : told → made_by t q ≡ made_in (state_on old v.reads) q = λ h. made_granted old q (world_on v) (here h) granted in
     let next : told → world_after kind (world_on v) q ≡ next_world kind (state_on old v.reads) q = λ h. sym (ap (λ (o : Outcome). o.state.world) (step_over kind old.grants t (world_on v) q (here h) granted)) in
     record {
-      ready = and_ok3 result (λ r kept a b like_new. record { volume = a; unspent = b; made = made_after kind old q (told_world new) new.grants ready.made like_new (same_blocks kind old q r new.grants kept) }) carried.kept op.ready op.unspent op.like;
+      ready = and_ok3 result (λ r kept a b like_new. record { volume = a; unspent = b; made = made_after kind old q (told_world new) new.grants ready.made like_new (same_blocks kind old q r new.grants kept) }) carried.kept does.ready op.unspent does.like;
       at = λ h. then_ok result (at_core new w) (op.at h);
       form = carried.form;
       given = λ h. and_ok result (λ r kept bytes a done. given_over kind q old new.grants (world_on v) (told_world new) (world_on w) r (here h) granted (like_at new.volume w a) done (kept_in kind old q r new.grants kept) bytes) carried.kept (carried.bytes h) (op.at h) (op.done h);
-      told_given = if_kept result (λ r kept like_new. told_answer kind q old new r ready known table granted like_new kept) carried.kept op.like;
+      told_given = if_kept result (λ r kept like_new. told_answer kind q old new r ready known table granted like_new kept) carried.kept does.like;
       refused = if_map result (λ r kept e. refused_keeps kind q old new r kept stays e) carried.kept;
       refusal = subst (λ (x : Option Rule). IfSome x (λ rule. result ≡ Ok (reply.Refused rule))) (sym (verdict_as_told old q ready known table ∙ granted)) tt;
       answered = answered;
-      size = record { geometry = op.size.0; version = op.size.1 };
+      size = record { geometry = op.geometry; version = does.version };
       spent = op.spent;
       sent = op.sent;
       any_moment = λ h. subst (LeavesEither v w) (next h) (op.any_moment h);
-      debt = λ h b. owes old.volume v w (world_after kind (world_on v) q) (made_by t q) (made_in (state_on old v.reads) q) (there h) (same h) (op.any_owed h b) (op.any_moment h);
-      paid = λ h b. then_ok result (λ (p : w.writes + due new.volume ≤ v.writes + due old.volume + cost_of t q). omega (arith, p, same h)) (op.paid b);
-      most = λ h b. omega (arith, op.most b, same h);
-      limit = op.limit;
+      debt = λ h b. owes old.volume v w (world_after kind (world_on v) q) (made_by t q) (made_in (state_on old v.reads) q) (there h) (same h) (does.any_owed h b) (op.any_moment h);
+      paid = λ h b. then_ok result (λ (p : w.writes + due new.volume ≤ v.writes + due old.volume + cost_of t q). omega (arith, p, same h)) (does.paid b);
+      most = λ h b. omega (arith, does.most b, same h);
+      limit = does.limit;
       works = op.works;
-      faultless = op.faultless;
-      cause = op.cause;
+      faults = op.faults;
     }
 
 -- from the core once levels have risen
-pub granted_applied : (told : Type 0) (kind : PlaceKind) (q : Request) (old mid new : Core) (v w : View) (result : Result Reply Failed) → IsReady old → IsKnown old.volume → IsTable old.grants
-    → (told → IsAt old v) → ◌≡◌ {A = Option Rule} (verdict (told_world old) old.grants.sessions q) None
+pub granted_applied : (told : Type 0) (kind : PlaceKind) (q : Request) (old mid new : Core) (v w : View) (result : Result Reply Failed) → IsCoreReady old → IsKnown old.volume → IsTable old.grants
+    → (told → IsCoreAt old v) → ◌≡◌ {A = Option Rule} (verdict (told_world old) old.grants.sessions q) None
     → mid.volume ≡ old.volume → mid.grants ≡ with_sessions old.grants (raised_by (told_world old) old.grants.sessions q)
     → IsCarriedOut told kind q mid new v w result → (asks_nothing q ≡ true → new.volume ≡ mid.volume) → (asks_nothing q ≡ true → IsOk result)
     → IsApplied told kind q old new v w result

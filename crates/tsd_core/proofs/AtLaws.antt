@@ -7,10 +7,10 @@ use Rattle.image_world.specs.Stands.{Stands, world_of}
 use Rattle.image_world.proofs.WorldLaws.{told_like}
 use Rattle.disk_laws.specs.Bytes.{AreLike}
 use Rattle.volume_laws.specs.Volume.{Volume, told_by, world_on}
-use Rattle.volume_laws.specs.Volume.{IsAt as IsVolumeAt}
-use Rattle.tsd_core.specs.Core.{Core, IsAt}
+use Rattle.volume_laws.specs.Volume.{IsVolumeAt}
+use Rattle.tsd_core.specs.Core.{Core, IsCoreAt}
 
-pub at_volume : (c : Core) (v : View) → IsAt c v → IsVolumeAt c.volume v
+pub at_volume : (c : Core) (v : View) → IsCoreAt c v → IsVolumeAt c.volume v
 at_volume c v at = record {
   firm = at.0;
   ring = record { shows = at.1.shows; others_closed = at.1.others_closed; journal_firm = λ n e. at.0 n };
@@ -18,7 +18,7 @@ at_volume c v at = record {
   tables = at.1.tables;
 }
 
-pub at_core : (c : Core) (v : View) → IsVolumeAt c.volume v → IsAt c v
+pub at_core : (c : Core) (v : View) → IsVolumeAt c.volume v → IsCoreAt c v
 at_core c v at = (at.firm, record { shows = at.ring.shows; others_closed = at.ring.others_closed; good = at.good; tables = at.tables })
 
 -- what is told is like the disk

@@ -7,3 +7,9 @@ pub mod Quiet
 pub mod Applied
 pub mod Settling
 pub mod PairCosts
+pub mod SeenLaws
+pub mod VerdictSeen
+pub mod StepSeen
+pub mod AnswerSeen
+pub mod FormLaws
+pub mod HistoryLaws

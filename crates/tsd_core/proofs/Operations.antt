@@ -1,20 +1,24 @@
 -- From a call on the volume to the request that it carries out.
-use Rattle.std.proofs.Common.{◌≡◌, ℕ, ◌+◌, ◌≤◌, true, false, List, arith, inl}
+use Rattle.std.proofs.Common.{◌≡◌, ◌∙◌, ℕ, ◌+◌, ◌≤◌, true, false, List, arith, inl, subst}
 use Rattle.std.specs.Prelude.{Result, Ok, Err, OnOk, OnErr, IfOk}
 use Rattle.tsd_model.specs.ReplyForm.{HasForm}
+use Rattle.tsd_model.specs.World.{World}
 use Rattle.tsd_model.specs.declared.replies.Reply.{Reply}
 use Rattle.tsd_model.specs.declared.replies.Reply.TheVariants as reply
 use Rattle.tsd_model.specs.declared.requests.PlaceKind.{PlaceKind}
 use Rattle.tsd_model.specs.declared.requests.Request.{Request}
 use Rattle.image_device.specs.View.{View}
 use Rattle.image_device.specs.Calls.{Uses}
+use Rattle.image_device.specs.Counts.{CountsFault}
 use Rattle.image_device.specs.declared.device.Failed.{Failed}
 use Rattle.grant_table.specs.Table.{with_sessions}
-use Rattle.core_laws.specs.Seen.{table_change, reply_to, is_read}
+use Rattle.tsd_core.specs.Seen.{table_change, reply_to, is_read, world_after}
+use Rattle.volume_laws.specs.Moments.{LeavesEither}
+use Rattle.volume_laws.specs.Operations.{IsOperation}
 use Rattle.volume_laws.specs.Volume.{Volume, world_on}
-use Rattle.volume_laws.specs.Writes.{due, IsPaid, Works}
+use Rattle.volume_laws.specs.Writes.{due, IsPaid}
 use Rattle.tsd_core.specs.Core.{Core, told_world}
-use Rattle.tsd_core.specs.Carrying.{IsOperation, IsCarriedOut, replied}
+use Rattle.tsd_core.specs.Carrying.{DoesRequest, IsCarriedOut, replied}
 
 -- ---- outcomes
 
@@ -52,9 +56,6 @@ and_ok (Err e) f p q a b = tt
 
 -- ---- counts
 
-pub counted : (most : ℕ) (v w : View) → Uses most v w → Works v w
-counted most v w uses = record { clock = uses.clock; faults = uses.faults; put_faults = uses.put_faults; writes = uses.writes }
-
 pub at_most : (few most : ℕ) (v w : View) → Uses few v w → few ≤ most → w.writes ≤ v.writes + most
 at_most few most v w uses less = omega (arith, uses.most, less)
 
@@ -66,44 +67,66 @@ paid_more few most old new v w less paid = omega (arith, paid, less)
 
 -- ---- the request
 
-operation_of : {T U : Type 0} (told : Type 0) (kind : PlaceKind) (q : Request) (old new : Volume) (v w : View) (r : Result T Failed) (f : T → U) → IsOperation told kind q old new v w r
-    → (s : Result U Failed) → ((P : Type 0) → OnOk r P → OnOk s P) → ((P : Type 0) → OnErr r P → OnErr s P) → IsOperation told kind q old new v w s
-operation_of told kind q old new v w r f op s ok err = record {
-  like = ok _ op.like;
-  ready = ok _ op.ready;
-  unspent = ok _ op.unspent;
-  spent = err _ op.spent;
-  size = op.size;
+-- the outcome of a call, as the outcome of the request
+operation_of : {T U : Type 0} (told : Type 0) (change : World → World) (old new : Volume) (v w : View) (r : Result T Failed) → IsOperation told change old new v w r
+    → (s : Result U Failed) → ((P : Type 0) → OnOk r P → OnOk s P) → ((P : Type 0) → OnErr r P → OnErr s P) → CountsFault s v.faults w.faults → IsOperation told change old new v w s
+operation_of told change old new v w r op s ok err faults = record {
   at = λ t. ok _ (op.at t);
   done = λ t. ok _ (op.done t);
-  sent = op.sent;
   any_moment = op.any_moment;
-  any_owed = op.any_owed;
-  paid = λ b. ok _ (op.paid b);
-  most = op.most;
-  limit = op.limit;
+  sent = op.sent;
+  unspent = ok _ op.unspent;
+  spent = err _ op.spent;
+  faults = faults;
   works = op.works;
-  faultless = ok _ op.faultless;
-  cause = err _ op.cause;
+  geometry = op.geometry;
+}
+
+request_of : {T U : Type 0} (told : Type 0) (kind : PlaceKind) (q : Request) (old new : Volume) (v w : View) (r : Result T Failed) → DoesRequest told kind q old new v w r
+    → (s : Result U Failed) → ((P : Type 0) → OnOk r P → OnOk s P) → ((P : Type 0) → OnErr r P → OnErr s P) → CountsFault s v.faults w.faults → DoesRequest told kind q old new v w s
+request_of told kind q old new v w r does s ok err faults = record {
+  operation = operation_of told (λ u. world_after kind u q) old new v w r does.operation s ok err faults;
+  version = does.version;
+  like = ok _ does.like;
+  ready = ok _ does.ready;
+  any_owed = does.any_owed;
+  paid = λ b. ok _ (does.paid b);
+  most = does.most;
+  limit = does.limit;
+}
+
+-- the same change of the world, said in other words
+pub same_change : {T : Type 0} (told : Type 0) (f h : World → World) (old new : Volume) (v w : View) (r : Result T Failed) → (told → f (world_on v) ≡ h (world_on v)) → IsOperation told f old new v w r
+    → IsOperation told h old new v w r
+same_change told f h old new v w r same op = record {
+  at = op.at;
+  done = λ t. then_ok r (λ (d : world_on w ≡ f (world_on v)). d ∙ same t) (op.done t);
+  any_moment = λ t. subst (λ (u : World). LeavesEither v w u) (same t) (op.any_moment t);
+  sent = op.sent;
+  unspent = op.unspent;
+  spent = op.spent;
+  faults = op.faults;
+  works = op.works;
+  geometry = op.geometry;
 }
 
 pub carried_out : {T : Type 0} (told : Type 0) (kind : PlaceKind) (q : Request) (old new : Core) (v w : View) (r : Result T Failed) (f : T → Reply)
-    → IsOperation told kind q old.volume new.volume v w r
+    → DoesRequest told kind q old.volume new.volume v w r
     → new.grants ≡ with_sessions old.grants (table_change kind (told_world old) old.grants.sessions q)
     → IfOk r (λ x. is_read q ≡ false → f x ≡ reply_to kind (told_world old) q)
     → ((x : T) → is_read q ≡ true → (bytes : List ℕ) × (f x ≡ reply.Bytes bytes))
     → (told → IfOk r (λ x. is_read q ≡ true → f x ≡ reply_to kind (world_on v) q))
     → IfOk r (λ x. HasForm (f x))
     → IsCarriedOut told kind q old new v w (replied r f)
-carried_out told kind q old new v w (Ok x) f op table replies read bytes form = record {
+carried_out told kind q old new v w (Ok x) f does table replies read bytes form = record {
   kept = inl (record { table = table; reply = replies; read = read x });
   bytes = bytes;
   form = form;
-  volume = operation_of told kind q old.volume new.volume v w (Ok x) f op (Ok (f x)) (λ P p. p) (λ P p. p);
+  volume = request_of told kind q old.volume new.volume v w (Ok x) does (Ok (f x)) (λ P p. p) (λ P p. p) does.operation.faults;
 }
-carried_out told kind q old new v w (Err e) f op table replies read bytes form = record {
+carried_out told kind q old new v w (Err e) f does table replies read bytes form = record {
   kept = tt;
   bytes = λ t. tt;
   form = tt;
-  volume = operation_of told kind q old.volume new.volume v w (Err e) f op (Err e) (λ P p. p) (λ P p. p);
+  volume = request_of told kind q old.volume new.volume v w (Err e) does (Err e) (λ P p. p) (λ P p. p) does.operation.faults;
 }

@@ -26,7 +26,7 @@ use Rattle.graph_laws.proofs.SettleLaws.{holds-settle}
 use Rattle.graph_laws.proofs.WeightLaws.{doomed_listed, free_count-settle}
 use Rattle.volume_laws.specs.Moments.{made}
 use Rattle.tsd_core.specs.Work.{made_by, made_in, cost_in}
-use Rattle.tsd_core.specs.Laws.{removed_by, reclaimed_by}
+use Rattle.tsd_core.specs.Costs.{removed_by, reclaimed_by}
 
 -- ---- blocks that are each led to are no more than the pairs
 

@@ -12,14 +12,16 @@ use Rattle.image_layout.specs.Image.{Image}
 use Rattle.intent_journal.specs.Home.{home}
 use Rattle.image_world.specs.Tables.{tables_of}
 use Rattle.image_world.specs.Stands.{Stands}
-use Rattle.core_laws.specs.Seen.{world_after, is_read, IsStarved}
+use Rattle.tsd_core.specs.Seen.{world_after, is_read, IsStarved}
 use Rattle.volume_laws.specs.Volume.{Volume, world_on, told_by}
-use Rattle.volume_laws.specs.Volume.{IsAt as IsVolumeAt}
-use Rattle.volume_laws.specs.Volume.{IsReady as IsVolumeReady}
-use Rattle.volume_laws.specs.Moments.{StandsForEither, LeavesEither, LeavesOwed, owed}
-use Rattle.tsd_core.specs.Core.{Core, IsReady, IsAt, told_world}
+use Rattle.volume_laws.specs.Volume.{IsVolumeAt}
+use Rattle.volume_laws.specs.Volume.{IsVolumeReady}
+use Rattle.image_world.specs.Debt.{owed}
+use Rattle.volume_laws.specs.Moments.{StandsForEither, LeavesEither, LeavesOwed}
+use Rattle.tsd_core.specs.Core.{Core, IsCoreReady, IsCoreAt, told_world}
 use Rattle.tsd_core.specs.Work.{made_by}
-use Rattle.tsd_core.specs.Carrying.{IsOperation, IsChanged, IsCarriedOut}
+use Rattle.tsd_core.specs.Carrying.{DoesRequest, IsChanged, IsCarriedOut}
+use Rattle.volume_laws.proofs.OperationLaws.{works_none}
 use Rattle.tsd_core.proofs.AtLaws.{at_volume, stands_at}
 use Rattle.tsd_core.proofs.Likes.{like_as}
 
@@ -34,36 +36,38 @@ still_owes vol v more sound at = started v (λ y f. owed (tables_of (home y)) �
 
 still_there : (told : Type 0) (kind : PlaceKind) (q : Request) (vol : Volume) (v : View) (r : Reply) → ((w : World) → world_after kind w q ≡ w)
     → (told → IsSound v) → (told → IsVolumeAt vol v) → IsVolumeReady vol → vol.is_spent ≡ false
-    → IsOperation told kind q vol vol v v (Ok r)
+    → DoesRequest told kind q vol vol v v (Ok r)
 still_there told kind q vol v r same sound at ready unspent = record {
+  operation = record {
+    at = at;
+    done = λ t. sym (same (world_on v));
+    any_moment = λ t. still_stands vol v (world_after kind (world_on v) q) (sound t) (at t);
+    sent = λ t. refl;
+    unspent = unspent;
+    spent = tt;
+    faults = refl;
+    works = works_none v;
+    geometry = refl;
+  };
+  version = refl;
   like = like_as (told_by vol) (world_after kind (told_by vol) q) (sym (same (told_by vol)));
   ready = ready;
-  unspent = unspent;
-  spent = tt;
-  size = (refl, refl);
-  at = at;
-  done = λ t. sym (same (world_on v));
-  sent = λ t. refl;
-  any_moment = λ t. still_stands vol v (world_after kind (world_on v) q) (sound t) (at t);
   any_owed = λ t b. still_owes vol v (made_by (told_by vol) q) (sound t) (at t);
   paid = λ b. omega arith;
   most = λ b. omega arith;
   limit = λ b. omega arith;
-  works = record { clock = omega arith; faults = omega arith; put_faults = refl; writes = omega arith };
-  faultless = refl;
-  cause = tt;
 }
 
 -- the volume and the device stay as they are
 pub quiet : (told : Type 0) (kind : PlaceKind) (q : Request) (old new : Core) (v : View) (r : Reply) → ((w : World) → world_after kind w q ≡ w)
-    → (told → IsSound v) → (told → IsAt old v) → IsReady old → new.volume ≡ old.volume
+    → (told → IsSound v) → (told → IsCoreAt old v) → IsCoreReady old → new.volume ≡ old.volume
     → (IsChanged kind (told_world old) old.grants q r new.grants ⊎ IsStarved old.grants q r new.grants) → is_read q ≡ false → HasForm r
     → IsCarriedOut told kind q old new v v (Ok r)
 quiet told kind q old new v r same sound at ready stays kept unread form = record {
   kept = kept;
   bytes = λ t e. absurd (clash (sym unread ∙ e));
   form = form;
-  volume = subst (λ (x : Volume). IsOperation told kind q old.volume x v v (Ok r)) (sym stays)
+  volume = subst (λ (x : Volume). DoesRequest told kind q old.volume x v v (Ok r)) (sym stays)
       (still_there told kind q old.volume v r same sound (λ t. at_volume old v (at t)) ready.volume ready.unspent);
 }
   where

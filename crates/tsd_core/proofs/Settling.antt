@@ -1,13 +1,18 @@
 -- What is left to be reclaimed, over calls that keep the world.
-use Rattle.std.proofs.Common.{◌≡◌, ◌⊎◌, ℕ, ◌+◌, ◌-◌, ◌≤◌, ◌∙◌, ap, subst, arith, inl, inr}
+use Rattle.std.proofs.Common.{◌≡◌, ◌⊎◌, ℕ, ◌+◌, ◌-◌, ◌≤◌, false, ◌∙◌, sym, ap, subst, arith, inl, inr}
+use Rattle.tsd_model.specs.Sessions.{fitted}
+use Rattle.tsd_model.specs.World.{World}
 use Rattle.image_device.specs.View.{View}
 use Rattle.image_device.proofs.Moments.{leaves_both, weakened, joined}
-use Rattle.image_world.specs.Stands.{Stands}
-use Rattle.volume_laws.specs.Volume.{Volume, world_on}
-use Rattle.volume_laws.specs.Volume.{IsAt as IsVolumeAt}
-use Rattle.volume_laws.specs.Moments.{LeavesWorld, LeavesOwed, owed}
+use Rattle.image_layout.specs.Image.{Image}
+use Rattle.image_world.specs.Stands.{Stands, world_of}
+use Rattle.grant_table.specs.Table.{IsMadeFor, Table}
+use Rattle.volume_laws.specs.Volume.{IsVolumeAt, IsVolumeReady, Volume, world_on}
+use Rattle.image_world.specs.Debt.{debt, owed}
+use Rattle.volume_laws.specs.Moments.{LeavesWorld, LeavesOwed}
 use Rattle.volume_laws.specs.Writes.{Works}
-use Rattle.tsd_core.specs.Work.{debt, LeavesNoDebt}
+use Rattle.tsd_core.specs.Core.{Core, IsCoreReady, state_on, told_state, told_world}
+use Rattle.tsd_core.specs.Work.{LeavesNoDebt}
 
 pub debt_at : (vol : Volume) (v : View) → IsVolumeAt vol v → debt v.reads ≡ owed vol.tables
 debt_at vol v at = ap owed at.tables
@@ -28,3 +33,17 @@ owing_joined v m w few most one two less = joined v m w _ _ one two (λ x f left
 
 pub works_joined : (v m w : View) → Works v m → Works m w → Works v w
 works_joined v m w one two = record { clock = omega (arith, one.clock, two.clock); faults = omega (arith, one.faults, two.faults); put_faults = two.put_faults ∙ one.put_faults; writes = omega (arith, one.writes, two.writes) }
+
+-- ---- a core whose volume tells the same world
+pub ready_still : (c d : Core) → IsVolumeReady d.volume → d.volume.is_spent ≡ false → told_world d ≡ told_world c → d.grants ≡ c.grants → IsCoreReady c → IsCoreReady d
+ready_still c d ready unspent told grants was = record {
+  volume = ready;
+  unspent = unspent;
+  made = subst (λ (g : Table). IsMadeFor (told_world d) g) (sym grants) (subst (λ (w : World). IsMadeFor w c.grants) (sym told) was.made);
+}
+
+pub told_still : (c d : Core) → told_world d ≡ told_world c → d.grants ≡ c.grants → told_state d ≡ told_state c
+told_still c d told grants = λ i. record { world = told i; sessions = fitted (told i) (grants i).sessions }
+
+pub state_still : (c d : Core) (x y : Image) → world_of y ≡ world_of x → told_world d ≡ told_world c → d.grants ≡ c.grants → state_on d y ≡ state_on c x
+state_still c d x y world told grants = λ i. record { world = world i; sessions = fitted (told i) (grants i).sessions }

@@ -12,14 +12,14 @@ use Rattle.tsd_model.specs.declared.requests.PlaceKind.{PlaceKind}
 use Rattle.tsd_model.specs.declared.requests.Request.{Request}
 use Rattle.tsd_model.specs.declared.requests.Request.TheVariants as ask
 use Rattle.image_device.specs.View.{View}
-use Rattle.image_device.specs.Counts.{Rose}
+use Rattle.image_device.specs.Counts.{CountsFault}
 use Rattle.image_device.specs.declared.device.Failed.{Failed}
 use Rattle.disk_laws.specs.Bytes.{AreLike}
 use Rattle.disk_laws.specs.Reclaiming.{is_sweep}
-use Rattle.core_laws.specs.Seen.{IsAnswer}
+use Rattle.tsd_model.specs.Run.{IsAnswer}
 use Rattle.volume_laws.specs.Moments.{LeavesEither}
 use Rattle.volume_laws.specs.Writes.{due, Works}
-use Rattle.tsd_core.specs.Core.{Core, IsReady, IsAt, told_world, told_state, sessions_of, state_on}
+use Rattle.tsd_core.specs.Core.{Core, IsCoreReady, IsCoreAt, told_world, told_state, sessions_of, state_on}
 use Rattle.tsd_core.specs.Work.{made_in, cost_in, write_limit, LeavesDebt, SameSize}
 
 -- the same reply, or both are the bytes of a block
@@ -58,8 +58,8 @@ next_world kind s q = (step kind s q).state.world
 
 -- What a request does, between these devices.
 pub record IsApplied (told : Type 0) (kind : PlaceKind) (q : Request) (old new : Core) (v w : View) (result : Result Reply Failed) : Type 0 where
-  pub ready : OnOk result (IsReady new)
-  pub at : told → OnOk result (IsAt new w)
+  pub ready : OnOk result (IsCoreReady new)
+  pub at : told → OnOk result (IsCoreAt new w)
   pub form : IfOk result HasForm
   pub given : told → IfOk result (λ r. IsAnswer kind (state_on old v.reads) q r (state_on new w.reads))
   pub told_given : IfOk result (λ r. IsToldAnswer kind old q r new)
@@ -75,5 +75,4 @@ pub record IsApplied (told : Type 0) (kind : PlaceKind) (q : Request) (old new :
   pub most : told → is_sweep q ≡ false → w.writes ≤ v.writes + due old.volume + cost_in (state_on old v.reads) q
   pub limit : is_sweep q ≡ false → w.writes ≤ v.writes + write_limit old.volume q
   pub works : Works v w
-  pub faultless : OnOk result (w.faults ≡ v.faults)
-  pub cause : OnErr result (Rose v.faults w.faults)
+  pub faults : CountsFault result v.faults w.faults

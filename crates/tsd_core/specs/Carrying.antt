@@ -1,5 +1,5 @@
 -- A request that no rule refuses, carried out once the levels have risen.
-use Rattle.std.specs.Prelude.{◌≡◌, ◌⊎◌, ℕ, ◌+◌, ◌≤◌, true, false, List, Result, Ok, Err, OnOk, OnErr, IfOk}
+use Rattle.std.specs.Prelude.{◌≡◌, ◌⊎◌, ℕ, ◌+◌, ◌≤◌, true, false, List, Result, Ok, Err, OnOk, IfOk}
 use Rattle.tsd_model.specs.Pairs.{holds}
 use Rattle.tsd_model.specs.World.{World, is_live}
 use Rattle.tsd_model.specs.Valid.{IsSized}
@@ -9,18 +9,17 @@ use Rattle.tsd_model.specs.declared.replies.Reply.TheVariants as answered
 use Rattle.tsd_model.specs.declared.requests.PlaceKind.{PlaceKind}
 use Rattle.tsd_model.specs.declared.requests.Request.{Request}
 use Rattle.image_device.specs.View.{View}
-use Rattle.image_device.specs.Counts.{Rose}
 use Rattle.image_device.specs.declared.device.Failed.{Failed}
 use Rattle.intent_journal.specs.Ring.{checkpoint_writes}
 use Rattle.disk_laws.specs.Bytes.{AreLike}
 use Rattle.disk_laws.specs.Reclaiming.{is_sweep}
 use Rattle.grant_table.specs.Table.{Table, with_sessions}
-use Rattle.core_laws.specs.Seen.{table_change, world_after, reply_to, is_read, IsStarved}
-use Rattle.volume_laws.specs.Volume.{IsAt as IsVolumeAt}
-use Rattle.volume_laws.specs.Volume.{IsReady as IsVolumeReady}
-use Rattle.volume_laws.specs.Volume.{Volume, told_by, world_on}
-use Rattle.volume_laws.specs.Moments.{LeavesEither, LeavesOwed, owed}
-use Rattle.volume_laws.specs.Writes.{due, IsPaid, Works}
+use Rattle.tsd_core.specs.Seen.{table_change, world_after, reply_to, is_read, IsStarved}
+use Rattle.volume_laws.specs.Operations.{IsOperation}
+use Rattle.volume_laws.specs.Volume.{IsVolumeReady, Volume, told_by, world_on}
+use Rattle.image_world.specs.Debt.{owed}
+use Rattle.volume_laws.specs.Moments.{LeavesOwed}
+use Rattle.volume_laws.specs.Writes.{due, IsPaid}
 use Rattle.tsd_core.specs.Core.{Core, told_world}
 use Rattle.tsd_core.specs.Work.{made_by, cost_of, write_limit}
 
@@ -32,27 +31,18 @@ pub record IsKnown (v : Volume) : Type 0 where
   pub ends : (a b : ℕ) → holds (told_by v).pairs a b ≡ true → (is_live (told_by v) a ≡ true) × (is_live (told_by v) b ≡ true)
   pub ring : checkpoint_writes v.ring ≤ 121
 
--- What a call on the volume does for a request, between these devices. What is said under `told` is said where the device tells
--- its contents.
-pub record IsOperation {T : Type 0} (told : Type 0) (kind : PlaceKind) (q : Request) (old new : Volume) (v w : View) (result : Result T Failed) : Type 0 where
+-- What a call on the volume does for a request, between these devices: it makes the change of the request, in memory too. What it
+-- costs is said of all but a sweep.
+pub record DoesRequest {T : Type 0} (told : Type 0) (kind : PlaceKind) (q : Request) (old new : Volume) (v w : View) (result : Result T Failed) : Type 0 where
+  pub operation : IsOperation told (λ u. world_after kind u q) old new v w result
+  pub version : new.tables.version ≡ old.tables.version
   pub like : OnOk result (AreLike (told_by new) (world_after kind (told_by old) q))
   pub ready : OnOk result (IsVolumeReady new)
-  pub unspent : OnOk result (new.is_spent ≡ false)
-  pub spent : OnErr result (new.is_spent ≡ true)
-  pub size : (new.tables.geometry ≡ old.tables.geometry) × (new.tables.version ≡ old.tables.version)
-  -- on the device
-  pub at : told → OnOk result (IsVolumeAt new w)
-  pub done : told → OnOk result (world_on w ≡ world_after kind (world_on v) q)
-  pub sent : told → w.sent ≡ v.sent
-  pub any_moment : told → LeavesEither v w (world_after kind (world_on v) q)
   -- what it costs
   pub any_owed : told → is_sweep q ≡ false → LeavesOwed v w (owed old.tables + made_by (told_by old) q)
   pub paid : is_sweep q ≡ false → OnOk result (IsPaid (cost_of (told_by old) q) old v new w)
   pub most : is_sweep q ≡ false → w.writes ≤ v.writes + due old + cost_of (told_by old) q
   pub limit : is_sweep q ≡ false → w.writes ≤ v.writes + write_limit old q
-  pub works : Works v w
-  pub faultless : OnOk result (w.faults ≡ v.faults)
-  pub cause : OnErr result (Rose v.faults w.faults)
 
 -- In memory: the table is that of the change and the reply that of the rules, but for the bytes of a read.
 pub record IsChanged (kind : PlaceKind) (w : World) (old : Table) (q : Request) (r : Reply) (new : Table) : Type 0 where
@@ -65,7 +55,7 @@ pub record IsCarriedOut (told : Type 0) (kind : PlaceKind) (q : Request) (old ne
   pub kept : IfOk result (λ r. IsChanged kind (told_world old) old.grants q r new.grants ⊎ IsStarved old.grants q r new.grants)
   pub bytes : told → IfOk result (λ r. is_read q ≡ true → r ≡ reply_to kind (world_on v) q)
   pub form : IfOk result HasForm
-  pub volume : IsOperation told kind q old.volume new.volume v w result
+  pub volume : DoesRequest told kind q old.volume new.volume v w result
 
 -- the outcome of a call as the outcome of the request, with the reply that its value gives
 abbrev pub replied : {T : Type 0} → Result T Failed → (T → Reply) → Result Reply Failed

@@ -14,7 +14,7 @@ use Rattle.image_world.specs.Stands.{world_of}
 use Rattle.image_world.specs.Tables.{tables_of}
 use Rattle.grant_table.specs.Table.{Table, IsMadeFor}
 use Rattle.volume_laws.specs.Volume.{Volume, told_by}
-use Rattle.volume_laws.specs.Volume.{IsReady as IsVolumeReady}
+use Rattle.volume_laws.specs.Volume.{IsVolumeReady}
 use Rattle.std.specs.Prelude.{length}
 
 pub record Core : Type 0 where
@@ -38,18 +38,18 @@ abbrev pub state_on : Core → Image → State
 state_on c x = record { world = world_of x; sessions = sessions_of c }
 
 -- It may be used: its volume is ready, no call on the device failed, and its table was made for the disk.
-pub record IsReady (c : Core) : Type 0 where
+pub record IsCoreReady (c : Core) : Type 0 where
   pub volume : IsVolumeReady c.volume
   pub unspent : c.volume.is_spent ≡ false
   pub made : IsMadeFor (told_world c) c.grants
 
 -- What it has in memory fits a device that reads so: the open records of the journal, and the tables once those are in place.
-pub record Holds (c : Core) (x : Image) : Type 0 where
+pub record FitsReads (c : Core) (x : Image) : Type 0 where
   pub shows : open_records x ≡ c.volume.ring
   pub others_closed : (index : ℕ) → length c.volume.ring ≤ index → index < records → is_open_gate x index ≡ false
   pub good : IsGood x
   pub tables : tables_of (home x) ≡ c.volume.tables
 
 -- It is at a device: nothing is loose, and what it has fits what a read gives.
-abbrev pub IsAt : Core → View → Type 0
-IsAt c v = IsFirm v × Holds c v.reads
+abbrev pub IsCoreAt : Core → View → Type 0
+IsCoreAt c v = IsFirm v × FitsReads c v.reads

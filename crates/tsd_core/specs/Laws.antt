@@ -1,34 +1,39 @@
--- What requests cost, said by the pairs that they remove.
-use Rattle.std.specs.Prelude.{◌≡◌, ℕ, ◌+◌, ◌-◌, ◌*◌, ◌≤◌, not, filter, length}
+-- What a table of grants that may still hold levels at free blocks says of requests.
+use Rattle.std.specs.Prelude.{◌≡◌, ℕ, true, false, Option, Some, None}
 use Rattle.tsd_model.specs.Pairs.{holds}
-use Rattle.tsd_model.specs.World.{free_count}
-use Rattle.tsd_model.specs.Valid.{IsValid}
-use Rattle.tsd_model.specs.Step.{State}
-use Rattle.tsd_model.specs.declared.caps.Shown.{Shown}
+use Rattle.tsd_model.specs.World.{World, is_live}
+use Rattle.tsd_model.specs.Sessions.{Sessions, fitted}
+use Rattle.tsd_model.specs.Valid.{IsSized}
+use Rattle.tsd_model.specs.Verdict.{verdict}
+use Rattle.tsd_model.specs.Step.{gives, step, targets_from}
+use Rattle.tsd_model.specs.ReplyForm.{HasForm}
+use Rattle.tsd_model.specs.declared.replies.Reply.TheVariants as reply
+use Rattle.tsd_model.specs.declared.replies.Rule.{Rule}
 use Rattle.tsd_model.specs.declared.requests.PlaceKind.{PlaceKind}
 use Rattle.tsd_model.specs.declared.requests.Request.{Request}
-use Rattle.tsd_model.specs.declared.requests.Request.TheVariants as ask
-use Rattle.tsd_core.specs.Work.{made_in, cost_in}
-use Rattle.tsd_core.specs.Applying.{next_world}
+use Rattle.disk_laws.specs.Bytes.{AreLike}
+use Rattle.grant_table.specs.Table.{Table}
+use Rattle.tsd_core.specs.Seen.{IsOver, state_over, table_after, world_after, reply_to, is_read}
 
--- how many pairs a request removes: those of the world before that aren't in the world after
-abbrev pub removed_by : PlaceKind → State → Request → ℕ
-removed_by kind s q = length (filter (λ e. not (holds (next_world kind s q).pairs e.0 e.1)) s.world.pairs)
+-- The verdict on a request by what is told and all that the table holds is that at the disk by what is seen of the table.
+abbrev pub VerdictsAreSeen : Type 0
+VerdictsAreSeen = (g : Table) (t w : World) (q : Request) → IsOver g t w → verdict w (fitted t g.sessions) q ≡ verdict t g.sessions q
 
--- how many blocks it reclaims
-abbrev pub reclaimed_by : PlaceKind → State → Request → ℕ
-reclaimed_by kind s q = free_count (next_world kind s q) - free_count s.world
+-- A granted request leads to the world and the reply of its change, and what is seen of the table afterwards is what sessions hold then.
+abbrev pub StepsAreSeen : Type 0
+StepsAreSeen =
+    (kind : PlaceKind) (g : Table) (t w : World) (q : Request) → IsOver g t w → ◌≡◌ {A = Option Rule} (verdict t g.sessions q) None
+    → step kind (state_over t w g) q
+    ≡ gives (world_after kind w q) (fitted (world_after kind w q) (table_after kind t g.sessions q)) (reply_to kind w q)
 
--- What a deletion makes are the blocks that it reclaims and the pairs that it removes.
-abbrev pub MadeIsWhatGoes : Type 0
-MadeIsWhatGoes =
-    (kind : PlaceKind) (s : State) (n a : ℕ) (shown : Shown) (b : ℕ) → IsValid s.world
-    → made_in s (ask.Delete n a shown b) ≡ reclaimed_by kind s (ask.Delete n a shown b) + removed_by kind s (ask.Delete n a shown b)
+-- What is told gives the reply to every request but a read.
+abbrev pub RepliesAreTold : Type 0
+RepliesAreTold = (kind : PlaceKind) (t w : World) (q : Request) → AreLike t w → is_read q ≡ false → reply_to kind t q ≡ reply_to kind w q
 
--- No request makes more than these.
-abbrev pub MakesNoMoreThanGoes : Type 0
-MakesNoMoreThanGoes = (kind : PlaceKind) (s : State) (q : Request) → IsValid s.world → made_in s q ≤ reclaimed_by kind s q + removed_by kind s q
+-- A refusal has a form that can be sent, and so have targets of live blocks.
+abbrev pub RefusalsHaveForm : Type 0
+RefusalsHaveForm = (w : World) (v : Sessions) (q : Request) (r : Rule) → IsSized w → verdict w v q ≡ Some r → HasForm (reply.Refused r)
 
--- Each reclaimed block lost a pair that led to it. So a request costs at most 460 writes, and 12 for each pair that it removes.
-abbrev pub CostsByPairs : Type 0
-CostsByPairs = (kind : PlaceKind) (s : State) (q : Request) → IsValid s.world → cost_in s q ≤ 460 + 12 * removed_by kind s q
+abbrev pub TargetsHaveForm : Type 0
+TargetsHaveForm =
+    (w : World) (a start : ℕ) → IsSized w → ((x y : ℕ) → holds w.pairs x y ≡ true → is_live w y ≡ true) → HasForm (reply.Targets (targets_from w.pairs a start))

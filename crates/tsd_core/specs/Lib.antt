@@ -4,4 +4,7 @@ pub mod Carrying
 pub mod Growing
 pub mod Granted
 pub mod Applying
+pub mod Costs
+pub mod Seen
 pub mod Laws
+pub mod Histories

@@ -7,17 +7,11 @@ use Rattle.tsd_model.specs.declared.requests.Request.{Request}
 use Rattle.tsd_model.specs.declared.requests.Request.TheVariants as ask
 use Rattle.image_device.specs.View.{View}
 use Rattle.image_device.specs.Runs.{LeavesOnly}
-use Rattle.image_layout.specs.Image.{Image}
-use Rattle.intent_journal.specs.Home.{home}
-use Rattle.image_world.specs.Tables.{tables_of}
-use Rattle.volume_laws.specs.Moments.{owed, made}
+use Rattle.image_world.specs.Debt.{debt, owed}
+use Rattle.volume_laws.specs.Moments.{made}
 use Rattle.volume_laws.specs.Volume.{Volume}
 use Rattle.volume_laws.specs.Writes.{lost_cost}
 use Rattle.tsd_core.specs.Core.{Core}
-
--- what is left to be reclaimed in an image: doomed blocks, and pairs from them
-abbrev pub debt : Image → ℕ
-debt x = owed (tables_of (home x))
 
 -- how many blocks and pairs go by a request that deletes a pointer, that pointer included
 abbrev pub made_by : World → Request → ℕ

@@ -1,14 +1,15 @@
 //! One request.
 
-ghost use Rattle.std.specs.Prelude.{◌≡◌, ◌+◌, ◌≤◌, ◌||◌, true, false, Ok, IsOk, OnOk, OnErr, IfOk, IfSome};
-ghost use Rattle.image_device.specs.Counts.{Rose};
+ghost use Rattle.std.specs.Prelude.{◌≡◌, ◌+◌, ◌≤◌, ◌||◌, true, false, Ok, IsOk, OnOk, OnErr, IfOk};
+ghost use Rattle.std.specs.Prelude.{IfSome};
+ghost use Rattle.image_device.specs.Counts.{CountsFault};
 ghost use Rattle.tsd_model.specs.ReplyForm.{HasForm};
 ghost use Rattle.tsd_model.specs.declared.replies.Reply.TheVariants as reply;
 ghost use Rattle.disk_laws.specs.Reclaiming.{is_sweep};
-ghost use Rattle.core_laws.specs.Seen.{IsAnswer};
+ghost use Rattle.tsd_model.specs.Run.{IsAnswer};
 ghost use Rattle.volume_laws.specs.Moments.{LeavesEither};
 ghost use Rattle.volume_laws.specs.Writes.{due, Works};
-ghost use Rattle.tsd_core.specs.Core.{IsReady, IsAt, state_on};
+ghost use Rattle.tsd_core.specs.Core.{IsCoreReady, IsCoreAt, state_on};
 ghost use Rattle.tsd_core.specs.Work.{made_in, cost_in, write_limit, LeavesDebt, SameSize};
 ghost use Rattle.tsd_core.specs.Applying.{IsToldAnswer, told_verdict, is_refusal, asks_nothing, next_world, IsApplied};
 
@@ -20,20 +21,21 @@ use tsd_model::{Reply, Request};
 
 impl Core {
     /// Applies a request: the step of the disk by its rules. A begin that no rule refuses may find no memory; no other
-    /// request takes any. `Failed` comes only where the device's count of faults rose; the core is spent then, and nothing
-    /// in it is used again.
+    /// request takes any. `Failed` comes only where the device's count of faults rose; the core is spent then, and
+    /// nothing in it is used again.
     pub fn apply<D: Device>(
         &mut self,
         dev: &mut D,
         place: &Placement,
         request: &Request,
     ) -> Result<Reply, Failed>
-        requires ready { IsReady self.old }
-        requires at { D.told → IsAt self.old (D.view dev.old) }
-        ensures ready { OnOk result (IsReady self.new) }
-        ensures at { D.told → OnOk result (IsAt self.new (D.view dev.new)) }
+        requires ready { IsCoreReady self.old }
+        requires at { D.told → IsCoreAt self.old (D.view dev.old) }
+        ensures ready { OnOk result (IsCoreReady self.new) }
+        ensures at { D.told → OnOk result (IsCoreAt self.new (D.view dev.new)) }
         ensures form { IfOk result HasForm }
-        ensures given { D.told → IfOk result (λ r. IsAnswer place.now.kind (state_on self.old (D.view dev.old).reads) request.now r (state_on self.new (D.view dev.new).reads)) }
+        ensures given { D.told → IfOk result (λ r. IsAnswer place.now.kind (state_on self.old (D.view dev.old).reads)
+            request.now r (state_on self.new (D.view dev.new).reads)) }
 
         // What memory tells of the answer holds for every device.
         ensures told { IfOk result (λ r. IsToldAnswer place.now.kind self.old request.now r self.new) }
@@ -44,22 +46,28 @@ impl Core {
 
         // A refusal changes nothing, and asks nothing of the device.
         ensures refused { IfOk result (λ r. is_refusal r ≡ true → self.new ≡ self.old) }
-        ensures asks_nothing { IfOk result (λ r. (is_refusal r || asks_nothing request.now) ≡ true → dev.new ≡ dev.old) }
+        ensures asks_nothing { IfOk result (λ r. (is_refusal r || asks_nothing request.now) ≡ true
+            → dev.new ≡ dev.old) }
 
         ensures size { SameSize self.old self.new }
         ensures spent { OnErr result (self.new.volume.is_spent ≡ true) }
         ensures sent { D.told → (D.view dev.new).sent ≡ (D.view dev.old).sent }
 
         // A crash at any moment leaves the world before or the world after.
-        ensures any_moment { D.told → LeavesEither (D.view dev.old) (D.view dev.new) (next_world place.now.kind (state_on self.old (D.view dev.old).reads) request.now) }
+        ensures any_moment { D.told → LeavesEither (D.view dev.old) (D.view dev.new) (next_world place.now.kind
+            (state_on self.old (D.view dev.old).reads) request.now) }
 
-        ensures debt { D.told → is_sweep request.now ≡ false → LeavesDebt (D.view dev.old) (D.view dev.new) (made_in (state_on self.old (D.view dev.old).reads) request.now) }
-        ensures paid { D.told → is_sweep request.now ≡ false → OnOk result ((D.view dev.new).writes + due self.new.volume ≤ (D.view dev.old).writes + due self.old.volume + cost_in (state_on self.old (D.view dev.old).reads) request.now) }
-        ensures most { D.told → is_sweep request.now ≡ false → (D.view dev.new).writes ≤ (D.view dev.old).writes + due self.old.volume + cost_in (state_on self.old (D.view dev.old).reads) request.now }
-        ensures limit { is_sweep request.now ≡ false → (D.view dev.new).writes ≤ (D.view dev.old).writes + write_limit self.old.volume request.now }
+        ensures debt { D.told → is_sweep request.now ≡ false → LeavesDebt (D.view dev.old) (D.view dev.new)
+            (made_in (state_on self.old (D.view dev.old).reads) request.now) }
+        ensures paid { D.told → is_sweep request.now ≡ false
+            → OnOk result ((D.view dev.new).writes + due self.new.volume ≤ (D.view dev.old).writes + due
+            self.old.volume + cost_in (state_on self.old (D.view dev.old).reads) request.now) }
+        ensures most { D.told → is_sweep request.now ≡ false → (D.view dev.new).writes ≤ (D.view dev.old).writes
+            + due self.old.volume + cost_in (state_on self.old (D.view dev.old).reads) request.now }
+        ensures limit { is_sweep request.now ≡ false → (D.view dev.new).writes ≤ (D.view dev.old).writes +
+            write_limit self.old.volume request.now }
         ensures works { Works (D.view dev.old) (D.view dev.new) }
-        ensures faultless { OnOk result ((D.view dev.new).faults ≡ (D.view dev.old).faults) }
-        ensures cause { OnErr result (Rose (D.view dev.old).faults (D.view dev.new).faults) }
+        ensures faults { CountsFault result (D.view dev.old).faults (D.view dev.new).faults }
     {
         self.judge(dev, place, request)
     }
@@ -71,10 +79,12 @@ impl Core {
         place: &Placement,
         request: &Request,
     ) -> Result<Reply, Failed>
-        requires ready { IsReady self.old }
-        requires at { D.told → IsAt self.old (D.view dev.old) }
-        ensures applied { IsApplied D.told place.now.kind request.now self.old self.new (D.view dev.old) (D.view dev.new) result }
-        ensures asks_nothing { IfOk result (λ r. (is_refusal r || asks_nothing request.now) ≡ true → dev.new ≡ dev.old) }
+        requires ready { IsCoreReady self.old }
+        requires at { D.told → IsCoreAt self.old (D.view dev.old) }
+        ensures applied { IsApplied D.told place.now.kind request.now self.old self.new (D.view dev.old)
+            (D.view dev.new) result }
+        ensures asks_nothing { IfOk result (λ r. (is_refusal r || asks_nothing request.now) ≡ true
+            → dev.new ≡ dev.old) }
     {
         self.check();
         match self.grants.verdict(&Told::of(&self.volume), request) {

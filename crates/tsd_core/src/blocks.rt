@@ -1,13 +1,14 @@
 //! Reading and writing blocks, and their capabilities.
 
-ghost use Rattle.std.specs.Prelude.{◌≡◌, ℕ, ◌+◌, ◌<◌, ◌≤◌, true, false, length, Some, None, IfOk, IfSome, OnOk, slice_index_or, Ok};
+ghost use Rattle.std.specs.Prelude.{◌≡◌, ℕ, ◌+◌, ◌<◌, ◌≤◌, true, false, length, Some, None, IfOk};
+ghost use Rattle.std.specs.Prelude.{IfSome, OnOk, slice_index_or, Ok};
 ghost use Rattle.tsd_model.specs.Geometry.{block_len};
 ghost use Rattle.tsd_model.specs.Pairs.{holds};
 ghost use Rattle.tsd_model.specs.World.{is_live};
 ghost use Rattle.tsd_model.specs.declared.caps.Shown.{Shown as AnyShown};
 ghost use Rattle.tsd_model.specs.declared.requests.PlaceKind.{PlaceKind};
 ghost use Rattle.tsd_model.specs.declared.requests.Request.TheVariants as ask;
-ghost use Rattle.tsd_core.specs.Core.{IsReady, IsAt, told_world};
+ghost use Rattle.tsd_core.specs.Core.{IsCoreReady, IsCoreAt, told_world};
 ghost use Rattle.tsd_core.specs.Carrying.{IsKnown, IsCarriedOut};
 
 use crate::disk::Core;
@@ -20,9 +21,11 @@ impl Core {
     pub(crate) fn read<D: Device>(&mut self, dev: &mut D, block: u32) -> Result<Reply, Failed>
         requires live { is_live (told_world self.old) block ≡ true }
         requires known { IsKnown self.old.volume }
-        requires ready { IsReady self.old }
-        requires at { D.told → IsAt self.old (D.view dev.old) }
-        ensures { (kind : PlaceKind) (session : ℕ) (shown : AnyShown) → IsCarriedOut D.told kind (ask.Read session block shown) self.old self.new (D.view dev.old) (D.view dev.new) result }
+        requires ready { IsCoreReady self.old }
+        requires at { D.told → IsCoreAt self.old (D.view dev.old) }
+        ensures { (kind : PlaceKind) (session : ℕ) (shown : AnyShown)
+            → IsCarriedOut D.told kind (ask.Read session block shown) self.old self.new (D.view dev.old)
+            (D.view dev.new) result }
     {
         let mut into = Data::new();
         let outcome = self.volume.read_block(dev, block, &mut into);
@@ -39,9 +42,11 @@ impl Core {
         requires live { is_live (told_world self.old) block ≡ true }
         requires size { length bytes.now ≤ block_len (told_world self.old).geometry }
         requires known { IsKnown self.old.volume }
-        requires ready { IsReady self.old }
-        requires at { D.told → IsAt self.old (D.view dev.old) }
-        ensures { (kind : PlaceKind) (session : ℕ) (shown : AnyShown) → IsCarriedOut D.told kind (ask.Write session block shown bytes.now) self.old self.new (D.view dev.old) (D.view dev.new) result }
+        requires ready { IsCoreReady self.old }
+        requires at { D.told → IsCoreAt self.old (D.view dev.old) }
+        ensures { (kind : PlaceKind) (session : ℕ) (shown : AnyShown)
+            → IsCarriedOut D.told kind (ask.Write session block shown bytes.now) self.old self.new (D.view dev.old)
+            (D.view dev.new) result }
     {
         done(self.volume.write_block(dev, block, bytes))
     }
@@ -55,9 +60,11 @@ impl Core {
     ) -> Result<Reply, Failed>
         requires primary { block < (told_world self.old).geometry.primaries }
         requires known { IsKnown self.old.volume }
-        requires ready { IsReady self.old }
-        requires at { D.told → IsAt self.old (D.view dev.old) }
-        ensures { (kind : PlaceKind) (session : ℕ) (shown : AnyShown) → IsCarriedOut D.told kind (ask.SetCap session block shown caps.now) self.old self.new (D.view dev.old) (D.view dev.new) result }
+        requires ready { IsCoreReady self.old }
+        requires at { D.told → IsCoreAt self.old (D.view dev.old) }
+        ensures { (kind : PlaceKind) (session : ℕ) (shown : AnyShown)
+            → IsCarriedOut D.told kind (ask.SetCap session block shown caps.now) self.old self.new (D.view dev.old)
+            (D.view dev.new) result }
     {
         self.grants.drop_from(block);
         done(self.volume.set_caps(dev, block, caps))

@@ -3,7 +3,7 @@
 ghost use Rattle.std.specs.Prelude.{◌≡◌, true, IsOk};
 ghost use Rattle.tsd_core.specs.Applying.{asks_nothing};
 ghost use Rattle.grant_table.specs.Table.{IsTable};
-ghost use Rattle.tsd_core.specs.Core.{IsReady, IsAt, told_world};
+ghost use Rattle.tsd_core.specs.Core.{IsCoreReady, IsCoreAt, told_world};
 ghost use Rattle.tsd_core.specs.Carrying.{IsKnown, IsCarriedOut};
 ghost use Rattle.tsd_core.specs.Granted.{IsRaised};
 
@@ -21,9 +21,10 @@ impl Core {
         request: &Request,
     ) -> Result<Reply, Failed>
         requires granted { IsRaised (told_world self.old) request.now self.old.grants.sessions }
-        requires ready { IsReady self.old }
-        requires at { D.told → IsAt self.old (D.view dev.old) }
-        ensures carried_out { IsCarriedOut D.told place.now.kind request.now self.old self.new (D.view dev.old) (D.view dev.new) result }
+        requires ready { IsCoreReady self.old }
+        requires at { D.told → IsCoreAt self.old (D.view dev.old) }
+        ensures carried_out { IsCarriedOut D.told place.now.kind request.now self.old self.new (D.view dev.old)
+            (D.view dev.new) result }
         ensures asks_nothing { asks_nothing request.now ≡ true → dev.new ≡ dev.old }
         ensures answered { asks_nothing request.now ≡ true → IsOk result }
         ensures volume { asks_nothing request.now ≡ true → self.new.volume ≡ self.old.volume }

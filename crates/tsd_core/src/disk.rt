@@ -4,8 +4,8 @@ ghost use Rattle.std.specs.Prelude.{◌≡◌, ◌+◌, ◌<◌, false, length};
 ghost use Rattle.tsd_model.specs.Attained.{shown_level};
 ghost use Rattle.tsd_model.specs.Sessions.{no_sessions};
 ghost use Rattle.tsd_model.specs.World.{free_count};
-ghost use Rattle.tsd_core.specs.Core.{IsReady, sessions_of, told_world};
-ghost use Rattle.volume_laws.specs.Volume.{IsReady as IsVolumeReady};
+ghost use Rattle.tsd_core.specs.Core.{IsCoreReady, sessions_of, told_world};
+ghost use Rattle.volume_laws.specs.Volume.{IsVolumeReady};
 
 use grant_table::Grants;
 use std::alloc::Global;
@@ -34,7 +34,7 @@ impl Core {
         requires ready { IsVolumeReady volume }
         ensures volume { result.volume ≡ volume }
         ensures sessions { result.grants.sessions ≡ no_sessions }
-        ensures ready { volume.is_spent ≡ false → IsReady result }
+        ensures ready { volume.is_spent ≡ false → IsCoreReady result }
     {
         let geometry = volume.geometry();
         Core {
@@ -52,7 +52,7 @@ impl Core {
 
     /// How many blocks are free.
     pub fn free_count(&self) -> u32
-        requires { IsReady self.now }
+        requires { IsCoreReady self.now }
         ensures { result ≡ free_count (told_world self.now) }
     {
         self.volume.free_count()
@@ -60,7 +60,7 @@ impl Core {
 
     /// How many blocks are live.
     pub fn live_count(&self) -> u32
-        requires { IsReady self.now }
+        requires { IsCoreReady self.now }
         ensures { result + free_count (told_world self.now) ≡ (told_world self.now).geometry.blocks }
     {
         self.volume.geometry().blocks - self.volume.free_count()
@@ -68,7 +68,7 @@ impl Core {
 
     /// How many pointers are held.
     pub fn pointers(&self) -> u32
-        requires { IsReady self.now }
+        requires { IsCoreReady self.now }
         ensures { result ≡ length (told_world self.now).pairs }
     {
         self.volume.pointers()

@@ -1,13 +1,14 @@
 //! Allocation.
 
-ghost use Rattle.std.specs.Prelude.{◌≡◌, ℕ, ◌+◌, ◌<◌, ◌≤◌, true, false, length, Some, None, IfOk, IfSome, OnOk, slice_index_or, Ok};
+ghost use Rattle.std.specs.Prelude.{◌≡◌, ℕ, ◌+◌, ◌<◌, ◌≤◌, true, false, length, Some, None, IfOk};
+ghost use Rattle.std.specs.Prelude.{IfSome, OnOk, slice_index_or, Ok};
 ghost use Rattle.tsd_model.specs.Geometry.{block_len};
 ghost use Rattle.tsd_model.specs.Pairs.{holds};
 ghost use Rattle.tsd_model.specs.World.{is_live};
 ghost use Rattle.tsd_model.specs.declared.caps.Shown.{Shown as AnyShown};
 ghost use Rattle.tsd_model.specs.declared.requests.PlaceKind.{PlaceKind};
 ghost use Rattle.tsd_model.specs.declared.requests.Request.TheVariants as ask;
-ghost use Rattle.tsd_core.specs.Core.{IsReady, IsAt, told_world};
+ghost use Rattle.tsd_core.specs.Core.{IsCoreReady, IsCoreAt, told_world};
 ghost use Rattle.tsd_core.specs.Carrying.{IsKnown, IsCarriedOut};
 ghost use Rattle.tsd_model.specs.Placing.{chosen, chosen_run, hint_block, runs};
 ghost use Rattle.tsd_model.specs.Step.{run_at};
@@ -16,7 +17,7 @@ ghost use Rattle.tsd_model.specs.World.{free_count, is_free};
 ghost use Rattle.tsd_model.specs.declared.requests.Hint.{Hint as AnyHint};
 ghost use Rattle.std.specs.Prelude.{slice_get};
 ghost use Rattle.std.specs.List.{range_with_len};
-ghost use Rattle.core_laws.specs.Seen.{dropped_each};
+ghost use Rattle.tsd_core.specs.Seen.{dropped_each};
 ghost use Rattle.grant_table.specs.Table.{with_sessions};
 ghost use Rattle.tsd_core.specs.Growing.{AreNew};
 
@@ -44,9 +45,11 @@ impl Core {
         requires enough { count ≤ free_count (told_world self.old) }
         requires room { length (told_world self.old).pairs + count ≤ (told_world self.old).geometry.slots }
         requires known { IsKnown self.old.volume }
-        requires ready { IsReady self.old }
-        requires at { D.told → IsAt self.old (D.view dev.old) }
-        ensures { (session : ℕ) (shown : AnyShown) → IsCarriedOut D.told place.now.kind (ask.Alloc session source shown hint.now count) self.old self.new (D.view dev.old) (D.view dev.new) result }
+        requires ready { IsCoreReady self.old }
+        requires at { D.told → IsCoreAt self.old (D.view dev.old) }
+        ensures { (session : ℕ) (shown : AnyShown)
+            → IsCarriedOut D.told place.now.kind (ask.Alloc session source shown hint.now count) self.old self.new
+            (D.view dev.old) (D.view dev.new) result }
     {
         match self.volume.choose(place, hint_block(hint), count) {
             Ok(blocks) => self.grow(dev, source, blocks),
@@ -72,9 +75,11 @@ impl Core {
         requires run { is_empty (runs (told_world self.old) count) ≡ false }
         requires room { length (told_world self.old).pairs + count ≤ (told_world self.old).geometry.slots }
         requires known { IsKnown self.old.volume }
-        requires ready { IsReady self.old }
-        requires at { D.told → IsAt self.old (D.view dev.old) }
-        ensures { (session : ℕ) (shown : AnyShown) → IsCarriedOut D.told place.now.kind (ask.Contig session source shown hint.now count) self.old self.new (D.view dev.old) (D.view dev.new) result }
+        requires ready { IsCoreReady self.old }
+        requires at { D.told → IsCoreAt self.old (D.view dev.old) }
+        ensures { (session : ℕ) (shown : AnyShown)
+            → IsCarriedOut D.told place.now.kind (ask.Contig session source shown hint.now count) self.old self.new
+            (D.view dev.old) (D.view dev.new) result }
     {
         match self.volume.choose_run(place, hint_block(hint), count) {
             Ok(first) => self.grow(dev, source, run_of(first, count)),
@@ -100,12 +105,16 @@ impl Core {
         requires new { AreNew (told_world self.old) new_blocks }
         requires room { length (told_world self.old).pairs + length new_blocks ≤ (told_world self.old).geometry.slots }
         requires known { IsKnown self.old.volume }
-        requires ready { IsReady self.old }
-        requires at { D.told → IsAt self.old (D.view dev.old) }
-        ensures alloc { (kind : PlaceKind) (session : ℕ) (shown : AnyShown) (h : AnyHint) (count : ℕ) → new_blocks ≡ chosen kind (told_world self.old) h count →
-            IsCarriedOut D.told kind (ask.Alloc session source shown h count) self.old self.new (D.view dev.old) (D.view dev.new) result }
-        ensures contig { (kind : PlaceKind) (session : ℕ) (shown : AnyShown) (h : AnyHint) (count : ℕ) → new_blocks ≡ run_at (chosen_run kind (told_world self.old) h count) count →
-            IsCarriedOut D.told kind (ask.Contig session source shown h count) self.old self.new (D.view dev.old) (D.view dev.new) result }
+        requires ready { IsCoreReady self.old }
+        requires at { D.told → IsCoreAt self.old (D.view dev.old) }
+        ensures alloc { (kind : PlaceKind) (session : ℕ) (shown : AnyShown) (h : AnyHint) (count : ℕ)
+            → new_blocks ≡ chosen kind (told_world self.old) h count
+            → IsCarriedOut D.told kind (ask.Alloc session source shown h count) self.old self.new (D.view dev.old)
+            (D.view dev.new) result }
+        ensures contig { (kind : PlaceKind) (session : ℕ) (shown : AnyShown) (h : AnyHint) (count : ℕ)
+            → new_blocks ≡ run_at (chosen_run kind (told_world self.old) h count) count
+            → IsCarriedOut D.told kind (ask.Contig session source shown h count) self.old self.new (D.view dev.old)
+            (D.view dev.new) result }
     {
         drop_at(&mut self.grants, new_blocks.as_slice());
         let outcome = self.volume.allocate(dev, source, &new_blocks);

@@ -1,13 +1,14 @@
 //! Pointers, and what hangs on them.
 
-ghost use Rattle.std.specs.Prelude.{◌≡◌, ℕ, ◌+◌, ◌<◌, ◌≤◌, true, false, length, Some, None, IfOk, IfSome, OnOk, slice_index_or, Ok};
+ghost use Rattle.std.specs.Prelude.{◌≡◌, ℕ, ◌+◌, ◌<◌, ◌≤◌, true, false, length, Some, None, IfOk};
+ghost use Rattle.std.specs.Prelude.{IfSome, OnOk, slice_index_or, Ok};
 ghost use Rattle.tsd_model.specs.Geometry.{block_len};
 ghost use Rattle.tsd_model.specs.Pairs.{holds};
 ghost use Rattle.tsd_model.specs.World.{is_live};
 ghost use Rattle.tsd_model.specs.declared.caps.Shown.{Shown as AnyShown};
 ghost use Rattle.tsd_model.specs.declared.requests.PlaceKind.{PlaceKind};
 ghost use Rattle.tsd_model.specs.declared.requests.Request.TheVariants as ask;
-ghost use Rattle.tsd_core.specs.Core.{IsReady, IsAt, told_world};
+ghost use Rattle.tsd_core.specs.Core.{IsCoreReady, IsCoreAt, told_world};
 ghost use Rattle.tsd_core.specs.Carrying.{IsKnown, IsCarriedOut};
 
 use crate::disk::Core;
@@ -29,9 +30,11 @@ impl Core {
         requires absent { holds (told_world self.old).pairs source target ≡ false }
         requires room { length (told_world self.old).pairs < (told_world self.old).geometry.slots }
         requires known { IsKnown self.old.volume }
-        requires ready { IsReady self.old }
-        requires at { D.told → IsAt self.old (D.view dev.old) }
-        ensures { (kind : PlaceKind) (session : ℕ) (shown : AnyShown) → IsCarriedOut D.told kind (ask.Create session source shown target) self.old self.new (D.view dev.old) (D.view dev.new) result }
+        requires ready { IsCoreReady self.old }
+        requires at { D.told → IsCoreAt self.old (D.view dev.old) }
+        ensures { (kind : PlaceKind) (session : ℕ) (shown : AnyShown)
+            → IsCarriedOut D.told kind (ask.Create session source shown target) self.old self.new (D.view dev.old)
+            (D.view dev.new) result }
     {
         done(self.volume.add_pointer(dev, source, target))
     }
@@ -45,9 +48,11 @@ impl Core {
     ) -> Result<Reply, Failed>
         requires held { holds (told_world self.old).pairs source target ≡ true }
         requires known { IsKnown self.old.volume }
-        requires ready { IsReady self.old }
-        requires at { D.told → IsAt self.old (D.view dev.old) }
-        ensures { (kind : PlaceKind) (session : ℕ) (shown : AnyShown) → IsCarriedOut D.told kind (ask.Delete session source shown target) self.old self.new (D.view dev.old) (D.view dev.new) result }
+        requires ready { IsCoreReady self.old }
+        requires at { D.told → IsCoreAt self.old (D.view dev.old) }
+        ensures { (kind : PlaceKind) (session : ℕ) (shown : AnyShown)
+            → IsCarriedOut D.told kind (ask.Delete session source shown target) self.old self.new (D.view dev.old)
+            (D.view dev.new) result }
     {
         gone(self.volume.drop_pointer(dev, source, target))
     }
@@ -55,9 +60,11 @@ impl Core {
     /// Reclaims all blocks that no primary block leads to.
     pub(crate) fn sweep<D: Device>(&mut self, dev: &mut D) -> Result<Reply, Failed>
         requires known { IsKnown self.old.volume }
-        requires ready { IsReady self.old }
-        requires at { D.told → IsAt self.old (D.view dev.old) }
-        ensures { (kind : PlaceKind) (session : ℕ) (shown : AnyShown) → IsCarriedOut D.told kind (ask.Sweep session shown) self.old self.new (D.view dev.old) (D.view dev.new) result }
+        requires ready { IsCoreReady self.old }
+        requires at { D.told → IsCoreAt self.old (D.view dev.old) }
+        ensures { (kind : PlaceKind) (session : ℕ) (shown : AnyShown)
+            → IsCarriedOut D.told kind (ask.Sweep session shown) self.old self.new (D.view dev.old) (D.view dev.new)
+            result }
     {
         gone(self.volume.sweep(dev))
     }

@@ -22,7 +22,8 @@ impl Core {
         requires source { granted.now.source ≡ at_source (told_world self.old) self.old.grants.sessions request.now }
         requires target { granted.now.target ≡ at_target (told_world self.old) self.old.grants.sessions request.now }
         ensures volume { self.new.volume ≡ self.old.volume }
-        ensures grants { self.new.grants ≡ with_sessions self.old.grants (raised_by (told_world self.old) self.old.grants.sessions request.now) }
+        ensures grants { self.new.grants ≡ with_sessions self.old.grants (raised_by (told_world self.old)
+            self.old.grants.sessions request.now) }
     {
         let session = session_of(request).unwrap_or(0);
         raise_at(
@@ -48,7 +49,9 @@ fn need_at(request: &Request, place: usize) -> Option<Need>
 }
 
 fn raise_at(grants: &mut Grants, session: u32, need: Option<Need>, origins: &Origins)
-    ensures { (w : World) (v : Sessions) → grants.old.primaries ≡ w.geometry.primaries → origins.now ≡ attained_for w v session need → grants.new ≡ with_sessions grants.old (raised_need w v session need grants.old.sessions) }
+    ensures { (w : World) (v : Sessions) → grants.old.primaries ≡ w.geometry.primaries
+        → origins.now ≡ attained_for w v session need → grants.new ≡ with_sessions grants.old
+        (raised_need w v session need grants.old.sessions) }
 {
     if let Some(need) = need {
         grants.raise(session, need.block, origins);

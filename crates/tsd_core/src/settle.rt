@@ -1,25 +1,28 @@
 //! What is left to be done between requests.
 
-ghost use Rattle.std.specs.Prelude.{◌≡◌, ◌↔◌, ◌+◌, ◌-◌, ◌<◌, ◌≤◌, true, OnOk, OnErr, IfOk, IsTrue};
-ghost use Rattle.image_device.specs.Counts.{Rose};
-ghost use Rattle.volume_laws.specs.Moments.{LeavesWorld, owed};
+ghost use Rattle.std.specs.Prelude.{◌≡◌, ◌↔◌, ◌+◌, ◌-◌, ◌<◌, ◌≤◌, true, OnOk, OnErr};
+ghost use Rattle.std.specs.Prelude.{IfOk, IsTrue};
+ghost use Rattle.image_device.specs.Counts.{CountsFault};
+ghost use Rattle.image_world.specs.Debt.{debt, owed};
+ghost use Rattle.volume_laws.specs.Moments.{LeavesWorld};
 ghost use Rattle.volume_laws.specs.Quiet.{IsQuiet};
 ghost use Rattle.volume_laws.specs.Writes.{due, Works};
-ghost use Rattle.tsd_core.specs.Core.{IsReady, IsAt, state_on, told_state};
-ghost use Rattle.tsd_core.specs.Work.{debt, LeavesNoDebt, SameSize};
+ghost use Rattle.tsd_core.specs.Core.{IsCoreReady, IsCoreAt, state_on, told_state};
+ghost use Rattle.tsd_core.specs.Work.{LeavesNoDebt, SameSize};
 
 use crate::disk::Core;
 use image_device::{Device, Failed};
 
 impl Core {
-    /// Makes four steps of reclamation, or as many as are left; true where more are left. The state stays. `Failed` comes
-    /// only where the device's count of faults rose; the core is spent then.
+    /// Makes four steps of reclamation, or as many as are left; true where more are left. The state stays. `Failed`
+    /// comes only where the device's count of faults rose; the core is spent then.
     pub fn settle_some<D: Device>(&mut self, dev: &mut D) -> Result<bool, Failed>
-        requires ready { IsReady self.old }
-        requires at { D.told → IsAt self.old (D.view dev.old) }
-        ensures ready { OnOk result (IsReady self.new) }
-        ensures at { D.told → OnOk result (IsAt self.new (D.view dev.new)) }
-        ensures state { D.told → OnOk result (state_on self.new (D.view dev.new).reads ≡ state_on self.old (D.view dev.old).reads) }
+        requires ready { IsCoreReady self.old }
+        requires at { D.told → IsCoreAt self.old (D.view dev.old) }
+        ensures ready { OnOk result (IsCoreReady self.new) }
+        ensures at { D.told → OnOk result (IsCoreAt self.new (D.view dev.new)) }
+        ensures state { D.told → OnOk result (state_on self.new (D.view dev.new).reads ≡ state_on self.old
+            (D.view dev.old).reads) }
         ensures told { OnOk result (told_state self.new ≡ told_state self.old) }
         ensures more { IfOk result (λ more. IsTrue more ↔ (0 < owed self.new.volume.tables)) }
         ensures size { SameSize self.old self.new }
@@ -28,12 +31,12 @@ impl Core {
         ensures any_moment { D.told → LeavesWorld (D.view dev.old) (D.view dev.new) }
         ensures debt { D.told → LeavesNoDebt (D.view dev.old) (D.view dev.new) }
         ensures less { D.told → OnOk result (debt (D.view dev.new).reads ≤ debt (D.view dev.old).reads - 4) }
-        ensures paid { OnOk result ((D.view dev.new).writes + due self.new.volume ≤ (D.view dev.old).writes + due self.old.volume) }
+        ensures paid { OnOk result ((D.view dev.new).writes + due self.new.volume ≤ (D.view dev.old).writes + due
+            self.old.volume) }
         ensures most { (D.view dev.new).writes ≤ (D.view dev.old).writes + due self.old.volume }
         ensures limit { (D.view dev.new).writes ≤ (D.view dev.old).writes + 400 }
         ensures works { Works (D.view dev.old) (D.view dev.new) }
-        ensures faultless { OnOk result ((D.view dev.new).faults ≡ (D.view dev.old).faults) }
-        ensures cause { OnErr result (Rose (D.view dev.old).faults (D.view dev.new).faults) }
+        ensures faults { CountsFault result (D.view dev.old).faults (D.view dev.new).faults }
     {
         self.check();
         self.volume.settle_some(dev)
@@ -42,11 +45,12 @@ impl Core {
     /// Makes all steps of reclamation that are left, and puts all records of the journal in place. The state stays.
     /// `Failed` comes only where the device's count of faults rose; the core is spent then.
     pub fn close<D: Device>(&mut self, dev: &mut D) -> Result<(), Failed>
-        requires ready { IsReady self.old }
-        requires at { D.told → IsAt self.old (D.view dev.old) }
-        ensures ready { OnOk result (IsReady self.new) }
-        ensures at { D.told → OnOk result (IsAt self.new (D.view dev.new)) }
-        ensures state { D.told → OnOk result (state_on self.new (D.view dev.new).reads ≡ state_on self.old (D.view dev.old).reads) }
+        requires ready { IsCoreReady self.old }
+        requires at { D.told → IsCoreAt self.old (D.view dev.old) }
+        ensures ready { OnOk result (IsCoreReady self.new) }
+        ensures at { D.told → OnOk result (IsCoreAt self.new (D.view dev.new)) }
+        ensures state { D.told → OnOk result (state_on self.new (D.view dev.new).reads ≡ state_on self.old
+            (D.view dev.old).reads) }
         ensures told { OnOk result (told_state self.new ≡ told_state self.old) }
 
         // Nothing is doomed, no sweep is open, and all gates of the journal are closed.
@@ -57,11 +61,11 @@ impl Core {
         ensures sent { D.told → (D.view dev.new).sent ≡ (D.view dev.old).sent }
         ensures any_moment { D.told → LeavesWorld (D.view dev.old) (D.view dev.new) }
         ensures debt { D.told → LeavesNoDebt (D.view dev.old) (D.view dev.new) }
-        ensures paid { OnOk result ((D.view dev.new).writes + due self.new.volume ≤ (D.view dev.old).writes + due self.old.volume) }
+        ensures paid { OnOk result ((D.view dev.new).writes + due self.new.volume ≤ (D.view dev.old).writes + due
+            self.old.volume) }
         ensures most { (D.view dev.new).writes ≤ (D.view dev.old).writes + due self.old.volume }
         ensures works { Works (D.view dev.old) (D.view dev.new) }
-        ensures faultless { OnOk result ((D.view dev.new).faults ≡ (D.view dev.old).faults) }
-        ensures cause { OnErr result (Rose (D.view dev.old).faults (D.view dev.new).faults) }
+        ensures faults { CountsFault result (D.view dev.old).faults (D.view dev.new).faults }
     {
         self.check();
         self.volume.settle_all(dev)?;

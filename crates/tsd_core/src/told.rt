@@ -1,7 +1,7 @@
 //! A volume, as a verdict asks it.
 
 ghost use Rattle.std.specs.Prelude.{◌≡◌};
-ghost use Rattle.volume_laws.specs.Volume.{IsReady, told_by};
+ghost use Rattle.volume_laws.specs.Volume.{IsVolumeReady, told_by};
 
 use grant_table::DiskFacts;
 use tsd_model::{Geometry, Level, Shown};
@@ -11,13 +11,13 @@ use volume::Volume;
 #[derive(Drop)]
 pub(crate) struct Told<'a> {
     volume: &'a Volume,
-    ghost ready: { IsReady volume.now },
+    ghost ready: { IsVolumeReady volume.now },
 }
 
 impl<'a> Told<'a> {
     /// What this volume tells.
     pub(crate) fn of(volume: &'a Volume) -> Told<'a>
-        requires { IsReady volume.now }
+        requires { IsVolumeReady volume.now }
         ensures { result.volume.now ≡ volume.now }
     {
         Told { volume }

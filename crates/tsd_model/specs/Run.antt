@@ -1,5 +1,5 @@
 -- A list of requests.
-use Rattle.std.specs.Prelude.{◌-◌, ◌++◌, Bool, true, false, List, [], ◌∷◌, Option, Some, None, replicate, drop, map, slice_index_or}
+use Rattle.std.specs.Prelude.{◌≡◌, ◌-◌, ◌++◌, Bool, true, false, List, [], ◌∷◌, Option, Some, None, replicate, drop, map, slice_index_or}
 use Rattle.tsd_model.specs.Geometry.{block_len}
 use Rattle.tsd_model.specs.World.{World}
 use Rattle.tsd_model.specs.Records.{kept}
@@ -23,6 +23,12 @@ starved s q r o = o
 abbrev pub answer : PlaceKind → State → Request → Bool → Outcome
 answer kind s q false = step kind s q
 answer kind s q true = starved s q (verdict s.world s.sessions q) (step kind s q)
+
+-- One request's reply, and the state after it; whether no memory was found for a Begin stands open.
+pub record IsAnswer (kind : PlaceKind) (s : State) (q : Request) (r : Reply) (now : State) : Type 0 where
+  pub want : Bool
+  pub reply : r ≡ (answer kind s q want).reply
+  pub state : now ≡ (answer kind s q want).state
 
 -- no memory was found at the first request
 abbrev pub wants_now : List Bool → Bool

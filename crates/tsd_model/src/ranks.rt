@@ -13,8 +13,8 @@ pub const ZONES: u32 = 16;
 /// How many blocks in a row are of one zone.
 pub const ZONE_BLOCKS: u32 = 256;
 
-/// When a zone's turn comes, by how many zones it stands after that of the hint: the hint's own first, then by turns the
-/// nearest one before it and the nearest one after it.
+/// When a zone's turn comes, by how many zones it stands after that of the hint: the hint's own first, then by turns
+/// the nearest one before it and the nearest one after it.
 pub const ZONE_TURNS: [u8; 16] = [0, 2, 4, 6, 8, 10, 12, 14, 15, 13, 11, 9, 7, 5, 3, 1];
 
 /// The block that a hint names, 0 where it names none.

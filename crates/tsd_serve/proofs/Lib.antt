@@ -1,1 +1,3 @@
 pub mod Statuses
+pub mod Prefixes
+pub mod Promises

@@ -1,25 +1,25 @@
 -- What a run's status isn't.
-use Rattle.std.specs.Prelude.{◌≡◌, ℕ, List}
+use Rattle.std.specs.Prelude.{◌≡◌, ℕ}
 use Rattle.std.proofs.Common.{inl, inr, subst}
 use Rattle.tsd_model.specs.World.{World}
 use Rattle.tsd_model.specs.declared.requests.PlaceKind.{PlaceKind}
 use Rattle.tsd_model.specs.declared.requests.Request.{Request}
-use Rattle.image_device.specs.View.{View}
 use Rattle.tsd_words.specs.declared.status.Status.{Status}
 use Rattle.tsd_words.specs.declared.status.Status.TheVariants as status
 use Rattle.serving.specs.Input.{Spelling}
+use Rattle.serving.specs.Ran.{Moments, Taking}
 use Rattle.serving.specs.Voice.{Voice}
-use Rattle.image_commands.specs.Sending.{IsEnding}
-use Rattle.image_service.specs.Served.{Ran}
-use Rattle.image_service.specs.Fresh.{FreshRan}
+use Rattle.image_runs.specs.Sending.{IsEnding}
+use Rattle.image_runs.specs.Served.{ImageRan}
+use Rattle.image_runs.specs.Fresh.{FreshRan}
 
 -- The words of a run were a command.
-pub no_usage : (v : Voice) (p : Spelling Request) (kind : PlaceKind) (limit : ℕ) (came : List ℕ → Type 0) (ended untouched tells : Type 0) (old new : View) → Ran status.Usage v p kind limit came ended untouched tells old new → ⊥
-no_usage v p kind limit came ended untouched tells old new ran = elim ran.these [ inl closed ↦ closed.why | inr asked ↦ asked ]
+pub no_usage : (v : Voice) (p : Spelling Request) (kind : PlaceKind) (limit : ℕ) (source : Taking) (port : Moments) → ImageRan status.Usage v p kind limit source port → ⊥
+no_usage v p kind limit source port ran = elim ran.these [ inl closed ↦ closed.why | inr asked ↦ asked ]
 
 -- nor was it none where the disk was made first
-pub no_usage_fresh : (v : Voice) (p : Spelling Request) (kind : PlaceKind) (w : World) (limit : ℕ) (came : List ℕ → Type 0) (ended untouched tells : Type 0) (old new : View) → FreshRan status.Usage v p kind w limit came ended untouched tells old new → ⊥
-no_usage_fresh v p kind w limit came ended untouched tells old new ran = elim ran.these [ inl closed ↦ closed.why | inr asked ↦ asked ]
+pub no_usage_fresh : (v : Voice) (p : Spelling Request) (kind : PlaceKind) (w : World) (limit : ℕ) (source : Taking) (port : Moments) → FreshRan status.Usage v p kind w limit source port → ⊥
+no_usage_fresh v p kind w limit source port ran = elim ran.these [ inl closed ↦ closed.why | inr asked ↦ asked ]
 
 -- a command without input ends otherwise
 pub no_usage_ending : (r : Status) → IsEnding r → r ≡ status.Usage → ⊥

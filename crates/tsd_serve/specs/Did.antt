@@ -1,8 +1,7 @@
 -- What a command did, from its start to its end.
-use Rattle.std.specs.Prelude.{◌≡◌, ◌≢◌, ◌⊎◌, ℕ, ◌^◌, List, Option, Some, None}
+use Rattle.std.specs.Prelude.{◌≡◌, ◌≢◌, ◌⊎◌, ◌^◌, Option, Some, None}
 use Rattle.tsd_model.specs.declared.requests.PlaceKind.{PlaceKind}
 use Rattle.tsd_model.specs.declared.requests.Request.{Request}
-use Rattle.image_device.specs.View.{View}
 use Rattle.image_device.specs.Runs.{IsFirm, LeavesOnly}
 use Rattle.image_layout.specs.declared.fault.ImageFault.{ImageFault}
 use Rattle.recovery.specs.Opening.{StandAlike}
@@ -15,66 +14,67 @@ use Rattle.tsd_words.specs.declared.status.Status.TheVariants as status
 use Rattle.serving.specs.FrameSpelling.{frame_spelling, frame_voice}
 use Rattle.serving.specs.Input.{Spelling}
 use Rattle.serving.specs.LineSpelling.{line_spelling, line_voice}
+use Rattle.serving.specs.Ran.{Moments, Taking}
 use Rattle.serving.specs.Voice.{Voice}
-use Rattle.image_commands.specs.Check.{HasChecked, IsSaying}
-use Rattle.image_commands.specs.Format.{HasFormatted, IsLeftOfFormat}
-use Rattle.image_commands.specs.Load.{HasLoaded, IsLeftOfLoad}
-use Rattle.image_commands.specs.Sending.{IsEnding}
-use Rattle.image_commands.specs.Upgrade.{HasUpgraded, IsLeftOfUpgrade}
-use Rattle.image_service.specs.Fresh.{FreshRan, single_world}
-use Rattle.image_opening.specs.Opened.{IsJudged}
-use Rattle.image_service.specs.Served.{Ran}
+use Rattle.image_runs.specs.Check.{HasChecked, IsSaying}
+use Rattle.image_runs.specs.Format.{HasFormatted, IsLeftOfFormat}
+use Rattle.image_runs.specs.Load.{HasLoaded, IsLeftOfLoad}
+use Rattle.image_runs.specs.Sending.{IsEnding}
+use Rattle.image_runs.specs.Upgrade.{HasUpgraded, IsLeftOfUpgrade}
+use Rattle.image_runs.specs.Fresh.{FreshRan, single_world}
+use Rattle.image_runs.specs.Opened.{IsJudged}
+use Rattle.image_runs.specs.Served.{ImageRan}
 
 -- An image was opened and served, at most 2^40 bytes of it, and a refusal says what is wrong with it.
-pub record Opened (r : Status) (v : Voice) (p : Spelling Request) (kind : PlaceKind) (came : List ℕ → Type 0) (ended untouched tells : Type 0) (old new : View) : Type 0 where
-  pub judged : tells → IsJudged old.reads r
-  pub ran : Ran r v p kind (2 ^ 40) came ended untouched tells old new
+pub record Opened (r : Status) (v : Voice) (p : Spelling Request) (kind : PlaceKind) (source : Taking) (port : Moments) : Type 0 where
+  pub judged : port.tells → IsJudged port.old.reads r
+  pub ran : ImageRan r v p kind (2 ^ 40) source port
 
 -- There was no memory for a cutter of frames, and nothing was called.
-pub record HasNoCutter (r : Status) (untouched same : Type 0) : Type 0 where
+pub record HasNoCutter (r : Status) (source : Taking) (port : Moments) : Type 0 where
   pub memory : r ≡ status.NoMemory
-  pub source : untouched
-  pub port : same
+  pub untaken : source.untouched
+  pub unused : port.untouched
 
 -- ---- commands that take no input
 
 -- An image was judged: what the status says of it, and its line or a front of that was sent. It stands for the same world, or for
 -- none as before.
-pub record Checked (r : Status) (tells : Type 0) (old new : View) : Type 0 where
+pub record Checked (r : Status) (port : Moments) : Type 0 where
   pub ending : IsEnding r
-  pub said : tells → HasChecked r old.reads old.sent new.sent
-  pub any_moment : tells → IsFirm old → LeavesOnly old new (λ x f. StandAlike old.reads x × IsSaying old.reads old.sent f)
+  pub said : port.tells → HasChecked r port.old.reads port.old.sent port.new.sent
+  pub any_moment : port.tells → IsFirm port.old → LeavesOnly port.old port.new (λ x f. StandAlike port.old.reads x × IsSaying port.old.reads port.old.sent f)
 
 -- a disk was made, which opens no image and takes no memory
-pub record Formatted (words : Format) (r : Status) (tells : Type 0) (old new : View) : Type 0 where
+pub record Formatted (words : Format) (r : Status) (port : Moments) : Type 0 where
   pub ending : IsEnding r
   pub image : (why : ImageFault) → r ≢ status.NotImage why
   pub memory : r ≢ status.NoMemory
-  pub made : tells → HasFormatted r words old new
-  pub any_moment : tells → LeavesOnly old new (IsLeftOfFormat words old)
+  pub made : port.tells → HasFormatted r words port.old port.new
+  pub any_moment : port.tells → LeavesOnly port.old port.new (IsLeftOfFormat words port.old)
 
 -- An image keeps digests in place of capabilities. Without memory it wasn't upgraded.
-pub record Upgraded (r : Status) (tells : Type 0) (old new : View) : Type 0 where
+pub record Upgraded (r : Status) (port : Moments) : Type 0 where
   pub ending : IsEnding r
-  pub upgraded : tells → HasUpgraded r old new
-  pub any_moment : tells → IsFirm old → LeavesOnly old new (IsLeftOfUpgrade old)
-  pub no_memory : tells → r ≡ status.NoMemory → IsFirm old → LeavesOnly old new (λ x f. StandAlike old.reads x × (f ≡ old.sent))
+  pub upgraded : port.tells → HasUpgraded r port.old port.new
+  pub any_moment : port.tells → IsFirm port.old → LeavesOnly port.old port.new (IsLeftOfUpgrade port.old)
+  pub no_memory : port.tells → r ≡ status.NoMemory → IsFirm port.old → LeavesOnly port.old port.new (λ x f. StandAlike port.old.reads x × (f ≡ port.old.sent))
 
 -- The requests of a seed were carried out. Without memory none was.
-pub record Loaded (load : Load) (r : Status) (tells : Type 0) (old new : View) : Type 0 where
+pub record Loaded (load : Load) (r : Status) (port : Moments) : Type 0 where
   pub ending : IsEnding r
-  pub loaded : tells → HasLoaded r load.kind load.seed load.count old new
-  pub any_moment : tells → IsFirm old → LeavesOnly old new (IsLeftOfLoad load.kind load.seed load.count old)
-  pub no_memory : tells → r ≡ status.NoMemory → IsFirm old → LeavesOnly old new (λ x f. StandAlike old.reads x × (f ≡ old.sent))
+  pub loaded : port.tells → HasLoaded r load.kind load.seed load.count port.old port.new
+  pub any_moment : port.tells → IsFirm port.old → LeavesOnly port.old port.new (IsLeftOfLoad load.kind load.seed load.count port.old)
+  pub no_memory : port.tells → r ≡ status.NoMemory → IsFirm port.old → LeavesOnly port.old port.new (λ x f. StandAlike port.old.reads x × (f ≡ port.old.sent))
 
--- What the command that the words spell did. A command that takes no input leaves the source as it was. Where they spell none, it
--- was Usage.
-abbrev pub Did : Option Command → Status → (List ℕ → Type 0) → Type 0 → Type 0 → Type 0 → Type 0 → View → View → Type 0
-Did (Some (command.Fresh fresh)) r came ended untouched same tells old new = FreshRan r line_voice line_spelling fresh.kind (single_world fresh.geometry fresh.caps) (2 ^ 40) came ended untouched tells old new
-Did (Some (command.Format words)) r came ended untouched same tells old new = untouched × Formatted words r tells old new
-Did (Some (command.Run kind)) r came ended untouched same tells old new = Opened r line_voice line_spelling kind came ended untouched tells old new
-Did (Some (command.Serve kind)) r came ended untouched same tells old new = HasNoCutter r untouched same ⊎ Opened r frame_voice frame_spelling kind came ended untouched tells old new
-Did (Some command.Check) r came ended untouched same tells old new = untouched × Checked r tells old new
-Did (Some (command.Load load)) r came ended untouched same tells old new = untouched × Loaded load r tells old new
-Did (Some command.Upgrade) r came ended untouched same tells old new = untouched × Upgraded r tells old new
-Did None r came ended untouched same tells old new = r ≡ status.Usage
+-- What the command that the words spell did, with this status, to its source and to its port. A command that takes no input leaves
+-- the source as it was. Where they spell none, it was Usage.
+abbrev pub Did : Option Command → Status → Taking → Moments → Type 0
+Did (Some (command.Fresh fresh)) r source port = FreshRan r line_voice line_spelling fresh.kind (single_world fresh.geometry fresh.caps) (2 ^ 40) source port
+Did (Some (command.Format words)) r source port = source.untouched × Formatted words r port
+Did (Some (command.Run kind)) r source port = Opened r line_voice line_spelling kind source port
+Did (Some (command.Serve kind)) r source port = HasNoCutter r source port ⊎ Opened r frame_voice frame_spelling kind source port
+Did (Some command.Check) r source port = source.untouched × Checked r port
+Did (Some (command.Load load)) r source port = source.untouched × Loaded load r port
+Did (Some command.Upgrade) r source port = source.untouched × Upgraded r port
+Did None r source port = r ≡ status.Usage

@@ -2,15 +2,14 @@
 
 ghost use Rattle.std.specs.Prelude.{◌≡◌, ◌≢◌, ◌↔◌, ◌⊎◌, map, string_bytes, None, Some};
 ghost use Rattle.image_device.specs.Counts.{Rose};
-ghost use Rattle.serving.specs.Ran.{Came, IsAtEnd};
+ghost use Rattle.serving.specs.Ran.{moments, taking};
 ghost use Rattle.tsd_model.specs.Geometry.{IsLawful};
 ghost use Rattle.tsd_serve.specs.Did.{Did};
 ghost use Rattle.tsd_words.specs.Words.{command_of};
 ghost use Rattle.tsd_words.specs.declared.commands.Command.TheVariants as command;
 
-use crate::commands::{check, format, load, upgrade};
 use image_device::{Port, Source};
-use image_service::{serve_fresh, serve_image};
+use image_runs::{check_image, format_image, load_image, serve_fresh, serve_image, upgrade_image};
 use place_policy::PlaceBook;
 use request_frames::FrameCutter;
 use script_text::LineCutter;
@@ -20,11 +19,13 @@ use tsd_model::PlaceKind;
 use tsd_words::{Command, Fresh, Status, command};
 
 /// Does what the words say over the image beside the port: `fresh BLOCKS SECTORS READCAP WRITECAP PLACE` formats it and
-/// answers the lines of the input until it ends, `run PLACE` opens it and answers lines, `serve PLACE` opens it and answers
-/// frames. `format BLOCKS SECTORS SLOTS PRIMARIES SEED` makes a disk, `check` tells what an image is, `load SEED COUNT PLACE`
-/// carries out the requests of a seed, and `upgrade` has an image keep digests in place of capabilities.
+/// answers the lines of the input until it ends, `run PLACE` opens it and answers lines, `serve PLACE` opens it and
+/// answers frames. `format BLOCKS SECTORS SLOTS PRIMARIES SEED` makes a disk, `check` tells what an image is, `load
+/// SEED COUNT PLACE` carries out the requests of a seed, and `upgrade` has an image keep digests in place of
+/// capabilities.
 ///
 /// Each reply is put whole before the next request is carried out.
+#[tactic(auto, using(crate::proofs::Statuses::no_usage_ending, crate::proofs::Statuses::no_source_ending))]
 pub fn tsd<S: Source, P: Port>(
     alloc: Global,
     words: &Vec<String>,
@@ -36,9 +37,10 @@ pub fn tsd<S: Source, P: Port>(
     ensures usage { (result ≡ Status.Usage) ↔ (command_of (map string_bytes words.now.items) ≡ None) }
     ensures untouched_source { result ≡ Status.Usage → source.new ≡ source.old }
     ensures untouched_port { result ≡ Status.Usage → port.new ≡ port.old }
-    // By command and status: what came in, what was sent, what a crash at any moment may have left, and what the disk is
-    // after Done.
-    ensures did { Did (command_of (map string_bytes words.now.items)) result (Came S.told (S.taken source.old) (S.taken source.new) (S.left_bytes source.old) (S.left_bytes source.new)) (IsAtEnd S.told (S.ended source.new) (S.left_bytes source.new)) (source.new ≡ source.old) (port.new ≡ port.old) P.told (P.view port.old) (P.view port.new) }
+    // By command and status: what came in, what was sent, what a crash at any moment may have left, and what the disk
+    // is after Done.
+    ensures did { Did (command_of (map string_bytes words.now.items)) result
+        (taking S.told S.taken S.left_bytes S.ended source.old source.new) (moments P.told P.view port.old port.new) }
     // A count of faults rose only where the status is that fault's.
     ensures source_fault { result ≡ Status.SourceFault → Rose (S.faults source.old) (S.faults source.new) }
     ensures device_fault { result ≡ Status.DeviceFault → Rose (P.view port.old).faults (P.view port.new).faults }
@@ -49,12 +51,12 @@ pub fn tsd<S: Source, P: Port>(
 {
     match command(words) {
         Some(Command::Fresh(fresh)) => fresh_lines(alloc, &fresh, source, port, places),
-        Some(Command::Format(words)) => format(&words, port),
+        Some(Command::Format(words)) => format_image(port, &words),
         Some(Command::Run(kind)) => run_lines(alloc, kind, source, port, places),
         Some(Command::Serve(kind)) => run_frames(alloc, kind, source, port, places),
-        Some(Command::Check) => check(alloc, port),
-        Some(Command::Load(words)) => load(alloc, &words, port, places),
-        Some(Command::Upgrade) => upgrade(alloc, port),
+        Some(Command::Check) => check_image(alloc, port),
+        Some(Command::Load(words)) => load_image(alloc, &words, places.pick(words.kind), port),
+        Some(Command::Upgrade) => upgrade_image(alloc, port),
         None => Status::Usage,
     }
 }
@@ -71,7 +73,8 @@ fn fresh_lines<S: Source, P: Port>(
     requires lawful { IsLawful fresh.now.geometry }
     requires single { fresh.now.geometry.primaries ≡ 1 }
     ensures other { result ≢ Status.Usage }
-    ensures did { Did (Some (command.Fresh fresh.now)) result (Came S.told (S.taken source.old) (S.taken source.new) (S.left_bytes source.old) (S.left_bytes source.new)) (IsAtEnd S.told (S.ended source.new) (S.left_bytes source.new)) (source.new ≡ source.old) (port.new ≡ port.old) P.told (P.view port.old) (P.view port.new) }
+    ensures did { Did (Some (command.Fresh fresh.now)) result
+        (taking S.told S.taken S.left_bytes S.ended source.old source.new) (moments P.told P.view port.old port.new) }
     ensures source_fault { result ≡ Status.SourceFault → Rose (S.faults source.old) (S.faults source.new) }
     ensures device_fault { result ≡ Status.DeviceFault → Rose (P.view port.old).faults (P.view port.new).faults }
     ensures put_fault { result ≡ Status.PutFault → Rose (P.view port.old).put_faults (P.view port.new).put_faults }
@@ -102,7 +105,8 @@ fn run_lines<S: Source, P: Port>(
     places: &PlaceBook,
 ) -> Status
     ensures other { result ≢ Status.Usage }
-    ensures did { Did (Some (command.Run kind)) result (Came S.told (S.taken source.old) (S.taken source.new) (S.left_bytes source.old) (S.left_bytes source.new)) (IsAtEnd S.told (S.ended source.new) (S.left_bytes source.new)) (source.new ≡ source.old) (port.new ≡ port.old) P.told (P.view port.old) (P.view port.new) }
+    ensures did { Did (Some (command.Run kind)) result
+        (taking S.told S.taken S.left_bytes S.ended source.old source.new) (moments P.told P.view port.old port.new) }
     ensures source_fault { result ≡ Status.SourceFault → Rose (S.faults source.old) (S.faults source.new) }
     ensures device_fault { result ≡ Status.DeviceFault → Rose (P.view port.old).faults (P.view port.new).faults }
     ensures put_fault { result ≡ Status.PutFault → Rose (P.view port.old).put_faults (P.view port.new).put_faults }
@@ -131,7 +135,8 @@ fn run_frames<S: Source, P: Port>(
     places: &PlaceBook,
 ) -> Status
     ensures other { result ≢ Status.Usage }
-    ensures did { Did (Some (command.Serve kind)) result (Came S.told (S.taken source.old) (S.taken source.new) (S.left_bytes source.old) (S.left_bytes source.new)) (IsAtEnd S.told (S.ended source.new) (S.left_bytes source.new)) (source.new ≡ source.old) (port.new ≡ port.old) P.told (P.view port.old) (P.view port.new) }
+    ensures did { Did (Some (command.Serve kind)) result
+        (taking S.told S.taken S.left_bytes S.ended source.old source.new) (moments P.told P.view port.old port.new) }
     ensures source_fault { result ≡ Status.SourceFault → Rose (S.faults source.old) (S.faults source.new) }
     ensures device_fault { result ≡ Status.DeviceFault → Rose (P.view port.old).faults (P.view port.new).faults }
     ensures put_fault { result ≡ Status.PutFault → Rose (P.view port.old).put_faults (P.view port.new).put_faults }

@@ -91,7 +91,8 @@ fn put_header(into: &mut OutBuf, fault: &HeaderFault)
 fn put_two(into: &mut OutBuf, name: &[u8], first: u32, second: u32)
     requires short { length name.now ≤ 8 }
     requires room { length into.old + REST_ROOM ≤ LINE_MAX }
-    ensures text { into.new ≡ into.old ++ 32 ∷ join_with_byte 32 (name.now ∷ decimal first ∷ decimal second ∷ []) }
+    ensures text { into.new ≡ into.old ++ 32 ∷ join_with_byte 32 (name.now ∷ decimal first ∷ decimal second ∷
+        []) }
     ensures room { length into.new ≤ length into.old + REST_ROOM }
 {
     put_word(into, name);
@@ -103,7 +104,8 @@ fn put_two(into: &mut OutBuf, name: &[u8], first: u32, second: u32)
 fn put_three(into: &mut OutBuf, name: &[u8], first: u32, second: u32, third: u32)
     requires short { length name.now ≤ 8 }
     requires room { length into.old + REST_ROOM ≤ LINE_MAX }
-    ensures text { into.new ≡ into.old ++ 32 ∷ join_with_byte 32 (name.now ∷ decimal first ∷ decimal second ∷ decimal third ∷ []) }
+    ensures text { into.new ≡ into.old ++ 32 ∷ join_with_byte 32 (name.now ∷ decimal first ∷ decimal second ∷
+        decimal third ∷ []) }
     ensures room { length into.new ≤ length into.old + REST_ROOM }
 {
     put_word(into, name);

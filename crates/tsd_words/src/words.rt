@@ -2,7 +2,8 @@
 
 ghost use Rattle.std.specs.Prelude.{◌≡◌, ◌≤◌, map, string_bytes, IfSome};
 ghost use Rattle.tsd_model.specs.Geometry.{IsLawful};
-ghost use Rattle.tsd_words.specs.Words.{IsInLimits, alone_of, command_of, format_of, fresh_of, geometry_of, is_size, is_table, kind_of, load_of, loaded_of, made_of, seed_of, served_of, size_of};
+ghost use Rattle.tsd_words.specs.Words.{IsInLimits, alone_of, command_of, format_of, fresh_of, geometry_of, is_size};
+ghost use Rattle.tsd_words.specs.Words.{is_table, kind_of, load_of, loaded_of, made_of, seed_of, served_of, size_of};
 
 use crate::commands::{Command, Format, Fresh, LOAD_MAX, Load, SEED_BYTES};
 use hex::FromHex;

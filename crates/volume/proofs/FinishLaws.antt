@@ -17,7 +17,7 @@ use Rattle.image_world.specs.Tables.{Tables}
 use Rattle.image_world.proofs.RawLaws.{blocks_with, live_with}
 use Rattle.image_device.specs.Calls.{Uses}
 use Rattle.image_device.specs.View.{View}
-use Rattle.volume_laws.specs.Moments.{owed}
+use Rattle.image_world.specs.Debt.{owed}
 use Rattle.volume_laws.specs.Volume.{Volume}
 use Rattle.volume_laws.specs.Writes.{due, IsPaid}
 use Rattle.volume_laws.proofs.TableWorlds.{blank, laid_out, same_doomed, none_owed}

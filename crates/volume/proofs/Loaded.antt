@@ -14,19 +14,19 @@ use Rattle.intent_journal.specs.Records.{open_records, is_open_gate}
 use Rattle.intent_journal.proofs.Opened.{opened_none, home_of_empty}
 use Rattle.block_alloc.specs.LiveMap.{LiveMap, is_live}
 use Rattle.reclaim.specs.Ahead.{Kept, is_gone, Hides}
-use Rattle.image_world.specs.Faults.{IsFormatted, IsGood, HasHeader, IsTableFault}
+use Rattle.image_world.specs.Faults.{IsFormatGateOpen, IsGood, HasHeader, IsTableFault}
 use Rattle.image_world.specs.Fresh.{AreClosed}
 use Rattle.image_world.specs.Sound.{HasTables}
 use Rattle.image_world.specs.Tables.{header_on, tables_of}
 use Rattle.image_world.proofs.AnswerLaws.{damaged}
 use Rattle.image_world.proofs.SoundLaws.{tables_good, has_one}
-use Rattle.image_tables.specs.declared.tables.ImageTables.{ImageTables}
-use Rattle.image_tables.specs.declared.fault.LoadFault.{LoadFault}
-use Rattle.image_tables.specs.declared.fault.LoadFault.TheVariants as table_fault
-use Rattle.image_tables.specs.Loaded.{DoFit, AreStored, tables_with}
-use Rattle.image_tables.specs.Loading.{IsLoading as AreLoading}
-use Rattle.volume.specs.Loading.{IsLoading, of_tables}
-use Rattle.volume_laws.specs.Volume.{IsAt, AreParts}
+use Rattle.image_world.specs.declared.tables.ImageTables.{ImageTables}
+use Rattle.image_world.specs.declared.fault.LoadFault.{LoadFault}
+use Rattle.image_world.specs.declared.fault.LoadFault.TheVariants as table_fault
+use Rattle.image_world.specs.Loaded.{DoFit, AreStored, tables_with}
+use Rattle.image_world.specs.Loading.{AnswersTables as AreLoading}
+use Rattle.volume.specs.Loading.{AnswersVolume, of_tables}
+use Rattle.volume_laws.specs.Volume.{IsVolumeAt, AreParts}
 
 -- ---- an image whose gates are closed is its own home
 at_home : (x : Image) → AreClosed x → home x ≡ x
@@ -35,14 +35,14 @@ at_home x closed = home_of_empty x (opened_none x (closed 0 (omega arith))).0
 has_tables : (h : Header) (t : ImageTables) (s : Bool) (x : Image) → AreStored h t x → IsReading (x header_sector) (Ok h) → is_open (x sweep_flag) ≡ s → HasTables (tables_with h t s) x
 has_tables h t s x stored header flag = record { header = header; live = stored.live; slots = stored.slots; counts = stored.counts; records = stored.records; flag = flag }
 
-pub loaded_good : (h : Header) (t : ImageTables) (s : Bool) (x : Image) → DoFit h t → AreStored h t x → IsFormatted x → AreClosed x → IsReading (x header_sector) (Ok h) → is_open (x sweep_flag) ≡ s → IsGood x
+pub loaded_good : (h : Header) (t : ImageTables) (s : Bool) (x : Image) → DoFit h t → AreStored h t x → IsFormatGateOpen x → AreClosed x → IsReading (x header_sector) (Ok h) → is_open (x sweep_flag) ≡ s → IsGood x
 loaded_good h t s x fit stored formatted closed header flag =
     tables_good (tables_with h t s) x formatted (opened_none x (closed 0 (omega arith))).1 (fit.sound s)
     (subst (HasTables (tables_with h t s)) (sym (at_home x closed)) (has_tables h t s x stored header flag))
 
 -- ---- the volume
-pub loaded_at : (h : Header) (t : ImageTables) (s ready spent : Bool) (old new : View) → DoFit h t → AreStored h t old.reads → IsFirm old → IsFormatted old.reads → AreClosed old.reads → IsReading (old.reads header_sector) (Ok h) → is_open (old.reads sweep_flag) ≡ s
-    → new.reads ≡ old.reads → new.loose ≡ old.loose → IsAt (record { tables = tables_with h t s; ring = []; is_ready = ready; is_spent = spent }) new
+pub loaded_at : (h : Header) (t : ImageTables) (s ready spent : Bool) (old new : View) → DoFit h t → AreStored h t old.reads → IsFirm old → IsFormatGateOpen old.reads → AreClosed old.reads → IsReading (old.reads header_sector) (Ok h) → is_open (old.reads sweep_flag) ≡ s
+    → new.reads ≡ old.reads → new.loose ≡ old.loose → IsVolumeAt (record { tables = tables_with h t s; ring = []; is_ready = ready; is_spent = spent }) new
 loaded_at h t s ready spent old new fit stored firm formatted closed header flag reads loose =
     let x = old.reads in
     let still : IsFirm new = λ n. (λ i. loose i n) ∙ firm n in
@@ -58,7 +58,7 @@ loaded_at h t s ready spent old new fit stored firm formatted closed header flag
     }
 
 -- ---- a fault of the tables is one of the image
-pub loading_failed : (h : Header) (x : Image) (why : LoadFault) → IsFormatted x → AreClosed x → IsReading (x header_sector) (Ok h) → AreLoading x h (Err why) → IsLoading x (Err (of_tables why))
+pub loading_failed : (h : Header) (x : Image) (why : LoadFault) → IsFormatGateOpen x → AreClosed x → IsReading (x header_sector) (Ok h) → AreLoading x h (Err why) → AnswersVolume x (Err (of_tables why))
 loading_failed h x table_fault.NoMemory formatted closed header failed = tt
 loading_failed h x table_fault.Device formatted closed header failed = tt
 loading_failed h x (table_fault.Image why) formatted closed header failed =

@@ -25,8 +25,8 @@ use Rattle.image_world.specs.Sound.{AreSound}
 use Rattle.image_world.specs.Stands.{Stands}
 use Rattle.image_world.specs.Tables.{Tables}
 use Rattle.image_world.proofs.TurnLaws.{flag_turns}
-use Rattle.volume_laws.specs.Graphs.{graph_in}
-use Rattle.volume_laws.specs.Moments.{LeavesEither, LeavesWorld, StandsForEither, owed}
+use Rattle.image_world.specs.Debt.{graph_in, owed}
+use Rattle.volume_laws.specs.Moments.{LeavesEither, LeavesWorld, StandsForEither}
 use Rattle.volume_laws.specs.Steps.{IsAllowed, IsPut, IsStepped}
 use Rattle.image_world.specs.Turns.{Turns}
 use Rattle.volume_laws.specs.Volume.{Volume, world_on}
@@ -35,7 +35,8 @@ use Rattle.volume_laws.proofs.BlockLaws.{put_ok}
 use Rattle.volume_laws.proofs.Ops.{any_bytes, IsOp}
 use Rattle.volume_laws.proofs.StepOps.{still_left}
 use Rattle.volume_laws.proofs.StepWorlds.{world_stepped, graph_stepped}
-use Rattle.volume_laws.proofs.TableWorlds.{world_graph, laid_out, graph_laid_out, graph_raw, same_doomed, none_owed}
+use Rattle.image_world.proofs.DebtLaws.{world_graph}
+use Rattle.volume_laws.proofs.TableWorlds.{laid_out, graph_laid_out, graph_raw, same_doomed, none_owed}
 use Rattle.volume.specs.Sweeping.{sweep_left}
 
 -- ---- a step
@@ -149,22 +150,3 @@ close_op vol batch sound sweeping whole one =
       few = omega (arith, ap (λ (ps : List Patch). length ps) one);
       owes = omega arith;
     }
-
--- ---- counts and images
-pub works_of : (n : ℕ) (old new : View) → Uses n old new → Works old new
-works_of n old new uses = record { clock = uses.clock; faults = uses.faults; put_faults = uses.put_faults; writes = uses.writes }
-
-pub works_joined : (old mid new : View) → Works old mid → Works mid new → Works old new
-works_joined old mid new a b = record {
-  clock = omega (arith, a.clock, b.clock);
-  faults = omega (arith, a.faults, b.faults);
-  put_faults = b.put_faults ∙ a.put_faults;
-  writes = omega (arith, a.writes, b.writes);
-}
-
-pub as_either : (old new : View) (w : World) → LeavesWorld old new → LeavesEither old new w
-as_either old new w leaves = weakened old new _ (λ x f. StandsForEither (world_on old) w x × (f ≡ old.sent)) leaves (λ x f left. (inl left.0, left.1))
-
--- either world, and then the later one
-pub either_then : (old mid new : View) (w : World) → LeavesEither old mid w → LeavesWorld mid new → world_on mid ≡ w → mid.sent ≡ old.sent → LeavesEither old new w
-either_then old mid new w one two same sent = joined old mid new _ _ one two (λ x f left. (inr (subst (λ v. Stands x v) same left.0), left.1 ∙ sent))

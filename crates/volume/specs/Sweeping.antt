@@ -2,7 +2,7 @@
 use Rattle.std.specs.Prelude.{ℕ, ◌+◌, ◌-◌, length}
 use Rattle.tsd_model.specs.World.{free_count}
 use Rattle.image_world.specs.Tables.{Tables}
-use Rattle.volume_laws.specs.Graphs.{graph_in}
+use Rattle.image_world.specs.Debt.{graph_in}
 
 -- the pairs and the live blocks
 abbrev pub sweep_left : Tables → ℕ

@@ -1,14 +1,17 @@
 //! New blocks.
 
-ghost use Rattle.std.specs.Prelude.{◌≡◌, ℕ, ◌+◌, ◌*◌, ◌<◌, ◌≤◌, true, false, length, slice_get, Some, OnOk, OnErr};
+ghost use Rattle.std.specs.Prelude.{◌≡◌, ℕ, ◌+◌, ◌*◌, ◌<◌, ◌≤◌, true, false, length};
+ghost use Rattle.std.specs.Prelude.{slice_get, Some, OnOk, OnErr};
 ghost use Rattle.tsd_model.specs.Step.{with_new_blocks};
 ghost use Rattle.tsd_model.specs.World.{is_live, is_free};
 ghost use Rattle.image_device.specs.Calls.{Uses};
-ghost use Rattle.image_device.specs.Counts.{Rose};
+ghost use Rattle.image_device.specs.Counts.{CountsFault};
 ghost use Rattle.intent_journal.specs.Ring.{checkpoint_writes};
-ghost use Rattle.volume_laws.specs.Volume.{IsAt, IsReady, told_by, world_on};
-ghost use Rattle.volume_laws.specs.Writes.{batch_cost, due, IsPaid};
-ghost use Rattle.volume_laws.specs.Moments.{LeavesEither, LeavesWorld, LeavesOwed, owed};
+ghost use Rattle.volume_laws.specs.Operations.{IsOperation, IsWithin};
+ghost use Rattle.volume_laws.specs.Volume.{IsVolumeAt, IsVolumeReady, told_by, world_on};
+ghost use Rattle.volume_laws.specs.Writes.{batch_cost, due, zeroed_cost, IsPaid};
+ghost use Rattle.volume_laws.specs.Moments.{LeavesEither, LeavesWorld, LeavesOwed};
+ghost use Rattle.image_world.specs.Debt.{owed};
 ghost use Rattle.volume_laws.specs.Growing.{AreFree};
 ghost use Rattle.intent_journal.specs.Records.{patches_of};
 ghost use Rattle.volume_laws.specs.Zeroed.{IsZeroedAt, AreMissed};
@@ -21,8 +24,9 @@ use tsd_model::BlockList;
 use volume_changes::{holds_data, put_new, zero_blocks};
 
 impl Volume {
-    /// Makes free blocks live, with zeros in them and a pointer to each from a source. What is doomed is reclaimed first, so
-    /// that nothing is doomed afterwards. `Failed` comes only where the device's count of faults rose; the volume is then spent.
+    /// Makes free blocks live, with zeros in them and a pointer to each from a source. What is doomed is reclaimed
+    /// first, so that nothing is doomed afterwards. `Failed` comes only where the device's count of faults rose; the
+    /// volume is then spent.
     pub fn allocate<D: Device>(
         &mut self,
         dev: &mut D,
@@ -32,26 +36,21 @@ impl Volume {
         requires source { is_live (told_by self.old) source ≡ true }
         requires count { (1 ≤ length blocks.now) × (length blocks.now ≤ 32) }
         requires free { (i b : ℕ) → slice_get blocks.now i ≡ Some b → is_free (told_by self.old) b ≡ true }
-        requires apart { (i j b : ℕ) → slice_get blocks.now i ≡ Some b → slice_get blocks.now j ≡ Some b → i ≡ j }
+        requires apart { (i j b : ℕ) → slice_get blocks.now i ≡ Some b → slice_get blocks.now j ≡ Some b
+            → i ≡ j }
         requires room { length (told_by self.old).pairs + length blocks.now ≤ self.old.tables.geometry.slots }
-        requires ready { IsReady self.old }
+        requires ready { IsVolumeReady self.old }
         requires unspent { self.old.is_spent ≡ false }
-        requires at { D.told → IsAt self.old (D.view dev.old) }
-        ensures at { D.told → OnOk result (IsAt self.new (D.view dev.new)) }
-        ensures done { D.told → OnOk result (world_on (D.view dev.new) ≡ with_new_blocks (world_on (D.view dev.old)) source blocks.now) }
+        requires at { D.told → IsVolumeAt self.old (D.view dev.old) }
+        ensures operation { IsOperation D.told (λ w. with_new_blocks w source blocks.now) self.old self.new
+            (D.view dev.old) (D.view dev.new) result }
+        ensures cost { IsWithin D.told (owed self.old.tables) (zeroed_cost self.old.tables.geometry
+            (length blocks.now)) (due self.old + zeroed_cost self.old.tables.geometry (length blocks.now)) self.old
+            self.new (D.view dev.old) (D.view dev.new) result }
+        ensures version { self.new.tables.version ≡ self.old.tables.version }
         ensures told { OnOk result (told_by self.new ≡ with_new_blocks (told_by self.old) source blocks.now) }
         ensures settled { OnOk result (owed self.new.tables ≡ 0) }
-        ensures ready { OnOk result (IsReady self.new) }
-        ensures unspent { OnOk result (self.new.is_spent ≡ false) }
-        ensures spent { OnErr result (self.new.is_spent ≡ true) }
-        ensures size { (self.new.tables.geometry ≡ self.old.tables.geometry) × (self.new.tables.version ≡ self.old.tables.version) }
-        ensures sent { D.told → (D.view dev.new).sent ≡ (D.view dev.old).sent }
-        ensures any_moment { D.told → LeavesEither (D.view dev.old) (D.view dev.new) (with_new_blocks (world_on (D.view dev.old)) source blocks.now) }
-        ensures any_owed { D.told → LeavesOwed (D.view dev.old) (D.view dev.new) (owed self.old.tables) }
-        ensures paid { OnOk result (IsPaid (self.old.tables.geometry.sectors * length blocks.now + batch_cost (3 * length blocks.now)) self.old (D.view dev.old) self.new (D.view dev.new)) }
-        ensures uses { Uses (due self.old + self.old.tables.geometry.sectors * length blocks.now + batch_cost (3 * length blocks.now)) (D.view dev.old) (D.view dev.new) }
-        ensures faultless { OnOk result ((D.view dev.new).faults ≡ (D.view dev.old).faults) }
-        ensures cause { OnErr result (Rose (D.view dev.old).faults (D.view dev.new).faults) }
+        ensures ready { OnOk result (IsVolumeReady self.new) }
     {
         self.settle_all(dev)?;
         self.grow(dev, source, blocks.as_slice())
@@ -71,23 +70,17 @@ impl Volume {
         requires free { AreFree self.old.tables.live self.old.tables.geometry.blocks blocks.now }
         requires room { length (pairs_of self.old.tables) + length blocks.now ≤ self.old.tables.geometry.slots }
         requires settled { owed self.old.tables ≡ 0 }
-        requires ready { IsReady self.old }
+        requires ready { IsVolumeReady self.old }
         requires at { D.told → IsZeroedAt self.old (D.view dev.old) blocks.now }
-        ensures at { D.told → OnOk result (IsAt self.new (D.view dev.new)) }
-        ensures done { D.told → OnOk result (world_on (D.view dev.new) ≡ with_new_blocks (world_on (D.view dev.old)) source blocks.now) }
+        ensures operation { IsOperation D.told (λ w. with_new_blocks w source blocks.now) self.old self.new
+            (D.view dev.old) (D.view dev.new) result }
+        ensures cost { IsWithin D.told (owed self.old.tables) (batch_cost (3 * length blocks.now)) (checkpoint_writes
+            self.old.ring + batch_cost (3 * length blocks.now)) self.old self.new (D.view dev.old)
+            (D.view dev.new) result }
+        ensures version { self.new.tables.version ≡ self.old.tables.version }
         ensures told { OnOk result (told_by self.new ≡ with_new_blocks (told_by self.old) source blocks.now) }
         ensures settled { OnOk result (owed self.new.tables ≡ 0) }
-        ensures ready { OnOk result (IsReady self.new) }
-        ensures unspent { OnOk result (self.new.is_spent ≡ false) }
-        ensures spent { OnErr result (self.new.is_spent ≡ true) }
-        ensures size { (self.new.tables.geometry ≡ self.old.tables.geometry) × (self.new.tables.version ≡ self.old.tables.version) }
-        ensures sent { D.told → (D.view dev.new).sent ≡ (D.view dev.old).sent }
-        ensures any_moment { D.told → LeavesEither (D.view dev.old) (D.view dev.new) (with_new_blocks (world_on (D.view dev.old)) source blocks.now) }
-        ensures any_owed { D.told → LeavesOwed (D.view dev.old) (D.view dev.new) (owed self.old.tables) }
-        ensures paid { OnOk result (IsPaid (batch_cost (3 * length blocks.now)) self.old (D.view dev.old) self.new (D.view dev.new)) }
-        ensures uses { Uses (checkpoint_writes self.old.ring + batch_cost (3 * length blocks.now)) (D.view dev.old) (D.view dev.new) }
-        ensures faultless { OnOk result ((D.view dev.new).faults ≡ (D.view dev.old).faults) }
-        ensures cause { OnErr result (Rose (D.view dev.old).faults (D.view dev.new).faults) }
+        ensures ready { OnOk result (IsVolumeReady self.new) }
     {
         self.batch.clear();
         put_new(
@@ -106,24 +99,18 @@ impl Volume {
 }
 
 impl Volume {
-    /// Empties the journal where it holds a data sector of these blocks: an older body could be replayed over what is written.
+    /// Empties the journal where it holds a data sector of these blocks: an older body could be replayed over what is
+    /// written.
     fn make_way<D: Device>(&mut self, dev: &mut D, blocks: &[u32]) -> Result<(), Failed>
         requires free { AreFree self.old.tables.live self.old.tables.geometry.blocks blocks.now }
         requires unspent { self.old.is_spent ≡ false }
-        requires at { D.told → IsAt self.old (D.view dev.old) }
-        ensures at { D.told → OnOk result (IsAt self.new (D.view dev.new)) }
-        ensures done { D.told → OnOk result (world_on (D.view dev.new) ≡ world_on (D.view dev.old)) }
+        requires at { D.told → IsVolumeAt self.old (D.view dev.old) }
+        ensures operation { IsOperation D.told (λ w. w) self.old self.new (D.view dev.old) (D.view dev.new) result }
+        ensures cost { IsWithin D.told (owed self.old.tables) 0 (checkpoint_writes self.old.ring) self.old self.new
+            (D.view dev.old) (D.view dev.new) result }
+        ensures version { self.new.tables.version ≡ self.old.tables.version }
         ensures same { OnOk result (self.new ≡ record self.old { ring = self.new.ring }) }
         ensures missed { OnOk result (AreMissed self.old.tables.geometry (patches_of self.new.ring) blocks.now) }
-        ensures spent { OnErr result (self.new.is_spent ≡ true) }
-        ensures size { (self.new.tables.geometry ≡ self.old.tables.geometry) × (self.new.tables.version ≡ self.old.tables.version) }
-        ensures sent { D.told → (D.view dev.new).sent ≡ (D.view dev.old).sent }
-        ensures any_moment { D.told → LeavesWorld (D.view dev.old) (D.view dev.new) }
-        ensures any_owed { D.told → LeavesOwed (D.view dev.old) (D.view dev.new) (owed self.old.tables) }
-        ensures paid { OnOk result (IsPaid 0 self.old (D.view dev.old) self.new (D.view dev.new)) }
-        ensures uses { Uses (checkpoint_writes self.old.ring) (D.view dev.old) (D.view dev.new) }
-        ensures faultless { OnOk result ((D.view dev.new).faults ≡ (D.view dev.old).faults) }
-        ensures cause { OnErr result (Rose (D.view dev.old).faults (D.view dev.new).faults) }
     {
         if holds_data(&self.ring, &Layout::of(&self.header.geometry), blocks) {
             self.empty_ring(dev)
@@ -132,23 +119,24 @@ impl Volume {
         }
     }
 
-    /// Writes zeros to the data sectors of free blocks that the journal doesn't hold. What they hold doesn't matter yet.
+    /// Writes zeros to the data sectors of free blocks that the journal doesn't hold. What they hold doesn't matter
+    /// yet.
     fn zero_new<D: Device>(&mut self, dev: &mut D, blocks: &[u32]) -> Result<(), Failed>
         requires free { AreFree self.old.tables.live self.old.tables.geometry.blocks blocks.now }
         requires missed { AreMissed self.old.tables.geometry (patches_of self.old.ring) blocks.now }
         requires unspent { self.old.is_spent ≡ false }
-        requires at { D.told → IsAt self.old (D.view dev.old) }
+        requires at { D.told → IsVolumeAt self.old (D.view dev.old) }
         ensures zeroed { D.told → OnOk result (IsZeroedAt self.new (D.view dev.new) blocks.now) }
         ensures done { D.told → OnOk result (world_on (D.view dev.new) ≡ world_on (D.view dev.old)) }
         ensures same { OnOk result (self.new ≡ self.old) }
         ensures spent { OnErr result (self.new.is_spent ≡ true) }
-        ensures size { (self.new.tables.geometry ≡ self.old.tables.geometry) × (self.new.tables.version ≡ self.old.tables.version) }
+        ensures size { (self.new.tables.geometry ≡ self.old.tables.geometry)
+            × (self.new.tables.version ≡ self.old.tables.version) }
         ensures sent { D.told → (D.view dev.new).sent ≡ (D.view dev.old).sent }
         ensures any_moment { D.told → LeavesWorld (D.view dev.old) (D.view dev.new) }
         ensures any_owed { D.told → LeavesOwed (D.view dev.old) (D.view dev.new) (owed self.old.tables) }
         ensures uses { Uses (self.old.tables.geometry.sectors * length blocks.now) (D.view dev.old) (D.view dev.new) }
-        ensures faultless { OnOk result ((D.view dev.new).faults ≡ (D.view dev.old).faults) }
-        ensures cause { OnErr result (Rose (D.view dev.old).faults (D.view dev.new).faults) }
+        ensures faults { CountsFault result (D.view dev.old).faults (D.view dev.new).faults }
     {
         let outcome = zero_blocks(dev, &Layout::of(&self.header.geometry), blocks);
         self.is_spent = outcome.is_err();
@@ -162,24 +150,18 @@ impl Volume {
         requires free { AreFree self.old.tables.live self.old.tables.geometry.blocks blocks.now }
         requires room { length (pairs_of self.old.tables) + length blocks.now ≤ self.old.tables.geometry.slots }
         requires settled { owed self.old.tables ≡ 0 }
-        requires ready { IsReady self.old }
+        requires ready { IsVolumeReady self.old }
         requires unspent { self.old.is_spent ≡ false }
-        requires at { D.told → IsAt self.old (D.view dev.old) }
-        ensures at { D.told → OnOk result (IsAt self.new (D.view dev.new)) }
-        ensures done { D.told → OnOk result (world_on (D.view dev.new) ≡ with_new_blocks (world_on (D.view dev.old)) source blocks.now) }
+        requires at { D.told → IsVolumeAt self.old (D.view dev.old) }
+        ensures operation { IsOperation D.told (λ w. with_new_blocks w source blocks.now) self.old self.new
+            (D.view dev.old) (D.view dev.new) result }
+        ensures cost { IsWithin D.told (owed self.old.tables) (zeroed_cost self.old.tables.geometry
+            (length blocks.now)) (checkpoint_writes self.old.ring + zeroed_cost self.old.tables.geometry
+            (length blocks.now)) self.old self.new (D.view dev.old) (D.view dev.new) result }
+        ensures version { self.new.tables.version ≡ self.old.tables.version }
         ensures told { OnOk result (told_by self.new ≡ with_new_blocks (told_by self.old) source blocks.now) }
         ensures settled { OnOk result (owed self.new.tables ≡ 0) }
-        ensures ready { OnOk result (IsReady self.new) }
-        ensures unspent { OnOk result (self.new.is_spent ≡ false) }
-        ensures spent { OnErr result (self.new.is_spent ≡ true) }
-        ensures size { (self.new.tables.geometry ≡ self.old.tables.geometry) × (self.new.tables.version ≡ self.old.tables.version) }
-        ensures sent { D.told → (D.view dev.new).sent ≡ (D.view dev.old).sent }
-        ensures any_moment { D.told → LeavesEither (D.view dev.old) (D.view dev.new) (with_new_blocks (world_on (D.view dev.old)) source blocks.now) }
-        ensures any_owed { D.told → LeavesOwed (D.view dev.old) (D.view dev.new) (owed self.old.tables) }
-        ensures paid { OnOk result (IsPaid (self.old.tables.geometry.sectors * length blocks.now + batch_cost (3 * length blocks.now)) self.old (D.view dev.old) self.new (D.view dev.new)) }
-        ensures uses { Uses (checkpoint_writes self.old.ring + self.old.tables.geometry.sectors * length blocks.now + batch_cost (3 * length blocks.now)) (D.view dev.old) (D.view dev.new) }
-        ensures faultless { OnOk result ((D.view dev.new).faults ≡ (D.view dev.old).faults) }
-        ensures cause { OnErr result (Rose (D.view dev.old).faults (D.view dev.new).faults) }
+        ensures ready { OnOk result (IsVolumeReady self.new) }
     {
         self.make_way(dev, blocks)?;
         self.zero_new(dev, blocks)?;

@@ -1,17 +1,17 @@
 //! Loading a volume.
 
-ghost use Rattle.std.specs.Prelude.{◌≡◌, [], Ok, true, false, IfOk, OnOk, OnErr, IsErrOf};
+ghost use Rattle.std.specs.Prelude.{◌≡◌, [], Ok, true, false, IfOk};
 ghost use Rattle.image_device.specs.Calls.{Rests, Uses};
-ghost use Rattle.image_device.specs.Counts.{Rose};
+ghost use Rattle.image_device.specs.Counts.{CountsFault, CountsFaultOf};
 ghost use Rattle.image_device.specs.Runs.{IsFirm};
 ghost use Rattle.image_layout.specs.Areas.{header_sector, sweep_flag};
 ghost use Rattle.image_layout.specs.Header.{IsReading, IsVersion};
 ghost use Rattle.image_layout.specs.Image.{is_open};
 ghost use Rattle.tsd_model.specs.Geometry.{IsLawful};
-ghost use Rattle.image_world.specs.Faults.{IsFormatted};
+ghost use Rattle.image_world.specs.Faults.{IsFormatGateOpen};
 ghost use Rattle.image_world.specs.Fresh.{AreClosed};
-ghost use Rattle.volume.specs.Loading.{IsLoading};
-ghost use Rattle.volume_laws.specs.Volume.{IsAt};
+ghost use Rattle.volume.specs.Loading.{AnswersVolume};
+ghost use Rattle.volume_laws.specs.Volume.{IsVolumeAt};
 
 use crate::fault::VolumeFault;
 use crate::volume::Volume;
@@ -19,7 +19,7 @@ use cycle_sweep::Marks;
 use image_device::{Device, Failed};
 use image_layout::sectors::{SECTOR_BYTES, SWEEP_FLAG};
 use image_layout::{Header, is_open};
-use image_tables::load_tables;
+use image_world::load_tables;
 use intent_journal::{Batch, Ring};
 use reclaim::{Ahead, Guesses};
 use std::alloc::Global;
@@ -29,8 +29,7 @@ fn read_flag<D: Device>(dev: &mut D) -> Result<bool, Failed>
     ensures value { D.told → IfOk result (λ open_now. open_now ≡ is_open ((D.view dev.old).reads sweep_flag)) }
     ensures rests { D.told → Rests (D.view dev.old) (D.view dev.new) }
     ensures uses { Uses 0 (D.view dev.old) (D.view dev.new) }
-    ensures faultless { OnOk result ((D.view dev.new).faults ≡ (D.view dev.old).faults) }
-    ensures cause { OnErr result (Rose (D.view dev.old).faults (D.view dev.new).faults) }
+    ensures faults { CountsFault result (D.view dev.old).faults (D.view dev.new).faults }
 {
     let mut sector = [0; SECTOR_BYTES];
     dev.read(SWEEP_FLAG, &mut sector)?;
@@ -38,9 +37,10 @@ fn read_flag<D: Device>(dev: &mut D) -> Result<bool, Failed>
 }
 
 impl Volume {
-    /// Loads the tables of a disk and tests them. The device is only read. This takes all room that later calls need, and no
-    /// later call takes any: `NoMemory` comes only where there was too little. `Device` comes only where the device's count of
-    /// faults rose, and `Image` only where the image stands for no world, with the first test that it fails.
+    /// Loads the tables of a disk and tests them. The device is only read. This takes all room that later calls need,
+    /// and no later call takes any: `NoMemory` comes only where there was too little. `Device` comes only where the
+    /// device's count of faults rose, and `Image` only where the image stands for no world, with the first test that it
+    /// fails.
     pub fn load<D: Device>(
         alloc: Global,
         dev: &mut D,
@@ -51,19 +51,19 @@ impl Volume {
         requires lawful { IsLawful header.now.geometry }
         requires empty { ring ≡ [] }
         requires firm { D.told → IsFirm (D.view dev.old) }
-        requires formatted { D.told → IsFormatted (D.view dev.old).reads }
+        requires formatted { D.told → IsFormatGateOpen (D.view dev.old).reads }
         requires closed { D.told → AreClosed (D.view dev.old).reads }
         requires header { D.told → IsReading ((D.view dev.old).reads header_sector) (Ok header.now) }
-        ensures read { D.told → IsLoading (D.view dev.old).reads result }
-        ensures at { D.told → IfOk result (λ v. IsAt v (D.view dev.new)) }
-        ensures of_header { IfOk result (λ v. (v.tables.version ≡ header.now.version) × (v.tables.geometry ≡ header.now.geometry)) }
+        ensures read { D.told → AnswersVolume (D.view dev.old).reads result }
+        ensures at { D.told → IfOk result (λ v. IsVolumeAt v (D.view dev.new)) }
+        ensures of_header { IfOk result (λ v. (v.tables.version ≡ header.now.version)
+            × (v.tables.geometry ≡ header.now.geometry)) }
         ensures ring { IfOk result (λ v. v.ring ≡ []) }
         ensures unfinished { IfOk result (λ v. v.is_ready ≡ false) }
         ensures unspent { IfOk result (λ v. v.is_spent ≡ false) }
         ensures rests { D.told → Rests (D.view dev.old) (D.view dev.new) }
         ensures uses { Uses 0 (D.view dev.old) (D.view dev.new) }
-        ensures faultless { ¬ IsErrOf result VolumeFault.Device → (D.view dev.new).faults ≡ (D.view dev.old).faults }
-        ensures cause { IsErrOf result VolumeFault.Device → Rose (D.view dev.old).faults (D.view dev.new).faults }
+        ensures faults { CountsFaultOf VolumeFault.Device result (D.view dev.old).faults (D.view dev.new).faults }
     {
         let tables = load_tables(alloc, dev, header)?;
         let is_sweeping = read_flag(dev)?;

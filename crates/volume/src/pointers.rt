@@ -1,27 +1,30 @@
 //! Pointers.
 
-ghost use Rattle.std.specs.Prelude.{◌≡◌, ◌+◌, ◌-◌, ◌<◌, ◌≤◌, ◌*◌, true, false, length, OnOk, OnErr, IfOk};
+ghost use Rattle.std.specs.Prelude.{◌≡◌, ◌+◌, ◌-◌, ◌<◌, ◌≤◌, ◌*◌, true, false, length};
+ghost use Rattle.std.specs.Prelude.{OnOk, OnErr, IfOk};
 ghost use Rattle.tsd_model.specs.Doomed.{settle};
 ghost use Rattle.tsd_model.specs.Pairs.{holds};
 ghost use Rattle.tsd_model.specs.Step.{with_pointer, without_pointer};
 ghost use Rattle.tsd_model.specs.World.{is_live, free_count};
 ghost use Rattle.image_device.specs.Calls.{Uses};
-ghost use Rattle.image_device.specs.Counts.{Rose};
+ghost use Rattle.image_device.specs.Counts.{CountsFault};
 ghost use Rattle.intent_journal.specs.Ring.{checkpoint_writes};
-ghost use Rattle.volume_laws.specs.Volume.{IsAt, IsReady, told_by, world_on};
+ghost use Rattle.volume_laws.specs.Operations.{IsOperation, IsWithin};
+ghost use Rattle.volume_laws.specs.Volume.{IsVolumeAt, IsVolumeReady, told_by, world_on};
 ghost use Rattle.volume_laws.specs.Writes.{batch_cost, due, IsPaid};
-ghost use Rattle.volume_laws.specs.Moments.{LeavesEither, LeavesOwed, owed, made};
+ghost use Rattle.volume_laws.specs.Moments.{LeavesEither, LeavesOwed, made};
+ghost use Rattle.image_world.specs.Debt.{owed, graph_in};
 ghost use Rattle.volume_laws.specs.Writes.{lost_cost};
 ghost use Rattle.image_world.specs.Tables.{pairs_of};
 ghost use Rattle.tsd_model.specs.Doomed.{doomed};
-ghost use Rattle.volume_laws.specs.Graphs.{graph_in};
 
 use crate::volume::Volume;
 use image_device::{Device, Failed};
 
 impl Volume {
-    /// Holds a pointer that isn't held. What is doomed is reclaimed first exactly where the pairs on the disk, those from doomed
-    /// blocks included, take all slots. `Failed` comes only where the device's count of faults rose; the volume is then spent.
+    /// Holds a pointer that isn't held. What is doomed is reclaimed first exactly where the pairs on the disk, those
+    /// from doomed blocks included, take all slots. `Failed` comes only where the device's count of faults rose; the
+    /// volume is then spent.
     pub fn add_pointer<D: Device>(
         &mut self,
         dev: &mut D,
@@ -33,26 +36,22 @@ impl Volume {
         requires apart { self.old.tables.geometry.primaries ≤ target }
         requires absent { holds (told_by self.old).pairs source target ≡ false }
         requires room { length (told_by self.old).pairs < self.old.tables.geometry.slots }
-        requires ready { IsReady self.old }
+        requires ready { IsVolumeReady self.old }
         requires unspent { self.old.is_spent ≡ false }
-        requires at { D.told → IsAt self.old (D.view dev.old) }
-        ensures at { D.told → OnOk result (IsAt self.new (D.view dev.new)) }
-        ensures done { D.told → OnOk result (world_on (D.view dev.new) ≡ with_pointer (world_on (D.view dev.old)) source target) }
+        requires at { D.told → IsVolumeAt self.old (D.view dev.old) }
+        ensures operation { IsOperation D.told (λ w. with_pointer w source target) self.old self.new (D.view dev.old)
+            (D.view dev.new) result }
+        ensures cost { IsWithin D.told (owed self.old.tables) (batch_cost 2) (due self.old + batch_cost 2) self.old
+            self.new (D.view dev.old) (D.view dev.new) result }
+        ensures version { self.new.tables.version ≡ self.old.tables.version }
         ensures told { OnOk result (told_by self.new ≡ with_pointer (told_by self.old) source target) }
-        ensures ready { OnOk result (IsReady self.new) }
-        ensures unspent { OnOk result (self.new.is_spent ≡ false) }
-        ensures spent { OnErr result (self.new.is_spent ≡ true) }
-        ensures size { (self.new.tables.geometry ≡ self.old.tables.geometry) × (self.new.tables.version ≡ self.old.tables.version) }
-        ensures sent { D.told → (D.view dev.new).sent ≡ (D.view dev.old).sent }
-        ensures any_moment { D.told → LeavesEither (D.view dev.old) (D.view dev.new) (with_pointer (world_on (D.view dev.old)) source target) }
-        ensures any_owed { D.told → LeavesOwed (D.view dev.old) (D.view dev.new) (owed self.old.tables) }
-        ensures paid { OnOk result (IsPaid (batch_cost 2) self.old (D.view dev.old) self.new (D.view dev.new)) }
-        ensures settled { length (pairs_of self.old.tables) ≡ self.old.tables.geometry.slots → OnOk result (owed self.new.tables ≡ 0) }
-        ensures unsettled { length (pairs_of self.old.tables) < self.old.tables.geometry.slots → OnOk result (owed self.new.tables ≡ owed self.old.tables) }
-        ensures uses { Uses (due self.old + batch_cost 2) (D.view dev.old) (D.view dev.new) }
-        ensures uses_few { length (pairs_of self.old.tables) < self.old.tables.geometry.slots → Uses (checkpoint_writes self.old.ring + batch_cost 2) (D.view dev.old) (D.view dev.new) }
-        ensures faultless { OnOk result ((D.view dev.new).faults ≡ (D.view dev.old).faults) }
-        ensures cause { OnErr result (Rose (D.view dev.old).faults (D.view dev.new).faults) }
+        ensures ready { OnOk result (IsVolumeReady self.new) }
+        ensures settled { length (pairs_of self.old.tables) ≡ self.old.tables.geometry.slots
+            → OnOk result (owed self.new.tables ≡ 0) }
+        ensures unsettled { length (pairs_of self.old.tables) < self.old.tables.geometry.slots
+            → OnOk result (owed self.new.tables ≡ owed self.old.tables) }
+        ensures uses_few { length (pairs_of self.old.tables) < self.old.tables.geometry.slots
+            → Uses (checkpoint_writes self.old.ring + batch_cost 2) (D.view dev.old) (D.view dev.new) }
     {
         if self.pointers.len() == self.header.geometry.slots {
             // Doomed blocks have pairs in some of the slots.
@@ -62,7 +61,8 @@ impl Volume {
     }
 
     /// Takes a pointer away, in one batch, and tells how many blocks are doomed by it. They are free from now on; their
-    /// reclamation follows later. `Failed` comes only where the device's count of faults rose; the volume is then spent.
+    /// reclamation follows later. `Failed` comes only where the device's count of faults rose; the volume is then
+    /// spent.
     pub fn drop_pointer<D: Device>(
         &mut self,
         dev: &mut D,
@@ -70,25 +70,20 @@ impl Volume {
         target: u32,
     ) -> Result<u32, Failed>
         requires held { holds (told_by self.old).pairs source target ≡ true }
-        requires ready { IsReady self.old }
+        requires ready { IsVolumeReady self.old }
         requires unspent { self.old.is_spent ≡ false }
-        requires at { D.told → IsAt self.old (D.view dev.old) }
-        ensures at { D.told → OnOk result (IsAt self.new (D.view dev.new)) }
-        ensures done { D.told → OnOk result (world_on (D.view dev.new) ≡ settle (without_pointer (world_on (D.view dev.old)) source target)) }
+        requires at { D.told → IsVolumeAt self.old (D.view dev.old) }
+        ensures operation { IsOperation D.told (λ w. settle (without_pointer w source target)) self.old self.new
+            (D.view dev.old) (D.view dev.new) result }
+        ensures cost { let gone = made (told_by self.old) source target in IsWithin D.told (owed
+            self.old.tables + gone) (batch_cost 2 + lost_cost * gone) (checkpoint_writes
+            self.old.ring + batch_cost 2) self.old self.new (D.view dev.old) (D.view dev.new) result }
+        ensures version { self.new.tables.version ≡ self.old.tables.version }
         ensures told { OnOk result (told_by self.new ≡ settle (without_pointer (told_by self.old) source target)) }
         ensures lost { IfOk result (λ count. count ≡ free_count (told_by self.new) - free_count (told_by self.old)) }
-        ensures ready { OnOk result (IsReady self.new) }
-        ensures unspent { OnOk result (self.new.is_spent ≡ false) }
-        ensures spent { OnErr result (self.new.is_spent ≡ true) }
-        ensures size { (self.new.tables.geometry ≡ self.old.tables.geometry) × (self.new.tables.version ≡ self.old.tables.version) }
-        ensures sent { D.told → (D.view dev.new).sent ≡ (D.view dev.old).sent }
-        ensures any_moment { D.told → LeavesEither (D.view dev.old) (D.view dev.new) (settle (without_pointer (world_on (D.view dev.old)) source target)) }
-        ensures any_owed { D.told → LeavesOwed (D.view dev.old) (D.view dev.new) (owed self.old.tables + made (told_by self.old) source target) }
-        ensures owed { OnOk result (owed self.new.tables + 1 ≡ owed self.old.tables + made (told_by self.old) source target) }
-        ensures paid { OnOk result (IsPaid (batch_cost 2 + lost_cost * made (told_by self.old) source target) self.old (D.view dev.old) self.new (D.view dev.new)) }
-        ensures uses { Uses (checkpoint_writes self.old.ring + batch_cost 2) (D.view dev.old) (D.view dev.new) }
-        ensures faultless { OnOk result ((D.view dev.new).faults ≡ (D.view dev.old).faults) }
-        ensures cause { OnErr result (Rose (D.view dev.old).faults (D.view dev.new).faults) }
+        ensures ready { OnOk result (IsVolumeReady self.new) }
+        ensures owed { OnOk result (owed self.new.tables + 1 ≡ owed self.old.tables + made (told_by self.old) source
+            target) }
     {
         let before = self.doomed_count();
         self.drop_pair(dev, source, target)?;
@@ -97,7 +92,7 @@ impl Volume {
 
     /// How many blocks are doomed.
     pub(crate) fn doomed_count(&self) -> u32
-        requires { IsReady self.now }
+        requires { IsVolumeReady self.now }
         ensures { result ≡ length (doomed (graph_in self.now.tables)) }
     {
         self.ahead.doomed()
@@ -112,23 +107,16 @@ impl Volume {
         requires apart { self.old.tables.geometry.primaries ≤ target }
         requires absent { holds (told_by self.old).pairs source target ≡ false }
         requires room { length (pairs_of self.old.tables) < self.old.tables.geometry.slots }
-        requires ready { IsReady self.old }
-        requires at { D.told → IsAt self.old (D.view dev.old) }
-        ensures at { D.told → OnOk result (IsAt self.new (D.view dev.new)) }
-        ensures done { D.told → OnOk result (world_on (D.view dev.new) ≡ with_pointer (world_on (D.view dev.old)) source target) }
+        requires ready { IsVolumeReady self.old }
+        requires at { D.told → IsVolumeAt self.old (D.view dev.old) }
+        ensures operation { IsOperation D.told (λ w. with_pointer w source target) self.old self.new (D.view dev.old)
+            (D.view dev.new) result }
+        ensures cost { IsWithin D.told (owed self.old.tables) (batch_cost 2) (checkpoint_writes
+            self.old.ring + batch_cost 2) self.old self.new (D.view dev.old) (D.view dev.new) result }
+        ensures version { self.new.tables.version ≡ self.old.tables.version }
         ensures told { OnOk result (told_by self.new ≡ with_pointer (told_by self.old) source target) }
-        ensures ready { OnOk result (IsReady self.new) }
-        ensures unspent { OnOk result (self.new.is_spent ≡ false) }
-        ensures spent { OnErr result (self.new.is_spent ≡ true) }
-        ensures size { (self.new.tables.geometry ≡ self.old.tables.geometry) × (self.new.tables.version ≡ self.old.tables.version) }
-        ensures sent { D.told → (D.view dev.new).sent ≡ (D.view dev.old).sent }
-        ensures any_moment { D.told → LeavesEither (D.view dev.old) (D.view dev.new) (with_pointer (world_on (D.view dev.old)) source target) }
-        ensures any_owed { D.told → LeavesOwed (D.view dev.old) (D.view dev.new) (owed self.old.tables) }
+        ensures ready { OnOk result (IsVolumeReady self.new) }
         ensures owes { owed self.new.tables ≡ owed self.old.tables }
-        ensures paid { OnOk result (IsPaid (batch_cost 2) self.old (D.view dev.old) self.new (D.view dev.new)) }
-        ensures uses { Uses (checkpoint_writes self.old.ring + batch_cost 2) (D.view dev.old) (D.view dev.new) }
-        ensures faultless { OnOk result ((D.view dev.new).faults ≡ (D.view dev.old).faults) }
-        ensures cause { OnErr result (Rose (D.view dev.old).faults (D.view dev.new).faults) }
     {
         self.batch.clear();
         let slot = self.pointers.add(source, target).unwrap();
@@ -147,24 +135,21 @@ impl Volume {
     /// Takes a pointer away, in one batch. What is doomed by it stays on the disk, and is hidden.
     fn drop_pair<D: Device>(&mut self, dev: &mut D, source: u32, target: u32) -> Result<(), Failed>
         requires held { holds (told_by self.old).pairs source target ≡ true }
-        requires ready { IsReady self.old }
-        requires at { D.told → IsAt self.old (D.view dev.old) }
-        ensures at { D.told → OnOk result (IsAt self.new (D.view dev.new)) }
-        ensures done { D.told → OnOk result (world_on (D.view dev.new) ≡ settle (without_pointer (world_on (D.view dev.old)) source target)) }
+        requires ready { IsVolumeReady self.old }
+        requires at { D.told → IsVolumeAt self.old (D.view dev.old) }
+        ensures operation { IsOperation D.told (λ w. settle (without_pointer w source target)) self.old self.new
+            (D.view dev.old) (D.view dev.new) result }
+        ensures cost { let gone = made (told_by self.old) source target in IsWithin D.told (owed
+            self.old.tables + gone) (batch_cost 2 + lost_cost * gone) (checkpoint_writes
+            self.old.ring + batch_cost 2) self.old self.new (D.view dev.old) (D.view dev.new) result }
+        ensures version { self.new.tables.version ≡ self.old.tables.version }
         ensures told { OnOk result (told_by self.new ≡ settle (without_pointer (told_by self.old) source target)) }
-        ensures ready { OnOk result (IsReady self.new) }
-        ensures unspent { OnOk result (self.new.is_spent ≡ false) }
-        ensures spent { OnErr result (self.new.is_spent ≡ true) }
-        ensures size { (self.new.tables.geometry ≡ self.old.tables.geometry) × (self.new.tables.version ≡ self.old.tables.version) }
-        ensures sent { D.told → (D.view dev.new).sent ≡ (D.view dev.old).sent }
-        ensures any_moment { D.told → LeavesEither (D.view dev.old) (D.view dev.new) (settle (without_pointer (world_on (D.view dev.old)) source target)) }
-        ensures counted { OnOk result ((length (doomed (graph_in self.new.tables)) + free_count (told_by self.old) ≡ length (doomed (graph_in self.old.tables)) + free_count (told_by self.new)) × (length (doomed (graph_in self.old.tables)) ≤ length (doomed (graph_in self.new.tables)))) }
-        ensures any_owed { D.told → LeavesOwed (D.view dev.old) (D.view dev.new) (owed self.old.tables + made (told_by self.old) source target) }
-        ensures owed { OnOk result (owed self.new.tables + 1 ≡ owed self.old.tables + made (told_by self.old) source target) }
-        ensures paid { OnOk result (IsPaid (batch_cost 2 + lost_cost * made (told_by self.old) source target) self.old (D.view dev.old) self.new (D.view dev.new)) }
-        ensures uses { Uses (checkpoint_writes self.old.ring + batch_cost 2) (D.view dev.old) (D.view dev.new) }
-        ensures faultless { OnOk result ((D.view dev.new).faults ≡ (D.view dev.old).faults) }
-        ensures cause { OnErr result (Rose (D.view dev.old).faults (D.view dev.new).faults) }
+        ensures ready { OnOk result (IsVolumeReady self.new) }
+        ensures counted { OnOk result ((length (doomed (graph_in self.new.tables)) + free_count (told_by self.old)
+            ≡ length (doomed (graph_in self.old.tables)) + free_count (told_by self.new))
+            × (length (doomed (graph_in self.old.tables)) ≤ length (doomed (graph_in self.new.tables)))) }
+        ensures owed { OnOk result (owed self.new.tables + 1 ≡ owed self.old.tables + made (told_by self.old) source
+            target) }
     {
         self.batch.clear();
         let slot = self.pointers.remove(source, target).unwrap();

@@ -11,7 +11,7 @@ ghost use Rattle.tsd_model.specs.Verdict.{is_empty};
 ghost use Rattle.tsd_model.specs.World.{is_live, free_count};
 ghost use Rattle.tsd_model.specs.declared.requests.Hint.TheVariants as hint_is;
 ghost use Rattle.intent_journal.specs.Ring.{checkpoint_writes};
-ghost use Rattle.volume_laws.specs.Volume.{IsReady, told_by};
+ghost use Rattle.volume_laws.specs.Volume.{IsVolumeReady, told_by};
 ghost use Rattle.volume.specs.Refusals.{IsShort, IsRunRefusal};
 
 use crate::volume::Volume;
@@ -26,7 +26,8 @@ impl Volume {
         ensures told { (told_by self.now).geometry ≡ self.now.tables.geometry }
         ensures version { (told_by self.now).version ≡ self.now.tables.version }
         ensures sized { IsSized (told_by self.now) }
-        ensures ends { (a b : ℕ) → holds (told_by self.now).pairs a b ≡ true → (is_live (told_by self.now) a ≡ true) × (is_live (told_by self.now) b ≡ true) }
+        ensures ends { (a b : ℕ) → holds (told_by self.now).pairs a b ≡ true
+            → (is_live (told_by self.now) a ≡ true) × (is_live (told_by self.now) b ≡ true) }
 
         // So many writes at most put all records of the journal in place.
         ensures ring { checkpoint_writes self.now.ring ≤ 121 }
@@ -45,7 +46,7 @@ impl Volume {
     /// Whether a block is live.
     pub fn is_live(&self, block: u32) -> bool
         requires inside { block < self.now.tables.geometry.blocks }
-        requires ready { IsReady self.now }
+        requires ready { IsVolumeReady self.now }
         ensures { result ≡ is_live (told_by self.now) block }
     {
         self.live.is_live(block)
@@ -54,7 +55,7 @@ impl Volume {
     /// Whether a pointer is held.
     pub fn has(&self, source: u32, target: u32) -> bool
         requires ends { (source < self.now.tables.geometry.blocks) × (target < self.now.tables.geometry.blocks) }
-        requires ready { IsReady self.now }
+        requires ready { IsVolumeReady self.now }
         ensures { result ≡ holds (told_by self.now).pairs source target }
     {
         let is_held = self.pointers.has(source, target);
@@ -65,7 +66,7 @@ impl Volume {
     /// The least 64 targets of a block's pointers that are not below `start`, ascending.
     pub fn targets_from(&self, source: u32, start: u32) -> BlockList
         requires inside { source < self.now.tables.geometry.blocks }
-        requires ready { IsReady self.now }
+        requires ready { IsVolumeReady self.now }
         ensures { result ≡ targets_from (told_by self.now).pairs source start }
     {
         if self.ahead.is_doomed(source) {
@@ -78,7 +79,7 @@ impl Volume {
     /// The least source of the pointers to a block that is not below `start`.
     pub fn next_source(&self, target: u32, start: u32) -> Option<u32>
         requires inside { target < self.now.tables.geometry.blocks }
-        requires ready { IsReady self.now }
+        requires ready { IsVolumeReady self.now }
         ensures { IsNextSource (told_by self.now).pairs target start result }
     {
         let mut from = start;
@@ -93,7 +94,7 @@ impl Volume {
 
     /// How many blocks are free.
     pub fn free_count(&self) -> u32
-        requires ready { IsReady self.now }
+        requires ready { IsVolumeReady self.now }
         ensures { result ≡ free_count (told_by self.now) }
     {
         let _size = self.live.geometry();
@@ -102,7 +103,7 @@ impl Volume {
 
     /// How many pointers are held.
     pub fn pointers(&self) -> u32
-        requires ready { IsReady self.now }
+        requires ready { IsVolumeReady self.now }
         ensures { result ≡ length (told_by self.now).pairs }
     {
         self.pointers.len() - self.ahead.doomed_pairs()
@@ -111,18 +112,20 @@ impl Volume {
     /// Whether so many free blocks stand in a row somewhere.
     pub fn has_run(&self, count: u32) -> bool
         requires count { (1 ≤ count) × (count ≤ 32) }
-        requires ready { IsReady self.now }
+        requires ready { IsVolumeReady self.now }
         ensures { result ≡ not (is_empty (runs (told_by self.now) count)) }
     {
         let _size = self.live.geometry();
         self.live.has_run(count)
     }
 
-    /// So many free blocks, those of least rank, in the order of their ranks. `Short` comes exactly where fewer are free.
+    /// So many free blocks, those of least rank, in the order of their ranks. `Short` comes exactly where fewer are
+    /// free.
     pub fn choose(&self, place: &Placement, hint: u32, count: u32) -> Result<BlockList, Short>
         requires count { (1 ≤ count) × (count ≤ 32) }
-        requires ready { IsReady self.now }
-        ensures chosen { IfOk result (λ blocks. blocks ≡ chosen place.now.kind (told_by self.now) (hint_is.At hint) count) }
+        requires ready { IsVolumeReady self.now }
+        ensures chosen { IfOk result (λ blocks. blocks ≡ chosen place.now.kind (told_by self.now) (hint_is.At hint)
+            count) }
         ensures counted { IfOk result (λ blocks. length blocks ≡ count) }
         ensures enough { OnOk result (count ≤ free_count (told_by self.now)) }
         ensures refused { IfErr result (λ s. IsShort (told_by self.now) count s.free s.wanted) }
@@ -135,8 +138,9 @@ impl Volume {
     /// `Short` comes exactly where fewer blocks are free, `NoRun` exactly where enough are and no run is that long.
     pub fn choose_run(&self, place: &Placement, hint: u32, count: u32) -> Result<u32, RunRefusal>
         requires count { (1 ≤ count) × (count ≤ 32) }
-        requires ready { IsReady self.now }
-        ensures chosen { IfOk result (λ first. chosen_run place.now.kind (told_by self.now) (hint_is.At hint) count ≡ Some first) }
+        requires ready { IsVolumeReady self.now }
+        ensures chosen { IfOk result (λ first. chosen_run place.now.kind (told_by self.now) (hint_is.At hint) count
+            ≡ Some first) }
         ensures enough { OnOk result (count ≤ free_count (told_by self.now)) }
         ensures refused { IfErr result (IsRunRefusal (told_by self.now) count) }
     {

@@ -1,15 +1,18 @@
 //! Reclaiming what is doomed.
 
-ghost use Rattle.std.specs.Prelude.{◌≡◌, ◌⊎◌, ◌↔◌, ◌+◌, ◌-◌, ◌≤◌, ◌<◌, ◌*◌, true, false, OnOk, OnErr, IfOk, IfSome, IsTrue, IsNone};
+ghost use Rattle.std.specs.Prelude.{◌≡◌, ◌⊎◌, ◌↔◌, ◌+◌, ◌-◌, ◌≤◌, ◌<◌, ◌*◌};
+ghost use Rattle.std.specs.Prelude.{true, false, OnOk, OnErr, IfOk, IfSome, IsTrue, IsNone};
 ghost use Rattle.tsd_model.specs.Reach.{swept};
 ghost use Rattle.tsd_model.specs.World.{free_count};
 ghost use Rattle.image_world.specs.Raw.{world_with, zeros_of};
 ghost use Rattle.image_device.specs.Calls.{Uses};
-ghost use Rattle.image_device.specs.Counts.{Rose};
+ghost use Rattle.image_device.specs.Counts.{CountsFault};
 ghost use Rattle.intent_journal.specs.Ring.{checkpoint_writes};
-ghost use Rattle.volume_laws.specs.Volume.{IsAt, IsReady, told_by, world_on};
+ghost use Rattle.volume_laws.specs.Operations.{IsOperation, IsWithin};
+ghost use Rattle.volume_laws.specs.Volume.{IsVolumeAt, IsVolumeReady, told_by, world_on};
 ghost use Rattle.volume_laws.specs.Writes.{batch_cost, due, IsPaid, Works};
-ghost use Rattle.volume_laws.specs.Moments.{LeavesEither, LeavesWorld, LeavesOwed, owed};
+ghost use Rattle.volume_laws.specs.Moments.{LeavesEither, LeavesWorld, LeavesOwed};
+ghost use Rattle.image_world.specs.Debt.{owed};
 ghost use Rattle.volume_laws.specs.Graphs.{IsNext};
 
 use crate::volume::Volume;
@@ -22,29 +25,22 @@ use volume_changes::{note_step, put_step};
 const STEPS: u32 = 4;
 
 impl Volume {
-    /// Makes four steps of reclamation, or as many as are left. Answers whether doomed blocks remain. `Failed` comes only where the
-    /// device's count of faults rose; the volume is then spent.
+    /// Makes four steps of reclamation, or as many as are left. Answers whether doomed blocks remain. `Failed` comes
+    /// only where the device's count of faults rose; the volume is then spent.
     pub fn settle_some<D: Device>(&mut self, dev: &mut D) -> Result<bool, Failed>
-        requires ready { IsReady self.old }
+        requires ready { IsVolumeReady self.old }
         requires unspent { self.old.is_spent ≡ false }
-        requires at { D.told → IsAt self.old (D.view dev.old) }
-        ensures at { D.told → OnOk result (IsAt self.new (D.view dev.new)) }
-        ensures done { D.told → OnOk result (world_on (D.view dev.new) ≡ world_on (D.view dev.old)) }
+        requires at { D.told → IsVolumeAt self.old (D.view dev.old) }
+        ensures operation { IsOperation D.told (λ w. w) self.old self.new (D.view dev.old) (D.view dev.new) result }
+        ensures cost { IsWithin D.told (owed self.old.tables) 0 (due self.old) self.old self.new (D.view dev.old)
+            (D.view dev.new) result }
+        ensures version { self.new.tables.version ≡ self.old.tables.version }
         ensures told { OnOk result (told_by self.new ≡ told_by self.old) }
-        ensures steps { OnOk result ((owed self.new.tables + 4 ≤ owed self.old.tables) ⊎ (owed self.new.tables ≡ 0)) }
+        ensures steps { OnOk result ((owed self.new.tables + 4 ≤ owed self.old.tables)
+            ⊎ (owed self.new.tables ≡ 0)) }
         ensures more { IfOk result (λ more. IsTrue more ↔ (0 < owed self.new.tables)) }
-        ensures ready { OnOk result (IsReady self.new) }
-        ensures unspent { OnOk result (self.new.is_spent ≡ false) }
-        ensures spent { OnErr result (self.new.is_spent ≡ true) }
-        ensures size { (self.new.tables.geometry ≡ self.old.tables.geometry) × (self.new.tables.version ≡ self.old.tables.version) }
-        ensures sent { D.told → (D.view dev.new).sent ≡ (D.view dev.old).sent }
-        ensures any_moment { D.told → LeavesWorld (D.view dev.old) (D.view dev.new) }
-        ensures any_owed { D.told → LeavesOwed (D.view dev.old) (D.view dev.new) (owed self.old.tables) }
-        ensures paid { OnOk result (IsPaid 0 self.old (D.view dev.old) self.new (D.view dev.new)) }
+        ensures ready { OnOk result (IsVolumeReady self.new) }
         ensures uses { Uses (checkpoint_writes self.old.ring + 4 * batch_cost 33) (D.view dev.old) (D.view dev.new) }
-        ensures uses_due { Uses (due self.old) (D.view dev.old) (D.view dev.new) }
-        ensures faultless { OnOk result ((D.view dev.new).faults ≡ (D.view dev.old).faults) }
-        ensures cause { OnErr result (Rose (D.view dev.old).faults (D.view dev.new).faults) }
     {
         for _step in 0..STEPS {
             if !self.settle_step(dev)? {
@@ -54,27 +50,19 @@ impl Volume {
         Ok(self.is_owed())
     }
 
-    /// Makes all steps of reclamation that are left. `Failed` comes only where the device's count of faults rose; the volume is
-    /// then spent.
+    /// Makes all steps of reclamation that are left. `Failed` comes only where the device's count of faults rose; the
+    /// volume is then spent.
     pub fn settle_all<D: Device>(&mut self, dev: &mut D) -> Result<(), Failed>
-        requires ready { IsReady self.old }
+        requires ready { IsVolumeReady self.old }
         requires unspent { self.old.is_spent ≡ false }
-        requires at { D.told → IsAt self.old (D.view dev.old) }
-        ensures at { D.told → OnOk result (IsAt self.new (D.view dev.new)) }
-        ensures done { D.told → OnOk result (world_on (D.view dev.new) ≡ world_on (D.view dev.old)) }
+        requires at { D.told → IsVolumeAt self.old (D.view dev.old) }
+        ensures operation { IsOperation D.told (λ w. w) self.old self.new (D.view dev.old) (D.view dev.new) result }
+        ensures cost { IsWithin D.told (owed self.old.tables) 0 (due self.old) self.old self.new (D.view dev.old)
+            (D.view dev.new) result }
+        ensures version { self.new.tables.version ≡ self.old.tables.version }
         ensures told { OnOk result (told_by self.new ≡ told_by self.old) }
         ensures settled { OnOk result (owed self.new.tables ≡ 0) }
-        ensures ready { OnOk result (IsReady self.new) }
-        ensures unspent { OnOk result (self.new.is_spent ≡ false) }
-        ensures spent { OnErr result (self.new.is_spent ≡ true) }
-        ensures size { (self.new.tables.geometry ≡ self.old.tables.geometry) × (self.new.tables.version ≡ self.old.tables.version) }
-        ensures sent { D.told → (D.view dev.new).sent ≡ (D.view dev.old).sent }
-        ensures any_moment { D.told → LeavesWorld (D.view dev.old) (D.view dev.new) }
-        ensures any_owed { D.told → LeavesOwed (D.view dev.old) (D.view dev.new) (owed self.old.tables) }
-        ensures paid { OnOk result (IsPaid 0 self.old (D.view dev.old) self.new (D.view dev.new)) }
-        ensures uses { Uses (due self.old) (D.view dev.old) (D.view dev.new) }
-        ensures faultless { OnOk result ((D.view dev.new).faults ≡ (D.view dev.old).faults) }
-        ensures cause { OnErr result (Rose (D.view dev.old).faults (D.view dev.new).faults) }
+        ensures ready { OnOk result (IsVolumeReady self.new) }
     {
         self.settle_doomed(dev)
     }
@@ -85,25 +73,18 @@ impl Volume {
     fn make_step<D: Device>(&mut self, dev: &mut D, step: &OutStep) -> Result<(), Failed>
         requires next { IsNext self.old.tables step.now }
         requires still { self.old.tables.is_sweeping ≡ false }
-        requires at { D.told → IsAt self.old (D.view dev.old) }
-        ensures at { D.told → OnOk result (IsAt self.new (D.view dev.new)) }
-        ensures done { D.told → OnOk result (world_on (D.view dev.new) ≡ world_on (D.view dev.old)) }
+        requires at { D.told → IsVolumeAt self.old (D.view dev.old) }
+        ensures operation { IsOperation D.told (λ w. w) self.old self.new (D.view dev.old) (D.view dev.new) result }
+        ensures cost { IsWithin D.told (owed self.old.tables) 0 (due self.old) self.old self.new (D.view dev.old)
+            (D.view dev.new) result }
+        ensures version { self.new.tables.version ≡ self.old.tables.version }
         ensures told { OnOk result (told_by self.new ≡ told_by self.old) }
         ensures lowered { OnOk result (owed self.new.tables < owed self.old.tables) }
         ensures still { OnOk result (self.new.tables.is_sweeping ≡ false) }
         ensures same_ready { self.new.is_ready ≡ self.old.is_ready }
-        ensures unspent { OnOk result (self.new.is_spent ≡ false) }
-        ensures spent { OnErr result (self.new.is_spent ≡ true) }
-        ensures size { (self.new.tables.geometry ≡ self.old.tables.geometry) × (self.new.tables.version ≡ self.old.tables.version) }
-        ensures sent { D.told → (D.view dev.new).sent ≡ (D.view dev.old).sent }
-        ensures any_moment { D.told → LeavesWorld (D.view dev.old) (D.view dev.new) }
-        ensures any_owed { D.told → LeavesOwed (D.view dev.old) (D.view dev.new) (owed self.old.tables) }
-        ensures paid { OnOk result (IsPaid 0 self.old (D.view dev.old) self.new (D.view dev.new)) }
-        ensures used { OnOk result ((D.view dev.new).writes + checkpoint_writes self.new.ring ≤ (D.view dev.old).writes + checkpoint_writes self.old.ring + batch_cost 33) }
+        ensures used { OnOk result ((D.view dev.new).writes + checkpoint_writes self.new.ring
+            ≤ (D.view dev.old).writes + checkpoint_writes self.old.ring + batch_cost 33) }
         ensures uses { Uses (checkpoint_writes self.old.ring + batch_cost 33) (D.view dev.old) (D.view dev.new) }
-        ensures uses_due { Uses (due self.old) (D.view dev.old) (D.view dev.new) }
-        ensures faultless { OnOk result ((D.view dev.new).faults ≡ (D.view dev.old).faults) }
-        ensures cause { OnErr result (Rose (D.view dev.old).faults (D.view dev.new).faults) }
     {
         self.batch.clear();
         put_step(
@@ -127,26 +108,19 @@ impl Volume {
     fn settle_step<D: Device>(&mut self, dev: &mut D) -> Result<bool, Failed>
         requires still { self.old.tables.is_sweeping ≡ false }
         requires unspent { self.old.is_spent ≡ false }
-        requires at { D.told → IsAt self.old (D.view dev.old) }
-        ensures at { D.told → OnOk result (IsAt self.new (D.view dev.new)) }
-        ensures done { D.told → OnOk result (world_on (D.view dev.new) ≡ world_on (D.view dev.old)) }
+        requires at { D.told → IsVolumeAt self.old (D.view dev.old) }
+        ensures operation { IsOperation D.told (λ w. w) self.old self.new (D.view dev.old) (D.view dev.new) result }
+        ensures cost { IsWithin D.told (owed self.old.tables) 0 (due self.old) self.old self.new (D.view dev.old)
+            (D.view dev.new) result }
+        ensures version { self.new.tables.version ≡ self.old.tables.version }
         ensures told { OnOk result (told_by self.new ≡ told_by self.old) }
         ensures lowered { IfOk result (λ some. some ≡ true → owed self.new.tables < owed self.old.tables) }
         ensures none { IfOk result (λ some. some ≡ false → owed self.new.tables ≡ 0) }
         ensures still { OnOk result (self.new.tables.is_sweeping ≡ false) }
         ensures same_ready { self.new.is_ready ≡ self.old.is_ready }
-        ensures unspent { OnOk result (self.new.is_spent ≡ false) }
-        ensures spent { OnErr result (self.new.is_spent ≡ true) }
-        ensures size { (self.new.tables.geometry ≡ self.old.tables.geometry) × (self.new.tables.version ≡ self.old.tables.version) }
-        ensures sent { D.told → (D.view dev.new).sent ≡ (D.view dev.old).sent }
-        ensures any_moment { D.told → LeavesWorld (D.view dev.old) (D.view dev.new) }
-        ensures any_owed { D.told → LeavesOwed (D.view dev.old) (D.view dev.new) (owed self.old.tables) }
-        ensures paid { OnOk result (IsPaid 0 self.old (D.view dev.old) self.new (D.view dev.new)) }
-        ensures used { OnOk result ((D.view dev.new).writes + checkpoint_writes self.new.ring ≤ (D.view dev.old).writes + checkpoint_writes self.old.ring + batch_cost 33) }
+        ensures used { OnOk result ((D.view dev.new).writes + checkpoint_writes self.new.ring
+            ≤ (D.view dev.old).writes + checkpoint_writes self.old.ring + batch_cost 33) }
         ensures uses { Uses (checkpoint_writes self.old.ring + batch_cost 33) (D.view dev.old) (D.view dev.new) }
-        ensures uses_due { Uses (due self.old) (D.view dev.old) (D.view dev.new) }
-        ensures faultless { OnOk result ((D.view dev.new).faults ≡ (D.view dev.old).faults) }
-        ensures cause { OnErr result (Rose (D.view dev.old).faults (D.view dev.new).faults) }
     {
         match self.next() {
             Some(step) => {
@@ -161,23 +135,15 @@ impl Volume {
     pub(crate) fn settle_doomed<D: Device>(&mut self, dev: &mut D) -> Result<(), Failed>
         requires still { self.old.tables.is_sweeping ≡ false }
         requires unspent { self.old.is_spent ≡ false }
-        requires at { D.told → IsAt self.old (D.view dev.old) }
-        ensures at { D.told → OnOk result (IsAt self.new (D.view dev.new)) }
-        ensures done { D.told → OnOk result (world_on (D.view dev.new) ≡ world_on (D.view dev.old)) }
+        requires at { D.told → IsVolumeAt self.old (D.view dev.old) }
+        ensures operation { IsOperation D.told (λ w. w) self.old self.new (D.view dev.old) (D.view dev.new) result }
+        ensures cost { IsWithin D.told (owed self.old.tables) 0 (due self.old) self.old self.new (D.view dev.old)
+            (D.view dev.new) result }
+        ensures version { self.new.tables.version ≡ self.old.tables.version }
         ensures told { OnOk result (told_by self.new ≡ told_by self.old) }
         ensures settled { OnOk result (owed self.new.tables ≡ 0) }
         ensures still { OnOk result (self.new.tables.is_sweeping ≡ false) }
         ensures same_ready { self.new.is_ready ≡ self.old.is_ready }
-        ensures unspent { OnOk result (self.new.is_spent ≡ false) }
-        ensures spent { OnErr result (self.new.is_spent ≡ true) }
-        ensures size { (self.new.tables.geometry ≡ self.old.tables.geometry) × (self.new.tables.version ≡ self.old.tables.version) }
-        ensures sent { D.told → (D.view dev.new).sent ≡ (D.view dev.old).sent }
-        ensures any_moment { D.told → LeavesWorld (D.view dev.old) (D.view dev.new) }
-        ensures any_owed { D.told → LeavesOwed (D.view dev.old) (D.view dev.new) (owed self.old.tables) }
-        ensures paid { OnOk result (IsPaid 0 self.old (D.view dev.old) self.new (D.view dev.new)) }
-        ensures uses { Uses (due self.old) (D.view dev.old) (D.view dev.new) }
-        ensures faultless { OnOk result ((D.view dev.new).faults ≡ (D.view dev.old).faults) }
-        ensures cause { OnErr result (Rose (D.view dev.old).faults (D.view dev.new).faults) }
     {
         while self.settle_step(dev)? {}
         Ok(())
@@ -197,7 +163,7 @@ impl Volume {
 
     /// Whether a step is left.
     fn is_owed(&self) -> bool
-        requires { IsReady self.now }
+        requires { IsVolumeReady self.now }
         ensures { IsTrue result ↔ (0 < owed self.now.tables) }
     {
         self.doomed_count() > 0

@@ -5,11 +5,12 @@ ghost use Rattle.tsd_model.specs.Reach.{swept};
 ghost use Rattle.tsd_model.specs.World.{World, free_count};
 ghost use Rattle.cycle_sweep.specs.Sweep.{MaySweep, AreSweptBy};
 ghost use Rattle.graph_laws.specs.Graph.{HasGraphOf};
-ghost use Rattle.image_device.specs.Counts.{Rose};
+ghost use Rattle.image_device.specs.Counts.{CountsFault};
 ghost use Rattle.volume.specs.Sweeping.{sweep_left};
-ghost use Rattle.volume_laws.specs.Graphs.{graph_in};
-ghost use Rattle.volume_laws.specs.Moments.{LeavesEither, LeavesWorld, owed};
-ghost use Rattle.volume_laws.specs.Volume.{IsAt, IsReady, told_by, world_on};
+ghost use Rattle.volume_laws.specs.Moments.{LeavesEither, LeavesWorld};
+ghost use Rattle.image_world.specs.Debt.{graph_in, owed};
+ghost use Rattle.volume_laws.specs.Operations.{IsOperation};
+ghost use Rattle.volume_laws.specs.Volume.{IsVolumeAt, IsVolumeReady, told_by, world_on};
 ghost use Rattle.volume_laws.specs.Writes.{Works};
 
 use crate::volume::Volume;
@@ -21,26 +22,18 @@ use pointer_table::OutStep;
 use volume_changes::put_step;
 
 impl Volume {
-    /// Reclaims the blocks that aren't reached from a primary block, and tells how many became free. What is doomed is reclaimed
-    /// first. `Failed` comes only where the device's count of faults rose; the volume is then spent.
+    /// Reclaims the blocks that aren't reached from a primary block, and tells how many became free. What is doomed is
+    /// reclaimed first. `Failed` comes only where the device's count of faults rose; the volume is then spent.
     pub fn sweep<D: Device>(&mut self, dev: &mut D) -> Result<u32, Failed>
-        requires ready { IsReady self.old }
+        requires ready { IsVolumeReady self.old }
         requires unspent { self.old.is_spent ≡ false }
-        requires at { D.told → IsAt self.old (D.view dev.old) }
-        ensures at { D.told → OnOk result (IsAt self.new (D.view dev.new)) }
-        ensures done { D.told → OnOk result (world_on (D.view dev.new) ≡ swept (world_on (D.view dev.old))) }
+        requires at { D.told → IsVolumeAt self.old (D.view dev.old) }
+        ensures operation { IsOperation D.told swept self.old self.new (D.view dev.old) (D.view dev.new) result }
+        ensures version { self.new.tables.version ≡ self.old.tables.version }
         ensures told { OnOk result (told_by self.new ≡ swept (told_by self.old)) }
         ensures count { IfOk result (λ count. count ≡ free_count (told_by self.new) - free_count (told_by self.old)) }
         ensures settled { OnOk result (owed self.new.tables ≡ 0) }
-        ensures ready { OnOk result (IsReady self.new) }
-        ensures unspent { OnOk result (self.new.is_spent ≡ false) }
-        ensures spent { OnErr result (self.new.is_spent ≡ true) }
-        ensures size { (self.new.tables.geometry ≡ self.old.tables.geometry) × (self.new.tables.version ≡ self.old.tables.version) }
-        ensures sent { D.told → (D.view dev.new).sent ≡ (D.view dev.old).sent }
-        ensures any_moment { D.told → LeavesEither (D.view dev.old) (D.view dev.new) (swept (world_on (D.view dev.old))) }
-        ensures works { Works (D.view dev.old) (D.view dev.new) }
-        ensures faultless { OnOk result ((D.view dev.new).faults ≡ (D.view dev.old).faults) }
-        ensures cause { OnErr result (Rose (D.view dev.old).faults (D.view dev.new).faults) }
+        ensures ready { OnOk result (IsVolumeReady self.new) }
     {
         self.settle_doomed(dev)?;
         let before = self.raw_free_count();
@@ -54,20 +47,12 @@ impl Volume {
     fn begin_sweep<D: Device>(&mut self, dev: &mut D) -> Result<(), Failed>
         requires still { self.old.tables.is_sweeping ≡ false }
         requires none { owed self.old.tables ≡ 0 }
-        requires at { D.told → IsAt self.old (D.view dev.old) }
-        ensures at { D.told → OnOk result (IsAt self.new (D.view dev.new)) }
-        ensures done { D.told → OnOk result (world_on (D.view dev.new) ≡ swept (world_on (D.view dev.old))) }
+        requires at { D.told → IsVolumeAt self.old (D.view dev.old) }
+        ensures operation { IsOperation D.told swept self.old self.new (D.view dev.old) (D.view dev.new) result }
+        ensures version { self.new.tables.version ≡ self.old.tables.version }
         ensures told { OnOk result (told_by self.new ≡ swept (told_by self.old)) }
         ensures sweeping { self.new.tables.is_sweeping ≡ true }
         ensures unready { self.new.is_ready ≡ false }
-        ensures unspent { OnOk result (self.new.is_spent ≡ false) }
-        ensures spent { OnErr result (self.new.is_spent ≡ true) }
-        ensures size { (self.new.tables.geometry ≡ self.old.tables.geometry) × (self.new.tables.version ≡ self.old.tables.version) }
-        ensures sent { D.told → (D.view dev.new).sent ≡ (D.view dev.old).sent }
-        ensures any_moment { D.told → LeavesEither (D.view dev.old) (D.view dev.new) (swept (world_on (D.view dev.old))) }
-        ensures works { Works (D.view dev.old) (D.view dev.new) }
-        ensures faultless { OnOk result ((D.view dev.new).faults ≡ (D.view dev.old).faults) }
-        ensures cause { OnErr result (Rose (D.view dev.old).faults (D.view dev.new).faults) }
     {
         self.is_ready = false;
         self.is_sweeping = true;
@@ -85,21 +70,13 @@ impl Volume {
         requires sweeping { self.old.tables.is_sweeping ≡ true }
         requires unready { self.old.is_ready ≡ false }
         requires unspent { self.old.is_spent ≡ false }
-        requires at { D.told → IsAt self.old (D.view dev.old) }
-        ensures at { D.told → OnOk result (IsAt self.new (D.view dev.new)) }
-        ensures done { D.told → OnOk result (world_on (D.view dev.new) ≡ world_on (D.view dev.old)) }
+        requires at { D.told → IsVolumeAt self.old (D.view dev.old) }
+        ensures operation { IsOperation D.told (λ w. w) self.old self.new (D.view dev.old) (D.view dev.new) result }
+        ensures version { self.new.tables.version ≡ self.old.tables.version }
         ensures told { OnOk result (told_by self.new ≡ told_by self.old) }
         ensures settled { OnOk result (owed self.new.tables ≡ 0) }
         ensures still { OnOk result (self.new.tables.is_sweeping ≡ false) }
         ensures unready { self.new.is_ready ≡ false }
-        ensures unspent { OnOk result (self.new.is_spent ≡ false) }
-        ensures spent { OnErr result (self.new.is_spent ≡ true) }
-        ensures size { (self.new.tables.geometry ≡ self.old.tables.geometry) × (self.new.tables.version ≡ self.old.tables.version) }
-        ensures sent { D.told → (D.view dev.new).sent ≡ (D.view dev.old).sent }
-        ensures any_moment { D.told → LeavesWorld (D.view dev.old) (D.view dev.new) }
-        ensures works { Works (D.view dev.old) (D.view dev.new) }
-        ensures faultless { OnOk result ((D.view dev.new).faults ≡ (D.view dev.old).faults) }
-        ensures cause { OnErr result (Rose (D.view dev.old).faults (D.view dev.new).faults) }
     {
         while self.sweep_step(dev)? {}
         self.close_flag(dev)?;
@@ -111,21 +88,13 @@ impl Volume {
         requires sweeping { self.old.tables.is_sweeping ≡ true }
         requires whole { (r : World) → HasGraphOf (graph_in self.old.tables) r → swept r ≡ r }
         requires unready { self.old.is_ready ≡ false }
-        requires at { D.told → IsAt self.old (D.view dev.old) }
-        ensures at { D.told → OnOk result (IsAt self.new (D.view dev.new)) }
-        ensures done { D.told → OnOk result (world_on (D.view dev.new) ≡ world_on (D.view dev.old)) }
+        requires at { D.told → IsVolumeAt self.old (D.view dev.old) }
+        ensures operation { IsOperation D.told (λ w. w) self.old self.new (D.view dev.old) (D.view dev.new) result }
+        ensures version { self.new.tables.version ≡ self.old.tables.version }
         ensures told { OnOk result (told_by self.new ≡ told_by self.old) }
         ensures settled { OnOk result (owed self.new.tables ≡ 0) }
         ensures still { OnOk result (self.new.tables.is_sweeping ≡ false) }
         ensures unready { self.new.is_ready ≡ false }
-        ensures unspent { OnOk result (self.new.is_spent ≡ false) }
-        ensures spent { OnErr result (self.new.is_spent ≡ true) }
-        ensures size { (self.new.tables.geometry ≡ self.old.tables.geometry) × (self.new.tables.version ≡ self.old.tables.version) }
-        ensures sent { D.told → (D.view dev.new).sent ≡ (D.view dev.old).sent }
-        ensures any_moment { D.told → LeavesWorld (D.view dev.old) (D.view dev.new) }
-        ensures works { Works (D.view dev.old) (D.view dev.new) }
-        ensures faultless { OnOk result ((D.view dev.new).faults ≡ (D.view dev.old).faults) }
-        ensures cause { OnErr result (Rose (D.view dev.old).faults (D.view dev.new).faults) }
     {
         self.is_sweeping = false;
         self.batch.clear();
@@ -140,22 +109,16 @@ impl Volume {
         requires sweeping { self.old.tables.is_sweeping ≡ true }
         requires unready { self.old.is_ready ≡ false }
         requires unspent { self.old.is_spent ≡ false }
-        requires at { D.told → IsAt self.old (D.view dev.old) }
-        ensures at { D.told → OnOk result (IsAt self.new (D.view dev.new)) }
-        ensures done { D.told → OnOk result (world_on (D.view dev.new) ≡ world_on (D.view dev.old)) }
+        requires at { D.told → IsVolumeAt self.old (D.view dev.old) }
+        ensures operation { IsOperation D.told (λ w. w) self.old self.new (D.view dev.old) (D.view dev.new) result }
+        ensures version { self.new.tables.version ≡ self.old.tables.version }
         ensures told { OnOk result (told_by self.new ≡ told_by self.old) }
-        ensures lowered { IfOk result (λ some. some ≡ true → sweep_left self.new.tables < sweep_left self.old.tables) }
-        ensures whole { IfOk result (λ some. some ≡ false → (r : World) → HasGraphOf (graph_in self.new.tables) r → swept r ≡ r) }
+        ensures lowered { IfOk result (λ some. some ≡ true → sweep_left self.new.tables
+            < sweep_left self.old.tables) }
+        ensures whole { IfOk result (λ some. some ≡ false → (r : World) → HasGraphOf (graph_in self.new.tables) r
+            → swept r ≡ r) }
         ensures sweeping { OnOk result (self.new.tables.is_sweeping ≡ true) }
         ensures unready { self.new.is_ready ≡ false }
-        ensures unspent { OnOk result (self.new.is_spent ≡ false) }
-        ensures spent { OnErr result (self.new.is_spent ≡ true) }
-        ensures size { (self.new.tables.geometry ≡ self.old.tables.geometry) × (self.new.tables.version ≡ self.old.tables.version) }
-        ensures sent { D.told → (D.view dev.new).sent ≡ (D.view dev.old).sent }
-        ensures any_moment { D.told → LeavesWorld (D.view dev.old) (D.view dev.new) }
-        ensures works { Works (D.view dev.old) (D.view dev.new) }
-        ensures faultless { OnOk result ((D.view dev.new).faults ≡ (D.view dev.old).faults) }
-        ensures cause { OnErr result (Rose (D.view dev.old).faults (D.view dev.new).faults) }
     {
         match self.next_swept() {
             Some(step) => {
@@ -172,21 +135,13 @@ impl Volume {
         requires kept { AreSweptBy (graph_in self.old.tables) step.now }
         requires sweeping { self.old.tables.is_sweeping ≡ true }
         requires unready { self.old.is_ready ≡ false }
-        requires at { D.told → IsAt self.old (D.view dev.old) }
-        ensures at { D.told → OnOk result (IsAt self.new (D.view dev.new)) }
-        ensures done { D.told → OnOk result (world_on (D.view dev.new) ≡ world_on (D.view dev.old)) }
+        requires at { D.told → IsVolumeAt self.old (D.view dev.old) }
+        ensures operation { IsOperation D.told (λ w. w) self.old self.new (D.view dev.old) (D.view dev.new) result }
+        ensures version { self.new.tables.version ≡ self.old.tables.version }
         ensures told { OnOk result (told_by self.new ≡ told_by self.old) }
         ensures lowered { OnOk result (sweep_left self.new.tables < sweep_left self.old.tables) }
         ensures sweeping { OnOk result (self.new.tables.is_sweeping ≡ true) }
         ensures unready { self.new.is_ready ≡ false }
-        ensures unspent { OnOk result (self.new.is_spent ≡ false) }
-        ensures spent { OnErr result (self.new.is_spent ≡ true) }
-        ensures size { (self.new.tables.geometry ≡ self.old.tables.geometry) × (self.new.tables.version ≡ self.old.tables.version) }
-        ensures sent { D.told → (D.view dev.new).sent ≡ (D.view dev.old).sent }
-        ensures any_moment { D.told → LeavesWorld (D.view dev.old) (D.view dev.new) }
-        ensures works { Works (D.view dev.old) (D.view dev.new) }
-        ensures faultless { OnOk result ((D.view dev.new).faults ≡ (D.view dev.old).faults) }
-        ensures cause { OnErr result (Rose (D.view dev.old).faults (D.view dev.new).faults) }
     {
         self.batch.clear();
         put_step(

@@ -12,7 +12,8 @@ use reclaim::{Ahead, Guesses};
 use ref_counts::RefCounts;
 use std::marker::Model;
 
-/// A world on a device. Contracts see the tables of its image, the records of its journal, and whether it is ready and spent.
+/// A world on a device. Contracts see the tables of its image, the records of its journal, and whether it is ready and
+/// spent.
 #[derive(Drop)]
 pub struct Volume {
     /// The version and the size of the disk.
@@ -54,9 +55,15 @@ impl Model for Volume {
 
     ghost Value = { Value_of };
 
-    ghost view = { λ v. record { tables = tables_in v.header v.pointers v.counts v.live v.caps v.is_sweeping; ring = v.ring; is_ready = v.is_ready; is_spent = v.is_spent } };
+    ghost view = { λ v. record {
+      tables = tables_in v.header v.pointers v.counts v.live v.caps v.is_sweeping;
+      ring = v.ring;
+      is_ready = v.is_ready;
+      is_spent = v.is_spent;
+    } };
 
-    ghost invariant = { λ v. AreParts v.header v.pointers v.counts v.live v.caps v.is_sweeping (length v.marks) v.ahead v.is_ready };
+    ghost invariant = { λ v. AreParts v.header v.pointers v.counts v.live v.caps v.is_sweeping (length v.marks)
+        v.ahead v.is_ready };
 }
 
 impl Volume {

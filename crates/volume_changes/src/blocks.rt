@@ -31,7 +31,8 @@ pub fn put_block(batch: &mut Batch, layout: &Layout, block: u32, bytes: &[u8])
     requires inside { block < layout.now.geometry.blocks }
     requires size { length bytes.now ≤ block_len layout.now.geometry }
     ensures homes { length batch.new ≤ layout.now.geometry.sectors }
-    ensures written { (x : Image) → IsWritten layout.now.geometry block (filled (block_len layout.now.geometry) bytes.now) x (overlaid batch.new x) }
+    ensures written { (x : Image) → IsWritten layout.now.geometry block (filled (block_len layout.now.geometry)
+        bytes.now) x (overlaid batch.new x) }
 {
     for part in 0..layout.geometry.sectors {
         let _held = batch.len();

@@ -44,9 +44,12 @@ pub fn put_upgrade(batch: &mut Batch, was: u32, header: &Header, caps: &CapStore
     requires some { 1 ≤ caps.now.geometry.primaries }
     requires empty { caps.now.geometry.primaries ≤ 8 → caps_sector_bytes 2 caps.now.records 1 ≡ zeros }
     ensures none { was ≡ 2 → batch.new ≡ [] }
-    ensures header { IsVersion header.now.version → IsLawful header.now.geometry → IsReading (header_bytes header.now) (Ok header.now) }
+    ensures header { IsVersion header.now.version → IsLawful header.now.geometry
+        → IsReading (header_bytes header.now) (Ok header.now) }
     ensures few { length batch.new ≤ 3 }
-    ensures laid { was ≢ 2 → (x : Image) (n : ℕ) → overlaid batch.new x n ≡ put_at (caps_start + 1) (caps_sector_bytes 2 caps.now.records 1) (put_at caps_start (caps_sector_bytes 2 caps.now.records 0) (put_at 0 (header_bytes header.now) x)) n }
+    ensures laid { was ≢ 2 → (x : Image) (n : ℕ) → overlaid batch.new x n ≡ put_at (caps_start + 1)
+        (caps_sector_bytes 2 caps.now.records 1) (put_at caps_start (caps_sector_bytes 2 caps.now.records 0)
+        (put_at 0 (header_bytes header.now) x)) n }
 {
     let bytes = write_header(header);
     if was != DIGEST_VERSION {

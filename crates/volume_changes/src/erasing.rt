@@ -2,7 +2,7 @@
 
 ghost use Rattle.std.specs.Prelude.{◌≡◌, ℕ, ◌+◌, ◌≤◌, false, OnOk, OnErr};
 ghost use Rattle.image_device.specs.Calls.{Uses};
-ghost use Rattle.image_device.specs.Counts.{Rose};
+ghost use Rattle.image_device.specs.Counts.{CountsFault};
 ghost use Rattle.image_device.specs.Image.{zeros};
 ghost use Rattle.image_device.specs.Runs.{IsConfined};
 ghost use Rattle.image_layout.specs.Ring.{bodies};
@@ -18,8 +18,7 @@ fn write_zeros<D: Device>(dev: &mut D) -> Result<(), Failed>
     ensures erased { D.told → OnOk result ((n : ℕ) → 4 ≤ n → n ≤ 116 → (D.view dev.new).reads n ≡ zeros) }
     ensures confined { D.told → IsConfined is_body (D.view dev.old) (D.view dev.new) }
     ensures uses { Uses bodies (D.view dev.old) (D.view dev.new) }
-    ensures faultless { OnOk result ((D.view dev.new).faults ≡ (D.view dev.old).faults) }
-    ensures cause { OnErr result (Rose (D.view dev.old).faults (D.view dev.new).faults) }
+    ensures faults { CountsFault result (D.view dev.old).faults (D.view dev.new).faults }
 {
     for body in 0..BODIES {
         dev.write(body_sector(body), &[0; SECTOR_BYTES])?;
@@ -34,8 +33,7 @@ pub fn erase_bodies<D: Device>(dev: &mut D) -> Result<(), Failed>
     ensures firm { D.told → OnOk result ((n : ℕ) → (D.view dev.new).loose n ≡ false) }
     ensures confined { D.told → IsConfined is_body (D.view dev.old) (D.view dev.new) }
     ensures uses { Uses bodies (D.view dev.old) (D.view dev.new) }
-    ensures faultless { OnOk result ((D.view dev.new).faults ≡ (D.view dev.old).faults) }
-    ensures cause { OnErr result (Rose (D.view dev.old).faults (D.view dev.new).faults) }
+    ensures faults { CountsFault result (D.view dev.old).faults (D.view dev.new).faults }
 {
     write_zeros(dev)?;
     dev.sync()

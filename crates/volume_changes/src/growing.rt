@@ -1,6 +1,7 @@
 //! New blocks in tables and in a batch.
 
-ghost use Rattle.std.specs.Prelude.{◌≡◌, ℕ, ◌+◌, ◌*◌, ◌<◌, ◌≤◌, ◌∷◌, [], true, false, length, slice_set, IsTrue};
+ghost use Rattle.std.specs.Prelude.{◌≡◌, ℕ, ◌+◌, ◌*◌, ◌<◌, ◌≤◌, ◌∷◌, [], true, false};
+ghost use Rattle.std.specs.Prelude.{length, slice_set, IsTrue};
 ghost use Rattle.image_device.specs.Image.{Image, put_at};
 ghost use Rattle.image_layout.specs.Ring.{bodies};
 ghost use Rattle.intent_journal.specs.Batch.{with_patch};
@@ -21,7 +22,8 @@ pub(crate) fn put_patch(batch: &mut Batch, patch: &Patch)
     requires home { IsTrue (is_lawful_home patch.now.sector) }
     requires room { length batch.old < bodies }
     ensures few { length batch.new ≤ length batch.old + 1 }
-    ensures laid { (x : Image) (n : ℕ) → overlaid batch.new x n ≡ put_at patch.now.sector patch.now.bytes (overlaid batch.old x) n }
+    ensures laid { (x : Image) (n : ℕ) → overlaid batch.new x n ≡ put_at patch.now.sector patch.now.bytes
+        (overlaid batch.old x) n }
 {
     // A batch has no home twice.
     let _held = batch.len();
@@ -43,8 +45,13 @@ fn put_one(
     requires free { is_live live.old.live block ≡ false }
     requires room { length (pairs pointers.old) < live.old.geometry.slots }
     requires few { length batch.old + 3 ≤ bodies }
-    ensures grown { IsGrown live.old.geometry source (block ∷ []) (parts_of pointers.old counts.old live.old) (parts_of pointers.new counts.new live.new) batch.old batch.new }
-    ensures live { live.new ≡ record live.old { live = slice_set live.old.live block true; unhidden = slice_set live.old.unhidden block true } }
+    ensures grown { IsGrown live.old.geometry source (block ∷ []) (parts_of pointers.old counts.old live.old)
+        (parts_of pointers.new counts.new live.new) batch.old batch.new }
+    ensures live { live.new ≡ record live.old {
+      live = slice_set live.old.live block true;
+      unhidden = slice_set
+          live.old.unhidden block true;
+    } }
     ensures pairs { length (pairs pointers.new) ≡ length (pairs pointers.old) + 1 }
     ensures shown { HidesNone live.old → HidesNone live.new }
 {
@@ -71,7 +78,8 @@ pub fn put_new(
     requires fit { DoFit live.old.geometry (parts_of pointers.old counts.old live.old) }
     requires room { HasRoom live.old.geometry (parts_of pointers.old counts.old live.old) source blocks.now }
     requires most { length blocks.now ≤ 32 }
-    ensures grown { IsGrown live.old.geometry source blocks.now (parts_of pointers.old counts.old live.old) (parts_of pointers.new counts.new live.new) [] batch.new }
+    ensures grown { IsGrown live.old.geometry source blocks.now (parts_of pointers.old counts.old live.old)
+        (parts_of pointers.new counts.new live.new) [] batch.new }
 
     // Where no block is hidden, none is then.
     ensures shown { HidesNone live.old → HidesNone live.new }

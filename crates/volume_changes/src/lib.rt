@@ -1,12 +1,12 @@
 //! The changes that a volume makes of its tables, as batches, and the sectors of blocks.
 //!
-//! What it stands on: the tables of a disk in memory (`pointer_table`, `ref_counts`, `block_alloc`, `cap_store`), the batches and
-//! the ring of `intent_journal`, and `volume_laws`, which says what a batch does to the tables of an image.
+//! What it stands on: the tables of a disk in memory (`pointer_table`, `ref_counts`, `block_alloc`, `cap_store`), the
+//! batches and the ring of `intent_journal`, and `volume_laws`, which says what a batch does to the tables of an image.
 //!
-//! What it promises: a step of reclamation or of a sweep, new blocks, the bytes of a block and the upgrade each change the tables
-//! in memory and put into the batch exactly what turns the tables of an image into these. Nothing here commits a batch: that, and
-//! the order of it all, is `volume`'s. Outside the journal it reads the sectors of a block, and writes zeros: to blocks that aren't
-//! live yet, and over what the journal held.
+//! What it promises: a step of reclamation or of a sweep, new blocks, the bytes of a block and the upgrade each change
+//! the tables in memory and put into the batch exactly what turns the tables of an image into these. Nothing here
+//! commits a batch: that, and the order of it all, is `volume`'s. Outside the journal it reads the sectors of a block,
+//! and writes zeros: to blocks that aren't live yet, and over what the journal held.
 #![tactic(auto)]
 
 mod blocks;

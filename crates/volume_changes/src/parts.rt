@@ -3,10 +3,10 @@
 ghost use Rattle.std.specs.Prelude.{◌≡◌, ◌<◌, length, OnOk, OnErr};
 ghost use Rattle.tsd_model.specs.Geometry.{IsLawful, block_len};
 ghost use Rattle.image_device.specs.Calls.{Rests, Uses};
-ghost use Rattle.image_device.specs.Counts.{Rose};
+ghost use Rattle.image_device.specs.Counts.{CountsFault};
 ghost use Rattle.image_layout.specs.Image.{data_bytes};
 ghost use Rattle.intent_journal.specs.Home.{home};
-ghost use Rattle.intent_journal.specs.Ring.{IsAt as IsRingAt};
+ghost use Rattle.intent_journal.specs.Ring.{IsRingAt};
 
 use image_device::{Device, Failed};
 use image_layout::Layout;
@@ -25,12 +25,12 @@ pub fn read_parts<D: Device>(
     requires lawful { IsLawful layout.now.geometry }
     requires inside { block < layout.now.geometry.blocks }
     requires at { D.told → IsRingAt ring.now (D.view dev.old) }
-    ensures bytes { D.told → OnOk result (into.new ≡ data_bytes (home (D.view dev.old).reads) layout.now.geometry block) }
+    ensures bytes { D.told → OnOk result (into.new ≡ data_bytes (home (D.view dev.old).reads) layout.now.geometry
+        block) }
     ensures full { OnOk result (length into.new ≡ block_len layout.now.geometry) }
     ensures rests { D.told → Rests (D.view dev.old) (D.view dev.new) }
     ensures uses { Uses 0 (D.view dev.old) (D.view dev.new) }
-    ensures faultless { OnOk result ((D.view dev.new).faults ≡ (D.view dev.old).faults) }
-    ensures cause { OnErr result (Rose (D.view dev.old).faults (D.view dev.new).faults) }
+    ensures faults { CountsFault result (D.view dev.old).faults (D.view dev.new).faults }
 {
     let mut sector = [0; SECTOR_BYTES];
     *into = Data::new();

@@ -5,7 +5,7 @@ ghost use Rattle.tsd_model.specs.World.{World};
 ghost use Rattle.reclaim.specs.Ahead.{IsStepping, IsAheadOf};
 ghost use Rattle.reclaim.specs.Stepping.{after_step};
 ghost use Rattle.image_world.specs.Tables.{Tables};
-ghost use Rattle.volume_laws.specs.Steps.{MayTake, IsTaken, with_parts, MayPut, IsPut, with_all, live_after};
+ghost use Rattle.volume_laws.specs.Steps.{MayTake, IsTaken, with_slots_and_counts, MayPut, IsPut, with_all, live_after};
 
 use block_alloc::LiveMap;
 use intent_journal::Batch;
@@ -24,7 +24,8 @@ fn put_pairs(
     requires none { batch.old ≡ [] }
     requires few { length targets.now ≤ 16 }
     requires tables { (t : Tables) × MayTake t pointers.old counts.old source targets.now }
-    ensures taken { (t : Tables) → MayTake t pointers.old counts.old source targets.now → IsTaken t source targets.now (with_parts t pointers.new counts.new) batch.new }
+    ensures taken { (t : Tables) → MayTake t pointers.old counts.old source targets.now
+        → IsTaken t source targets.now (with_slots_and_counts t pointers.new counts.new) batch.new }
     ensures slots { pointers.new.geometry ≡ pointers.old.geometry }
     ensures counts { counts.new.geometry ≡ counts.old.geometry }
 {
@@ -49,7 +50,8 @@ pub fn put_step(
 )
     requires none { batch.old ≡ [] }
     requires tables { (t : Tables) × MayPut t pointers.old counts.old live.old step.now }
-    ensures put { (t : Tables) → MayPut t pointers.old counts.old live.old step.now → IsPut t step.now (with_all t pointers.new counts.new live.new) batch.new }
+    ensures put { (t : Tables) → MayPut t pointers.old counts.old live.old step.now
+        → IsPut t step.now (with_all t pointers.new counts.new live.new) batch.new }
     ensures slots { pointers.new.geometry ≡ pointers.old.geometry }
     ensures counts { counts.new.geometry ≡ counts.old.geometry }
     ensures live { live.new.geometry ≡ live.old.geometry }
@@ -67,7 +69,8 @@ pub fn put_step(
 /// Tells what is kept ahead of a step that was made, where it is right.
 pub fn note_step(ahead: &mut Ahead, is_ready: bool, step: &OutStep)
     requires told { is_ready ≡ true → (w : World) × IsStepping w step.now ahead.old }
-    ensures ahead { is_ready ≡ true → (w : World) → IsStepping w step.now ahead.old → IsAheadOf (after_step w step.now) ahead.new }
+    ensures ahead { is_ready ≡ true → (w : World) → IsStepping w step.now ahead.old
+        → IsAheadOf (after_step w step.now) ahead.new }
     ensures same { is_ready ≡ false → ahead.new ≡ ahead.old }
 {
     if is_ready {

@@ -26,11 +26,11 @@ use Rattle.graph_laws.proofs.ToldLaws.{contents-world_with}
 use Rattle.image_world.specs.Sound.{AreSound}
 use Rattle.image_world.specs.Tables.{Tables, pairs_of}
 use Rattle.volume_laws.specs.Growing.{AreFree, HidesNone}
-use Rattle.volume_laws.specs.Moments.{owed}
+use Rattle.image_world.specs.Debt.{owed, graph_in}
 use Rattle.volume_laws.specs.Volume.{tables_in}
 use Rattle.volume_laws.proofs.Dropped.{less_slots, HoldsPair}
 use Rattle.volume_laws.proofs.Pointed.{with_slots, IsOpenTo, marked, raw_absent}
-use Rattle.volume_laws.specs.Graphs.{graph_in, IsNext}
+use Rattle.volume_laws.specs.Graphs.{IsNext}
 use Rattle.volume_laws.specs.Steps.{IsStepped, live_after}
 use Rattle.volume_laws.proofs.StepWorlds.{graph_stepped}
 use Rattle.volume_laws.proofs.TableWorlds.{graph_laid_out, graph_raw, none_owed, told_live, told_held, settled_held}

@@ -17,8 +17,9 @@ use Rattle.image_world.specs.Raw.{world_with, zeros_of, blank_of}
 use Rattle.disk_laws.proofs.DoomLaws.{live-restricted}
 use Rattle.image_world.proofs.RawLaws.{live_with, blocks_with}
 use Rattle.volume_laws.specs.Growing.{AreFree}
-use Rattle.volume_laws.specs.Volume.{Volume, IsReady, told_by, world_on}
-use Rattle.volume_laws.specs.Moments.{LeavesEither, LeavesWorld, StandsForEither, owed}
+use Rattle.volume_laws.specs.Volume.{Volume, IsVolumeReady, told_by, world_on}
+use Rattle.volume_laws.specs.Moments.{LeavesEither, LeavesWorld, StandsForEither}
+use Rattle.image_world.specs.Debt.{owed}
 use Rattle.volume_laws.proofs.Pointed.{settled_pairs}
 use Rattle.volume_laws.proofs.TableWorlds.{blank, same_doomed, none_owed}
 
@@ -81,13 +82,13 @@ are_free live n (b ∷ bs) each apart =
       | inr e ↦ e
     ]
 
-pub told_free : (old new : Volume) (bs : List ℕ) → IsReady new → owed new.tables ≡ 0 → told_by new ≡ told_by old
+pub told_free : (old new : Volume) (bs : List ℕ) → IsVolumeReady new → owed new.tables ≡ 0 → told_by new ≡ told_by old
     → ((i b : ℕ) → slice_get bs i ≡ Some b → is_free (told_by old) b ≡ true) → ((i j b : ℕ) → slice_get bs i ≡ Some b → slice_get bs j ≡ Some b → i ≡ j)
     → AreFree new.tables.live new.tables.geometry.blocks bs
 told_free old new bs ready none told free apart =
     are_free new.tables.live new.tables.geometry.blocks bs (λ i b h. free_raw new.tables b ready.1 none (ap (λ v. is_free v b) told ∙ free i b h)) apart
 
-pub told_room : (old new : Volume) (bs : List ℕ) → IsReady new → owed new.tables ≡ 0 → told_by new ≡ told_by old → new.tables.geometry ≡ old.tables.geometry → length (told_by old).pairs + length bs ≤ old.tables.geometry.slots
+pub told_room : (old new : Volume) (bs : List ℕ) → IsVolumeReady new → owed new.tables ≡ 0 → told_by new ≡ told_by old → new.tables.geometry ≡ old.tables.geometry → length (told_by old).pairs + length bs ≤ old.tables.geometry.slots
     → length (pairs_of new.tables) + length bs ≤ new.tables.geometry.slots
 told_room old new bs ready none told size room =
     let all = ap (λ (es : List (ℕ × ℕ)). length es) (settled_pairs new.tables ready.1 none) in

@@ -15,7 +15,7 @@ use Rattle.image_layout.specs.Image.{Image}
 use Rattle.image_layout.specs.declared.place.Patch.{Patch}
 use Rattle.intent_journal.specs.Home.{home, overlaid, is_journal, AgreeBut}
 use Rattle.intent_journal.specs.Records.{Record}
-use Rattle.intent_journal.specs.Ring.{IsAt as IsRingAt}
+use Rattle.intent_journal.specs.Ring.{IsRingAt}
 use Rattle.intent_journal.specs.Crash.{IsBefore, IsAfter, IsBeforeOrAfter}
 use Rattle.intent_journal.proofs.Opened.{home_of_empty}
 use Rattle.intent_journal.proofs.Uses.{at_valid}
@@ -30,22 +30,22 @@ use Rattle.image_world.proofs.RawLaws.{blocks_with}
 use Rattle.image_world.proofs.AlikeLaws.{alike_tables}
 use Rattle.image_world.proofs.AgreeLaws.{alike_outside, formatted_by, old_stands}
 use Rattle.image_world.proofs.WrittenLaws.{above_journal, written_stands, written_tables}
-use Rattle.volume_laws.specs.Volume.{Volume, IsAt, told_by, world_on}
+use Rattle.volume_laws.specs.Volume.{Volume, IsVolumeAt, told_by, world_on}
 use Rattle.volume_laws.specs.Moments.{StandsForEither, LeavesEither, LeavesWorld}
 
 -- ---- homes that agree outside the journal
-pub agree_stands : (vol : Volume) (old : View) (x : Image) → IsAt vol old → ((n : ℕ) → is_journal n ≡ false → home x n ≡ home old.reads n) → HasJournal x → Stands x (world_on old)
+pub agree_stands : (vol : Volume) (old : View) (x : Image) → IsVolumeAt vol old → ((n : ℕ) → is_journal n ≡ false → home x n ≡ home old.reads n) → HasJournal x → Stands x (world_on old)
 agree_stands vol old x at same valid = old_stands old.reads x at.good same valid
 
-pub before_stands : (vol : Volume) (old : View) (x : Image) → IsAt vol old → IsBefore old x → Stands x (world_on old)
+pub before_stands : (vol : Volume) (old : View) (x : Image) → IsVolumeAt vol old → IsBefore old x → Stands x (world_on old)
 before_stands vol old x at before = agree_stands vol old x at (λ n out. before.stands n (neither n out)) before.valid
   where
     neither : (n : ℕ) → is_journal n ≡ false → (is_journal n || old.loose n) ≡ false
     neither n out = rw out (at.firm n)
 
 -- a device whose home is the same
-pub same_new : (vol now : Volume) (old new : View) → IsAt vol old → ((n : ℕ) → is_journal n ≡ false → home new.reads n ≡ home old.reads n) → IsRingAt now.ring new → IsFirm new → now.tables ≡ vol.tables
-    → IsAt now new × (world_on new ≡ world_on old)
+pub same_new : (vol now : Volume) (old new : View) → IsVolumeAt vol old → ((n : ℕ) → is_journal n ≡ false → home new.reads n ≡ home old.reads n) → IsRingAt now.ring new → IsFirm new → now.tables ≡ vol.tables
+    → IsVolumeAt now new × (world_on new ≡ world_on old)
 same_new vol now old new at same ring firm kept =
     let stands = agree_stands vol old new.reads at same (at_valid ring) in (
       record {
@@ -58,19 +58,19 @@ same_new vol now old new at same ring firm kept =
     )
 
 -- the ring was emptied
-pub emptied_ok : {T E : Type 0} (r : Result T E) (vol now : Volume) (old new : View) → IsAt vol old → OnOk r (AgreeBut is_journal (home old.reads) new.reads) → OnOk r (IsRingAt [] new) → OnOk r (IsFirm new) → OnOk r (now.ring ≡ []) → now.tables ≡ vol.tables
-    → OnOk r (IsAt now new × (world_on new ≡ world_on old))
+pub emptied_ok : {T E : Type 0} (r : Result T E) (vol now : Volume) (old new : View) → IsVolumeAt vol old → OnOk r (AgreeBut is_journal (home old.reads) new.reads) → OnOk r (IsRingAt [] new) → OnOk r (IsFirm new) → OnOk r (now.ring ≡ []) → now.tables ≡ vol.tables
+    → OnOk r (IsVolumeAt now new × (world_on new ≡ world_on old))
 emptied_ok (Ok u) vol now old new at agree ring firm none kept =
     let here = home_of_empty new.reads ring.shows in
     same_new vol now old new at (λ n out. (λ i. here i n) ∙ agree n out) (subst (λ (rs : List Record). IsRingAt rs new) (sym none) ring) firm kept
 emptied_ok (Err e) vol now old new at agree ring firm none kept = tt
 
-pub before_moments : (vol : Volume) (old new : View) → IsAt vol old → LeavesOnly old new (λ x f. IsBefore old x × (f ≡ old.sent)) → LeavesWorld old new
+pub before_moments : (vol : Volume) (old new : View) → IsVolumeAt vol old → LeavesOnly old new (λ x f. IsBefore old x × (f ≡ old.sent)) → LeavesWorld old new
 before_moments vol old new at leaves =
     weakened old new (λ x f. IsBefore old x × (f ≡ old.sent)) (λ x f. Stands x (world_on old) × (f ≡ old.sent)) leaves (λ x f left. (before_stands vol old x at left.0, left.1))
 
 -- ---- what memory tells
-pub told_like : (vol : Volume) (v : View) → IsAt vol v → AreLike (told_by vol) (world_on v)
+pub told_like : (vol : Volume) (v : View) → IsVolumeAt vol v → AreLike (told_by vol) (world_on v)
 unfolding world_of
 told_like vol v at =
     let t = tables_of (home v.reads) in
@@ -81,14 +81,14 @@ pub geometry_with : (t : Tables) (c : ℕ → List ℕ) → (left_of t (world_wi
 unfolding left_of world_with
 geometry_with t c = elim (cases_Bool t.is_sweeping) [ inl e ↦ rw e refl | inr e ↦ rw e refl ]
 
-pub told_geometry : (vol : Volume) (v : View) → IsAt vol v → (world_on v).geometry ≡ vol.tables.geometry
+pub told_geometry : (vol : Volume) (v : View) → IsVolumeAt vol v → (world_on v).geometry ≡ vol.tables.geometry
 told_geometry vol v at = sym (told_like vol v at).geometry ∙ geometry_with vol.tables (zeros_of vol.tables)
 
 header_geometry : (x : Image) → (tables_of x).geometry ≡ (header_on x).geometry
 unfolding tables_of
 header_geometry x = refl
 
-pub image_geometry : (vol : Volume) (v : View) → IsAt vol v → (header_on (home v.reads)).geometry ≡ vol.tables.geometry
+pub image_geometry : (vol : Volume) (v : View) → IsVolumeAt vol v → (header_on (home v.reads)).geometry ≡ vol.tables.geometry
 image_geometry vol v at = sym (header_geometry (home v.reads)) ∙ ap (λ (t : Tables). t.geometry) at.tables
 
 -- a block that is told live is one of the disk
@@ -107,7 +107,7 @@ written_after batch g b bytes old x written agree = record {
 gate_apart : (g : Geometry) (b part : ℕ) → format_gate ≢ data_sector g b part
 gate_apart g b part same = omega arith
 
-pub after_stands : (vol : Volume) (old : View) (x : Image) (batch : List Patch) (g : Geometry) (b : ℕ) (bytes : List ℕ) → IsAt vol old → g ≡ vol.tables.geometry → is_live (told_by vol) b ≡ true → length bytes ≡ block_len g
+pub after_stands : (vol : Volume) (old : View) (x : Image) (batch : List Patch) (g : Geometry) (b : ℕ) (bytes : List ℕ) → IsVolumeAt vol old → g ≡ vol.tables.geometry → is_live (told_by vol) b ≡ true → length bytes ≡ block_len g
     → ((z : Image) → IsWritten g b bytes z (overlaid batch z)) → IsAfter batch old x → Stands x (with_contents (world_on old) b bytes)
 after_stands vol old x batch g b bytes at same live long written after =
     let now = written_after batch g b bytes old.reads x written after.stands in
@@ -120,17 +120,17 @@ after_stands vol old x batch g b bytes at same live long written after =
     (formatted_by old.reads x gate at.good.formatted) after.valid
 
 -- the images that a commit leaves
-pub written_moments : (vol : Volume) (old new : View) (batch : List Patch) (g : Geometry) (b : ℕ) (bytes : List ℕ) → IsAt vol old → g ≡ vol.tables.geometry → is_live (told_by vol) b ≡ true → length bytes ≡ block_len g
+pub written_moments : (vol : Volume) (old new : View) (batch : List Patch) (g : Geometry) (b : ℕ) (bytes : List ℕ) → IsVolumeAt vol old → g ≡ vol.tables.geometry → is_live (told_by vol) b ≡ true → length bytes ≡ block_len g
     → ((z : Image) → IsWritten g b bytes z (overlaid batch z)) → LeavesOnly old new (λ x f. IsBeforeOrAfter batch old x × (f ≡ old.sent)) → LeavesEither old new (with_contents (world_on old) b bytes)
 written_moments vol old new batch g b bytes at same live long written leaves =
     weakened old new (λ x f. IsBeforeOrAfter batch old x × (f ≡ old.sent)) (λ x f. StandsForEither (world_on old) (with_contents (world_on old) b bytes) x × (f ≡ old.sent)) leaves
     (λ x f left. (⊎_elim (λ before. inl (before_stands vol old x at before)) (λ after. inr (after_stands vol old x batch g b bytes at same live long written after)) left.0, left.1))
 
 -- the device after it
-pub written_new : (vol now : Volume) (old new : View) (batch : List Patch) (g : Geometry) (b : ℕ) (bytes : List ℕ) → IsAt vol old → g ≡ vol.tables.geometry → is_live (told_by vol) b ≡ true → length bytes ≡ block_len g
+pub written_new : (vol now : Volume) (old new : View) (batch : List Patch) (g : Geometry) (b : ℕ) (bytes : List ℕ) → IsVolumeAt vol old → g ≡ vol.tables.geometry → is_live (told_by vol) b ≡ true → length bytes ≡ block_len g
     → ((z : Image) → IsWritten g b bytes z (overlaid batch z)) → AgreeBut is_journal (overlaid batch (home old.reads)) (home new.reads)
     → IsRingAt now.ring new → IsFirm new → now.tables ≡ vol.tables
-    → IsAt now new × (world_on new ≡ with_contents (world_on old) b bytes)
+    → IsVolumeAt now new × (world_on new ≡ with_contents (world_on old) b bytes)
 written_new vol now old new batch g b bytes at same live long written agree ring firm kept =
     let stands = after_stands vol old new.reads batch g b bytes at same live long written (record { valid = at_valid ring; stands = agree }) in
     let size : g ≡ (header_on (home old.reads)).geometry = same ∙ sym (image_geometry vol old at) in
@@ -145,10 +145,10 @@ written_new vol now old new batch g b bytes at same live long written agree ring
     )
 
 -- the same, where the commit was Ok
-pub written_ok : {T E : Type 0} (r : Result T E) (vol now : Volume) (old new : View) (batch : List Patch) (g : Geometry) (b : ℕ) (bytes : List ℕ) → IsAt vol old → g ≡ vol.tables.geometry → is_live (told_by vol) b ≡ true → length bytes ≡ block_len g
+pub written_ok : {T E : Type 0} (r : Result T E) (vol now : Volume) (old new : View) (batch : List Patch) (g : Geometry) (b : ℕ) (bytes : List ℕ) → IsVolumeAt vol old → g ≡ vol.tables.geometry → is_live (told_by vol) b ≡ true → length bytes ≡ block_len g
     → ((z : Image) → IsWritten g b bytes z (overlaid batch z)) → OnOk r (AgreeBut is_journal (overlaid batch (home old.reads)) (home new.reads))
     → OnOk r (IsRingAt now.ring new) → OnOk r (IsFirm new) → now.tables ≡ vol.tables
-    → OnOk r (IsAt now new × (world_on new ≡ with_contents (world_on old) b bytes))
+    → OnOk r (IsVolumeAt now new × (world_on new ≡ with_contents (world_on old) b bytes))
 written_ok (Ok u) vol now old new batch g b bytes at same live long written agree ring firm kept = written_new vol now old new batch g b bytes at same live long written agree ring firm kept
 written_ok (Err e) vol now old new batch g b bytes at same live long written agree ring firm kept = tt
 

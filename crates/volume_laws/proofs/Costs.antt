@@ -7,7 +7,7 @@ use Rattle.image_layout.specs.declared.place.Patch.{Patch}
 use Rattle.intent_journal.specs.Records.{Record}
 use Rattle.intent_journal.specs.Ring.{committed, checkpoint_writes, commit_writes}
 use Rattle.intent_journal.proofs.Costs as journal
-use Rattle.volume_laws.specs.Moments.{owed}
+use Rattle.image_world.specs.Debt.{owed}
 use Rattle.volume_laws.specs.Volume.{Volume}
 use Rattle.volume_laws.specs.Writes.{batch_cost, IsPaid}
 

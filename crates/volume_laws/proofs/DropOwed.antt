@@ -15,11 +15,11 @@ use Rattle.graph_laws.proofs.DropLaws.{delete_dooms}
 use Rattle.graph_laws.proofs.SameGraphLaws.{free_count_by_graph, settle_by_graph}
 use Rattle.graph_laws.proofs.SettleLaws.{length-settle}
 use Rattle.graph_laws.proofs.WeightLaws.{free_count-settle}
-use Rattle.reclaim.specs.Stepping.{doomed_size}
+use Rattle.graph_laws.specs.Counts.{doomed_size}
 use Rattle.image_world.specs.Tables.{Tables, pairs_of}
 use Rattle.image_world.specs.Raw.{blank_of}
-use Rattle.volume_laws.specs.Graphs.{graph_in}
-use Rattle.volume_laws.specs.Moments.{owed, made}
+use Rattle.image_world.specs.Debt.{graph_in, owed}
+use Rattle.volume_laws.specs.Moments.{made}
 use Rattle.volume_laws.specs.Volume.{Volume}
 use Rattle.volume_laws.specs.Writes.{batch_cost, lost_cost, IsPaid}
 use Rattle.volume_laws.proofs.Costs.{commit_pays}

@@ -33,7 +33,7 @@ use Rattle.image_world.specs.Raw.{left_of, world_with, blank_of}
 use Rattle.volume_laws.specs.Volume.{tables_in}
 use Rattle.volume_laws.proofs.BlockLaws.{length-with_patch}
 use Rattle.image_world.specs.Turns.{Turns}
-use Rattle.volume_laws.specs.Graphs.{graph_in}
+use Rattle.image_world.specs.Debt.{graph_in}
 use Rattle.volume_laws.proofs.TableWorlds.{laid_out, told_held, settled_held}
 use Rattle.volume_laws.proofs.Pointed.{pointer_turn, one_at, none_at}
 

@@ -11,7 +11,7 @@ use Rattle.image_layout.specs.Image.{Image, is_open}
 use Rattle.image_layout.specs.Ring.{gate_sector}
 use Rattle.intent_journal.specs.Home.{home, is_journal}
 use Rattle.intent_journal.specs.Records.{Record}
-use Rattle.intent_journal.specs.Ring.{IsAt as IsRingAt}
+use Rattle.intent_journal.specs.Ring.{IsRingAt}
 use Rattle.intent_journal.proofs.Opened.{home_of_empty}
 use Rattle.intent_journal.proofs.Uses.{at_closed, at_valid}
 use Rattle.image_world.specs.Fresh.{AreClosed}
@@ -19,8 +19,9 @@ use Rattle.image_world.specs.Stands.{Stands}
 use Rattle.image_world.specs.Tables.{tables_of}
 use Rattle.image_world.proofs.AlikeLaws.{alike_tables}
 use Rattle.volume_laws.specs.Erased.{is_body}
-use Rattle.volume_laws.specs.Moments.{LeavesWorld, LeavesOwed, owed}
-use Rattle.volume_laws.specs.Volume.{Volume, IsAt, world_on}
+use Rattle.volume_laws.specs.Moments.{LeavesWorld, LeavesOwed}
+use Rattle.image_world.specs.Debt.{owed}
+use Rattle.volume_laws.specs.Volume.{Volume, IsVolumeAt, world_on}
 use Rattle.volume_laws.proofs.Committed.{agree_stands, same_new}
 use Rattle.image_world.proofs.AgreeLaws.{alike_outside}
 
@@ -45,7 +46,7 @@ gate_out index less = elim (cases_eq index 0) [
 outside : (n : ℕ) → is_journal n ≡ false → is_body n ≡ false
 outside n out = grind (arith, nat_tests)
 
-module _ (vol : Volume) (old : View) (at : IsAt vol old) (none : vol.ring ≡ []) where
+module _ (vol : Volume) (old : View) (at : IsVolumeAt vol old) (none : vol.ring ≡ []) where
   ring_old : IsRingAt [] old
   ring_old = subst (λ (rs : List Record). IsRingAt rs old) none at.ring
 
@@ -79,12 +80,12 @@ module _ (vol : Volume) (old : View) (at : IsAt vol old) (none : vol.ring ≡ []
   erased_closed new run = λ index less. ap is_open (run.reads (gate_sector index) (gate_out index less)) ∙ ring_old.others_closed index (omega arith) less
 
   -- the device then
-  pub erased_new : (now : Volume) (new : View) → now.ring ≡ [] → now.tables ≡ vol.tables → IsConfined is_body old new → IsFirm new → IsAt now new × (world_on new ≡ world_on old)
+  pub erased_new : (now : Volume) (new : View) → now.ring ≡ [] → now.tables ≡ vol.tables → IsConfined is_body old new → IsFirm new → IsVolumeAt now new × (world_on new ≡ world_on old)
   erased_new now new empty kept run firm =
       same_new vol now old new at (home_there new.reads run.reads)
       (subst (λ (rs : List Record). IsRingAt rs new) (sym empty) (at_closed new (erased_closed new run) (λ n inside. firm n)))
       firm kept
 
-pub erased_ok : {T E : Type 0} (r : Result T E) (vol now : Volume) (old new : View) → IsAt vol old → vol.ring ≡ [] → now.ring ≡ [] → now.tables ≡ vol.tables → IsConfined is_body old new → OnOk r (IsFirm new) → OnOk r (IsAt now new × (world_on new ≡ world_on old))
+pub erased_ok : {T E : Type 0} (r : Result T E) (vol now : Volume) (old new : View) → IsVolumeAt vol old → vol.ring ≡ [] → now.ring ≡ [] → now.tables ≡ vol.tables → IsConfined is_body old new → OnOk r (IsFirm new) → OnOk r (IsVolumeAt now new × (world_on new ≡ world_on old))
 erased_ok (Ok u) vol now old new at none empty kept run firm = erased_new vol old at none now new empty kept run firm
 erased_ok (Err e) vol now old new at none empty kept run firm = tt

@@ -23,7 +23,8 @@ use Rattle.graph_laws.specs.Steps.{IsAlone, without_pointers}
 use Rattle.pointer_table.specs.declared.out_step.OutStep.{OutStep}
 use Rattle.image_world.specs.Sound.{AreSound}
 use Rattle.image_world.specs.Tables.{Tables, pairs_of}
-use Rattle.volume_laws.specs.Graphs.{graph_in, IsNext}
+use Rattle.volume_laws.specs.Graphs.{IsNext}
+use Rattle.image_world.specs.Debt.{graph_in}
 use Rattle.volume_laws.specs.Steps.{pairs_without, IsAllowed}
 use Rattle.image_world.specs.Turns.{Turns}
 use Rattle.volume_laws.proofs.StepWorlds.{without_parts}

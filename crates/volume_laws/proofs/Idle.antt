@@ -1,21 +1,26 @@
 -- Where no call is made.
-use Rattle.std.proofs.Common.{◌≡◌, ℕ, ◌≤◌, refl, sym, ◌∙◌, ap, subst, arith}
+use Rattle.std.proofs.Common.{◌≡◌, ℕ, ◌≤◌, inl, refl, sym, ◌∙◌, ap, subst, arith}
 use Rattle.image_device.specs.View.{View, IsSound}
-use Rattle.image_device.proofs.Moments.{started, firm_image, joined}
+use Rattle.image_device.proofs.Moments.{started, firm_image, joined, weakened}
 use Rattle.image_layout.specs.Image.{Image}
 use Rattle.intent_journal.specs.Home.{home}
 use Rattle.image_world.specs.Tables.{tables_of}
 use Rattle.image_world.specs.Stands.{Stands}
-use Rattle.volume_laws.specs.Volume.{Volume, IsAt, world_on}
-use Rattle.volume_laws.specs.Moments.{LeavesWorld, LeavesOwed, owed}
+use Rattle.volume_laws.specs.Volume.{Volume, IsVolumeAt, world_on}
+use Rattle.volume_laws.specs.Moments.{LeavesEither, LeavesWorld, LeavesOwed, StandsForEither}
+use Rattle.image_world.specs.Debt.{owed}
 
-here_stands : (vol : Volume) (v : View) → IsAt vol v → Stands v.reads (world_on v)
+here_stands : (vol : Volume) (v : View) → IsVolumeAt vol v → Stands v.reads (world_on v)
 here_stands vol v at = record { good = at.good; world = refl }
 
-pub idle_world : (vol : Volume) (v : View) → IsSound v → IsAt vol v → LeavesWorld v v
+pub idle_world : (vol : Volume) (v : View) → IsSound v → IsVolumeAt vol v → LeavesWorld v v
 idle_world vol v sound at = started v (λ x f. Stands x (world_on v) × (f ≡ v.sent)) sound (λ x f left. (subst (λ (y : Image). Stands y (world_on v)) (sym (firm_image v at.firm x f left)) (here_stands vol v at), left.1))
 
-pub idle_owed : (vol : Volume) (v : View) → IsSound v → IsAt vol v → LeavesOwed v v (owed vol.tables)
+pub idle_either : (vol : Volume) (v : View) → IsSound v → IsVolumeAt vol v → LeavesEither v v (world_on v)
+idle_either vol v sound at =
+    weakened v v (λ x f. Stands x (world_on v) × (f ≡ v.sent)) (λ x f. StandsForEither (world_on v) (world_on v) x × (f ≡ v.sent)) (idle_world vol v sound at) (λ x f left. (inl left.0, left.1))
+
+pub idle_owed : (vol : Volume) (v : View) → IsSound v → IsVolumeAt vol v → LeavesOwed v v (owed vol.tables)
 idle_owed vol v sound at = started v (λ x f. owed (tables_of (home x)) ≤ owed vol.tables) sound (λ x f left.
     subst (λ (y : Image). owed (tables_of (home y)) ≤ owed vol.tables) (sym (firm_image v at.firm x f left))
     (let e : owed (tables_of (home v.reads)) ≡ owed vol.tables = ap owed at.tables in omega (arith, e)))

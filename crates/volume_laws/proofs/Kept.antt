@@ -26,7 +26,7 @@ use Rattle.graph_laws.proofs.SameGraphLaws.{doomed_by_graph, graph-of_records}
 use Rattle.image_world.specs.Sound.{AreSound}
 use Rattle.image_world.specs.Tables.{Tables}
 use Rattle.image_world.specs.Raw.{left_of, world_with, zeros_of}
-use Rattle.volume_laws.specs.Moments.{owed}
+use Rattle.image_world.specs.Debt.{owed}
 use Rattle.image_world.specs.Turns.{Turns}
 use Rattle.image_world.proofs.ChangeLaws.{left_records}
 

@@ -17,6 +17,7 @@ pub mod AheadKept
 pub mod StepOps
 pub mod NextLaws
 pub mod Idle
+pub mod OperationLaws
 pub mod SettlingLaws
 pub mod DropOwed
 pub mod Grown

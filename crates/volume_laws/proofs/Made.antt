@@ -25,11 +25,10 @@ use Rattle.graph_laws.proofs.LostLaws.{alone_count}
 use Rattle.graph_laws.proofs.SettleLaws.{none_is_led, led_has_none, settle_none}
 use Rattle.graph_laws.proofs.ToldLaws.{live-graph}
 use Rattle.tsd_model.proofs.CountLaws.{source_removed}
-use Rattle.volume_laws.specs.Graphs.{graph_in}
+use Rattle.image_world.specs.Debt.{graph_in, owed}
 use Rattle.volume_laws.proofs.TableWorlds.{laid_out, graph_laid_out, same_doomed, none_owed}
 use Rattle.image_world.proofs.RawLaws.{live_with, blocks_with}
 use Rattle.volume_laws.specs.Growing.{Parts, with_parts, DoFit, HasNoLost, IsGrown}
-use Rattle.volume_laws.specs.Moments.{owed}
 use Rattle.image_world.specs.Turns.{Turns}
 
 -- ---- nothing is doomed

@@ -12,7 +12,7 @@ use Rattle.cap_store.specs.Store.{Store}
 use Rattle.image_layout.specs.declared.header.Header.{Header}
 use Rattle.reclaim.specs.Ahead.{Kept}
 use Rattle.reclaim.specs.Tables.{graph_of, AreTables, HaveCounts}
-use Rattle.volume_laws.specs.Graphs.{graph_in}
+use Rattle.image_world.specs.Debt.{graph_in}
 use Rattle.volume_laws.specs.Volume.{AreParts, tables_in}
 use Rattle.volume_laws.proofs.TableWorlds.{graph_raw}
 

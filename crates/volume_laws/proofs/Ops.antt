@@ -13,11 +13,12 @@ use Rattle.intent_journal.specs.Crash.{IsBeforeOrAfter}
 use Rattle.intent_journal.specs.Home.{home, overlaid, is_journal, AgreeBut}
 use Rattle.intent_journal.specs.Records.{Record}
 use Rattle.intent_journal.specs.Ring.{committed, commit_writes}
-use Rattle.intent_journal.specs.Ring.{IsAt as IsRingAt}
+use Rattle.intent_journal.specs.Ring.{IsRingAt}
 use Rattle.image_world.specs.Tables.{Tables}
 use Rattle.image_world.specs.Raw.{left_of, world_with, data_on, zeros_of}
-use Rattle.volume_laws.specs.Volume.{Volume, IsAt, world_on, told_by}
-use Rattle.volume_laws.specs.Moments.{LeavesEither, owed}
+use Rattle.volume_laws.specs.Volume.{Volume, IsVolumeAt, world_on, told_by}
+use Rattle.volume_laws.specs.Moments.{LeavesEither}
+use Rattle.image_world.specs.Debt.{owed}
 use Rattle.volume_laws.specs.Writes.{batch_cost, lost_cost, IsPaid}
 use Rattle.image_world.specs.Turns.{Turns}
 use Rattle.volume_laws.proofs.Changed.{turned_world, world_is, turned_ok, turned_moments}
@@ -38,24 +39,24 @@ pub record IsOp (fit : (ℕ → List ℕ) → Type 0) (vol : Volume) (now : Tabl
 abbrev pub any_bytes : (ℕ → List ℕ) → Type 0
 any_bytes c = Unit {0}
 
-pub op_world : (fit : (ℕ → List ℕ) → Type 0) (vol : Volume) (now : Tables) (batch : List Patch) (homes more : ℕ) (change : World → World) (v : View) → IsOp fit vol now batch homes more change → IsAt vol v → fit (data_on (home v.reads)) → turned_world now v ≡ change (world_on v)
+pub op_world : (fit : (ℕ → List ℕ) → Type 0) (vol : Volume) (now : Tables) (batch : List Patch) (homes more : ℕ) (change : World → World) (v : View) → IsOp fit vol now batch homes more change → IsVolumeAt vol v → fit (data_on (home v.reads)) → turned_world now v ≡ change (world_on v)
 op_world fit vol now batch homes more change v op at fits = op.world (data_on (home v.reads)) fits ∙ ap change (world_is vol v at)
 
 pub op_told : {T E : Type 0} (r : Result T E) (fit : (ℕ → List ℕ) → Type 0) (vol now : Volume) (batch : List Patch) (homes more : ℕ) (change : World → World) → IsOp fit vol now.tables batch homes more change → OnOk r (told_by now ≡ change (told_by vol))
 op_told r fit vol now batch homes more change op =
     on_ok r (ap (λ (g : Geometry). left_of now.tables (world_with now.tables (λ b. replicate (block_len g) 0))) op.turns.size ∙ op.world (zeros_of vol.tables) op.zeros)
 
-pub op_at : {T E : Type 0} (r : Result T E) (fit : (ℕ → List ℕ) → Type 0) (vol now : Volume) (old new : View) (batch : List Patch) (homes more : ℕ) (change : World → World) → IsOp fit vol now.tables batch homes more change → IsAt vol old → fit (data_on (home old.reads))
-    → OnOk r (AgreeBut is_journal (overlaid batch (home old.reads)) (home new.reads)) → OnOk r (IsRingAt now.ring new) → OnOk r (IsFirm new) → OnOk r (IsAt now new)
+pub op_at : {T E : Type 0} (r : Result T E) (fit : (ℕ → List ℕ) → Type 0) (vol now : Volume) (old new : View) (batch : List Patch) (homes more : ℕ) (change : World → World) → IsOp fit vol now.tables batch homes more change → IsVolumeAt vol old → fit (data_on (home old.reads))
+    → OnOk r (AgreeBut is_journal (overlaid batch (home old.reads)) (home new.reads)) → OnOk r (IsRingAt now.ring new) → OnOk r (IsFirm new) → OnOk r (IsVolumeAt now new)
 op_at r fit vol now old new batch homes more change op at fits done ring firm =
     ok_map r _ _ (λ both. both.0) (turned_ok r vol now old new batch (change (world_on old)) at op.turns (op_world fit vol now.tables batch homes more change old op at fits) done ring firm)
 
-pub op_done : {T E : Type 0} (r : Result T E) (fit : (ℕ → List ℕ) → Type 0) (vol now : Volume) (old new : View) (batch : List Patch) (homes more : ℕ) (change : World → World) → IsOp fit vol now.tables batch homes more change → IsAt vol old → fit (data_on (home old.reads))
+pub op_done : {T E : Type 0} (r : Result T E) (fit : (ℕ → List ℕ) → Type 0) (vol now : Volume) (old new : View) (batch : List Patch) (homes more : ℕ) (change : World → World) → IsOp fit vol now.tables batch homes more change → IsVolumeAt vol old → fit (data_on (home old.reads))
     → OnOk r (AgreeBut is_journal (overlaid batch (home old.reads)) (home new.reads)) → OnOk r (IsRingAt now.ring new) → OnOk r (IsFirm new) → OnOk r (world_on new ≡ change (world_on old))
 op_done r fit vol now old new batch homes more change op at fits done ring firm =
     ok_map r _ _ (λ both. both.1) (turned_ok r vol now old new batch (change (world_on old)) at op.turns (op_world fit vol now.tables batch homes more change old op at fits) done ring firm)
 
-pub op_moments : (fit : (ℕ → List ℕ) → Type 0) (vol now : Volume) (old new : View) (batch : List Patch) (homes more : ℕ) (change : World → World) → IsOp fit vol now.tables batch homes more change → IsAt vol old → fit (data_on (home old.reads))
+pub op_moments : (fit : (ℕ → List ℕ) → Type 0) (vol now : Volume) (old new : View) (batch : List Patch) (homes more : ℕ) (change : World → World) → IsOp fit vol now.tables batch homes more change → IsVolumeAt vol old → fit (data_on (home old.reads))
     → LeavesOnly old new (λ x f. IsBeforeOrAfter batch old x × (f ≡ old.sent)) → LeavesEither old new (change (world_on old))
 op_moments fit vol now old new batch homes more change op at fits leaves =
     turned_moments vol old new batch now.tables (change (world_on old)) at op.turns (op_world fit vol now.tables batch homes more change old op at fits) leaves

@@ -13,10 +13,11 @@ use Rattle.image_world.specs.Written.{IsWritten}
 use Rattle.image_world.proofs.AlikeLaws.{alike_tables}
 use Rattle.image_world.proofs.WrittenLaws.{written_tables}
 use Rattle.volume_laws.specs.Growing.{AreFree}
-use Rattle.volume_laws.specs.Moments.{LeavesOwed, owed}
+use Rattle.volume_laws.specs.Moments.{LeavesOwed}
+use Rattle.image_world.specs.Debt.{owed}
 use Rattle.image_world.specs.Turns.{Turns}
 use Rattle.image_world.specs.Alike.{AreUnused}
-use Rattle.volume_laws.specs.Volume.{Volume, IsAt}
+use Rattle.volume_laws.specs.Volume.{Volume, IsVolumeAt}
 use Rattle.volume_laws.specs.Zeroed.{IsZeroedAt, firmed}
 use Rattle.volume_laws.proofs.Committed.{image_geometry, written_after}
 use Rattle.image_device.proofs.Sets.{or_false}
@@ -28,18 +29,18 @@ same_owed : (t u : Tables) → t ≡ u → owed t ≤ owed u
 same_owed t u same = let e : owed t ≡ owed u = ap owed same in omega (arith, e)
 
 -- the ring is emptied
-pub kept_owed : (vol : Volume) (old new : View) → IsAt vol old → LeavesOnly old new (λ x f. IsBefore old x × (f ≡ old.sent)) → LeavesOwed old new (owed vol.tables)
+pub kept_owed : (vol : Volume) (old new : View) → IsVolumeAt vol old → LeavesOnly old new (λ x f. IsBefore old x × (f ≡ old.sent)) → LeavesOwed old new (owed vol.tables)
 kept_owed vol old new at leaves = weakened old new (λ x f. IsBefore old x × (f ≡ old.sent)) (λ x f. owed (tables_of (home x)) ≤ owed vol.tables) leaves
     (λ x f left. same_owed (tables_of (home x)) vol.tables (before_tables vol old x at left.0))
 
 -- unused sectors are written
-pub unused_owed : (vol : Volume) (old new : View) (some : ℕ → Bool) → IsAt vol old → AreUnused (header_on (home old.reads)).geometry (home old.reads) some → IsConfined some old new → LeavesOwed old new (owed vol.tables)
+pub unused_owed : (vol : Volume) (old new : View) (some : ℕ → Bool) → IsVolumeAt vol old → AreUnused (header_on (home old.reads)).geometry (home old.reads) some → IsConfined some old new → LeavesOwed old new (owed vol.tables)
 unused_owed vol old new some at unused run = weakened old new (IsLeftWithin some old) (λ x f. owed (tables_of (home x)) ≤ owed vol.tables) run.leaves
     (λ x f left. same_owed (tables_of (home x)) vol.tables
     (alike_tables (home old.reads) (home x) at.good.header (unused_agree old.reads x some unused (λ n out. left.0.agrees n (or_false (some n) (old.loose n) out (at.firm n)))).homes ∙ at.tables))
 
 -- a block's bytes are committed
-pub written_owed : (vol : Volume) (old new : View) (batch : List Patch) (g : Geometry) (b : ℕ) (bytes : List ℕ) → IsAt vol old → g ≡ vol.tables.geometry
+pub written_owed : (vol : Volume) (old new : View) (batch : List Patch) (g : Geometry) (b : ℕ) (bytes : List ℕ) → IsVolumeAt vol old → g ≡ vol.tables.geometry
     → ((z : Image) → IsWritten g b bytes z (overlaid batch z)) → LeavesOnly old new (λ x f. IsBeforeOrAfter batch old x × (f ≡ old.sent)) → LeavesOwed old new (owed vol.tables)
 written_owed vol old new batch g b bytes at same written leaves = weakened old new (λ x f. IsBeforeOrAfter batch old x × (f ≡ old.sent)) (λ x f. owed (tables_of (home x)) ≤ owed vol.tables) leaves
     (λ x f left. same_owed (tables_of (home x)) vol.tables (⊎_elim (λ before. before_tables vol old x at before) (after x) left.0))

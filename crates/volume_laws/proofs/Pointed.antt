@@ -43,9 +43,8 @@ use Rattle.image_world.specs.Raw.{left_of, world_with, zeros_of, blank_of}
 use Rattle.graph_laws.proofs.AheadLaws.{doomed_list-with_pointer, doomed_pairs-with_pointer}
 use Rattle.graph_laws.proofs.CommuteLaws.{create_settles}
 use Rattle.graph_laws.proofs.SettleLaws.{settle_none}
-use Rattle.reclaim.specs.Stepping.{doomed_size}
-use Rattle.volume_laws.specs.Graphs.{graph_in}
-use Rattle.volume_laws.specs.Moments.{owed}
+use Rattle.graph_laws.specs.Counts.{doomed_size}
+use Rattle.image_world.specs.Debt.{graph_in, owed}
 use Rattle.volume_laws.specs.Volume.{tables_in}
 use Rattle.volume_laws.proofs.BlockLaws.{length-with_patch}
 use Rattle.image_world.specs.Turns.{Turns}

@@ -26,7 +26,7 @@ use Rattle.reclaim.specs.Ahead.{Kept, is_gone, Hides, IsAheadOf}
 use Rattle.image_world.specs.Sound.{AreSound}
 use Rattle.image_world.specs.Tables.{Tables, pairs_of}
 use Rattle.image_world.specs.Raw.{world_with, left_of, blank_of}
-use Rattle.volume_laws.specs.Graphs.{graph_in}
+use Rattle.image_world.specs.Debt.{graph_in}
 use Rattle.volume_laws.proofs.TableWorlds.{graph_laid_out, graph_raw, told_graph}
 
 -- ---- where nothing is asked of what is kept ahead

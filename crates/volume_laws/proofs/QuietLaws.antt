@@ -3,12 +3,12 @@ use Rattle.std.proofs.Common.{◌≡◌, false, ◌∙◌, ap}
 use Rattle.image_device.specs.View.{View}
 use Rattle.image_world.specs.Fresh.{AreClosed}
 use Rattle.image_world.specs.Tables.{Tables}
-use Rattle.volume_laws.specs.Moments.{owed}
+use Rattle.image_world.specs.Debt.{owed}
 use Rattle.volume_laws.specs.Quiet.{IsQuiet}
-use Rattle.volume_laws.specs.Volume.{Volume, IsAt}
+use Rattle.volume_laws.specs.Volume.{Volume, IsVolumeAt}
 
 -- where a volume is at it
-pub quiet_at : (vol : Volume) (v : View) → IsAt vol v → AreClosed v.reads → vol.tables.is_sweeping ≡ false → owed vol.tables ≡ 0 → IsQuiet v.reads
+pub quiet_at : (vol : Volume) (v : View) → IsVolumeAt vol v → AreClosed v.reads → vol.tables.is_sweeping ≡ false → owed vol.tables ≡ 0 → IsQuiet v.reads
 quiet_at vol v at closed still settled = record {
   closed = closed;
   still = ap (λ (t : Tables). t.is_sweeping) at.tables ∙ still;

@@ -12,19 +12,20 @@ use Rattle.image_device.proofs.Moments.{rested, firm_image}
 use Rattle.image_layout.specs.Image.{Image, data_bytes}
 use Rattle.intent_journal.specs.Home.{home}
 use Rattle.intent_journal.specs.Records.{Record}
-use Rattle.intent_journal.specs.Ring.{IsAt as IsRingAt}
+use Rattle.intent_journal.specs.Ring.{IsRingAt}
 use Rattle.intent_journal.proofs.Uses.{at_rested}
 use Rattle.image_world.specs.Faults.{IsGood}
 use Rattle.image_world.specs.Tables.{Tables, tables_of}
 use Rattle.image_world.specs.Raw.{world_with, left_of, data_on}
 use Rattle.image_world.specs.Stands.{Stands, world_of}
 use Rattle.image_world.proofs.RawLaws.{live_with, contents_with}
-use Rattle.volume_laws.specs.Moments.{LeavesWorld, LeavesOwed, owed}
-use Rattle.volume_laws.specs.Volume.{Volume, IsAt, told_by, world_on}
+use Rattle.volume_laws.specs.Moments.{LeavesWorld, LeavesOwed}
+use Rattle.image_world.specs.Debt.{owed}
+use Rattle.volume_laws.specs.Volume.{Volume, IsVolumeAt, told_by, world_on}
 use Rattle.volume_laws.proofs.Committed.{told_like, told_inside}
 
 -- ---- the device
-pub rested_at : (vol now : Volume) (old new : View) → now.ring ≡ vol.ring → now.tables ≡ vol.tables → IsAt vol old → Rests old new → IsAt now new
+pub rested_at : (vol now : Volume) (old new : View) → now.ring ≡ vol.ring → now.tables ≡ vol.tables → IsVolumeAt vol old → Rests old new → IsVolumeAt now new
 rested_at vol now old new ring tables at rests = record {
   firm = λ n. (λ i. rests.loose i n) ∙ at.firm n;
   ring = subst (λ (rs : List Record). IsRingAt rs new) (sym ring) (at_rested at.ring rests);
@@ -35,11 +36,11 @@ rested_at vol now old new ring tables at rests = record {
 pub rested_world : (old new : View) → Rests old new → world_on new ≡ world_on old
 rested_world old new rests = ap world_of rests.reads
 
-pub rested_moments : (vol : Volume) (old new : View) → IsSound old → IsAt vol old → Rests old new → LeavesWorld old new
+pub rested_moments : (vol : Volume) (old new : View) → IsSound old → IsVolumeAt vol old → Rests old new → LeavesWorld old new
 rested_moments vol old new sound at rests = rested old new (λ x f. Stands x (world_on old) × (f ≡ old.sent)) sound rests (λ x f left.
     (subst (λ (y : Image). Stands y (world_on old)) (sym (firm_image old at.firm x f left)) (record { good = at.good; world = refl }), left.1))
 
-pub rested_owed : (vol : Volume) (old new : View) → IsSound old → IsAt vol old → Rests old new → LeavesOwed old new (owed vol.tables)
+pub rested_owed : (vol : Volume) (old new : View) → IsSound old → IsVolumeAt vol old → Rests old new → LeavesOwed old new (owed vol.tables)
 rested_owed vol old new sound at rests = rested old new (λ x f. owed (tables_of (home x)) ≤ owed vol.tables) sound rests (λ x f left.
     subst (λ (y : Image). owed (tables_of (home y)) ≤ owed vol.tables) (sym (firm_image old at.firm x f left))
     (let e : owed (tables_of (home old.reads)) ≡ owed vol.tables = ap owed at.tables in omega (arith, e)))
@@ -62,7 +63,7 @@ left_same t w b = elim t.is_sweeping as (λ s. is_live (cond s (swept w) (settle
   | false ↦ restricted_same w (λ c. not (has_number (doomed w) c)) b
 ]
 
-pub read_bytes : (vol : Volume) (v : View) (b : ℕ) → IsAt vol v → is_live (told_by vol) b ≡ true → contents (world_on v) b ≡ Some (data_bytes (home v.reads) vol.tables.geometry b)
+pub read_bytes : (vol : Volume) (v : View) (b : ℕ) → IsVolumeAt vol v → is_live (told_by vol) b ≡ true → contents (world_on v) b ≡ Some (data_bytes (home v.reads) vol.tables.geometry b)
 unfolding world_of
 read_bytes vol v b at live =
     let t = tables_of (home v.reads) in

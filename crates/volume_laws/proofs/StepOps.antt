@@ -16,7 +16,7 @@ use Rattle.intent_journal.specs.Ring.{committed, commit_writes, checkpoint_write
 use Rattle.graph_laws.specs.Steps.{stepped}
 use Rattle.graph_laws.proofs.SameGraphLaws.{graph_of_same, lost_by_graph, step_by_graph}
 use Rattle.graph_laws.proofs.StepLaws.{settle-stepped}
-use Rattle.reclaim.specs.Stepping.{doomed_size}
+use Rattle.graph_laws.specs.Counts.{doomed_size}
 use Rattle.graph_laws.proofs.WeightLaws.{step_lowers}
 use Rattle.pointer_table.specs.declared.out_step.OutStep.{OutStep}
 use Rattle.image_world.specs.Tables.{Tables, tables_of}
@@ -24,18 +24,20 @@ use Rattle.image_world.specs.Raw.{world_with, left_of}
 use Rattle.image_world.specs.Stands.{Stands}
 use Rattle.image_world.proofs.AlikeLaws.{alike_tables}
 use Rattle.image_world.proofs.SoundLaws.{has_one}
-use Rattle.volume_laws.specs.Graphs.{graph_in, IsNext}
-use Rattle.volume_laws.specs.Moments.{LeavesEither, LeavesWorld, LeavesOwed, owed}
+use Rattle.volume_laws.specs.Graphs.{IsNext}
+use Rattle.image_world.specs.Debt.{graph_in, owed}
+use Rattle.volume_laws.specs.Moments.{LeavesEither, LeavesWorld, LeavesOwed}
 use Rattle.volume_laws.specs.Steps.{IsPut, IsStepped}
 use Rattle.image_world.specs.Turns.{Turns}
-use Rattle.volume_laws.specs.Volume.{Volume, IsAt, world_on}
+use Rattle.volume_laws.specs.Volume.{Volume, IsVolumeAt, world_on}
 use Rattle.volume_laws.specs.Writes.{batch_cost, due, IsPaid}
 use Rattle.volume_laws.proofs.Changed.{turned_had}
 use Rattle.image_world.proofs.AgreeLaws.{alike_outside}
 use Rattle.volume_laws.proofs.Costs.{commit_pays}
 use Rattle.volume_laws.proofs.Ops.{any_bytes, IsOp}
 use Rattle.volume_laws.proofs.StepWorlds.{world_stepped, graph_stepped}
-use Rattle.volume_laws.proofs.TableWorlds.{world_graph, laid_out, graph_laid_out}
+use Rattle.volume_laws.proofs.TableWorlds.{laid_out, graph_laid_out}
+use Rattle.image_world.proofs.DebtLaws.{world_graph}
 
 -- ---- what is owed
 pub step_owed : (t now : Tables) (s : OutStep) → IsNext t s → IsStepped t now s.block s.targets s.freed → owed t ≡ owed now + (cond s.freed 1 0 + length s.targets)
@@ -131,14 +133,14 @@ step_most vol now s rs old new batch this is uses = record {
 pub either_same : (old new : View) → LeavesEither old new (world_on old) → LeavesWorld old new
 either_same old new leaves = weakened old new _ (λ x f. Stands x (world_on old) × (f ≡ old.sent)) leaves (λ x f left. (⊎_elim (λ s. s) (λ s. s) left.0, left.1))
 
-pub before_tables : (vol : Volume) (old : View) (x : Image) → IsAt vol old → IsBefore old x → tables_of (home x) ≡ vol.tables
+pub before_tables : (vol : Volume) (old : View) (x : Image) → IsVolumeAt vol old → IsBefore old x → tables_of (home x) ≡ vol.tables
 before_tables vol old x at before = alike_tables (home old.reads) (home x) at.good.header (alike_outside (home old.reads) (home x) (λ n out. before.stands n (rw (out, at.firm n) refl))) ∙ at.tables
 
-pub after_tables : (vol : Volume) (old : View) (x : Image) (batch : List Patch) (now : Tables) → IsAt vol old → Turns vol.tables now batch → IsAfter batch old x → tables_of (home x) ≡ now
+pub after_tables : (vol : Volume) (old : View) (x : Image) (batch : List Patch) (now : Tables) → IsVolumeAt vol old → Turns vol.tables now batch → IsAfter batch old x → tables_of (home x) ≡ now
 after_tables vol old x batch now at turns after = has_one now (home x) turns.sound (turned_had vol old x batch now at turns after.stands)
 
 -- what is owed in the images that a commit leaves
-pub owed_moments : (vol : Volume) (old new : View) (batch : List Patch) (now : Tables) (most : ℕ) → IsAt vol old → Turns vol.tables now batch → owed vol.tables ≤ most → owed now ≤ most
+pub owed_moments : (vol : Volume) (old new : View) (batch : List Patch) (now : Tables) (most : ℕ) → IsVolumeAt vol old → Turns vol.tables now batch → owed vol.tables ≤ most → owed now ≤ most
     → LeavesOnly old new (λ x f. IsBeforeOrAfter batch old x × (f ≡ old.sent)) → LeavesOwed old new most
 owed_moments vol old new batch now most at turns here then leaves =
     weakened old new _ (λ x f. owed (tables_of (home x)) ≤ most) leaves (λ x f left. ⊎_elim
@@ -146,6 +148,6 @@ owed_moments vol old new batch now most at turns here then leaves =
     (λ after. subst (λ (t : Tables). owed t ≤ most) (sym (after_tables vol old x batch now at turns after)) then) left.0)
 
 -- by an operation that owes no more
-pub op_owed : (fit : (ℕ → List ℕ) → Type 0) (vol : Volume) (old new : View) (now : Tables) (batch : List Patch) (homes : ℕ) (change : World → World) → IsOp fit vol now batch homes 0 change → IsAt vol old
+pub op_owed : (fit : (ℕ → List ℕ) → Type 0) (vol : Volume) (old new : View) (now : Tables) (batch : List Patch) (homes : ℕ) (change : World → World) → IsOp fit vol now batch homes 0 change → IsVolumeAt vol old
     → LeavesOnly old new (λ x f. IsBeforeOrAfter batch old x × (f ≡ old.sent)) → LeavesOwed old new (owed vol.tables)
 op_owed fit vol old new now batch homes change op at leaves = owed_moments vol old new batch now (owed vol.tables) at op.turns (omega arith) (let e = op.owes in omega (arith, e)) leaves

@@ -10,7 +10,7 @@ use Rattle.graph_laws.proofs.ToldLaws.{world_with-set_free}
 use Rattle.std.specs.Prelude.{replicate}
 use Rattle.image_world.specs.Tables.{Tables, pairs_of}
 use Rattle.image_world.specs.Raw.{world_with}
-use Rattle.volume_laws.specs.Graphs.{graph_in}
+use Rattle.image_world.specs.Debt.{graph_in}
 use Rattle.volume_laws.specs.Steps.{pairs_without, live_after, IsStepped}
 
 -- only the pairs are others

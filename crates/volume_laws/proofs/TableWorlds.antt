@@ -15,22 +15,17 @@ use Rattle.graph_laws.specs.RawGraph.{IsLaidOut, IsRawGraph}
 use Rattle.graph_laws.proofs.CommuteLaws.{settled_live, absent_raw}
 use Rattle.graph_laws.proofs.SameGraphLaws.{doomed_by_graph, doomed_pairs_by_graph, laid_out_by_graph, settle_by_graph, alike_have_graph}
 use Rattle.image_world.proofs.LikeLaws.{tables_like}
-use Rattle.graph_laws.specs.Counts.{stays}
+use Rattle.graph_laws.specs.Counts.{stays, doomed_size}
 use Rattle.graph_laws.proofs.SettleLaws.{holds-settle}
-use Rattle.graph_laws.proofs.ToldLaws.{told_has_graph, live-graph}
-use Rattle.reclaim.specs.Stepping.{doomed_size}
+use Rattle.graph_laws.proofs.ToldLaws.{live-graph}
 use Rattle.image_world.specs.Sound.{AreSound}
 use Rattle.image_world.specs.Tables.{Tables, pairs_of}
 use Rattle.image_world.specs.Raw.{world_with, left_of, zeros_of, blank_of}
 use Rattle.image_world.proofs.RawLaws.{blocks_with, live_with}
-use Rattle.volume_laws.specs.Graphs.{graph_in}
-use Rattle.volume_laws.specs.Moments.{owed}
+use Rattle.image_world.specs.Debt.{graph_in, owed}
+use Rattle.image_world.proofs.DebtLaws.{world_graph}
 
 -- ---- graphs
-
-pub world_graph : (t : Tables) (c : ℕ → List ℕ) → HasGraphOf (world_with t c) (graph_in t)
-unfolding world_with
-world_graph t c = told_has_graph t.geometry t.live (pairs_of t) c t.version t.records
 
 pub same_graph : (t : Tables) (c d : ℕ → List ℕ) → HasGraphOf (world_with t c) (world_with t d)
 unfolding world_with

@@ -24,7 +24,7 @@ use Rattle.image_world.specs.Sound.{HasTables}
 use Rattle.image_world.specs.Tables.{Tables, pairs_of}
 use Rattle.image_world.specs.Raw.{world_with, zeros_of}
 use Rattle.image_world.specs.Turns.{Turns}
-use Rattle.volume_laws.specs.Steps.{AreHeld, MayTake, IsTaken, pairs_without, with_parts}
+use Rattle.volume_laws.specs.Steps.{AreHeld, MayTake, IsTaken, pairs_without, with_slots_and_counts}
 use Rattle.volume_laws.proofs.BlockLaws.{length-with_patch}
 use Rattle.volume_laws.proofs.StepWorlds.{without_parts}
 use Rattle.volume_laws.proofs.Dropped.{IsDropped, dropped}
@@ -76,31 +76,31 @@ next_pair t a b bs i held within is =
     none false = refl
 
 -- ---- the loop
-pub taken_none : (t : Tables) (p : Pointers) (c : Counts) (a : ℕ) (bs : List ℕ) (ps : List Patch) → ps ≡ [] → MayTake t p c a bs → IsTaken t a [] (with_parts t p c) ps
-taken_none t p c a bs ps none may = subst (λ (qs : List Patch). IsTaken t a [] (with_parts t p c) qs) (sym none) (subst (λ (u : Tables). IsTaken t a [] u []) same (record {
+pub taken_none : (t : Tables) (p : Pointers) (c : Counts) (a : ℕ) (bs : List ℕ) (ps : List Patch) → ps ≡ [] → MayTake t p c a bs → IsTaken t a [] (with_slots_and_counts t p c) ps
+taken_none t p c a bs ps none may = subst (λ (qs : List Patch). IsTaken t a [] (with_slots_and_counts t p c) qs) (sym none) (subst (λ (u : Tables). IsTaken t a [] u []) same (record {
   pairs = refl;
   turns = record { sound = may.sound; size = refl; has = λ z had. had; contents = λ z n above. refl; gate = λ z. refl };
   few = omega arith;
 }))
   where
-    same : t ≡ with_parts t p c
+    same : t ≡ with_slots_and_counts t p c
     same i = record t { slots = sym may.parts.slots i; counts = sym may.parts.counts i }
 
 pub taken_more : (t : Tables) (old new : Pointers) (oc nc : Counts) (a b : ℕ) (bs : List ℕ) (i : ℕ) (p q : Patch) (ps grown now : List Patch)
-    → AreHeld t a bs → i < length bs → b ≡ get_or bs i 0 → IsTaken t a (take i bs) (with_parts t old oc) ps
+    → AreHeld t a bs → i < length bs → b ≡ get_or bs i 0 → IsTaken t a (take i bs) (with_slots_and_counts t old oc) ps
     → IsBatch ps → IsBatch grown → grown ≡ with_patch p ps → now ≡ with_patch q grown → old.geometry ≡ t.geometry → oc.geometry ≡ t.geometry
     → pairs new ≡ without_pair a b (pairs old) → IsTable new → new.geometry ≡ old.geometry → IsSlotSector old p → KeepsStored old new p
     → nc ≡ record oc { counts = slice_set oc.counts b (slice_index oc.counts b - 1) }
     → (counts_start ≤ q.sector) × (q.sector < bitmap_start nc.geometry) → KeepsCounts oc nc q
-    → IsTaken t a (take (i + 1) bs) (with_parts t new nc) now
+    → IsTaken t a (take (i + 1) bs) (with_slots_and_counts t new nc) now
 taken_more t old new oc nc a b bs i p q ps grown now held within is taken batch more first second og cg less table ng sector keeps lowered inside counted = record {
   pairs = less ∙ (ap (without_pair a b) taken.pairs ∙ (sym (without_push (pairs_of t) a b (take i bs)) ∙ ap (pairs_without (pairs_of t) a) (ap (λ k. take i bs ++ k ∷ []) is ∙ sym (take_more bs i 0 within))));
-  turns = two_turn t mid (with_parts t new nc) ps taken.turns p q grown now batch more first second next.turns;
+  turns = two_turn t mid (with_slots_and_counts t new nc) ps taken.turns p q grown now batch more first second next.turns;
   few = omega (arith, ap (λ (qs : List Patch). length qs) second, length-with_patch q grown, ap (λ (qs : List Patch). length qs) first, length-with_patch p ps, taken.few, length-take i bs, length-take (i + 1) bs);
 }
   where
     mid : Tables
-    mid = with_parts t old oc
+    mid = with_slots_and_counts t old oc
 
     h : Header
     h = record { version = t.version; geometry = t.geometry }
@@ -108,6 +108,6 @@ taken_more t old new oc nc a b bs i p q ps grown now held within is taken batch 
     here : holds (pairs_of mid) a b ≡ true
     here = ap (λ es. holds es a b) taken.pairs ∙ next_pair t a b bs i held within is
 
-    next : IsDropped mid a b (with_parts t new nc) (with_patch q (with_patch p []))
+    next : IsDropped mid a b (with_slots_and_counts t new nc) (with_patch q (with_patch p []))
     next = dropped mid h old new oc nc (record { geometry = t.geometry; live = t.live; unhidden = t.live }) (record { version = t.version; geometry = t.geometry; records = t.records }) t.is_sweeping a b p q (with_patch q (with_patch p []))
         taken.turns.sound here refl og cg less table ng sector keeps lowered inside counted refl

@@ -26,7 +26,7 @@ use Rattle.image_world.specs.Raw.{left_of, world_with}
 use Rattle.image_world.specs.Sound.{HasTables, AreSound}
 use Rattle.image_world.specs.Tables.{Tables}
 use Rattle.image_world.proofs.ChangeLaws.{upgrade_change}
-use Rattle.volume_laws.specs.Moments.{owed}
+use Rattle.image_world.specs.Debt.{owed}
 use Rattle.image_world.specs.Turns.{Turns}
 use Rattle.volume_laws.specs.Volume.{Volume, tables_in}
 use Rattle.volume_laws.proofs.Ops.{any_bytes, IsOp}

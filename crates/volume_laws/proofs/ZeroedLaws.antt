@@ -17,7 +17,7 @@ use Rattle.intent_journal.specs.Home.{home, is_journal}
 use Rattle.intent_journal.specs.Batch.{has_home}
 use Rattle.intent_journal.specs.Records.{Record, patches_of}
 use Rattle.intent_journal.proofs.Uses.{home_missed, at_kept}
-use Rattle.intent_journal.specs.Ring.{IsAt as IsRingAt}
+use Rattle.intent_journal.specs.Ring.{IsRingAt}
 use Rattle.block_alloc.specs.LiveMap.{is_live as is_marked_in}
 use Rattle.image_world.specs.Alike.{AreAlike}
 use Rattle.image_world.specs.Stands.{Stands}
@@ -29,7 +29,7 @@ use Rattle.image_world.proofs.StandLaws.{stands_alike}
 use Rattle.image_layout.proofs.ThingLaws.{parts_apart}
 use Rattle.image_world.proofs.WrittenLaws.{above_journal}
 use Rattle.volume_laws.specs.Growing.{AreFree}
-use Rattle.volume_laws.specs.Volume.{Volume, IsAt, world_on}
+use Rattle.volume_laws.specs.Volume.{Volume, IsVolumeAt, world_on}
 use Rattle.volume_laws.specs.Moments.{LeavesEither, LeavesWorld, StandsForEither}
 use Rattle.image_world.specs.Alike.{AreUnused}
 use Rattle.volume_laws.specs.Zeroed.{is_part, is_data, firmed, AreMissed, IsZeroedAt}
@@ -80,7 +80,7 @@ live_out live n (c ∷ cs) b free on =
     differ m k e = grind (arith, nat_tests)
 
 -- such sectors are unused
-pub data_unused : (vol : Volume) (v : View) (bs : List ℕ) → IsAt vol v → AreFree vol.tables.live vol.tables.geometry.blocks bs → AreUnused (header_on (home v.reads)).geometry (home v.reads) (is_data vol.tables.geometry bs)
+pub data_unused : (vol : Volume) (v : View) (bs : List ℕ) → IsVolumeAt vol v → AreFree vol.tables.live vol.tables.geometry.blocks bs → AreUnused (header_on (home v.reads)).geometry (home v.reads) (is_data vol.tables.geometry bs)
 data_unused vol v bs at free = subst (λ k. AreUnused k (home v.reads) (is_data vol.tables.geometry bs)) (sym (image_geometry vol v at)) (record {
   above = λ n some. above n some;
   apart = λ b part inside within live. other_data vol.tables.geometry bs b part within (live_out vol.tables.live vol.tables.geometry.blocks bs b free (sym ((has_its_tables vol v at).live b inside) ∙ live));
@@ -175,11 +175,11 @@ pub none_unused : (g : Geometry) (x : Image) → AreUnused g x (λ n. false)
 none_unused g x = record { above = λ n some. absurd (cc); apart = λ b part inside within live. refl }
 
 -- ---- after zeros were written
-pub zero_done : (vol : Volume) (old new : View) (bs : List ℕ) → IsAt vol old → AreFree vol.tables.live vol.tables.geometry.blocks bs → IsConfined (is_data vol.tables.geometry bs) old new → world_on new ≡ world_on old
+pub zero_done : (vol : Volume) (old new : View) (bs : List ℕ) → IsVolumeAt vol old → AreFree vol.tables.live vol.tables.geometry.blocks bs → IsConfined (is_data vol.tables.geometry bs) old new → world_on new ≡ world_on old
 zero_done vol old new bs at free run =
     sym (unused_stands old.reads new.reads (world_on old) (is_data vol.tables.geometry bs) (record { good = at.good; world = refl }) (data_unused vol old bs at free) run.reads).world
 
-pub zeroed_at : (vol now : Volume) (old new : View) (bs : List ℕ) → now.tables ≡ vol.tables → now.ring ≡ vol.ring → IsAt vol old → AreFree vol.tables.live vol.tables.geometry.blocks bs → AreMissed vol.tables.geometry (patches_of vol.ring) bs
+pub zeroed_at : (vol now : Volume) (old new : View) (bs : List ℕ) → now.tables ≡ vol.tables → now.ring ≡ vol.ring → IsVolumeAt vol old → AreFree vol.tables.live vol.tables.geometry.blocks bs → AreMissed vol.tables.geometry (patches_of vol.ring) bs
     → IsConfined (is_data vol.tables.geometry bs) old new → ((b part : ℕ) → has_number bs b ≡ true → part < vol.tables.geometry.sectors → new.reads (data_sector vol.tables.geometry b part) ≡ zeros) → IsZeroedAt now new bs
 zeroed_at vol now old new bs kept same at free missed run written = record {
   at = record {

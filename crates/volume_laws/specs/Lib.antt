@@ -7,3 +7,4 @@ pub mod Growing
 pub mod Zeroed
 pub mod Erased
 pub mod Quiet
+pub mod Operations

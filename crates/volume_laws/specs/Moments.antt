@@ -6,11 +6,9 @@ use Rattle.tsd_model.specs.World.{World}
 use Rattle.image_device.specs.Image.{Image}
 use Rattle.image_device.specs.View.{View}
 use Rattle.image_device.specs.Runs.{LeavesOnly}
-use Rattle.intent_journal.specs.Home.{home}
-use Rattle.image_world.specs.Tables.{Tables, tables_of}
-use Rattle.reclaim.specs.Stepping.{doomed_size}
+use Rattle.graph_laws.specs.Counts.{doomed_size}
 use Rattle.image_world.specs.Stands.{Stands}
-use Rattle.volume_laws.specs.Graphs.{graph_in}
+use Rattle.image_world.specs.Debt.{debt}
 use Rattle.volume_laws.specs.Volume.{world_on}
 
 -- the image stands for one of two worlds
@@ -26,13 +24,9 @@ abbrev pub LeavesWorld : View → View → Type 0
 LeavesWorld old new = LeavesOnly old new (λ x f. Stands x (world_on old) × (f ≡ old.sent))
 
 -- ---- what is still to be reclaimed
--- the doomed blocks and the pairs from them
-abbrev pub owed : Tables → ℕ
-owed t = doomed_size (graph_in t)
-
 -- a crash at any moment leaves at most so much to be reclaimed
 abbrev pub LeavesOwed : View → View → ℕ → Type 0
-LeavesOwed old new most = LeavesOnly old new (λ x f. owed (tables_of (home x)) ≤ most)
+LeavesOwed old new most = LeavesOnly old new (λ x f. debt x ≤ most)
 
 -- ---- worlds
 -- the world where a block has these bytes, and zeros behind them

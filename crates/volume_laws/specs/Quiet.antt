@@ -4,7 +4,7 @@ use Rattle.image_layout.specs.Image.{Image}
 use Rattle.image_world.specs.Fresh.{AreClosed}
 use Rattle.image_world.specs.Tables.{tables_of}
 use Rattle.intent_journal.specs.Home.{home}
-use Rattle.volume_laws.specs.Moments.{owed}
+use Rattle.image_world.specs.Debt.{owed}
 
 -- all gates of the journal are closed, no sweep is open, and nothing is doomed
 pub record IsQuiet (image : Image) : Type 0 where

@@ -11,7 +11,7 @@ use Rattle.image_world.specs.Sound.{AreSound}
 use Rattle.image_world.specs.Tables.{Tables, pairs_of}
 use Rattle.block_alloc.specs.LiveMap.{LiveMap}
 use Rattle.pointer_table.specs.declared.out_step.OutStep.{OutStep}
-use Rattle.volume_laws.specs.Graphs.{graph_in}
+use Rattle.image_world.specs.Debt.{graph_in}
 use Rattle.image_world.specs.Turns.{Turns}
 
 -- these slots and counts are the tables'
@@ -22,8 +22,8 @@ pub record AreFor (t : Tables) (p : Pointers) (c : Counts) : Type 0 where
   pub counts : c.counts ≡ t.counts
 
 -- the tables with these slots and counts
-abbrev pub with_parts : Tables → Pointers → Counts → Tables
-with_parts t p c = record t { slots = p.slots; counts = c.counts }
+abbrev pub with_slots_and_counts : Tables → Pointers → Counts → Tables
+with_slots_and_counts t p c = record t { slots = p.slots; counts = c.counts }
 
 -- pairs from block a to each of these are held, and none is named twice
 pub record AreHeld (t : Tables) (a : ℕ) (bs : List ℕ) : Type 0 where

@@ -9,7 +9,7 @@ use Rattle.image_layout.specs.Places.{data_sector}
 use Rattle.image_layout.specs.declared.place.Patch.{Patch}
 use Rattle.intent_journal.specs.Batch.{has_home}
 use Rattle.intent_journal.specs.Home.{home}
-use Rattle.volume_laws.specs.Volume.{Volume, IsAt}
+use Rattle.volume_laws.specs.Volume.{Volume, IsVolumeAt}
 
 -- a data sector of this block
 abbrev pub is_part : Geometry → ℕ → ℕ → Bool
@@ -29,6 +29,6 @@ firmed v = record v { loose = λ n. false }
 
 -- It is at a device where these blocks have zeros, which may be loose still.
 pub record IsZeroedAt (vol : Volume) (v : View) (bs : List ℕ) : Type 0 where
-  pub at : IsAt vol (firmed v)
+  pub at : IsVolumeAt vol (firmed v)
   pub loose : (n : ℕ) → is_data vol.tables.geometry bs n ≡ false → v.loose n ≡ false
   pub zeroed : (b part : ℕ) → has_number bs b ≡ true → part < vol.tables.geometry.sectors → home v.reads (data_sector vol.tables.geometry b part) ≡ zeros

@@ -7,17 +7,19 @@ ghost use Rattle.intent_journal.specs.Records.{Record};
 ghost use Rattle.intent_journal.specs.Ring.{committed, commit_writes, checkpoint_writes};
 ghost use Rattle.pointer_table.specs.declared.out_step.OutStep.{OutStep};
 ghost use Rattle.volume_laws.specs.Graphs.{IsNext};
-ghost use Rattle.volume_laws.specs.Moments.{owed};
+ghost use Rattle.image_world.specs.Debt.{owed};
 ghost use Rattle.volume_laws.specs.Steps.{IsStepped};
 ghost use Rattle.volume_laws.specs.Writes.{batch_cost};
 
-/// What a commit writes, and what is due then for emptying the ring, is at most what was due and the batch's cost. So the
-/// writes of many commits are at most the sum of their costs.
+/// What a commit writes, and what is due then for emptying the ring, is at most what was due and the batch's cost. So
+/// the writes of many commits are at most the sum of their costs.
 pub fn commits_are_paid_for()
-    ensures { (rs : List Record) (batch : List Patch) → commit_writes rs batch + checkpoint_writes (committed rs batch) ≤ checkpoint_writes rs + batch_cost (length batch) }
+    ensures { (rs : List Record) (batch : List Patch) → commit_writes rs batch + checkpoint_writes
+        (committed rs batch) ≤ checkpoint_writes rs + batch_cost (length batch) }
 {}
 
 /// A step of reclamation owes just so much less as it takes away.
 pub fn steps_owe_less()
-    ensures { (t now : Tables) (s : OutStep) → IsNext t s → IsStepped t now s.block s.targets s.freed → owed t ≡ owed now + (cond s.freed 1 0 + length s.targets) }
+    ensures { (t now : Tables) (s : OutStep) → IsNext t s → IsStepped t now s.block s.targets s.freed
+        → owed t ≡ owed now + (cond s.freed 1 0 + length s.targets) }
 {}

@@ -17,7 +17,7 @@ loop-part-preserved g c =
           (view c.args.dev.now).reads (c.in_ok-read.ensures.bytes told ∙ (λ i. (c.loop-part.invariant.rests told).reads i (132 + c.loop-part.part))) (c.loop-part.invariant.read told) block less (omega arith);
       rests = λ told. rests_joined (view c.args.dev.now) (view c.loop-part.dev) (view c.read.new.self) (c.loop-part.invariant.rests told) (c.in_ok-read.ensures.rests told);
       uses = uses_joined 0 0 (view c.args.dev.now) (view c.loop-part.dev) (view c.read.new.self) c.loop-part.invariant.uses c.in_ok-read.ensures.uses;
-      faultless = c.in_ok-read.ensures.faultless ∙ c.loop-part.invariant.faultless;
+      faultless = c.in_ok-read.ensures.faults ∙ c.loop-part.invariant.faultless;
     }
 
 pub returns-clause-kept : goal.returns-clause-kept

@@ -5,11 +5,11 @@ use Rattle.fs_trees.specs.Answer.{done}
 use Rattle.fs_trees.specs.declared.ask.ShellAsk.TheVariants as ask
 use Rattle.fs_trees.specs.declared.ask.ShellKind.TheVariants as kind
 use Rattle.fs_port.specs.Files.{Answers}
-use Rattle.fs_asks.proofs.LookLaws.{looks_as, looks_refused, then_looks}
-use Rattle.fs_changing.specs.Changing.{Changes}
-use Rattle.fs_changing.proofs.AskLaws.{ask_refuses, ask_done}
-use Rattle.fs_changing.proofs.RunLaws.{looks_change}
-use Rattle.fs_changing.proofs.AgainLaws.{answers_again, changes_again}
+use Rattle.fs_client.proofs.LookLaws.{looks_as, looks_refused, then_looks}
+use Rattle.fs_port.specs.Runs.{Changes}
+use Rattle.fs_client.proofs.AskLaws.{ask_refuses, ask_done}
+use Rattle.fs_client.proofs.RunLaws.{looks_change}
+use Rattle.fs_client.proofs.AgainLaws.{answers_again, changes_again}
 use Rattle.chain_reading.specs.Asking.{tree_of, mounted_by}
 use Rattle.chain_changes.specs.Growing.{IsLastOf}
 use Rattle.chain_changes.proofs.GrowthLaws.{append_lost}

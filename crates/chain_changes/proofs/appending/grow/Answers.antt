@@ -7,18 +7,18 @@ use Rattle.fs_trees.specs.Names.{Path}
 use Rattle.fs_trees.specs.declared.ask.ShellAsk.TheVariants as ask
 use Rattle.fs_trees.specs.declared.refusal.FsRefusal.TheVariants as no
 use Rattle.fs_port.specs.Files.{IsEitherTree}
-use Rattle.fs_asks.specs.Client.{write_by}
-use Rattle.fs_asks.proofs.LookLaws.{no_look, looks_but_refuses}
-use Rattle.fs_steps.specs.Steps.{Steps, written, no_room_in}
-use Rattle.fs_changing.proofs.AskLaws.{ask_refuses}
-use Rattle.fs_changing.proofs.RunLaws.{runs_step, runs_more, runs_refused, then_runs, changes_of, looks_change, leaves_same}
+use Rattle.fs_client.specs.Client.{write_by}
+use Rattle.fs_client.proofs.LookLaws.{no_look, looks_but_refuses}
+use Rattle.fs_client.specs.Steps.{Steps, written, no_room_in}
+use Rattle.fs_client.proofs.AskLaws.{ask_refuses}
+use Rattle.fs_client.proofs.RunLaws.{runs_step, runs_more, runs_refused, then_runs, changes_of, looks_change, leaves_same}
 use Rattle.chain_layout.specs.Block.{block_len_of}
 use Rattle.chain_layout.specs.Held.{part_cluster, part_in}
 use Rattle.chain_reading.specs.Asking.{mounted_by}
-use Rattle.chain_files.specs.Making.{IsAside}
-use Rattle.chain_files.specs.Filling.{first_block}
-use Rattle.chain_files.proofs.FileLaws.{long_room}
-use Rattle.chain_files.proofs.WriteLaws.{first_linked}
+use Rattle.chain_changes.specs.Making.{IsAside}
+use Rattle.chain_changes.specs.Filling.{first_block}
+use Rattle.chain_changes.proofs.FileLaws.{long_room}
+use Rattle.chain_changes.proofs.WriteLaws.{first_linked}
 use Rattle.chain_changes.specs.Growing.{IsLastOf, clusters_more, NewTail}
 use Rattle.chain_changes.proofs.AfterLaws.{Decided, None_loose, decided_answers, decided_leaves}
 use Rattle.chain_changes.proofs.GrowthLaws.{aside_either, stage, refused_is, grow_fits, grow_may, grow_decided, grow_stop}

@@ -5,11 +5,11 @@ use Rattle.tsd_model.specs.Geometry.{block_len}
 use Rattle.tsd_model.specs.World.{has_number}
 use Rattle.fs_trees.specs.Cluster.{bytes_room}
 use Rattle.fs_trees.specs.Inode.{are_apart}
-use Rattle.fs_steps.specs.Steps.{no_room_in}
-use Rattle.fs_changing.specs.Runs.{Runs}
-use Rattle.fs_changing.proofs.RunLaws.{runs_as, runs_more, runs_refused, then_runs}
-use Rattle.chain_files.specs.Making.{IsAside}
-use Rattle.chain_files.specs.Filling.{AsideWith, Wrote}
+use Rattle.fs_client.specs.Steps.{no_room_in}
+use Rattle.fs_port.specs.Runs.{Runs}
+use Rattle.fs_client.proofs.RunLaws.{runs_as, runs_more, runs_refused, then_runs}
+use Rattle.chain_changes.specs.Making.{IsAside}
+use Rattle.chain_changes.specs.Filling.{AsideWith, Wrote}
 use Rattle.chain_changes.specs.Growing.{clusters_more}
 use Rattle.chain_changes.proofs.TailLaws.{few_more, tail_enough, tail_aside, is_tail}
 use Rattle.chain_changes.proofs.appending.new_tail.Goals as goal

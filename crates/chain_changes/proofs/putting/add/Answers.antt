@@ -9,18 +9,18 @@ use Rattle.fs_trees.specs.Needs.{clusters_for}
 use Rattle.fs_trees.specs.declared.ask.ShellAsk.TheVariants as ask
 use Rattle.fs_trees.specs.declared.refusal.FsRefusal.{FsRefusal}
 use Rattle.fs_port.specs.Files.{IsEitherTree}
-use Rattle.fs_asks.specs.Client.{write_by}
-use Rattle.fs_steps.specs.Steps.{Leads, Steps, written, no_room_in}
-use Rattle.fs_changing.specs.Changing.{refused_on}
-use Rattle.fs_changing.specs.Runs.{Runs}
-use Rattle.fs_changing.proofs.AskLaws.{ask_refuses}
-use Rattle.fs_changing.proofs.RunLaws.{runs_step, runs_more, then_runs, runs_refused, changes_of, leaves_same}
+use Rattle.fs_client.specs.Client.{write_by}
+use Rattle.fs_client.specs.Steps.{Leads, Steps, written, no_room_in}
+use Rattle.fs_client.specs.Changing.{refused_on}
+use Rattle.fs_port.specs.Runs.{Runs}
+use Rattle.fs_client.proofs.AskLaws.{ask_refuses}
+use Rattle.fs_client.proofs.RunLaws.{runs_step, runs_more, then_runs, runs_refused, changes_of, leaves_same}
 use Rattle.chain_layout.specs.Block.{cluster_of, block_len_of}
 use Rattle.chain_layout.specs.Held.{cluster_in, entries_in}
 use Rattle.chain_layout.specs.Listed.{listed_at}
-use Rattle.chain_laws.specs.Chained.{AreOthers}
-use Rattle.chain_laws.specs.Changed.{file_names}
-use Rattle.chain_files.specs.Making.{IsAside}
+use Rattle.chain_reading.specs.Chained.{AreOthers}
+use Rattle.chain_reading.specs.Changed.{file_names}
+use Rattle.chain_changes.specs.Making.{IsAside}
 use Rattle.chain_reading.specs.Asking.{mounted_by}
 use Rattle.chain_changes.proofs.AfterLaws.{Decided, None_loose, decided_answers, decided_leaves}
 use Rattle.chain_changes.proofs.PuttingLaws.{Putting, stage, aside_either, stop_either}

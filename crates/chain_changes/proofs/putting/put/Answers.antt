@@ -6,16 +6,17 @@ use Rattle.fs_trees.specs.Cluster.{entries_room}
 use Rattle.fs_trees.specs.declared.ask.ShellAsk.TheVariants as ask
 use Rattle.fs_trees.specs.declared.refusal.FsRefusal.TheVariants as no
 use Rattle.fs_port.specs.Files.{Answers}
-use Rattle.fs_asks.proofs.LookLaws.{looks_refused, looks_but_refuses}
-use Rattle.fs_changing.specs.Changing.{Changes, refused_on}
-use Rattle.fs_changing.proofs.AskLaws.{ask_refuses}
-use Rattle.fs_changing.proofs.RunLaws.{looks_change}
-use Rattle.fs_changing.proofs.AgainLaws.{answers_again, changes_again}
+use Rattle.fs_client.proofs.LookLaws.{looks_refused, looks_but_refuses}
+use Rattle.fs_port.specs.Runs.{Changes}
+use Rattle.fs_client.specs.Changing.{refused_on}
+use Rattle.fs_client.proofs.AskLaws.{ask_refuses}
+use Rattle.fs_client.proofs.RunLaws.{looks_change}
+use Rattle.fs_client.proofs.AgainLaws.{answers_again, changes_again}
 use Rattle.chain_layout.specs.Block.{cluster_of, block_len_of}
 use Rattle.chain_layout.specs.Held.{cluster_in, entries_in}
 use Rattle.chain_reading.specs.Asking.{MayAsk, mounted_by}
 use Rattle.chain_reading.specs.Finding.{IsWithin}
-use Rattle.chain_changes.specs.Places.{IsAt}
+use Rattle.chain_changes.specs.Places.{StandsAtPlace}
 use Rattle.chain_changes.proofs.PlacedLaws.{entries_used, new_count, new_entry, refused_full, refused_lost, refused_since, name_of_path}
 use Rattle.chain_changes.proofs.AgainLaws.{may_ask_again}
 use Rattle.chain_changes.proofs.putting.put.Goals as goal
@@ -58,7 +59,7 @@ replace-requires g c =
     let same = λ (t : told). (e.looks.looked t).0.world in
     record {
       may = may_ask_again told me first mid c.in-Ok.found e.looks c.requires.may;
-      found = λ t. subst (IsAt me mid n) c.in-Taken.is (e.found t);
+      found = λ t. subst (StandsAtPlace me mid n) c.in-Taken.is (e.found t);
       within = subst IsWithin c.in-Taken.is e.within;
       named = name_of_path path n e.path c.requires.named;
     }
@@ -82,7 +83,7 @@ returns-then-count-ge-NAMES_MAX g c =
     let primary : told → me.root < mid.world.geometry.primaries = λ t. subst (λ v. me.root < v.geometry.primaries) (sym (same t)) (subst (λ k. me.root < k.primaries) (sym (g.met.K.Blocks.sound c.args.disk.now t c.requires.may.ready.unspent).geometry) c.requires.may.ready.primary) in
     let may : MayAsk told me mid = may_ask_again told me first mid c.in-Ok.found e.looks c.requires.may in
     let named = name_of_path path n e.path c.requires.named in
-    let at = λ (t : told). subst (IsAt me mid n) c.in-Free.is (e.found t) in
+    let at = λ (t : told). subst (StandsAtPlace me mid n) c.in-Free.is (e.found t) in
     let refuses : told → refused_on f first a ≡ Some no.DirFull = λ t.
     ap (λ p. refused_on f first (ask.Put p body)) e.path ∙ (sym (refused_since f first mid b (same t))
     ∙ refused_full me mid n (at t).chains (at t).under body (new_entry me mid n c.in-Free.page (may.valid t) (may.tree t) (primary t) named c.in-Free.count (at t))
@@ -113,7 +114,7 @@ add-requires g c =
     let test : nat_lt (cluster_of (cluster_in page.cluster)).used (entries_room (block_len_of (cluster_in page.cluster))) ≡ true = sym c.has_room.ensures ∙ c.if-has_room.true in
     record {
       may = may_ask_again told me first mid c.in-Ok.found e.looks c.requires.may;
-      found = λ t. subst (IsAt me mid n) c.in-Free.is (e.found t);
+      found = λ t. subst (StandsAtPlace me mid n) c.in-Free.is (e.found t);
       few = omega (arith, fewer);
       room = tested (length (entries_in page.cluster)) (cluster_of (cluster_in page.cluster)).used (entries_room (block_len_of (cluster_in page.cluster))) used test;
       named = name_of_path path n e.path c.requires.named;
@@ -143,7 +144,7 @@ extend-requires g c =
     let test : nat_lt (cluster_of (cluster_in page.cluster)).used (entries_room (block_len_of (cluster_in page.cluster))) ≡ false = sym c.has_room.ensures ∙ c.if-has_room.false in
     record {
       may = may_ask_again told me first mid c.in-Ok.found e.looks c.requires.may;
-      found = λ t. subst (IsAt me mid n) c.in-Free.is (e.found t);
+      found = λ t. subst (StandsAtPlace me mid n) c.in-Free.is (e.found t);
       few = omega (arith, fewer);
       full = tested (length (entries_in page.cluster)) (cluster_of (cluster_in page.cluster)).used (entries_room (block_len_of (cluster_in page.cluster))) used test;
       named = name_of_path path n e.path c.requires.named;

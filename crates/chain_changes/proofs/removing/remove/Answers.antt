@@ -9,17 +9,17 @@ use Rattle.fs_trees.specs.declared.ask.ShellAsk.TheVariants as ask
 use Rattle.fs_trees.specs.declared.ask.ShellKind.TheVariants as kind
 use Rattle.fs_trees.specs.declared.refusal.FsRefusal.TheVariants as no
 use Rattle.fs_port.specs.Files.{IsEitherTree}
-use Rattle.fs_asks.specs.Client.{write_by}
-use Rattle.fs_asks.proofs.LookLaws.{looks_refused, looks_but_refuses}
-use Rattle.fs_steps.specs.Steps.{Steps, written}
-use Rattle.fs_changing.proofs.AskLaws.{ask_refuses, rm_lost, rm_missing}
-use Rattle.fs_changing.proofs.RunLaws.{runs_look, runs_step, then_runs, runs_as, runs_refused, changes_of, looks_change, as_before}
+use Rattle.fs_client.specs.Client.{write_by}
+use Rattle.fs_client.proofs.LookLaws.{looks_refused, looks_but_refuses}
+use Rattle.fs_client.specs.Steps.{Steps, written}
+use Rattle.fs_client.proofs.AskLaws.{ask_refuses, rm_lost, rm_missing}
+use Rattle.fs_client.proofs.RunLaws.{runs_look, runs_step, then_runs, runs_as, runs_refused, changes_of, looks_change, as_before}
 use Rattle.chain_layout.specs.Block.{cluster_of}
 use Rattle.chain_layout.specs.Held.{cluster_in, entries_in}
 use Rattle.chain_layout.specs.Listed.{unlisted_at}
 use Rattle.chain_reading.specs.Asking.{tree_of, mounted_by}
 use Rattle.chain_reading.specs.Finding.{IsWithin}
-use Rattle.chain_changes.specs.Places.{IsAt}
+use Rattle.chain_changes.specs.Places.{StandsAtPlace}
 use Rattle.chain_changes.proofs.PlaceLaws.{free_at}
 use Rattle.chain_changes.proofs.AfterLaws.{None_loose, decided_answers, decided_leaves, loose_gone, loose_runs}
 use Rattle.chain_changes.proofs.RemoveLaws.{Taking, may_write, fits, stop_at_write, lets_go_now, may_drop}
@@ -62,7 +62,7 @@ returns-in-Free g c =
           let same = (e.looks.looked t).0.world in
           ask_refuses (mounted_by me) first mid a (λ _ answer. answer ≡ done) no.NoEntry
           (λ ne. rm_missing kind.Chain first.world.geometry t0 (free_count first.world) (length first.world.pairs) (need_of kind.Chain first.world me.root t0 a) (c.requires.may.tree t) path (e.none t)
-          (ap is_there (free_at me first mid path n c.in-Free.page c.in-Free.count same e.path (subst (IsAt me mid n) c.in-Free.is (e.found t)))))
+          (ap is_there (free_at me first mid path n c.in-Free.page c.in-Free.count same e.path (subst (StandsAtPlace me mid n) c.in-Free.is (e.found t)))))
           (λ ne. same);
       changes = looks_change told (mounted_by me) first mid a (Err no.NoEntry) (λ t. (c.requires.may.valid t).valid) (looks_but_refuses told first mid c.in-Ok.found no.NoEntry (λ d. cc) e.looks);
     }
@@ -88,7 +88,7 @@ write_block-requires g c =
       primary = subst (λ x. me.root < x.primaries) (sym (g.met.K.Blocks.sound c.args.disk.now t c.requires.may.ready.unspent).geometry) c.requires.may.ready.primary;
       seen = (e.looks.looked t).0;
       path_is = e.path;
-      found = subst (IsAt me mid n) c.in-Taken.is (e.found t);
+      found = subst (StandsAtPlace me mid n) c.in-Taken.is (e.found t);
       way = e.none t;
     } in
     record {
@@ -116,7 +116,7 @@ returns-in-Err-write_block g c =
       primary = subst (λ x. me.root < x.primaries) (sym (g.met.K.Blocks.sound c.args.disk.now t c.requires.may.ready.unspent).geometry) c.requires.may.ready.primary;
       seen = (e.looks.looked t).0;
       path_is = e.path;
-      found = subst (IsAt me mid n) c.in-Taken.is (e.found t);
+      found = subst (StandsAtPlace me mid n) c.in-Taken.is (e.found t);
       way = e.none t;
     } in
     let d = page.block in
@@ -153,7 +153,7 @@ drop_pointer-requires g c =
       primary = subst (λ x. me.root < x.primaries) (sym (g.met.K.Blocks.sound c.args.disk.now t c.requires.may.ready.unspent).geometry) c.requires.may.ready.primary;
       seen = (e.looks.looked t).0;
       path_is = e.path;
-      found = subst (IsAt me mid n) c.in-Taken.is (e.found t);
+      found = subst (StandsAtPlace me mid n) c.in-Taken.is (e.found t);
       way = e.none t;
     } in
     let d = page.block in
@@ -185,7 +185,7 @@ returns-in-Ok-drop_pointer g c =
       primary = subst (λ x. me.root < x.primaries) (sym (g.met.K.Blocks.sound c.args.disk.now t c.requires.may.ready.unspent).geometry) c.requires.may.ready.primary;
       seen = (e.looks.looked t).0;
       path_is = e.path;
-      found = subst (IsAt me mid n) c.in-Taken.is (e.found t);
+      found = subst (StandsAtPlace me mid n) c.in-Taken.is (e.found t);
       way = e.none t;
     } in
     let d = page.block in
@@ -228,7 +228,7 @@ returns-in-Err-drop_pointer g c =
       primary = subst (λ x. me.root < x.primaries) (sym (g.met.K.Blocks.sound c.args.disk.now t c.requires.may.ready.unspent).geometry) c.requires.may.ready.primary;
       seen = (e.looks.looked t).0;
       path_is = e.path;
-      found = subst (IsAt me mid n) c.in-Taken.is (e.found t);
+      found = subst (StandsAtPlace me mid n) c.in-Taken.is (e.found t);
       way = e.none t;
     } in
     let d = page.block in

@@ -1,6 +1,6 @@
 use Rattle.std.proofs.Common.{◌≡◌, [], ◌∷◌, sym, ◌∙◌, ap, subst, Some}
 use Rattle.chain_reading.specs.Asking.{tree_of}
-use Rattle.chain_reading.specs.Finding.{IsFound, IsFileOf, no_file_found}
+use Rattle.chain_reading.specs.Finding.{IsNameFound, IsFileOf, no_file_found}
 use Rattle.chain_reading.proofs.KnownLaws.{is_known, has_directory, path_of_one, path_of_two, a_file_there, a_name, no_name, place_lost}
 use Rattle.chain_reading.proofs.finding.find_file.Goals as goal
 
@@ -20,7 +20,7 @@ returns-in-Ok-Taken-clause-found g c = λ t.
     let looks = c.in-Ok-Taken.ensures.looks in
     subst (λ p. IsFileOf me new p c.in-Ok-Taken.first) (sym path)
     (a_file_there g.K.Blocks.told me old new t c.requires.may (g.met.K.Blocks.sound c.args.disk.now t c.requires.may.ready.unspent) (looks.looked t).0 looks.stays.0 n c.in-Ok-Taken.field-0-0 c.in-Ok-Taken.field-0-1 c.in-Ok-Taken.first
-    (λ ls ps ahead. subst (IsFound me new n ls ps) c.in-Ok-Taken.field-0-is (c.in-Ok-Taken.ensures.found t ls ps ahead)))
+    (λ ls ps ahead. subst (IsNameFound me new n ls ps) c.in-Ok-Taken.field-0-is (c.in-Ok-Taken.ensures.found t ls ps ahead)))
 
 pub returns-in-Ok-Taken-clause-none : goal.returns-in-Ok-Taken-clause-none
 returns-in-Ok-Taken-clause-none g c = λ t.
@@ -32,7 +32,7 @@ returns-in-Ok-Taken-clause-none g c = λ t.
     let looks = c.in-Ok-Taken.ensures.looks in
     ap (no_file_found (tree_of me old)) path
     ∙ a_name g.K.Blocks.told me old new t c.requires.may (g.met.K.Blocks.sound c.args.disk.now t c.requires.may.ready.unspent) (looks.looked t).0 looks.stays.0 n c.in-Ok-Taken.field-0-0 c.in-Ok-Taken.field-0-1 c.in-Ok-Taken.first
-    (λ ls ps ahead. subst (IsFound me new n ls ps) c.in-Ok-Taken.field-0-is (c.in-Ok-Taken.ensures.found t ls ps ahead))
+    (λ ls ps ahead. subst (IsNameFound me new n ls ps) c.in-Ok-Taken.field-0-is (c.in-Ok-Taken.ensures.found t ls ps ahead))
 
 pub returns-in-Ok-Free-clause-refused : goal.returns-in-Ok-Free-clause-refused
 returns-in-Ok-Free-clause-refused g c = λ t ne.
@@ -44,7 +44,7 @@ returns-in-Ok-Free-clause-refused g c = λ t ne.
     let looks = c.in-Ok-Free.ensures.looks in
     ap (no_file_found (tree_of me old)) path
     ∙ no_name g.K.Blocks.told me old new t c.requires.may (g.met.K.Blocks.sound c.args.disk.now t c.requires.may.ready.unspent) (looks.looked t).0 looks.stays.0 n c.in-Ok-Free.field-0-0 c.in-Ok-Free.field-0-1
-    (λ ls ps ahead. subst (IsFound me new n ls ps) c.in-Ok-Free.field-0-is (c.in-Ok-Free.ensures.found t ls ps ahead))
+    (λ ls ps ahead. subst (IsNameFound me new n ls ps) c.in-Ok-Free.field-0-is (c.in-Ok-Free.ensures.found t ls ps ahead))
 
 pub returns-in-Ok-clause-refused : goal.returns-in-Ok-clause-refused
 returns-in-Ok-clause-refused g c = λ t ne.

@@ -4,7 +4,7 @@ use Rattle.tsd_model.specs.Geometry.{block_len}
 use Rattle.chain_layout.specs.Listed.{has_name}
 use Rattle.chain_layout.specs.Block.{cluster_of}
 use Rattle.chain_layout.specs.Held.{cluster_in, entries_in}
-use Rattle.fs_asks.proofs.LookLaws.{no_look, then_looks, looks_as, looks_refused}
+use Rattle.fs_client.proofs.LookLaws.{no_look, then_looks, looks_as, looks_refused}
 use Rattle.chain_reading.specs.declared.finding.Place.TheVariants.{Taken, Free}
 use Rattle.chain_reading.specs.Standing.{IsPage}
 use Rattle.chain_reading.specs.Finding.{IsRoomiest}

@@ -1,7 +1,7 @@
 use Rattle.std.proofs.Common.{sym, subst}
 use Rattle.fs_trees.specs.declared.ask.ShellAsk.TheVariants as ask
 use Rattle.fs_port.specs.Files.{Answers, TellsNext}
-use Rattle.fs_asks.proofs.LookLaws.{then_looks}
+use Rattle.fs_client.proofs.LookLaws.{then_looks}
 use Rattle.chain_reading.specs.Asking.{mounted_by}
 use Rattle.chain_reading.proofs.KnownLaws.{is_known}
 use Rattle.chain_reading.proofs.ToldLaws.{next_told, ahead_again}

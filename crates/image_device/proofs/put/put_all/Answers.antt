@@ -21,7 +21,7 @@ loop-rest-preserved g c =
       loose = λ told. (c.put.ensures.appends told).loose ∙ i.loose told;
       leaves = λ told. puts_on v0 v v' i.done c.loop-rest.rest.now c.args.piece.now i.split (i.sent told) (i.reads told) (i.loose told) (i.leaves told) (c.put.ensures.appends told);
       puts = put_more _ _ _ i.puts c.put.ensures.puts;
-      faultless = c.in_ok-count.ensures.faultless ∙ i.faultless;
+      faultless = c.in_ok-count.ensures.faults ∙ i.faultless;
     }
 
 pub returns-in_err-count : goal.returns-in_err-count
@@ -31,6 +31,7 @@ returns-in_err-count g c =
     let v = g.P.Device.view c.loop-rest.port in
     let v' = g.P.Device.view c.put.new.self in
     let failed = c.in_err-count.ensures in
+    let rose : Rose (g.P.Device.view c.args.port.now).put_faults v'.put_faults = subst (λ (k : ℕ). Rose k v'.put_faults) i.faultless failed.faults in
     record {
       reads = λ told. (c.put.ensures.appends told).reads ∙ i.reads told;
       loose = λ told. (c.put.ensures.appends told).loose ∙ i.loose told;
@@ -38,8 +39,7 @@ returns-in_err-count g c =
       part = λ told. on_err _ (part_more v0 v v' i.done c.loop-rest.rest.now c.args.piece.now i.split (i.sent told) (i.reads told) (i.loose told) (failed.part told).0 (failed.part told).1 (failed.part told).2);
       any_moment = λ told. puts_on v0 v v' i.done c.loop-rest.rest.now c.args.piece.now i.split (i.sent told) (i.reads told) (i.loose told) (i.leaves told) (c.put.ensures.appends told);
       puts = put_more _ _ _ i.puts c.put.ensures.puts;
-      faultless = search rules;
-      cause = on_err _ (subst (λ (k : ℕ). Rose k v'.put_faults) i.faultless failed.cause);
+      faults = search rules;
     }
 
 pub returns : goal.returns
@@ -54,6 +54,5 @@ returns g c =
       part = λ told. tt;
       any_moment = i.leaves;
       puts = i.puts;
-      faultless = i.faultless;
-      cause = tt;
+      faults = i.faultless;
     }

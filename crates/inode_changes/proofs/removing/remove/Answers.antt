@@ -10,16 +10,16 @@ use Rattle.fs_trees.specs.declared.ask.ShellAsk.TheVariants as ask
 use Rattle.fs_trees.specs.declared.ask.ShellKind.TheVariants as kind
 use Rattle.fs_trees.specs.declared.refusal.FsRefusal.TheVariants as no
 use Rattle.fs_port.specs.Files.{IsEitherTree}
-use Rattle.fs_asks.specs.Client.{write_by, unlink_by}
-use Rattle.fs_asks.specs.May.{Looks}
-use Rattle.fs_asks.proofs.LookLaws.{looks_as, looks_refused, looks_but_refuses, then_looks}
-use Rattle.fs_steps.specs.Steps.{Steps, written, dropped}
+use Rattle.fs_client.specs.Client.{write_by, unlink_by}
+use Rattle.fs_client.specs.May.{OnlyLooks}
+use Rattle.fs_client.proofs.LookLaws.{looks_as, looks_refused, looks_but_refuses, then_looks}
+use Rattle.fs_client.specs.Steps.{Steps, written, dropped}
 use Rattle.inode_layout.specs.Block.{inode_of}
 use Rattle.inode_layout.specs.Said.{is_directory, blocks_said, entries_said}
 use Rattle.inode_walks.specs.Asking.{tree_of, mounted_by}
 use Rattle.inode_walks.proofs.FurtherLaws.{may_read, has_inode, child_there}
-use Rattle.fs_changing.proofs.RunLaws.{runs_look, runs_step, then_runs, runs_as, runs_refused, changes_of, looks_change, as_before}
-use Rattle.fs_changing.proofs.AskLaws.{ask_refuses, ask_done, rm_lost, rm_missing, rm_full}
+use Rattle.fs_client.proofs.RunLaws.{runs_look, runs_step, then_runs, runs_as, runs_refused, changes_of, looks_change, as_before}
+use Rattle.fs_client.proofs.AskLaws.{ask_refuses, ask_done, rm_lost, rm_missing, rm_full}
 use Rattle.inode_changes.proofs.PlaceLaws.{none_at, said_place, old_there, entries_at}
 use Rattle.inode_changes.proofs.RemoveLaws.{Taking, may_write, fits, none_refuses, stop_at_write, may_drop, pair_held, stop_at_drop, tree_fin, left_fin}
 use Rattle.inode_changes.proofs.removing.remove.Goals as goal
@@ -127,7 +127,7 @@ returns-then-has_entries g c =
           (ap (λ w. nat_lt 0 (length (names_in (at (inode_tree w me.root) path)))) (sym same) ∙ (entries_at me mid path place e.dir i b c.in-Some.is there k (f.says t) ∙ (sym c.has_entries.ensures ∙ c.if-has_entries.true))))
           (λ ne. (f.looks.looked t).0.world ∙ same);
       changes =
-          let looks : Looks {X = Unit {0}} told first rd (Ok tt) = then_looks told first mid rd place (Ok tt) e.looks (looks_as told mid rd c.in-Ok-read_inode.old tt f.looks) in
+          let looks : OnlyLooks {X = Unit {0}} told first rd (Ok tt) = then_looks told first mid rd place (Ok tt) e.looks (looks_as told mid rd c.in-Ok-read_inode.old tt f.looks) in
           looks_change told (mounted_by me) first rd a (Err no.NotEmpty) (λ t. (c.requires.may.valid t).valid) (looks_but_refuses told first rd tt no.NotEmpty (λ d. cc) looks);
     }
 
@@ -195,7 +195,7 @@ returns-in-Err-write_block g c =
     let P = IsEitherTree (mounted_by me) first a in
     let k = inode_of c.in-Ok-read_inode.old.inode in
     let empty : (is_directory k && nat_lt 0 (length (blocks_said k))) ≡ false = sym c.has_entries.ensures ∙ c.if-has_entries.false in
-    let looks : Looks {X = Unit {0}} told first rd (Ok tt) = then_looks told first mid rd place (Ok tt) e.looks (looks_as told mid rd c.in-Ok-read_inode.old tt f.looks) in
+    let looks : OnlyLooks {X = Unit {0}} told first rd (Ok tt) = then_looks told first mid rd place (Ok tt) e.looks (looks_as told mid rd c.in-Ok-read_inode.old tt f.looks) in
     let before = runs_look told first rd P (Ok tt) (λ t w is. as_before (mounted_by me) first a w (c.requires.may.valid t).valid is) looks in
     let wr = g.K.Blocks.view c.write_block.new.disk in
     let r = c.in-Err-write_block.refusal in
@@ -240,7 +240,7 @@ drop_pointer-requires g c =
     let P = IsEitherTree (mounted_by me) first a in
     let k = inode_of c.in-Ok-read_inode.old.inode in
     let empty : (is_directory k && nat_lt 0 (length (blocks_said k))) ≡ false = sym c.has_entries.ensures ∙ c.if-has_entries.false in
-    let looks : Looks {X = Unit {0}} told first rd (Ok tt) = then_looks told first mid rd place (Ok tt) e.looks (looks_as told mid rd c.in-Ok-read_inode.old tt f.looks) in
+    let looks : OnlyLooks {X = Unit {0}} told first rd (Ok tt) = then_looks told first mid rd place (Ok tt) e.looks (looks_as told mid rd c.in-Ok-read_inode.old tt f.looks) in
     let before = runs_look told first rd P (Ok tt) (λ t w is. as_before (mounted_by me) first a w (c.requires.may.valid t).valid is) looks in
     let wr = g.K.Blocks.view c.write_block.new.disk in
     let h = c.in-Ok-write_block.ensures in
@@ -286,7 +286,7 @@ returns-in-Ok-drop_pointer g c =
     let P = IsEitherTree (mounted_by me) first a in
     let k = inode_of c.in-Ok-read_inode.old.inode in
     let empty : (is_directory k && nat_lt 0 (length (blocks_said k))) ≡ false = sym c.has_entries.ensures ∙ c.if-has_entries.false in
-    let looks : Looks {X = Unit {0}} told first rd (Ok tt) = then_looks told first mid rd place (Ok tt) e.looks (looks_as told mid rd c.in-Ok-read_inode.old tt f.looks) in
+    let looks : OnlyLooks {X = Unit {0}} told first rd (Ok tt) = then_looks told first mid rd place (Ok tt) e.looks (looks_as told mid rd c.in-Ok-read_inode.old tt f.looks) in
     let before = runs_look told first rd P (Ok tt) (λ t w is. as_before (mounted_by me) first a w (c.requires.may.valid t).valid is) looks in
     let wr = g.K.Blocks.view c.write_block.new.disk in
     let fin = g.K.Blocks.view c.drop_pointer.new.disk in
@@ -342,7 +342,7 @@ returns-in-Err-drop_pointer g c =
     let P = IsEitherTree (mounted_by me) first a in
     let k = inode_of c.in-Ok-read_inode.old.inode in
     let empty : (is_directory k && nat_lt 0 (length (blocks_said k))) ≡ false = sym c.has_entries.ensures ∙ c.if-has_entries.false in
-    let looks : Looks {X = Unit {0}} told first rd (Ok tt) = then_looks told first mid rd place (Ok tt) e.looks (looks_as told mid rd c.in-Ok-read_inode.old tt f.looks) in
+    let looks : OnlyLooks {X = Unit {0}} told first rd (Ok tt) = then_looks told first mid rd place (Ok tt) e.looks (looks_as told mid rd c.in-Ok-read_inode.old tt f.looks) in
     let before = runs_look told first rd P (Ok tt) (λ t w is. as_before (mounted_by me) first a w (c.requires.may.valid t).valid is) looks in
     let wr = g.K.Blocks.view c.write_block.new.disk in
     let fin = g.K.Blocks.view c.drop_pointer.new.disk in

@@ -1,9 +1,9 @@
 use Rattle.std.proofs.Common.{◌≡◌, sym, ◌∙◌, subst, Option, Some, None}
 use Rattle.fs_trees.specs.declared.refusal.FsRefusal.{FsRefusal}
 use Rattle.fs_trees.specs.declared.refusal.FsRefusal.TheVariants as no
-use Rattle.fs_asks.proofs.LookLaws.{looks_but_refuses}
+use Rattle.fs_client.proofs.LookLaws.{looks_but_refuses}
 use Rattle.inode_walks.specs.Asking.{tree_of}
-use Rattle.inode_walks.specs.Finding.{IsAt, no_file_found}
+use Rattle.inode_walks.specs.Finding.{StandsAtPath, no_file_found}
 use Rattle.inode_walks.proofs.FoundLaws.{a_dir_was, a_file_was, lost_file, file_found, dir_in_place}
 use Rattle.inode_walks.proofs.finding.find_file.Goals as goal
 
@@ -37,7 +37,7 @@ returns-else-is_directory g c =
     let v = c.as_slice.ensures.value in
     let e = c.in-Ok.ensures in
     record {
-      found = λ t. subst (λ q. IsAt me new q c.in-Ok.found) v (e.found t);
+      found = λ t. subst (λ q. StandsAtPath me new q c.in-Ok.found) v (e.found t);
       file = sym c.is_directory.ensures ∙ c.if-is_directory.false;
       none = λ t. subst (λ q. ◌≡◌ {A = Option FsRefusal} (no_file_found (tree_of me old) q) None) v (file_found (tree_of me old) p (e.none t) (a_file_was me old new p c.in-Ok.found (e.found t) (e.looks.looked t).0.world (sym c.is_directory.ensures ∙ c.if-is_directory.false)).0);
       refused = λ t. tt;

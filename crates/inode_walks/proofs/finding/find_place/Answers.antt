@@ -1,5 +1,5 @@
 use Rattle.std.proofs.Common.{◌≡◌, ◌∷◌, ◌++◌, [], ◌∙◌, sym, subst, length, take, ◌-◌, ◌<◌, ◌≤◌}
-use Rattle.fs_asks.proofs.LookLaws.{no_look, looks_as, looks_refused, looks_but_refuses}
+use Rattle.fs_client.proofs.LookLaws.{no_look, looks_as, looks_refused, looks_but_refuses}
 use Rattle.inode_walks.specs.Asking.{tree_of}
 use Rattle.inode_walks.proofs.FoundLaws.{last_of, no_name, place_lost, place_is}
 use Rattle.inode_walks.proofs.finding.find_place.Goals as goal

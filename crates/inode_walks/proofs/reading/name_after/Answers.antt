@@ -6,7 +6,7 @@ use Rattle.inode_layout.specs.Said.{next_said}
 use Rattle.fs_trees.specs.Tree.{at, names_in}
 use Rattle.fs_trees.specs.Answer.{listed}
 use Rattle.fs_port.specs.Files.{Answers, TellsNext}
-use Rattle.fs_asks.proofs.LookLaws.{looks_as, looks_refused}
+use Rattle.fs_client.proofs.LookLaws.{looks_as, looks_refused}
 use Rattle.inode_walks.specs.Asking.{tree_of, mounted_by}
 use Rattle.inode_walks.proofs.TellLaws.{ls_answers, ls_refuses, next_told}
 use Rattle.inode_walks.proofs.reading.name_after.Goals as goal

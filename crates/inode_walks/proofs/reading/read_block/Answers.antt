@@ -1,8 +1,8 @@
 use Rattle.std.proofs.Common.{◌≡◌, ◌+◌, ◌-◌, ◌/◌, ◌%◌, ◌<◌, ◌≤◌, ◌++◌, length, min, sym, ◌∙◌, ap, subst, arith, Some}
 use Rattle.std.proofs.Math.Nat.{mod-lt}
 use Rattle.std.specs.Prelude.{slice_index}
-use Rattle.fs_asks.proofs.LookLaws.{looks_as}
-use Rattle.fs_asks.specs.May.{MayWrite}
+use Rattle.fs_client.proofs.LookLaws.{looks_as}
+use Rattle.fs_client.specs.May.{MayWrite}
 use Rattle.inode_layout.specs.Block.{inode_of}
 use Rattle.inode_layout.specs.Said.{blocks_said}
 use Rattle.tsd_model.specs.World.{contents}

@@ -1,10 +1,10 @@
 use Rattle.std.proofs.Common.{◌≡◌, ◌≤◌, ◌+◌, min, sym, ◌∙◌, ap, subst, arith}
 use Rattle.fs_trees.specs.Tree.{at, bytes_in}
-use Rattle.fs_asks.specs.May.{Looked}
+use Rattle.fs_client.specs.May.{Looked}
 use Rattle.inode_walks.specs.Reading.{part, bytes_said}
 use Rattle.fs_trees.specs.Answer.{bytes}
 use Rattle.fs_port.specs.Files.{TellsPart}
-use Rattle.fs_asks.proofs.LookLaws.{then_looks}
+use Rattle.fs_client.proofs.LookLaws.{then_looks}
 use Rattle.inode_layout.specs.Block.{inode_of}
 use Rattle.inode_layout.specs.Said.{amount_said}
 use Rattle.inode_walks.specs.Asking.{tree_of}

@@ -2,7 +2,7 @@ use Rattle.std.proofs.Common.{sym, subst}
 use Rattle.fs_trees.specs.Tree.{at, bytes_in}
 use Rattle.fs_trees.specs.Answer.{bytes}
 use Rattle.fs_port.specs.Files.{TellsSize}
-use Rattle.fs_asks.proofs.LookLaws.{looks_as, looks_refused}
+use Rattle.fs_client.proofs.LookLaws.{looks_as, looks_refused}
 use Rattle.inode_walks.specs.Asking.{tree_of}
 use Rattle.inode_walks.proofs.FileLaws.{found_long}
 use Rattle.inode_walks.proofs.TellLaws.{cat_answers, cat_refuses, size_told}

@@ -40,5 +40,5 @@ loop-index-preserved g c =
           let one = confined_wider _ (has_home ps) (view c.loop-index.dev) (view c.write_if_last.new.dev) (home_at ps i _ _ c.loop-index-test.true refl) (c.write_if_last.ensures.confined told) in
           confined_joined (has_home ps) _ (view c.loop-index.dev) (view c.write_if_last.new.dev) (c.loop-index.invariant.confined told) one;
       uses = uses_and c.loop-index.homes _ _ _ _ _ (omega (arith, c.in_ok-homes.ensures.homes)) c.loop-index.invariant.uses c.write_if_last.ensures.uses;
-      faultless = c.in_ok-homes.ensures.faultless ∙ c.loop-index.invariant.faultless;
+      faultless = c.in_ok-homes.ensures.faults ∙ c.loop-index.invariant.faultless;
     }

@@ -17,7 +17,7 @@ loop-patch-preserved g c =
       confined = λ told. confined_write (is_body_of c.args.start (length ps)) c.body_sector.result _ (view c.loop-patch.dev) (view c.write.new.self)
           (ap (is_body_of c.args.start (length ps)) c.body_sector.ensures.value ∙ body_within c.args.start (length ps) c.loop-patch.body (omega arith) (omega (arith, c.loop-patch-test.true))) (c.loop-patch.invariant.confined told) (c.write.ensures.touches told);
       uses = uses_and i 1 (i + 1) _ _ _ (omega arith) c.loop-patch.invariant.uses c.write.ensures.uses;
-      faultless = c.in_ok-write.ensures.faultless ∙ c.loop-patch.invariant.faultless;
+      faultless = c.in_ok-write.ensures.faults ∙ c.loop-patch.invariant.faultless;
     }
 
 pub returns-clause-bodies : goal.returns-clause-bodies

@@ -18,5 +18,5 @@ loop-home-preserved g c =
           read_more c.args.patches.now _ c.loop-home.home-index c.loop-home.patches c.push.new.self _ c.push.ensures (ap (λ (l : List ℕ). record { sector = get_or c.args.homes.now c.loop-home.home-index 0; bytes = l }) bytes) (c.loop-home.invariant.read told);
       rests = λ told. rests_joined _ _ _ (c.loop-home.invariant.rests told) (c.read.ensures.rests told);
       uses = uses_and 0 0 0 _ _ _ (omega arith) c.loop-home.invariant.uses c.read.ensures.uses;
-      faultless = c.in_ok-read.ensures.faultless ∙ c.loop-home.invariant.faultless;
+      faultless = c.in_ok-read.ensures.faults ∙ c.loop-home.invariant.faultless;
     }

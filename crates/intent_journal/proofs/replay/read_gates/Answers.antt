@@ -15,5 +15,5 @@ loop-index-preserved g c =
           (c.in_ok-gates.ensures.gate told ∙ (λ i. is_open_gate ((c.loop-index.invariant.rests told).reads i) c.loop-index.index));
       rests = λ told. rests_joined _ _ _ (c.loop-index.invariant.rests told) (c.is_gate_open.ensures.rests told);
       uses = uses_and 0 0 0 _ _ _ (omega arith) c.loop-index.invariant.uses c.is_gate_open.ensures.uses;
-      faultless = c.in_ok-gates.ensures.faultless ∙ c.loop-index.invariant.faultless;
+      faultless = c.in_ok-gates.ensures.faults ∙ c.loop-index.invariant.faultless;
     }

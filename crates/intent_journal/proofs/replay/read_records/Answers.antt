@@ -76,5 +76,5 @@ loop-index-preserved g c =
           c.loop-index.invariant.valid told ∙ valid_more x i ps c.loop-index-test.true new gate valid is;
       rests = λ told. rests_joined _ _ _ (c.loop-index.invariant.rests told) (c.read_record.ensures.rests told);
       uses = uses_and 0 0 0 _ _ _ (omega arith) c.loop-index.invariant.uses c.read_record.ensures.uses;
-      faultless = c.in_ok-read_record.ensures.faultless ∙ c.loop-index.invariant.faultless;
+      faultless = c.in_ok-read_record.ensures.faults.1 (λ is. absurd (cc)) ∙ c.loop-index.invariant.faultless;
     }

@@ -1,5 +1,7 @@
 use Rattle.std.proofs.Common.{◌≡◌, ℕ, ◌+◌, ◌*◌, ◌<◌, min, refl, sym, subst, ap, ◌∙◌, arith}
+use Rattle.std.specs.Prelude.{Result, Ok, Err, OnOk}
 use Rattle.std.specs.Int.{div_ceil}
+use Rattle.image_device.specs.Counts.{CountsFault}
 use Rattle.image_layout.specs.Areas.{slots_start, data_start}
 use Rattle.pointer_table.specs.Raw.{slots_in}
 use Rattle.pointer_table.specs.Reading.{IsReadTo, AreWithinTo}
@@ -7,6 +9,11 @@ use Rattle.image_device.proofs.Outcomes.{unless_err}
 use Rattle.image_device.proofs.Resting.{rests_joined, uses_read}
 use Rattle.pointer_table.proofs.LoadLaws.{part_inside}
 use Rattle.pointer_table.proofs.load.read_slots.Goals as goal
+
+-- an Ok leaves the count
+stays_on_ok : {T E : Type 0} (r : Result T E) (before now : ℕ) → CountsFault r before now → OnOk r (now ≡ before)
+stays_on_ok (Ok x) before now h = h
+stays_on_ok (Err e) before now h = tt
 
 pub loop-part-preserved : goal.loop-part-preserved
 loop-part-preserved g c =
@@ -37,5 +44,5 @@ loop-part-preserved g c =
           (c.in_default.ensures.within (subst (λ (n : ℕ). AreWithinTo size n (slots_in c.loop-part.slots)) first so_far.within));
       rests = λ told. rests_joined v0 v v' (so_far.rests told) (c.read.ensures.rests told);
       uses = uses_read 0 v0 v v' so_far.uses c.read.ensures.uses;
-      faultless = unless_err c.read.result c.is_err.result c.if-is_err.false c.is_err.ensures.value c.read.ensures.faultless ∙ so_far.faultless;
+      faultless = unless_err c.read.result c.is_err.result c.if-is_err.false c.is_err.ensures.value (stays_on_ok c.read.result v.faults v'.faults c.read.ensures.faults) ∙ so_far.faultless;
     }

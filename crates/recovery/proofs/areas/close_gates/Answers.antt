@@ -23,5 +23,5 @@ loop-index-preserved g c =
       ];
       confined = λ told. confined_write is_journal c.gate_sector.result _ _ _ (in_journal c.gate_sector.result c.gate_sector.ensures.in_ring.0 (omega arith)) (c.loop-index.invariant.confined told) (c.write.ensures.touches told);
       uses = uses_and c.loop-index.index 1 (c.loop-index.index + 1) _ _ _ (omega arith) c.loop-index.invariant.uses c.write.ensures.uses;
-      faultless = c.in_ok-write.ensures.faultless ∙ c.loop-index.invariant.faultless;
+      faultless = c.in_ok-write.ensures.faults ∙ c.loop-index.invariant.faultless;
     }

@@ -31,5 +31,5 @@ loop-sector-preserved g c =
       ];
       confined = λ told. confined_write (nat_le sweep_flag) s _ _ _ (from_flag s c.loop-sector.invariant.from) (c.loop-sector.invariant.confined told) (c.write.ensures.touches told);
       uses = uses_and (s - 131) 1 (s + 1 - 131) _ _ _ (omega (arith, c.loop-sector.invariant.from)) c.loop-sector.invariant.uses c.write.ensures.uses;
-      faultless = c.in_ok-write.ensures.faultless ∙ c.loop-sector.invariant.faultless;
+      faultless = c.in_ok-write.ensures.faults ∙ c.loop-sector.invariant.faultless;
     }

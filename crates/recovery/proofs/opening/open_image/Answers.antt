@@ -1,7 +1,8 @@
-use Rattle.std.proofs.Common.{◌∙◌, ap, sym, subst, arith}
+use Rattle.std.proofs.Common.{◌∙◌, ap, sym, subst, arith, rules}
 use Rattle.image_device.proofs.Moments.{uses_and}
 use Rattle.image_layout.specs.Image.{Image, is_open}
 use Rattle.recovery.proofs.OpenRuns.{synced, read_still, opened_start, opened_sync, opened_head, opened_replay, replayed, loaded, opened_load, stood, opened_finish, opened_err, opened_device, is_device, quiet_uses, quiet_finish, quiet_paid, owed_start, owed_sync, owed_head, owed_replay, owed_load, owed_finish, right_head}
+use Rattle.volume_laws.proofs.StepOps.{either_same}
 use Rattle.recovery.specs.Opening.{HasHead}
 use Rattle.recovery.proofs.opening.open_image.Goals as goal
 
@@ -55,14 +56,14 @@ returns-in_err-finish-clause-any_moment g c told firm =
     let done = replayed _ _ _ still (c.in_ok-replay.ensures.at told) (c.in_ok-replay.ensures.done told) (c.in_ok-replay.ensures.valid told) (c.in_ok-replay.ensures.firm told) (c.replay.ensures.sent told) in
     let far = opened_replay _ _ _ (opened_head _ _ _ (opened_sync _ _ (g.met.D.Device.sound c.args.dev.now told) firm (c.sync.ensures.settles told)) (synced _ _ (c.in_ok-sync.ensures.firm told) (c.sync.ensures.settles told)) (c.read_head.ensures.rests told)) still (c.replay.ensures.any_moment told) in
     let now = loaded _ _ _ done (c.load.ensures.rests told) in
-    opened_finish _ _ _ (opened_load _ _ _ far done (c.load.ensures.rests told)) now (c.in_ok-volume.ensures.at told).good (c.finish.ensures.any_moment told)
+    opened_finish _ _ _ (opened_load _ _ _ far done (c.load.ensures.rests told)) now (c.in_ok-volume.ensures.at told).good (either_same _ _ (c.finish.ensures.operation.any_moment told))
 
 pub returns-in_err-finish-clause-unwritten : goal.returns-in_err-finish-clause-unwritten
 returns-in_err-finish-clause-unwritten g c told quiet =
     let still = read_still _ _ _ (synced _ _ (c.in_ok-sync.ensures.firm told) (c.sync.ensures.settles told)) (c.read_head.ensures.rests told) in
     let done = replayed _ _ _ still (c.in_ok-replay.ensures.at told) (c.in_ok-replay.ensures.done told) (c.in_ok-replay.ensures.valid told) (c.in_ok-replay.ensures.firm told) (c.replay.ensures.sent told) in
     let now = loaded _ _ _ done (c.load.ensures.rests told) in
-    quiet_finish _ _ _ _ quiet now (c.in_ok-volume.ensures.at told) c.in_ok-volume.ensures.ring (uses_and 0 0 0 _ _ _ (omega arith) (quiet_uses _ _ _ _ still quiet c.sync.ensures.uses c.read_head.ensures.uses (c.replay.ensures.needed told)) c.load.ensures.uses) c.finish.ensures.uses
+    quiet_finish _ _ _ _ quiet now (c.in_ok-volume.ensures.at told) c.in_ok-volume.ensures.ring (uses_and 0 0 0 _ _ _ (omega arith) (quiet_uses _ _ _ _ still quiet c.sync.ensures.uses c.read_head.ensures.uses (c.replay.ensures.needed told)) c.load.ensures.uses) (λ no_sweep. (c.finish.ensures.cost no_sweep).uses)
 
 pub returns-clause-read : goal.returns-clause-read
 returns-clause-read g c told =
@@ -76,7 +77,7 @@ returns-clause-done g c told =
     let still = read_still _ _ _ (synced _ _ (c.in_ok-sync.ensures.firm told) (c.sync.ensures.settles told)) (c.read_head.ensures.rests told) in
     let done = replayed _ _ _ still (c.in_ok-replay.ensures.at told) (c.in_ok-replay.ensures.done told) (c.in_ok-replay.ensures.valid told) (c.in_ok-replay.ensures.firm told) (c.replay.ensures.sent told) in
     let now = loaded _ _ _ done (c.load.ensures.rests told) in
-    c.in_ok-finish.ensures.done told ∙ (stood _ _ now (c.in_ok-volume.ensures.at told).good).world
+    c.in_ok-finish.ensures.operation.done told ∙ (stood _ _ now (c.in_ok-volume.ensures.at told).good).world
 
 pub returns-clause-any_moment : goal.returns-clause-any_moment
 returns-clause-any_moment g c told firm =
@@ -84,14 +85,14 @@ returns-clause-any_moment g c told firm =
     let done = replayed _ _ _ still (c.in_ok-replay.ensures.at told) (c.in_ok-replay.ensures.done told) (c.in_ok-replay.ensures.valid told) (c.in_ok-replay.ensures.firm told) (c.replay.ensures.sent told) in
     let far = opened_replay _ _ _ (opened_head _ _ _ (opened_sync _ _ (g.met.D.Device.sound c.args.dev.now told) firm (c.sync.ensures.settles told)) (synced _ _ (c.in_ok-sync.ensures.firm told) (c.sync.ensures.settles told)) (c.read_head.ensures.rests told)) still (c.replay.ensures.any_moment told) in
     let now = loaded _ _ _ done (c.load.ensures.rests told) in
-    opened_finish _ _ _ (opened_load _ _ _ far done (c.load.ensures.rests told)) now (c.in_ok-volume.ensures.at told).good (c.finish.ensures.any_moment told)
+    opened_finish _ _ _ (opened_load _ _ _ far done (c.load.ensures.rests told)) now (c.in_ok-volume.ensures.at told).good (either_same _ _ (c.finish.ensures.operation.any_moment told))
 
 pub returns-clause-unwritten : goal.returns-clause-unwritten
 returns-clause-unwritten g c told quiet =
     let still = read_still _ _ _ (synced _ _ (c.in_ok-sync.ensures.firm told) (c.sync.ensures.settles told)) (c.read_head.ensures.rests told) in
     let done = replayed _ _ _ still (c.in_ok-replay.ensures.at told) (c.in_ok-replay.ensures.done told) (c.in_ok-replay.ensures.valid told) (c.in_ok-replay.ensures.firm told) (c.replay.ensures.sent told) in
     let now = loaded _ _ _ done (c.load.ensures.rests told) in
-    quiet_finish _ _ _ _ quiet now (c.in_ok-volume.ensures.at told) c.in_ok-volume.ensures.ring (uses_and 0 0 0 _ _ _ (omega arith) (quiet_uses _ _ _ _ still quiet c.sync.ensures.uses c.read_head.ensures.uses (c.replay.ensures.needed told)) c.load.ensures.uses) c.finish.ensures.uses
+    quiet_finish _ _ _ _ quiet now (c.in_ok-volume.ensures.at told) c.in_ok-volume.ensures.ring (uses_and 0 0 0 _ _ _ (omega arith) (quiet_uses _ _ _ _ still quiet c.sync.ensures.uses c.read_head.ensures.uses (c.replay.ensures.needed told)) c.load.ensures.uses) (λ no_sweep. (c.finish.ensures.cost no_sweep).uses)
 
 pub returns-in_err-finish-clause-read : goal.returns-in_err-finish-clause-read
 returns-in_err-finish-clause-read g c told = opened_device (g.D.Device.view c.args.dev.now) c.from_residual-in_err-finish.result c.from_residual-in_err-finish.ensures.1
@@ -130,7 +131,7 @@ returns-in_err-finish-clause-any_owed g c told firm flag =
     let at_head = subst (λ (r : Image). HasHead r c.in_ok-header.header) (sym (c.read_head.ensures.rests told).reads) (c.in_ok-header.ensures.head told) in
     let far = owed_replay _ _ _ c.in_ok-header.header (owed_head _ _ _ (owed_sync _ _ (g.met.D.Device.sound c.args.dev.now told) firm (c.sync.ensures.settles told)) (synced _ _ (c.in_ok-sync.ensures.firm told) (c.sync.ensures.settles told)) (c.read_head.ensures.rests told)) still at_head (c.replay.ensures.any_moment told) in
     let now = loaded _ _ _ done (c.load.ensures.rests told) in
-    owed_finish _ _ _ _ flag (owed_load _ _ _ (right_head _ _ c.in_ok-header.header still at_head) far done (c.load.ensures.rests told)) now (c.in_ok-volume.ensures.at told) (λ no_sweep. c.finish.ensures.any_owed no_sweep told)
+    owed_finish _ _ _ _ flag (owed_load _ _ _ (right_head _ _ c.in_ok-header.header still at_head) far done (c.load.ensures.rests told)) now (c.in_ok-volume.ensures.at told) (λ no_sweep. (c.finish.ensures.cost no_sweep).any_owed told)
 
 pub returns-clause-any_owed : goal.returns-clause-any_owed
 returns-clause-any_owed g c told firm flag =
@@ -139,17 +140,17 @@ returns-clause-any_owed g c told firm flag =
     let at_head = subst (λ (r : Image). HasHead r c.in_ok-header.header) (sym (c.read_head.ensures.rests told).reads) (c.in_ok-header.ensures.head told) in
     let far = owed_replay _ _ _ c.in_ok-header.header (owed_head _ _ _ (owed_sync _ _ (g.met.D.Device.sound c.args.dev.now told) firm (c.sync.ensures.settles told)) (synced _ _ (c.in_ok-sync.ensures.firm told) (c.sync.ensures.settles told)) (c.read_head.ensures.rests told)) still at_head (c.replay.ensures.any_moment told) in
     let now = loaded _ _ _ done (c.load.ensures.rests told) in
-    owed_finish _ _ _ _ flag (owed_load _ _ _ (right_head _ _ c.in_ok-header.header still at_head) far done (c.load.ensures.rests told)) now (c.in_ok-volume.ensures.at told) (λ no_sweep. c.finish.ensures.any_owed no_sweep told)
+    owed_finish _ _ _ _ flag (owed_load _ _ _ (right_head _ _ c.in_ok-header.header still at_head) far done (c.load.ensures.rests told)) now (c.in_ok-volume.ensures.at told) (λ no_sweep. (c.finish.ensures.cost no_sweep).any_owed told)
 
 pub returns-clause-paid : goal.returns-clause-paid
 returns-clause-paid g c told quiet =
     let still = read_still _ _ _ (synced _ _ (c.in_ok-sync.ensures.firm told) (c.sync.ensures.settles told)) (c.read_head.ensures.rests told) in
     let done = replayed _ _ _ still (c.in_ok-replay.ensures.at told) (c.in_ok-replay.ensures.done told) (c.in_ok-replay.ensures.valid told) (c.in_ok-replay.ensures.firm told) (c.replay.ensures.sent told) in
     let now = loaded _ _ _ done (c.load.ensures.rests told) in
-    quiet_paid (g.D.Device.view c.args.dev.now) (g.D.Device.view c.load.new.dev) (g.D.Device.view c.finish.new.dev) c.in_ok-volume.volume c.finish.new.self quiet now (c.in_ok-volume.ensures.at told) c.in_ok-volume.ensures.ring (uses_and 0 0 0 _ _ _ (omega arith) (quiet_uses _ _ _ _ still quiet c.sync.ensures.uses c.read_head.ensures.uses (c.replay.ensures.needed told)) c.load.ensures.uses) c.in_ok-finish.ensures.paid
+    quiet_paid (g.D.Device.view c.args.dev.now) (g.D.Device.view c.load.new.dev) (g.D.Device.view c.finish.new.dev) c.in_ok-volume.volume c.finish.new.self quiet now (c.in_ok-volume.ensures.at told) c.in_ok-volume.ensures.ring (uses_and 0 0 0 _ _ _ (omega arith) (quiet_uses _ _ _ _ still quiet c.sync.ensures.uses c.read_head.ensures.uses (c.replay.ensures.needed told)) c.load.ensures.uses) (λ no_sweep. (c.in_ok-finish.ensures.cost no_sweep).paid)
 
-pub returns-in_err-finish-clause-faultless : goal.returns-in_err-finish-clause-faultless
-returns-in_err-finish-clause-faultless g c other = absurd (other (is_device c.from_residual-in_err-finish.result c.from_residual-in_err-finish.ensures.1))
+pub returns-in_err-finish-clause-faults : goal.returns-in_err-finish-clause-faults
+returns-in_err-finish-clause-faults g c = (λ device. search rules, λ other. absurd (other (is_device c.from_residual-in_err-finish.result c.from_residual-in_err-finish.ensures.1)))
 
 pub returns-in_err-replay-clause-untouched : goal.returns-in_err-replay-clause-untouched
 returns-in_err-replay-clause-untouched g c told none =

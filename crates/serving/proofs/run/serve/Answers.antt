@@ -2,6 +2,7 @@ use Rattle.std.proofs.Common.{◌≡◌, inr, [], ◌++◌, refl, ◌∙◌, ari
 use Rattle.std.specs.Prelude.{Result, Ok, Err}
 use Rattle.serving.proofs.Inputs.{came_first, came_then, handed_first, asked_stopped}
 use Rattle.serving.proofs.Steps.{served_of, ends_now, goes_first, goes_next, ends_stopped, ends_done, ends_close_fault, ends_longer, ran_of}
+use Rattle.serving.specs.Ran.{taking, moments}
 use Rattle.serving.proofs.run.serve.Goals as goal
 
 ok_not_err : {T E : Type 0} (r : Result T E) (x : T) (why : E) → r ≡ Ok x → r ≡ Err why → ⊥
@@ -38,8 +39,8 @@ loop-request-preserved g c =
       ready = c.answer.ensures.ready (ok_not_err c.answer.result _ _ c.in-Ok.is);
       at = c.answer.ensures.at (ok_not_err c.answer.result _ _ c.in-Ok.is);
       source_faults = omega (arith, i.source_faults, c.in-Request.ensures.no_source_fault (λ e. cc));
-      faults = omega (arith, i.faults, c.in-Ok.ensures.faultless);
-      put_faults = omega (arith, i.put_faults, c.in-Ok.ensures.put_faultless);
+      faults = c.in-Ok.ensures.faults.1 (λ e. cc) ∙ i.faults;
+      put_faults = c.in-Ok.ensures.put_faults.1 (λ e. cc) ∙ i.put_faults;
       goes = (
         was.0 ++ found.0,
         _,
@@ -58,7 +59,7 @@ returns-in-Err-clause-ran g c =
     let was = i.goes in
     let found = c.in-Request.ensures.found was.0 was.1 was.3 in
     let asked = asked_stopped g.R.Protocol.spelling g.met.R.Protocol.lawful c.in-Err.why _ _ c.next.new.self (was.0 ++ found.0) _ c.in-Err.ensures.stops found.2 in
-    ran_of c.in-Err.why g.H.Server.service g.H.Server.work g.R.Protocol.spelling _ _ c.args.limit c.next.new.self.limit _ _ _ _ (g.P.Device.view c.args.port.now) (g.P.Device.view c.answer.new.port) (was.0 ++ found.0) _ (c.next.ensures.limit ∙ i.limit)
+    ran_of c.in-Err.why g.H.Server.service g.H.Server.work g.R.Protocol.spelling _ _ c.args.limit c.next.new.self.limit (taking g.S.Source.told g.S.Source.taken g.S.Source.left_bytes g.S.Source.ended c.args.source.now c.next.new.source) _ (moments g.P.Device.told g.P.Device.view c.args.port.now c.answer.new.port) (was.0 ++ found.0) _ (c.next.ensures.limit ∙ i.limit)
     (came_then g.S.Source.told _ _ _ _ _ _ was.0 found.0 was.2 found.1) asked.1
     (λ told.
     ends_longer g.H.Server.service g.H.Server.work _ _ _ (g.P.Device.view c.args.port.now) (g.P.Device.view c.answer.new.port) _ asked.0 c.in-Err.why c.in-Err.ensures.stops
@@ -70,7 +71,7 @@ returns-in-Ok-close-clause-ran g c =
     let i = c.loop-request.invariant in
     let was = i.goes in
     let found = c.in-End.ensures.found was.0 was.1 was.3 in
-    ran_of _ g.H.Server.service g.H.Server.work g.R.Protocol.spelling _ _ c.args.limit c.next.new.self.limit _ _ _ _ (g.P.Device.view c.args.port.now) (g.P.Device.view c.close.new.dev) (was.0 ++ found.0) was.1 (c.next.ensures.limit ∙ i.limit)
+    ran_of _ g.H.Server.service g.H.Server.work g.R.Protocol.spelling _ _ c.args.limit c.next.new.self.limit (taking g.S.Source.told g.S.Source.taken g.S.Source.left_bytes g.S.Source.ended c.args.source.now c.next.new.source) _ (moments g.P.Device.told g.P.Device.view c.args.port.now c.close.new.dev) (was.0 ++ found.0) was.1 (c.next.ensures.limit ∙ i.limit)
     (came_then g.S.Source.told _ _ _ _ _ _ was.0 found.0 was.2 found.1) found.2
     (λ told.
     ends_done g.H.Server.service g.met.H.Server.counted g.H.Server.work _ _ (g.P.Device.view c.args.port.now) was.1 _ _ (g.P.Device.view c.loop-request.port) (was.4 told) (g.P.Device.view c.close.new.dev) (c.close.ensures.any_moment told) (c.close.ensures.debt told) (c.close.ensures.sent told) (c.close.ensures.most told)
@@ -81,7 +82,7 @@ returns-in-Err-close-clause-ran g c =
     let i = c.loop-request.invariant in
     let was = i.goes in
     let found = c.in-End.ensures.found was.0 was.1 was.3 in
-    ran_of _ g.H.Server.service g.H.Server.work g.R.Protocol.spelling _ _ c.args.limit c.next.new.self.limit _ _ _ _ (g.P.Device.view c.args.port.now) (g.P.Device.view c.close.new.dev) (was.0 ++ found.0) was.1 (c.next.ensures.limit ∙ i.limit)
+    ran_of _ g.H.Server.service g.H.Server.work g.R.Protocol.spelling _ _ c.args.limit c.next.new.self.limit (taking g.S.Source.told g.S.Source.taken g.S.Source.left_bytes g.S.Source.ended c.args.source.now c.next.new.source) _ (moments g.P.Device.told g.P.Device.view c.args.port.now c.close.new.dev) (was.0 ++ found.0) was.1 (c.next.ensures.limit ∙ i.limit)
     (came_then g.S.Source.told _ _ _ _ _ _ was.0 found.0 was.2 found.1) (inr (found.2.0, found.2.1, found.2.3))
     (λ told.
     ends_close_fault g.H.Server.service g.met.H.Server.counted g.H.Server.work _ _ (g.P.Device.view c.args.port.now) was.1 _ _ (g.P.Device.view c.loop-request.port) (was.4 told) (g.P.Device.view c.close.new.dev) (c.close.ensures.any_moment told) (c.close.ensures.debt told) (c.close.ensures.sent told) (c.close.ensures.most told) _)
@@ -91,7 +92,7 @@ returns-in-CutOff-clause-ran g c =
     let i = c.loop-request.invariant in
     let was = i.goes in
     let found = c.in-CutOff.ensures.found was.0 was.1 was.3 in
-    ran_of _ g.H.Server.service g.H.Server.work g.R.Protocol.spelling _ _ c.args.limit c.next.new.self.limit _ _ _ _ (g.P.Device.view c.args.port.now) (g.P.Device.view c.loop-request.port) (was.0 ++ found.0) was.1 (c.next.ensures.limit ∙ i.limit)
+    ran_of _ g.H.Server.service g.H.Server.work g.R.Protocol.spelling _ _ c.args.limit c.next.new.self.limit (taking g.S.Source.told g.S.Source.taken g.S.Source.left_bytes g.S.Source.ended c.args.source.now c.next.new.source) _ (moments g.P.Device.told g.P.Device.view c.args.port.now c.loop-request.port) (was.0 ++ found.0) was.1 (c.next.ensures.limit ∙ i.limit)
     (came_then g.S.Source.told _ _ _ _ _ _ was.0 found.0 was.2 found.1) found.2
     (λ told. ends_now g.H.Server.service g.H.Server.work _ _ (g.P.Device.view c.args.port.now) _ was.1 _ _ (g.P.Device.view c.loop-request.port) (was.4 told) (served_of g.H.Server.service g.H.Server.work _ _ (g.P.Device.view c.args.port.now) was.1 _ _ (g.P.Device.view c.loop-request.port) (was.4 told)))
 
@@ -100,7 +101,7 @@ returns-in-Fault-clause-ran g c =
     let i = c.loop-request.invariant in
     let was = i.goes in
     let found = c.in-Fault.ensures.found was.0 was.1 was.3 in
-    ran_of _ g.H.Server.service g.H.Server.work g.R.Protocol.spelling _ _ c.args.limit c.next.new.self.limit _ _ _ _ (g.P.Device.view c.args.port.now) (g.P.Device.view c.loop-request.port) (was.0 ++ found.0) was.1 (c.next.ensures.limit ∙ i.limit)
+    ran_of _ g.H.Server.service g.H.Server.work g.R.Protocol.spelling _ _ c.args.limit c.next.new.self.limit (taking g.S.Source.told g.S.Source.taken g.S.Source.left_bytes g.S.Source.ended c.args.source.now c.next.new.source) _ (moments g.P.Device.told g.P.Device.view c.args.port.now c.loop-request.port) (was.0 ++ found.0) was.1 (c.next.ensures.limit ∙ i.limit)
     (came_then g.S.Source.told _ _ _ _ _ _ was.0 found.0 was.2 found.1) found.2
     (λ told. ends_now g.H.Server.service g.H.Server.work _ _ (g.P.Device.view c.args.port.now) _ was.1 _ _ (g.P.Device.view c.loop-request.port) (was.4 told) (served_of g.H.Server.service g.H.Server.work _ _ (g.P.Device.view c.args.port.now) was.1 _ _ (g.P.Device.view c.loop-request.port) (was.4 told)))
 
@@ -109,6 +110,6 @@ returns-in-TooLong-clause-ran g c =
     let i = c.loop-request.invariant in
     let was = i.goes in
     let found = c.in-TooLong.ensures.found was.0 was.1 was.3 in
-    ran_of _ g.H.Server.service g.H.Server.work g.R.Protocol.spelling _ _ c.args.limit c.next.new.self.limit _ _ _ _ (g.P.Device.view c.args.port.now) (g.P.Device.view c.loop-request.port) (was.0 ++ found.0) was.1 (c.next.ensures.limit ∙ i.limit)
+    ran_of _ g.H.Server.service g.H.Server.work g.R.Protocol.spelling _ _ c.args.limit c.next.new.self.limit (taking g.S.Source.told g.S.Source.taken g.S.Source.left_bytes g.S.Source.ended c.args.source.now c.next.new.source) _ (moments g.P.Device.told g.P.Device.view c.args.port.now c.loop-request.port) (was.0 ++ found.0) was.1 (c.next.ensures.limit ∙ i.limit)
     (came_then g.S.Source.told _ _ _ _ _ _ was.0 found.0 was.2 found.1) found.2
     (λ told. ends_now g.H.Server.service g.H.Server.work _ _ (g.P.Device.view c.args.port.now) _ was.1 _ _ (g.P.Device.view c.loop-request.port) (was.4 told) (served_of g.H.Server.service g.H.Server.work _ _ (g.P.Device.view c.args.port.now) was.1 _ _ (g.P.Device.view c.loop-request.port) (was.4 told)))

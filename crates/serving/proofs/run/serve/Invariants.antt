@@ -1,6 +1,6 @@
 use Rattle.std.proofs.Common.{◌≡◌, ℕ, List}
 use Rattle.serving.specs.Goes.{Goes, Handed, left_in}
-use Rattle.serving.specs.Handling.{IsAt}
+use Rattle.serving.specs.Handling.{FitsDevice}
 use Rattle.serving.specs.Ran.{Came, IsAtEnd}
 use Rattle.serving.proofs.run.serve.Given as goal
 
@@ -13,7 +13,7 @@ invariant-loop-request g l =
       limit : l.intake.limit ≡ l.limit;
       lender : g.H.Server.lender l.server ≡ g.H.Server.lender l.initial.server;
       ready : g.H.Server.is_ready l.server;
-      at : g.P.Device.told → IsAt (g.H.Server.holds l.server) (view l.port);
+      at : g.P.Device.told → FitsDevice (g.H.Server.holds l.server) (view l.port);
       source_faults : g.S.Source.faults l.source ≡ g.S.Source.faults before;
       faults : (view l.port).faults ≡ start.faults;
       put_faults : (view l.port).put_faults ≡ start.put_faults;

@@ -1,5 +1,5 @@
 use Rattle.std.proofs.Common.{◌≡◌, drop}
-use Rattle.core_laws.specs.Seen.{dropped_each}
+use Rattle.tsd_core.specs.Seen.{dropped_each}
 use Rattle.grant_table.specs.Table.{with_sessions}
 use Rattle.tsd_core.proofs.grow.drop_at.Given as goal
 

@@ -29,7 +29,7 @@ loop-body-preserved g c =
       confined = λ told. confined_write is_body c.body_sector.result (view c.args.dev.now) (view c.loop-body.dev) (view c.write.new.self) (ap is_body c.body_sector.ensures.value ∙ body_is p c.loop-body-test.true)
           (c.loop-body.invariant.confined told) (c.write.ensures.touches told);
       uses = uses_more p 1 (p + 1) (view c.args.dev.now) (view c.loop-body.dev) (view c.write.new.self) (omega arith) c.loop-body.invariant.uses c.write.ensures.uses;
-      faultless = c.in_ok-write.ensures.faultless ∙ c.loop-body.invariant.faultless;
+      faultless = c.in_ok-write.ensures.faults ∙ c.loop-body.invariant.faultless;
     }
 
 pub returns-clause-erased : goal.returns-clause-erased

@@ -53,5 +53,5 @@ loop-part-preserved g c =
       long = ap (λ (xs : List ℕ). length xs) grown ∙ (length-append c.loop-part.into c.read.new.into ∙ (let was = inv.long in omega (arith, was, long)));
       rests = λ told. rests_joined (view c.args.dev.now) (view c.loop-part.dev) (view c.read.new.dev) (inv.rests told) (c.read.ensures.rests told);
       uses = uses_and 0 0 0 (view c.args.dev.now) (view c.loop-part.dev) (view c.read.new.dev) (omega arith) inv.uses c.read.ensures.uses;
-      faultless = c.in_ok-read.ensures.faultless ∙ inv.faultless;
+      faultless = c.in_ok-read.ensures.faults ∙ inv.faultless;
     }

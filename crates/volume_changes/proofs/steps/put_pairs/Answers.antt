@@ -9,7 +9,7 @@ use Rattle.pointer_table.specs.Table.{Table as Pointers}
 use Rattle.ref_counts.specs.Table.{Table as Counts}
 use Rattle.ref_counts.specs.Changes.{KeepsStored as KeepsCounts}
 use Rattle.image_world.specs.Tables.{Tables, pairs_of}
-use Rattle.volume_laws.specs.Steps.{MayTake, IsTaken, with_parts}
+use Rattle.volume_laws.specs.Steps.{MayTake, IsTaken, with_slots_and_counts}
 use Rattle.volume_laws.proofs.BlockLaws.{put_ok, length-with_patch}
 use Rattle.volume_laws.proofs.Dropped.{count_some}
 use Rattle.volume_laws.proofs.Taken.{taken_none, taken_more, next_pair}
@@ -24,7 +24,7 @@ loop-target-init c = record {
 }
 
 -- the next pair is held in the tables so far
-held_now : (t : Tables) (p0 p : Pointers) (c0 c : Counts) (a : ℕ) (bs : List ℕ) (i : ℕ) (ps : List Patch) → MayTake t p0 c0 a bs → i < length bs → IsTaken t a (take i bs) (with_parts t p c) ps → holds (pairs_of (with_parts t p c)) a (get_or bs i 0) ≡ true
+held_now : (t : Tables) (p0 p : Pointers) (c0 c : Counts) (a : ℕ) (bs : List ℕ) (i : ℕ) (ps : List Patch) → MayTake t p0 c0 a bs → i < length bs → IsTaken t a (take i bs) (with_slots_and_counts t p c) ps → holds (pairs_of (with_slots_and_counts t p c)) a (get_or bs i 0) ≡ true
 held_now t p0 p c0 c a bs i ps may within taken = ap (λ es. holds es a (get_or bs i 0)) taken.pairs ∙ next_pair t a (get_or bs i 0) bs i may.held within refl
 
 pub unwrap-slot-requires : goal.unwrap-slot-requires
@@ -39,7 +39,7 @@ lower-requires-clause-some c =
     let t = c.requires.tables.0 in
     let may = c.requires.tables.1 in
     let taken = c.loop-target.invariant.taken t may in
-    count_some (with_parts t c.loop-target.pointers c.loop-target.counts) c.args.source (get_or c.args.targets.now c.loop-target.target-index 0) taken.turns.sound
+    count_some (with_slots_and_counts t c.loop-target.pointers c.loop-target.counts) c.args.source (get_or c.args.targets.now c.loop-target.target-index 0) taken.turns.sound
     (held_now t c.args.pointers.now c.loop-target.pointers c.args.counts.now c.loop-target.counts c.args.source c.args.targets.now c.loop-target.target-index c.loop-target.batch may c.loop-target-test.true taken)
 
 pub loop-target-preserved : goal.loop-target-preserved

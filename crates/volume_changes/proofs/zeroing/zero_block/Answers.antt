@@ -30,5 +30,5 @@ loop-part-preserved g c =
       confined = λ told. confined_write (is_part k b) c.data_sector.result (view c.args.dev.now) (view c.loop-part.dev) (view c.write.new.self) (ap (is_part k b) c.data_sector.ensures.value ∙ part_is k b p c.loop-part-test.true)
           (c.loop-part.invariant.confined told) (c.write.ensures.touches told);
       uses = uses_more p 1 (p + 1) (view c.args.dev.now) (view c.loop-part.dev) (view c.write.new.self) (omega arith) c.loop-part.invariant.uses c.write.ensures.uses;
-      faultless = c.in_ok-write.ensures.faultless ∙ c.loop-part.invariant.faultless;
+      faultless = c.in_ok-write.ensures.faults ∙ c.loop-part.invariant.faultless;
     }

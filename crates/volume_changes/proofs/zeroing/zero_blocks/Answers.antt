@@ -46,7 +46,7 @@ loop-index-preserved g c =
       confined = λ told. confined_joined (is_data k bs) (view c.args.dev.now) (view c.loop-index.dev) new (c.loop-index.invariant.confined told)
           (confined_wider (is_part k (slice_index bs i)) (is_data k bs) (view c.loop-index.dev) new (λ n out. data_wider k bs i n c.loop-index-test.true out) (c.zero_block.ensures.confined told));
       uses = uses_more (k.sectors * i) k.sectors (k.sectors * (i + 1)) (view c.args.dev.now) (view c.loop-index.dev) new (omega arith) c.loop-index.invariant.uses c.zero_block.ensures.uses;
-      faultless = c.in_ok-zero_block.ensures.faultless ∙ c.loop-index.invariant.faultless;
+      faultless = c.in_ok-zero_block.ensures.faults ∙ c.loop-index.invariant.faultless;
     }
 
 pub returns-clause-zeroed : goal.returns-clause-zeroed

@@ -1,8 +1,12 @@
-use Rattle.chain_fs.proofs.ViewLaws.{make_crash}
+use Rattle.chain_reading.specs.Asking.{mounted_by}
+use Rattle.fs_client.proofs.FilesLaws.{made_as, make_as}
 use Rattle.chain_fs.proofs.file_system.ChainFsFiles.make.Goals as goal
 
-pub returns-in-Ok-clause-crash : goal.returns-in-Ok-clause-crash
-returns-in-Ok-clause-crash g c = λ t. make_crash c.args.self.now (g.K.Blocks.view c.args.disk.now) (g.K.Blocks.view c.make.new.disk) (c.in-Ok.ensures.runs.crash t)
+pub returns-in-Ok-clause-made : goal.returns-in-Ok-clause-made
+returns-in-Ok-clause-made g c = λ t. made_as (mounted_by c.args.self.now.client) c.args.self.now.mounted (g.K.Blocks.view c.args.disk.now) (g.K.Blocks.view c.make.new.disk) (c.in-Ok.ensures.made t)
 
-pub returns-in-Err-clause-crash : goal.returns-in-Err-clause-crash
-returns-in-Err-clause-crash g c = λ t. make_crash c.args.self.now (g.K.Blocks.view c.args.disk.now) (g.K.Blocks.view c.make.new.disk) (c.in-Err.ensures.runs.crash t)
+pub returns-in-Ok-clause-runs : goal.returns-in-Ok-clause-runs
+returns-in-Ok-clause-runs g c = make_as (mounted_by c.args.self.now.client) c.args.self.now.mounted (g.K.Blocks.view c.args.disk.now) (g.K.Blocks.view c.make.new.disk) g.K.Blocks.told _ c.in-Ok.ensures.runs
+
+pub returns-in-Err-clause-runs : goal.returns-in-Err-clause-runs
+returns-in-Err-clause-runs g c = make_as (mounted_by c.args.self.now.client) c.args.self.now.mounted (g.K.Blocks.view c.args.disk.now) (g.K.Blocks.view c.make.new.disk) g.K.Blocks.told _ c.in-Err.ensures.runs

@@ -1,8 +1,16 @@
-use Rattle.chain_fs.proofs.ViewLaws.{mount_crash}
+use Rattle.std.proofs.Common.{Ok, Err}
+use Rattle.chain_reading.specs.Asking.{mounted_by}
+use Rattle.fs_client.proofs.FilesLaws.{finds_as, mount_as}
 use Rattle.chain_fs.proofs.file_system.ChainFsFiles.mount.Goals as goal
 
-pub returns-in-Ok-clause-crash : goal.returns-in-Ok-clause-crash
-returns-in-Ok-clause-crash g c = λ t. mount_crash c.args.self.now (g.K.Blocks.view c.args.disk.now) (g.K.Blocks.view c.mount.new.disk) (c.in-Ok.ensures.crash t)
+pub returns-in-Ok-clause-finds : goal.returns-in-Ok-clause-finds
+returns-in-Ok-clause-finds g c = λ t. finds_as (mounted_by c.args.self.now.client) c.args.self.now.mounted (g.K.Blocks.view c.args.disk.now) (g.K.Blocks.view c.mount.new.disk) g.K.Blocks.told (Ok tt) (c.in-Ok.ensures.finds t)
 
-pub returns-in-Err-clause-crash : goal.returns-in-Err-clause-crash
-returns-in-Err-clause-crash g c = λ t. mount_crash c.args.self.now (g.K.Blocks.view c.args.disk.now) (g.K.Blocks.view c.mount.new.disk) (c.in-Err.ensures.crash t)
+pub returns-in-Ok-clause-runs : goal.returns-in-Ok-clause-runs
+returns-in-Ok-clause-runs g c = mount_as (mounted_by c.args.self.now.client) c.args.self.now.mounted (g.K.Blocks.view c.args.disk.now) (g.K.Blocks.view c.mount.new.disk) g.K.Blocks.told _ c.in-Ok.ensures.runs
+
+pub returns-in-Err-clause-finds : goal.returns-in-Err-clause-finds
+returns-in-Err-clause-finds g c = λ t. finds_as (mounted_by c.args.self.now.client) c.args.self.now.mounted (g.K.Blocks.view c.args.disk.now) (g.K.Blocks.view c.mount.new.disk) g.K.Blocks.told (Err c.in-Err.refusal) (c.in-Err.ensures.finds t)
+
+pub returns-in-Err-clause-runs : goal.returns-in-Err-clause-runs
+returns-in-Err-clause-runs g c = mount_as (mounted_by c.args.self.now.client) c.args.self.now.mounted (g.K.Blocks.view c.args.disk.now) (g.K.Blocks.view c.mount.new.disk) g.K.Blocks.told _ c.in-Err.ensures.runs

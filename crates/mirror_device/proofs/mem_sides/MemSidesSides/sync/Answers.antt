@@ -27,8 +27,8 @@ returns-clause-synced c =
     let kept = unless_err c.sync.result c.is_err.result c.if-is_err.false c.is_err.ensures.value c.sync.ensures.kept in
     sync_rose (entries_of m) m.put_faults c.args.side _ _ kept c.sync.ensures.put_faults
 
-pub returns-clause-faultless : goal.returns-clause-faultless
-returns-clause-faultless c =
+pub returns-clause-faults : goal.returns-clause-faults
+returns-clause-faults c =
     let m = c.args.self.now.twins in
     let kept = unless_err c.sync.result c.is_err.result c.if-is_err.false c.is_err.ensures.value c.sync.ensures.kept in
     sync_fine (entries_of m) m.put_faults c.args.side _ _ kept c.sync.ensures.put_faults

@@ -27,8 +27,8 @@ returns-clause-uses c =
     let kept = unless_err c.write.result c.is_err.result c.if-is_err.false c.is_err.ensures.value c.write.ensures.kept in
     write_uses (entries_of m) m.put_faults c.args.sector kept.0 c.args.side _ _ kept.2 c.write.ensures.put_faults
 
-pub returns-clause-faultless : goal.returns-clause-faultless
-returns-clause-faultless c =
+pub returns-clause-faults : goal.returns-clause-faults
+returns-clause-faults c =
     let m = c.args.self.now.twins in
     let kept = unless_err c.write.result c.is_err.result c.if-is_err.false c.is_err.ensures.value c.write.ensures.kept in
     write_fine (entries_of m) m.put_faults c.args.sector kept.0 c.args.side _ _ kept.2 c.write.ensures.put_faults

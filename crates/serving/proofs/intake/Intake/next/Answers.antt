@@ -48,7 +48,7 @@ pub loop-request-preserved : goal.loop-request-preserved
 loop-request-preserved g c = record {
   over = c.fill.ensures.over ∙ c.read_held.ensures.over ∙ c.loop-request.invariant.over;
   limit = c.fill.ensures.limit ∙ c.read_held.ensures.counts.limit ∙ c.loop-request.invariant.limit;
-  faults = c.in-Ok.ensures.faultless ∙ c.loop-request.invariant.faults;
+  faults = c.in-Ok.ensures.faults ∙ c.loop-request.invariant.faults;
   left =
       let filled = left_filled c.read_held.new.self c.fill.new.self c.in-Ok.count c.fill.ensures.limit c.fill.ensures.taken c.fill.ensures.from c.fill.ensures.to c.fill.ensures.over (omega (arith, c.if-self-2.false)) in
       let read = left_read c.loop-request.self c.read_held.new.self c.read_held.ensures.counts.limit c.read_held.ensures.counts.taken c.read_held.ensures.over c.read_held.ensures.to c.read_held.ensures.later in

@@ -3,7 +3,7 @@ use Rattle.std.specs.Prelude.{Ok}
 use Rattle.tsd_model.specs.ReplyForm.{HasForm}
 use Rattle.tsd_model.specs.declared.requests.Request.{Request}
 use Rattle.tsd_model.specs.declared.requests.Request.TheVariants as ask
-use Rattle.core_laws.proofs.FormLaws.{free_fits, targets_fit}
+use Rattle.tsd_core.proofs.FormLaws.{free_fits, targets_fit}
 use Rattle.tsd_core.specs.Core.{told_world}
 use Rattle.tsd_core.specs.Carrying.{IsCarriedOut}
 use Rattle.tsd_core.proofs.Quiet.{quiet}

@@ -1,14 +1,15 @@
 use Rattle.std.proofs.Common.{◌≡◌, [], sym, ◌∙◌, ap, subst, arith}
 use Rattle.std.specs.Prelude.{Result, Ok, Err, OnOk}
-use Rattle.volume_laws.specs.Volume.{Volume}
-use Rattle.volume_laws.specs.Volume.{IsAt as IsVolumeAt}
-use Rattle.volume_laws.specs.Moments.{owed}
+use Rattle.image_device.proofs.Outcomes.{on_ok}
+use Rattle.volume_laws.specs.Volume.{IsVolumeAt, IsVolumeReady, Volume, told_by, world_on}
+use Rattle.image_world.specs.Debt.{owed}
 use Rattle.volume_laws.specs.Writes.{due, IsPaid}
 use Rattle.volume_laws.proofs.QuietLaws.{quiet_at}
-use Rattle.tsd_core.specs.Core.{Core, IsAt}
+use Rattle.volume_laws.proofs.StepOps.{either_same}
+use Rattle.tsd_core.specs.Core.{Core, IsCoreAt, told_world}
 use Rattle.tsd_core.proofs.AtLaws.{at_volume}
 use Rattle.tsd_core.proofs.Operations.{then_ok}
-use Rattle.tsd_core.proofs.Settling.{owes_no_more, worlds_joined, owing_joined}
+use Rattle.tsd_core.proofs.Settling.{owes_no_more, owing_joined, ready_still, state_still, told_still, worlds_joined}
 use Rattle.tsd_core.proofs.disk.Core.close.Goals as goal
 
 all_ok : {T E A B C P : Type 0} (r : Result T E) → (A → B → C → P) → OnOk r A → OnOk r B → OnOk r C → OnOk r P
@@ -19,8 +20,43 @@ pub returns-in_err-settle_all-clause-debt : goal.returns-in_err-settle_all-claus
 returns-in_err-settle_all-clause-debt g c = λ told.
     let v = g.D.Device.view c.args.dev.now in
     let old : Core = record { volume = c.self.inside.volume; grants = c.self.inside.grants } in
-    let at = at_volume old v (subst (λ (x : Core). IsAt x v) (sym c.self.view_is) (c.requires.at told)) in
-    owes_no_more c.self.inside.volume v (g.D.Device.view c.settle_all.new.dev) at (c.settle_all.ensures.any_owed told) (c.settle_all.ensures.any_moment told)
+    let at = at_volume old v (subst (λ (x : Core). IsCoreAt x v) (sym c.self.view_is) (c.requires.at told)) in
+    owes_no_more c.self.inside.volume v (g.D.Device.view c.settle_all.new.dev) at (c.settle_all.ensures.cost.any_owed told) (either_same v (g.D.Device.view c.settle_all.new.dev) (c.settle_all.ensures.operation.any_moment told))
+
+pub returns-clause-ready : goal.returns-clause-ready
+returns-clause-ready g c =
+    let mid = c.settle_all.new.self in
+    let new : Core = record { volume = c.empty_ring.new.self; grants = c.self.inside.grants } in
+    let first = c.in_ok-settle_all.ensures in
+    let before : told_by mid ≡ told_world c.args.self.now = first.told ∙ ap told_world c.self.view_is in
+    all_ok c.empty_ring.result
+    (λ unspent (same : new.volume ≡ record mid { ring = [] }) (u : Unit {0}).
+    ready_still c.args.self.now new (subst (λ (x : Volume). IsVolumeReady x) (sym same) first.ready) unspent (ap told_by same ∙ before) (ap (λ (x : Core). x.grants) c.self.view_is) c.requires.ready)
+    c.empty_ring.ensures.operation.unspent c.empty_ring.ensures.same (on_ok c.empty_ring.result tt)
+
+pub returns-clause-told : goal.returns-clause-told
+returns-clause-told g c =
+    let mid = c.settle_all.new.self in
+    let new : Core = record { volume = c.empty_ring.new.self; grants = c.self.inside.grants } in
+    let before : told_by mid ≡ told_world c.args.self.now = c.in_ok-settle_all.ensures.told ∙ ap told_world c.self.view_is in
+    then_ok c.empty_ring.result
+    (λ (same : new.volume ≡ record mid { ring = [] }). told_still c.args.self.now new (ap told_by same ∙ before) (ap (λ (x : Core). x.grants) c.self.view_is))
+    c.empty_ring.ensures.same
+
+pub returns-clause-state : goal.returns-clause-state
+returns-clause-state g c = λ told.
+    let v = g.D.Device.view c.args.dev.now in
+    let m = g.D.Device.view c.settle_all.new.dev in
+    let w = g.D.Device.view c.empty_ring.new.dev in
+    let mid = c.settle_all.new.self in
+    let new : Core = record { volume = c.empty_ring.new.self; grants = c.self.inside.grants } in
+    let first = c.in_ok-settle_all.ensures in
+    let before : told_by mid ≡ told_world c.args.self.now = first.told ∙ ap told_world c.self.view_is in
+    let there : world_on m ≡ world_on v = first.operation.done told in
+    all_ok c.empty_ring.result
+    (λ (same : new.volume ≡ record mid { ring = [] }) (world : world_on w ≡ world_on m) (u : Unit {0}).
+    state_still c.args.self.now new v.reads w.reads (world ∙ there) (ap told_by same ∙ before) (ap (λ (x : Core). x.grants) c.self.view_is))
+    c.empty_ring.ensures.same (c.empty_ring.ensures.operation.done told) (on_ok c.empty_ring.result tt)
 
 pub returns-clause-closed : goal.returns-clause-closed
 returns-clause-closed g c = λ told.
@@ -30,7 +66,7 @@ returns-clause-closed g c = λ told.
     all_ok c.empty_ring.result
     (λ (at : IsVolumeAt new w) (same : new ≡ record mid { ring = [] }) closed.
     quiet_at new w at closed (ap (λ (x : Volume). x.tables.is_sweeping) same ∙ c.in_ok-settle_all.ensures.ready.1) (ap (λ (x : Volume). owed x.tables) same ∙ c.in_ok-settle_all.ensures.settled))
-    (c.empty_ring.ensures.at told) c.empty_ring.ensures.same (c.empty_ring.ensures.closed told)
+    (c.empty_ring.ensures.operation.at told) c.empty_ring.ensures.same (c.empty_ring.ensures.closed told)
 
 pub returns-clause-debt : goal.returns-clause-debt
 returns-clause-debt g c = λ told.
@@ -38,12 +74,12 @@ returns-clause-debt g c = λ told.
     let m = g.D.Device.view c.settle_all.new.dev in
     let w = g.D.Device.view c.empty_ring.new.dev in
     let old : Core = record { volume = c.self.inside.volume; grants = c.self.inside.grants } in
-    let at = at_volume old v (subst (λ (x : Core). IsAt x v) (sym c.self.view_is) (c.requires.at told)) in
+    let at = at_volume old v (subst (λ (x : Core). IsCoreAt x v) (sym c.self.view_is) (c.requires.at told)) in
     let first = c.in_ok-settle_all.ensures in
     let none : owed c.settle_all.new.self.tables ≡ 0 = first.settled in
     owes_no_more c.self.inside.volume v w at
-    (owing_joined v m w (owed c.settle_all.new.self.tables) (owed c.self.inside.volume.tables) (first.any_owed told) (c.empty_ring.ensures.any_owed told) (omega (arith, none)))
-    (worlds_joined v m w (first.any_moment told) (c.empty_ring.ensures.any_moment told) (first.done told) (first.sent told))
+    (owing_joined v m w (owed c.settle_all.new.self.tables) (owed c.self.inside.volume.tables) (first.cost.any_owed told) (c.empty_ring.ensures.cost.any_owed told) (omega (arith, none)))
+    (worlds_joined v m w (either_same v m (first.operation.any_moment told)) (either_same m w (c.empty_ring.ensures.operation.any_moment told)) (first.operation.done told) (first.operation.sent told))
 
 pub returns-clause-paid : goal.returns-clause-paid
 returns-clause-paid g c =
@@ -51,14 +87,25 @@ returns-clause-paid g c =
     let m = g.D.Device.view c.settle_all.new.dev in
     let w = g.D.Device.view c.empty_ring.new.dev in
     let before : due c.self.inside.volume ≡ due c.args.self.now.volume = ap (λ (x : Core). due x.volume) c.self.view_is in
-    let first : IsPaid 0 c.self.inside.volume v c.settle_all.new.self m = c.in_ok-settle_all.ensures.paid in
-    then_ok c.empty_ring.result (λ (second : IsPaid 0 c.settle_all.new.self m c.empty_ring.new.self w). omega (arith, first, second, before)) c.empty_ring.ensures.paid
+    let first : IsPaid 0 c.self.inside.volume v c.settle_all.new.self m = c.in_ok-settle_all.ensures.cost.paid in
+    then_ok c.empty_ring.result (λ (second : IsPaid 0 c.settle_all.new.self m c.empty_ring.new.self w). omega (arith, first, second, before)) c.empty_ring.ensures.cost.paid
 
 pub returns-clause-most : goal.returns-clause-most
 returns-clause-most g c =
     let v = g.D.Device.view c.args.dev.now in
     let m = g.D.Device.view c.settle_all.new.dev in
     let before : due c.self.inside.volume ≡ due c.args.self.now.volume = ap (λ (x : Core). due x.volume) c.self.view_is in
-    let first : IsPaid 0 c.self.inside.volume v c.settle_all.new.self m = c.in_ok-settle_all.ensures.paid in
-    let uses = c.empty_ring.ensures.uses in
+    let first : IsPaid 0 c.self.inside.volume v c.settle_all.new.self m = c.in_ok-settle_all.ensures.cost.paid in
+    let uses = c.empty_ring.ensures.cost.uses in
     omega (arith, first, uses.most, before)
+
+pub returns-in_err-settle_all-clause-any_moment : goal.returns-in_err-settle_all-clause-any_moment
+returns-in_err-settle_all-clause-any_moment g c told = either_same (g.D.Device.view c.args.dev.now) (g.D.Device.view c.settle_all.new.dev) (c.settle_all.ensures.operation.any_moment told)
+
+pub returns-clause-any_moment : goal.returns-clause-any_moment
+returns-clause-any_moment g c told =
+    let v = g.D.Device.view c.args.dev.now in
+    let m = g.D.Device.view c.settle_all.new.dev in
+    let w = g.D.Device.view c.empty_ring.new.dev in
+    let first = c.in_ok-settle_all.ensures.operation in
+    worlds_joined v m w (either_same v m (first.any_moment told)) (either_same m w (c.empty_ring.ensures.operation.any_moment told)) (first.done told) (first.sent told)

@@ -3,15 +3,16 @@ use Rattle.tsd_model.specs.declared.replies.Reply.TheVariants as reply
 use Rattle.tsd_model.specs.declared.requests.Request.TheVariants as ask
 use Rattle.disk_laws.specs.Bytes.{AreLike}
 use Rattle.volume_laws.specs.Volume.{told_by, world_on}
-use Rattle.volume_laws.specs.Moments.{LeavesOwed, owed}
+use Rattle.image_world.specs.Debt.{owed}
+use Rattle.volume_laws.specs.Moments.{LeavesOwed}
 use Rattle.volume_laws.specs.Writes.{batch_cost, due}
-use Rattle.core_laws.specs.Seen.{world_after}
-use Rattle.tsd_core.specs.Core.{Core, IsAt}
+use Rattle.tsd_core.specs.Seen.{world_after}
+use Rattle.tsd_core.specs.Core.{Core, IsCoreAt}
 use Rattle.tsd_core.specs.Work.{cost_of}
-use Rattle.tsd_core.specs.Carrying.{IsKnown, IsOperation, IsCarriedOut}
+use Rattle.tsd_core.specs.Carrying.{DoesRequest, IsKnown, IsCarriedOut}
 use Rattle.tsd_core.proofs.AtLaws.{at_volume, like_at}
 use Rattle.tsd_core.proofs.Likes.{like_as}
-use Rattle.tsd_core.proofs.Operations.{then_ok, if_ok, counted, at_most, most_due, paid_more, carried_out}
+use Rattle.tsd_core.proofs.Operations.{then_ok, if_ok, at_most, most_due, paid_more, carried_out}
 use Rattle.tsd_core.proofs.disk.Core.create.Goals as goal
 
 pub returns : goal.returns
@@ -24,28 +25,20 @@ returns g c = λ kind session shown.
     let t = told_by old.volume in
     let e = c.add_pointer.ensures in
     let known : IsKnown old.volume = subst (λ (x : Core). IsKnown x.volume) (sym c.self.view_is) c.requires.known in
-    let like : g.D.Device.told → AreLike t (world_on v) = λ told. like_at old.volume v (at_volume old v (subst (λ (x : Core). IsAt x v) (sym c.self.view_is) (c.requires.at told))) in
+    let like : g.D.Device.told → AreLike t (world_on v) = λ told. like_at old.volume v (at_volume old v (subst (λ (x : Core). IsCoreAt x v) (sym c.self.view_is) (c.requires.at told))) in
     let bounds = known.ring in
     let n : ℕ = due old.volume + batch_cost 2 in
-    let op : IsOperation g.D.Device.told kind q old.volume new.volume v w c.add_pointer.result = record {
+    let does : DoesRequest g.D.Device.told kind q old.volume new.volume v w c.add_pointer.result = record {
       like = then_ok c.add_pointer.result (like_as (told_by new.volume) (world_after kind t q)) e.told;
       ready = e.ready;
-      unspent = e.unspent;
-      spent = e.spent;
-      size = e.size;
-      at = e.at;
-      done = e.done;
-      sent = e.sent;
-      any_moment = e.any_moment;
-      any_owed = λ told b. subst (λ m. LeavesOwed v w m) (omega arith) (e.any_owed told);
-      paid = λ b. then_ok c.add_pointer.result (paid_more (batch_cost 2) (cost_of t q) old.volume new.volume v w (omega arith)) e.paid;
-      most = λ b. most_due n (cost_of t q) old.volume v w e.uses (omega (arith, bounds));
-      limit = λ b. at_most n (600 + 12 * owed old.volume.tables) v w e.uses (omega (arith, bounds, known.ring));
-      works = counted n v w e.uses;
-      faultless = e.faultless;
-      cause = e.cause;
+      version = e.version;
+      operation = e.operation;
+      any_owed = λ told b. subst (λ m. LeavesOwed v w m) (omega arith) (e.cost.any_owed told);
+      paid = λ b. then_ok c.add_pointer.result (paid_more (batch_cost 2) (cost_of t q) old.volume new.volume v w (omega arith)) e.cost.paid;
+      most = λ b. most_due n (cost_of t q) old.volume v w e.cost.uses (omega (arith, bounds));
+      limit = λ b. at_most n (600 + 12 * owed old.volume.tables) v w e.cost.uses (omega (arith, bounds, known.ring));
     } in
     subst (λ (x : Core). IsCarriedOut g.D.Device.told kind q x new v w c.done.result) c.self.view_is
     (subst (IsCarriedOut g.D.Device.told kind q old new v w) (sym c.done.ensures)
-    (carried_out g.D.Device.told kind q old new v w c.add_pointer.result (λ x. reply.Done) op refl
+    (carried_out g.D.Device.told kind q old new v w c.add_pointer.result (λ x. reply.Done) does refl
     (if_ok c.add_pointer.result (λ x e. refl)) (λ x e. absurd (cc)) (λ told. if_ok c.add_pointer.result (λ x e. absurd (cc))) (if_ok c.add_pointer.result (λ x. record { body = tt; numbers = tt }))))

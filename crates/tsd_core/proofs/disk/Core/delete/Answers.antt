@@ -9,15 +9,15 @@ use Rattle.intent_journal.specs.Ring.{checkpoint_writes}
 use Rattle.volume_laws.specs.Volume.{told_by, world_on}
 use Rattle.volume_laws.specs.Moments.{made}
 use Rattle.volume_laws.specs.Writes.{batch_cost}
-use Rattle.core_laws.specs.Seen.{world_after}
-use Rattle.core_laws.proofs.StepSeen.{length-restricted}
-use Rattle.core_laws.proofs.FormLaws.{gone_fits}
-use Rattle.tsd_core.specs.Core.{Core, IsAt}
+use Rattle.tsd_core.specs.Seen.{world_after}
+use Rattle.tsd_core.proofs.StepSeen.{length-restricted}
+use Rattle.tsd_core.proofs.FormLaws.{gone_fits}
+use Rattle.tsd_core.specs.Core.{Core, IsCoreAt}
 use Rattle.tsd_core.specs.Work.{cost_of}
-use Rattle.tsd_core.specs.Carrying.{IsKnown, IsOperation, IsCarriedOut}
+use Rattle.tsd_core.specs.Carrying.{DoesRequest, IsKnown, IsCarriedOut}
 use Rattle.tsd_core.proofs.AtLaws.{at_volume, like_at}
 use Rattle.tsd_core.proofs.Likes.{like_as}
-use Rattle.tsd_core.proofs.Operations.{then_ok, if_ok, if_both, counted, at_most, most_due, paid_more, carried_out}
+use Rattle.tsd_core.proofs.Operations.{then_ok, if_ok, if_both, at_most, most_due, paid_more, carried_out}
 use Rattle.tsd_core.proofs.disk.Core.delete.Goals as goal
 
 pub returns : goal.returns
@@ -30,30 +30,22 @@ returns g c = λ kind session shown.
     let t = told_by old.volume in
     let e = c.drop_pointer.ensures in
     let known : IsKnown old.volume = subst (λ (x : Core). IsKnown x.volume) (sym c.self.view_is) c.requires.known in
-    let like : g.D.Device.told → AreLike t (world_on v) = λ told. like_at old.volume v (at_volume old v (subst (λ (x : Core). IsAt x v) (sym c.self.view_is) (c.requires.at told))) in
+    let like : g.D.Device.told → AreLike t (world_on v) = λ told. like_at old.volume v (at_volume old v (subst (λ (x : Core). IsCoreAt x v) (sym c.self.view_is) (c.requires.at told))) in
     let bounds = known.ring in
     let cut = without_pointer t c.args.source c.args.target in
     let long = length-restricted cut (λ b. not (has_number (doomed cut) b)) in
     let n : ℕ = checkpoint_writes old.volume.ring + batch_cost 2 in
-    let op : IsOperation g.D.Device.told kind q old.volume new.volume v w c.drop_pointer.result = record {
+    let does : DoesRequest g.D.Device.told kind q old.volume new.volume v w c.drop_pointer.result = record {
       like = then_ok c.drop_pointer.result (like_as (told_by new.volume) (world_after kind t q)) e.told;
       ready = e.ready;
-      unspent = e.unspent;
-      spent = e.spent;
-      size = e.size;
-      at = e.at;
-      done = e.done;
-      sent = e.sent;
-      any_moment = e.any_moment;
-      any_owed = λ told b. e.any_owed told;
-      paid = λ b. then_ok c.drop_pointer.result (paid_more (batch_cost 2 + 5 * made t c.args.source c.args.target) (cost_of t q) old.volume new.volume v w (omega arith)) e.paid;
-      most = λ b. most_due n (cost_of t q) old.volume v w e.uses (omega (arith, bounds));
-      limit = λ b. at_most n (130) v w e.uses (omega (arith, bounds, known.ring));
-      works = counted n v w e.uses;
-      faultless = e.faultless;
-      cause = e.cause;
+      version = e.version;
+      operation = e.operation;
+      any_owed = λ told b. e.cost.any_owed told;
+      paid = λ b. then_ok c.drop_pointer.result (paid_more (batch_cost 2 + 5 * made t c.args.source c.args.target) (cost_of t q) old.volume new.volume v w (omega arith)) e.cost.paid;
+      most = λ b. most_due n (cost_of t q) old.volume v w e.cost.uses (omega (arith, bounds));
+      limit = λ b. at_most n (130) v w e.cost.uses (omega (arith, bounds, known.ring));
     } in
     subst (λ (x : Core). IsCarriedOut g.D.Device.told kind q x new v w c.gone.result) c.self.view_is
     (subst (IsCarriedOut g.D.Device.told kind q old new v w) (sym c.gone.ensures)
-    (carried_out g.D.Device.told kind q old new v w c.drop_pointer.result (λ count. reply.Gone count) op refl
+    (carried_out g.D.Device.told kind q old new v w c.drop_pointer.result (λ count. reply.Gone count) does refl
     (if_both c.drop_pointer.result (λ x (same : told_by new.volume ≡ settle cut) h e. ap reply.Gone (h ∙ ap (λ u. free_count u - free_count t) same)) e.told e.lost) (λ x e. absurd (cc)) (λ told. if_ok c.drop_pointer.result (λ x e. absurd (cc))) (if_both c.drop_pointer.result (λ x (same : told_by new.volume ≡ settle cut) (h : x ≡ free_count (told_by new.volume) - free_count t). record { body = tt; numbers = subst (λ n. n < 2 ^ 32) (sym (h ∙ ap (λ u. free_count u - free_count t) same)) (gone_fits t (settle cut) long known.sized) }) e.told e.lost)))

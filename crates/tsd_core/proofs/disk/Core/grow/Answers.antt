@@ -8,20 +8,21 @@ use Rattle.tsd_model.specs.declared.requests.Request.TheVariants as ask
 use Rattle.disk_laws.specs.Bytes.{AreLike}
 use Rattle.grant_table.specs.Table.{with_sessions}
 use Rattle.volume_laws.specs.Volume.{told_by, world_on}
-use Rattle.volume_laws.specs.Moments.{LeavesEither, LeavesOwed, owed}
+use Rattle.image_world.specs.Debt.{owed}
+use Rattle.volume_laws.specs.Moments.{LeavesEither, LeavesOwed}
 use Rattle.volume_laws.specs.Writes.{batch_cost, due}
-use Rattle.core_laws.specs.Seen.{world_after}
-use Rattle.core_laws.proofs.FormLaws.{free_numbers}
-use Rattle.tsd_core.specs.Core.{Core, IsAt}
+use Rattle.tsd_core.specs.Seen.{world_after}
+use Rattle.tsd_core.proofs.FormLaws.{free_numbers}
+use Rattle.tsd_core.specs.Core.{Core, IsCoreAt}
 use Rattle.tsd_core.specs.Work.{cost_of}
-use Rattle.tsd_core.specs.Carrying.{IsKnown, IsOperation, IsCarriedOut}
+use Rattle.tsd_core.specs.Carrying.{DoesRequest, IsKnown, IsCarriedOut}
 use Rattle.tsd_core.proofs.AtLaws.{at_volume, like_at}
 use Rattle.tsd_core.proofs.Likes.{like_as, sectors_of_blocks}
-use Rattle.tsd_core.proofs.Operations.{then_ok, if_ok, counted, at_most, most_due, paid_more, carried_out}
+use Rattle.tsd_core.proofs.Operations.{then_ok, if_ok, at_most, most_due, paid_more, carried_out, same_change}
 use Rattle.tsd_model.specs.ReplyForm.{AreNumbers}
 use Rattle.disk_laws.proofs.ByteLaws.{chosen_like, chosen_run_like}
 use Rattle.disk_laws.proofs.ChangeLaws.{chosen_are_free, chosen_run_is_free}
-use Rattle.core_laws.specs.Seen.{dropped_each}
+use Rattle.tsd_core.specs.Seen.{dropped_each}
 use Rattle.tsd_core.proofs.disk.Core.grow.Goals as goal
 
 pub returns-clause-alloc : goal.returns-clause-alloc
@@ -34,7 +35,7 @@ returns-clause-alloc g c = λ kind session shown h count picked.
     let t = told_by old.volume in
     let e = c.allocate-outcome.ensures in
     let known : IsKnown old.volume = subst (λ (x : Core). IsKnown x.volume) (sym c.self.view_is) c.requires.known in
-    let like : g.D.Device.told → AreLike t (world_on v) = λ told. like_at old.volume v (at_volume old v (subst (λ (x : Core). IsAt x v) (sym c.self.view_is) (c.requires.at told))) in
+    let like : g.D.Device.told → AreLike t (world_on v) = λ told. like_at old.volume v (at_volume old v (subst (λ (x : Core). IsCoreAt x v) (sym c.self.view_is) (c.requires.at told))) in
     let bs = c.args.new_blocks in
     let pick : bs ≡ chosen kind t h count = subst (λ (x : Core). bs ≡ chosen kind (told_by x.volume) h count) (sym c.self.view_is) picked in
     let there : g.D.Device.told → bs ≡ chosen kind (world_on v) h count = λ told. pick ∙ chosen_like t (world_on v) (like told) kind h count in
@@ -42,28 +43,20 @@ returns-clause-alloc g c = λ kind session shown h count picked.
     let fit = sectors_of_blocks old.volume.tables.geometry (length bs) lawful c.requires.new.few in
     let size = old.volume.tables.geometry.sectors * length bs in
     let bounds : size + batch_cost (3 * length bs) ≤ 460 = omega (arith, fit, c.requires.new.few) in
-    let n : ℕ = due old.volume + size + batch_cost (3 * length bs) in
-    let op : IsOperation g.D.Device.told kind q old.volume new.volume v w c.allocate-outcome.result = record {
+    let n : ℕ = due old.volume + (size + batch_cost (3 * length bs)) in
+    let does : DoesRequest g.D.Device.told kind q old.volume new.volume v w c.allocate-outcome.result = record {
       like = then_ok c.allocate-outcome.result (λ (same : told_by new.volume ≡ with_new_blocks t c.args.source bs). like_as (told_by new.volume) (world_after kind t q) (same ∙ ap (with_new_blocks t c.args.source) pick)) e.told;
       ready = e.ready;
-      unspent = e.unspent;
-      spent = e.spent;
-      size = e.size;
-      at = e.at;
-      done = λ told. then_ok c.allocate-outcome.result (λ (same : world_on w ≡ with_new_blocks (world_on v) c.args.source bs). same ∙ ap (with_new_blocks (world_on v) c.args.source) (there told)) (e.done told);
-      sent = e.sent;
-      any_moment = λ told. subst (λ cs. LeavesEither v w (with_new_blocks (world_on v) c.args.source cs)) (there told) (e.any_moment told);
-      any_owed = λ told b. subst (λ m. LeavesOwed v w m) (omega arith) (e.any_owed told);
-      paid = λ b. then_ok c.allocate-outcome.result (paid_more (size + batch_cost (3 * length bs)) (cost_of t q) old.volume new.volume v w (omega (arith, bounds))) e.paid;
-      most = λ b. most_due n (cost_of t q) old.volume v w e.uses (omega (arith, bounds));
-      limit = λ b. at_most n (600 + 12 * owed old.volume.tables) v w e.uses (omega (arith, bounds, known.ring));
-      works = counted n v w e.uses;
-      faultless = e.faultless;
-      cause = e.cause;
+      version = e.version;
+      operation = same_change g.D.Device.told _ _ old.volume new.volume v w c.allocate-outcome.result (λ told. ap (with_new_blocks (world_on v) c.args.source) (there told)) e.operation;
+      any_owed = λ told b. subst (λ m. LeavesOwed v w m) (omega arith) (e.cost.any_owed told);
+      paid = λ b. then_ok c.allocate-outcome.result (paid_more (size + batch_cost (3 * length bs)) (cost_of t q) old.volume new.volume v w (omega (arith, bounds))) e.cost.paid;
+      most = λ b. most_due n (cost_of t q) old.volume v w e.cost.uses (omega (arith, bounds));
+      limit = λ b. at_most n (600 + 12 * owed old.volume.tables) v w e.cost.uses (omega (arith, bounds, known.ring));
     } in
     subst (λ (x : Core). IsCarriedOut g.D.Device.told kind q x new v w c.blocks-2.result) c.self.view_is
     (subst (IsCarriedOut g.D.Device.told kind q old new v w) (sym c.blocks-2.ensures)
-    (carried_out g.D.Device.told kind q old new v w c.allocate-outcome.result (λ x. reply.Blocks bs) op (c.drop_at.ensures ∙ ap (λ cs. with_sessions old.grants (dropped_each cs old.grants.sessions)) (c.as_slice.ensures.value ∙ pick))
+    (carried_out g.D.Device.told kind q old new v w c.allocate-outcome.result (λ x. reply.Blocks bs) does (c.drop_at.ensures ∙ ap (λ cs. with_sessions old.grants (dropped_each cs old.grants.sessions)) (c.as_slice.ensures.value ∙ pick))
     (if_ok c.allocate-outcome.result (λ x e. ap reply.Blocks pick)) (λ x e. absurd (cc)) (λ told. if_ok c.allocate-outcome.result (λ x e. absurd (cc))) (if_ok c.allocate-outcome.result (λ x. record { body = (c.requires.new.some, c.requires.new.few); numbers = subst AreNumbers (sym pick) (free_numbers t (chosen kind t h count) known.sized (chosen_are_free kind t h count)) }))))
 
 pub returns-clause-contig : goal.returns-clause-contig
@@ -76,7 +69,7 @@ returns-clause-contig g c = λ kind session shown h count picked.
     let t = told_by old.volume in
     let e = c.allocate-outcome.ensures in
     let known : IsKnown old.volume = subst (λ (x : Core). IsKnown x.volume) (sym c.self.view_is) c.requires.known in
-    let like : g.D.Device.told → AreLike t (world_on v) = λ told. like_at old.volume v (at_volume old v (subst (λ (x : Core). IsAt x v) (sym c.self.view_is) (c.requires.at told))) in
+    let like : g.D.Device.told → AreLike t (world_on v) = λ told. like_at old.volume v (at_volume old v (subst (λ (x : Core). IsCoreAt x v) (sym c.self.view_is) (c.requires.at told))) in
     let bs = c.args.new_blocks in
     let pick : bs ≡ run_at (chosen_run kind t h count) count = subst (λ (x : Core). bs ≡ run_at (chosen_run kind (told_by x.volume) h count) count) (sym c.self.view_is) picked in
     let there : g.D.Device.told → bs ≡ run_at (chosen_run kind (world_on v) h count) count = λ told. pick ∙ ap (λ o. run_at o count) (chosen_run_like t (world_on v) (like told) kind h count) in
@@ -84,26 +77,18 @@ returns-clause-contig g c = λ kind session shown h count picked.
     let fit = sectors_of_blocks old.volume.tables.geometry (length bs) lawful c.requires.new.few in
     let size = old.volume.tables.geometry.sectors * length bs in
     let bounds : size + batch_cost (3 * length bs) ≤ 460 = omega (arith, fit, c.requires.new.few) in
-    let n : ℕ = due old.volume + size + batch_cost (3 * length bs) in
-    let op : IsOperation g.D.Device.told kind q old.volume new.volume v w c.allocate-outcome.result = record {
+    let n : ℕ = due old.volume + (size + batch_cost (3 * length bs)) in
+    let does : DoesRequest g.D.Device.told kind q old.volume new.volume v w c.allocate-outcome.result = record {
       like = then_ok c.allocate-outcome.result (λ (same : told_by new.volume ≡ with_new_blocks t c.args.source bs). like_as (told_by new.volume) (world_after kind t q) (same ∙ ap (with_new_blocks t c.args.source) pick)) e.told;
       ready = e.ready;
-      unspent = e.unspent;
-      spent = e.spent;
-      size = e.size;
-      at = e.at;
-      done = λ told. then_ok c.allocate-outcome.result (λ (same : world_on w ≡ with_new_blocks (world_on v) c.args.source bs). same ∙ ap (with_new_blocks (world_on v) c.args.source) (there told)) (e.done told);
-      sent = e.sent;
-      any_moment = λ told. subst (λ cs. LeavesEither v w (with_new_blocks (world_on v) c.args.source cs)) (there told) (e.any_moment told);
-      any_owed = λ told b. subst (λ m. LeavesOwed v w m) (omega arith) (e.any_owed told);
-      paid = λ b. then_ok c.allocate-outcome.result (paid_more (size + batch_cost (3 * length bs)) (cost_of t q) old.volume new.volume v w (omega (arith, bounds))) e.paid;
-      most = λ b. most_due n (cost_of t q) old.volume v w e.uses (omega (arith, bounds));
-      limit = λ b. at_most n (600 + 12 * owed old.volume.tables) v w e.uses (omega (arith, bounds, known.ring));
-      works = counted n v w e.uses;
-      faultless = e.faultless;
-      cause = e.cause;
+      version = e.version;
+      operation = same_change g.D.Device.told _ _ old.volume new.volume v w c.allocate-outcome.result (λ told. ap (with_new_blocks (world_on v) c.args.source) (there told)) e.operation;
+      any_owed = λ told b. subst (λ m. LeavesOwed v w m) (omega arith) (e.cost.any_owed told);
+      paid = λ b. then_ok c.allocate-outcome.result (paid_more (size + batch_cost (3 * length bs)) (cost_of t q) old.volume new.volume v w (omega (arith, bounds))) e.cost.paid;
+      most = λ b. most_due n (cost_of t q) old.volume v w e.cost.uses (omega (arith, bounds));
+      limit = λ b. at_most n (600 + 12 * owed old.volume.tables) v w e.cost.uses (omega (arith, bounds, known.ring));
     } in
     subst (λ (x : Core). IsCarriedOut g.D.Device.told kind q x new v w c.blocks-2.result) c.self.view_is
     (subst (IsCarriedOut g.D.Device.told kind q old new v w) (sym c.blocks-2.ensures)
-    (carried_out g.D.Device.told kind q old new v w c.allocate-outcome.result (λ x. reply.Blocks bs) op (c.drop_at.ensures ∙ ap (λ cs. with_sessions old.grants (dropped_each cs old.grants.sessions)) (c.as_slice.ensures.value ∙ pick))
+    (carried_out g.D.Device.told kind q old new v w c.allocate-outcome.result (λ x. reply.Blocks bs) does (c.drop_at.ensures ∙ ap (λ cs. with_sessions old.grants (dropped_each cs old.grants.sessions)) (c.as_slice.ensures.value ∙ pick))
     (if_ok c.allocate-outcome.result (λ x e. ap reply.Blocks pick)) (λ x e. absurd (cc)) (λ told. if_ok c.allocate-outcome.result (λ x e. absurd (cc))) (if_ok c.allocate-outcome.result (λ x. record { body = (c.requires.new.some, c.requires.new.few); numbers = subst AreNumbers (sym pick) (free_numbers t (run_at (chosen_run kind t h count) count) known.sized (chosen_run_is_free kind t h count)) }))))

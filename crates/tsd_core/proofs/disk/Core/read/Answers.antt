@@ -5,15 +5,15 @@ use Rattle.tsd_model.specs.declared.replies.Reply.TheVariants as reply
 use Rattle.tsd_model.specs.declared.requests.Request.TheVariants as ask
 use Rattle.disk_laws.specs.Bytes.{AreLike}
 use Rattle.image_device.proofs.Moments.{weakened}
-use Rattle.volume_laws.specs.Volume.{Volume, IsReady, told_by, world_on}
+use Rattle.volume_laws.specs.Volume.{Volume, IsVolumeReady, told_by, world_on}
 use Rattle.volume_laws.specs.Moments.{LeavesOwed}
 use Rattle.volume_laws.specs.Writes.{IsPaid}
-use Rattle.tsd_core.specs.Core.{Core, IsAt}
+use Rattle.tsd_core.specs.Core.{Core, IsCoreAt}
 use Rattle.tsd_core.specs.Work.{cost_of}
-use Rattle.tsd_core.specs.Carrying.{IsKnown, IsOperation, IsCarriedOut}
+use Rattle.tsd_core.specs.Carrying.{DoesRequest, IsKnown, IsCarriedOut}
 use Rattle.tsd_core.proofs.AtLaws.{at_volume, like_at}
 use Rattle.tsd_core.proofs.Likes.{like_as, block_size_of}
-use Rattle.tsd_core.proofs.Operations.{then_ok, if_ok, ok_if, if_map, counted, at_most, most_due, carried_out}
+use Rattle.tsd_core.proofs.Operations.{then_ok, if_ok, ok_if, if_map, at_most, most_due, carried_out}
 use Rattle.tsd_core.proofs.disk.Core.read.Goals as goal
 
 pub returns : goal.returns
@@ -26,28 +26,20 @@ returns g c = λ kind session shown.
     let t = told_by old.volume in
     let e = c.read_block-outcome.ensures in
     let known : IsKnown old.volume = subst (λ (x : Core). IsKnown x.volume) (sym c.self.view_is) c.requires.known in
-    let like : g.D.Device.told → AreLike t (world_on v) = λ told. like_at old.volume v (at_volume old v (subst (λ (x : Core). IsAt x v) (sym c.self.view_is) (c.requires.at told))) in
+    let like : g.D.Device.told → AreLike t (world_on v) = λ told. like_at old.volume v (at_volume old v (subst (λ (x : Core). IsCoreAt x v) (sym c.self.view_is) (c.requires.at told))) in
     let bounds = known.ring in
     let n : ℕ = 0 in
-    let op : IsOperation g.D.Device.told kind q old.volume new.volume v w c.read_block-outcome.result = record {
+    let does : DoesRequest g.D.Device.told kind q old.volume new.volume v w c.read_block-outcome.result = record {
       like = then_ok c.read_block-outcome.result (λ (same : new.volume ≡ old.volume). like_as (told_by new.volume) t (ap told_by same)) e.same;
-      ready = then_ok c.read_block-outcome.result (λ (same : new.volume ≡ old.volume). subst (λ (x : Volume). IsReady x) (sym same) (subst (λ (x : Core). IsReady x.volume) (sym c.self.view_is) c.requires.ready.volume)) e.same;
-      unspent = then_ok c.read_block-outcome.result (λ (same : new.volume ≡ old.volume). subst (λ (x : Volume). x.is_spent ≡ false) (sym same) (subst (λ (x : Core). x.volume.is_spent ≡ false) (sym c.self.view_is) c.requires.ready.unspent)) e.same;
-      spent = e.spent;
-      size = e.size;
-      at = e.at;
-      done = e.done;
-      sent = e.sent;
-      any_moment = λ told. weakened v w _ _ (e.any_moment told) (λ x f left. (inl left.0, left.1));
-      any_owed = λ told b. subst (λ m. LeavesOwed v w m) (omega arith) (e.any_owed told);
-      paid = λ b. then_ok c.read_block-outcome.result (λ (same : new.volume ≡ old.volume). subst (λ (x : Volume). IsPaid (cost_of t q) old.volume v x w) (sym same) (omega (arith, e.uses.most))) e.same;
-      most = λ b. most_due n (cost_of t q) old.volume v w e.uses (omega (arith, bounds));
-      limit = λ b. at_most n (600) v w e.uses (omega (arith, bounds, known.ring));
-      works = counted n v w e.uses;
-      faultless = e.faultless;
-      cause = e.cause;
+      ready = then_ok c.read_block-outcome.result (λ (same : new.volume ≡ old.volume). subst (λ (x : Volume). IsVolumeReady x) (sym same) (subst (λ (x : Core). IsVolumeReady x.volume) (sym c.self.view_is) c.requires.ready.volume)) e.same;
+      version = e.version;
+      operation = e.operation;
+      any_owed = λ told b. subst (λ m. LeavesOwed v w m) (omega arith) (e.cost.any_owed told);
+      paid = λ b. then_ok c.read_block-outcome.result (λ (same : new.volume ≡ old.volume). subst (λ (x : Volume). IsPaid (cost_of t q) old.volume v x w) (sym same) (omega (arith, e.cost.uses.most))) e.same;
+      most = λ b. most_due n (cost_of t q) old.volume v w e.cost.uses (omega (arith, bounds));
+      limit = λ b. at_most n (600) v w e.cost.uses (omega (arith, bounds, known.ring));
     } in
     subst (λ (x : Core). IsCarriedOut g.D.Device.told kind q x new v w c.bytes.result) c.self.view_is
     (subst (IsCarriedOut g.D.Device.told kind q old new v w) (sym c.bytes.ensures)
-    (carried_out g.D.Device.told kind q old new v w c.read_block-outcome.result (λ x. reply.Bytes c.read_block-outcome.new.into) op refl
+    (carried_out g.D.Device.told kind q old new v w c.read_block-outcome.result (λ x. reply.Bytes c.read_block-outcome.new.into) does refl
     (if_ok c.read_block-outcome.result (λ x e. absurd (cc))) (λ x e. (c.read_block-outcome.new.into, refl)) (λ told. if_map c.read_block-outcome.result (λ x h e. ap (λ o. reply.Bytes (unwrap_or o [])) (sym h)) (ok_if _ c.read_block-outcome.result (e.bytes told))) (ok_if _ c.read_block-outcome.result (then_ok c.read_block-outcome.result (λ h. record { body = block_size_of old.volume.tables.geometry (length c.read_block-outcome.new.into) (subst IsLawful known.geometry known.sized.lawful) h; numbers = tt }) e.full))))

@@ -10,12 +10,12 @@ use Rattle.grant_table.specs.Table.{with_sessions}
 use Rattle.volume_laws.specs.Volume.{told_by, world_on}
 use Rattle.volume_laws.specs.Moments.{LeavesEither, LeavesOwed}
 use Rattle.volume_laws.specs.Writes.{batch_cost}
-use Rattle.tsd_core.specs.Core.{Core, IsAt}
+use Rattle.tsd_core.specs.Core.{Core, IsCoreAt}
 use Rattle.tsd_core.specs.Work.{cost_of}
-use Rattle.tsd_core.specs.Carrying.{IsKnown, IsOperation, IsCarriedOut}
+use Rattle.tsd_core.specs.Carrying.{DoesRequest, IsKnown, IsCarriedOut}
 use Rattle.tsd_core.proofs.AtLaws.{at_volume, like_at}
 use Rattle.tsd_core.proofs.Likes.{like_as}
-use Rattle.tsd_core.proofs.Operations.{then_ok, if_ok, counted, at_most, most_due, paid_more, carried_out}
+use Rattle.tsd_core.proofs.Operations.{then_ok, if_ok, at_most, most_due, paid_more, carried_out, same_change}
 use Rattle.tsd_core.proofs.disk.Core.set_caps.Goals as goal
 
 pub returns : goal.returns
@@ -28,30 +28,22 @@ returns g c = λ kind session shown.
     let t = told_by old.volume in
     let e = c.set_caps.ensures in
     let known : IsKnown old.volume = subst (λ (x : Core). IsKnown x.volume) (sym c.self.view_is) c.requires.known in
-    let like : g.D.Device.told → AreLike t (world_on v) = λ told. like_at old.volume v (at_volume old v (subst (λ (x : Core). IsAt x v) (sym c.self.view_is) (c.requires.at told))) in
+    let like : g.D.Device.told → AreLike t (world_on v) = λ told. like_at old.volume v (at_volume old v (subst (λ (x : Core). IsCoreAt x v) (sym c.self.view_is) (c.requires.at told))) in
     let bounds = known.ring in
     let version : g.D.Device.told → old.volume.tables.version ≡ (world_on v).version = λ told. sym known.version ∙ (like told).version in
     let blocks : old.grants.blocks ≡ t.geometry.blocks = subst (λ (x : Core). x.grants.blocks ≡ (told_by x.volume).geometry.blocks) (sym c.self.view_is) c.requires.ready.made.blocks in
     let n : ℕ = checkpoint_writes old.volume.ring + batch_cost 1 in
-    let op : IsOperation g.D.Device.told kind q old.volume new.volume v w c.set_caps.result = record {
+    let does : DoesRequest g.D.Device.told kind q old.volume new.volume v w c.set_caps.result = record {
       like = then_ok c.set_caps.result (λ (same : told_by new.volume ≡ with_caps t c.args.block (kept old.volume.tables.version c.args.caps.now)). like_as (told_by new.volume) (with_caps t c.args.block (kept t.version c.args.caps.now)) (same ∙ ap (λ n. with_caps t c.args.block (kept n c.args.caps.now)) (sym known.version))) e.told;
       ready = e.ready;
-      unspent = e.unspent;
-      spent = e.spent;
-      size = e.size;
-      at = e.at;
-      done = λ told. then_ok c.set_caps.result (λ (same : world_on w ≡ with_caps (world_on v) c.args.block (kept old.volume.tables.version c.args.caps.now)). same ∙ ap (λ n. with_caps (world_on v) c.args.block (kept n c.args.caps.now)) (version told)) (e.done told);
-      sent = e.sent;
-      any_moment = λ told. subst (λ n. LeavesEither v w (with_caps (world_on v) c.args.block (kept n c.args.caps.now))) (version told) (e.any_moment told);
-      any_owed = λ told b. subst (λ m. LeavesOwed v w m) (omega arith) (e.any_owed told);
-      paid = λ b. then_ok c.set_caps.result (paid_more (batch_cost 1) (cost_of t q) old.volume new.volume v w (omega arith)) e.paid;
-      most = λ b. most_due n (cost_of t q) old.volume v w e.uses (omega (arith, bounds));
-      limit = λ b. at_most n (600) v w e.uses (omega (arith, bounds, known.ring));
-      works = counted n v w e.uses;
-      faultless = e.faultless;
-      cause = e.cause;
+      version = e.version;
+      operation = same_change g.D.Device.told _ _ old.volume new.volume v w c.set_caps.result (λ told. ap (λ n. with_caps (world_on v) c.args.block (kept n c.args.caps.now)) (version told)) e.operation;
+      any_owed = λ told b. subst (λ m. LeavesOwed v w m) (omega arith) (e.cost.any_owed told);
+      paid = λ b. then_ok c.set_caps.result (paid_more (batch_cost 1) (cost_of t q) old.volume new.volume v w (omega arith)) e.cost.paid;
+      most = λ b. most_due n (cost_of t q) old.volume v w e.cost.uses (omega (arith, bounds));
+      limit = λ b. at_most n (600) v w e.cost.uses (omega (arith, bounds, known.ring));
     } in
     subst (λ (x : Core). IsCarriedOut g.D.Device.told kind q x new v w c.done.result) c.self.view_is
     (subst (IsCarriedOut g.D.Device.told kind q old new v w) (sym c.done.ensures)
-    (carried_out g.D.Device.told kind q old new v w c.set_caps.result (λ x. reply.Done) op (c.drop_from.ensures ∙ (λ i. with_sessions old.grants (dropped_from (blocks i) c.args.block old.grants.sessions)))
+    (carried_out g.D.Device.told kind q old new v w c.set_caps.result (λ x. reply.Done) does (c.drop_from.ensures ∙ (λ i. with_sessions old.grants (dropped_from (blocks i) c.args.block old.grants.sessions)))
     (if_ok c.set_caps.result (λ x e. refl)) (λ x e. absurd (cc)) (λ told. if_ok c.set_caps.result (λ x e. absurd (cc))) (if_ok c.set_caps.result (λ x. record { body = tt; numbers = tt }))))

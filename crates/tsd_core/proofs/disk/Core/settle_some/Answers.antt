@@ -1,30 +1,62 @@
-use Rattle.std.proofs.Common.{◌+◌, ◌≤◌, sym, subst, arith}
+use Rattle.std.proofs.Common.{◌≡◌, ◌+◌, ◌≤◌, ◌∙◌, sym, ap, subst, arith}
 use Rattle.std.specs.Prelude.{Result, Ok, Err, OnOk}
 use Rattle.volume_laws.specs.Writes.{due, IsPaid}
-use Rattle.tsd_core.specs.Core.{Core, IsAt}
+use Rattle.volume_laws.proofs.StepOps.{either_same}
+use Rattle.volume_laws.specs.Volume.{told_by, world_on}
+use Rattle.tsd_core.specs.Core.{Core, IsCoreAt, told_world}
 use Rattle.tsd_core.proofs.AtLaws.{at_volume}
 use Rattle.tsd_core.proofs.Operations.{then_ok}
-use Rattle.tsd_core.proofs.Settling.{owes_no_more, owes_less}
+use Rattle.tsd_core.proofs.Settling.{owes_no_more, owes_less, ready_still, state_still, told_still}
 use Rattle.tsd_core.proofs.disk.Core.settle_some.Goals as goal
 
 also_ok : {T E A B P : Type 0} (r : Result T E) → (A → B → P) → OnOk r A → OnOk r B → OnOk r P
 also_ok (Ok x) f a b = f a b
 also_ok (Err e) f a b = tt
 
+all_ok : {T E A B C P : Type 0} (r : Result T E) → (A → B → C → P) → OnOk r A → OnOk r B → OnOk r C → OnOk r P
+all_ok (Ok x) f a b c = f a b c
+all_ok (Err e) f a b c = tt
+
+pub returns-clause-ready : goal.returns-clause-ready
+returns-clause-ready g c =
+    let e = c.settle_some.ensures in
+    let new : Core = record { volume = c.settle_some.new.self; grants = c.self.inside.grants } in
+    all_ok c.settle_some.result
+    (λ ready unspent (same : told_by new.volume ≡ told_by c.self.inside.volume).
+    ready_still c.args.self.now new ready unspent (same ∙ ap told_world c.self.view_is) (ap (λ (x : Core). x.grants) c.self.view_is) c.requires.ready)
+    e.ready e.operation.unspent e.told
+
+pub returns-clause-told : goal.returns-clause-told
+returns-clause-told g c =
+    let new : Core = record { volume = c.settle_some.new.self; grants = c.self.inside.grants } in
+    then_ok c.settle_some.result
+    (λ (same : told_by new.volume ≡ told_by c.self.inside.volume). told_still c.args.self.now new (same ∙ ap told_world c.self.view_is) (ap (λ (x : Core). x.grants) c.self.view_is))
+    c.settle_some.ensures.told
+
+pub returns-clause-state : goal.returns-clause-state
+returns-clause-state g c = λ told.
+    let v = g.D.Device.view c.args.dev.now in
+    let w = g.D.Device.view c.settle_some.new.dev in
+    let new : Core = record { volume = c.settle_some.new.self; grants = c.self.inside.grants } in
+    also_ok c.settle_some.result
+    (λ (same : told_by new.volume ≡ told_by c.self.inside.volume) (world : world_on w ≡ world_on v).
+    state_still c.args.self.now new v.reads w.reads world (same ∙ ap told_world c.self.view_is) (ap (λ (x : Core). x.grants) c.self.view_is))
+    c.settle_some.ensures.told (c.settle_some.ensures.operation.done told)
+
 pub returns-clause-debt : goal.returns-clause-debt
 returns-clause-debt g c = λ told.
     let v = g.D.Device.view c.args.dev.now in
     let old : Core = record { volume = c.self.inside.volume; grants = c.self.inside.grants } in
-    let at = at_volume old v (subst (λ (x : Core). IsAt x v) (sym c.self.view_is) (c.requires.at told)) in
-    owes_no_more c.self.inside.volume v (g.D.Device.view c.settle_some.new.dev) at (c.settle_some.ensures.any_owed told) (c.settle_some.ensures.any_moment told)
+    let at = at_volume old v (subst (λ (x : Core). IsCoreAt x v) (sym c.self.view_is) (c.requires.at told)) in
+    owes_no_more c.self.inside.volume v (g.D.Device.view c.settle_some.new.dev) at (c.settle_some.ensures.cost.any_owed told) (either_same v (g.D.Device.view c.settle_some.new.dev) (c.settle_some.ensures.operation.any_moment told))
 
 pub returns-clause-less : goal.returns-clause-less
 returns-clause-less g c = λ told.
     let v = g.D.Device.view c.args.dev.now in
     let w = g.D.Device.view c.settle_some.new.dev in
     let old : Core = record { volume = c.self.inside.volume; grants = c.self.inside.grants } in
-    let at = at_volume old v (subst (λ (x : Core). IsAt x v) (sym c.self.view_is) (c.requires.at told)) in
-    also_ok c.settle_some.result (owes_less c.self.inside.volume c.settle_some.new.self v w at) (c.settle_some.ensures.at told) c.settle_some.ensures.steps
+    let at = at_volume old v (subst (λ (x : Core). IsCoreAt x v) (sym c.self.view_is) (c.requires.at told)) in
+    also_ok c.settle_some.result (owes_less c.self.inside.volume c.settle_some.new.self v w at) (c.settle_some.ensures.operation.at told) c.settle_some.ensures.steps
 
 pub returns-clause-paid : goal.returns-clause-paid
 returns-clause-paid g c =
@@ -32,4 +64,7 @@ returns-clause-paid g c =
     let w = g.D.Device.view c.settle_some.new.dev in
     let old : Core = record { volume = c.self.inside.volume; grants = c.self.inside.grants } in
     subst (λ (x : Core). OnOk c.settle_some.result (w.writes + due c.settle_some.new.self ≤ v.writes + due x.volume)) c.self.view_is
-    (then_ok c.settle_some.result (λ (p : IsPaid 0 old.volume v c.settle_some.new.self w). omega (arith, p)) c.settle_some.ensures.paid)
+    (then_ok c.settle_some.result (λ (p : IsPaid 0 old.volume v c.settle_some.new.self w). omega (arith, p)) c.settle_some.ensures.cost.paid)
+
+pub returns-clause-any_moment : goal.returns-clause-any_moment
+returns-clause-any_moment g c told = either_same (g.D.Device.view c.args.dev.now) (g.D.Device.view c.settle_some.new.dev) (c.settle_some.ensures.operation.any_moment told)

@@ -7,16 +7,16 @@ use Rattle.tsd_model.specs.declared.requests.Request.TheVariants as ask
 use Rattle.disk_laws.specs.Bytes.{AreLike}
 use Rattle.disk_laws.proofs.ByteLaws.{contents_like}
 use Rattle.intent_journal.specs.Ring.{checkpoint_writes}
-use Rattle.volume_laws.specs.Volume.{Volume, IsReady, told_by, world_on}
+use Rattle.volume_laws.specs.Volume.{Volume, IsVolumeReady, told_by, world_on}
 use Rattle.volume_laws.specs.Moments.{LeavesOwed}
 use Rattle.volume_laws.specs.Writes.{batch_cost}
-use Rattle.tsd_core.specs.Core.{Core, IsAt}
+use Rattle.tsd_core.specs.Core.{Core, IsCoreAt}
 use Rattle.tsd_core.specs.Work.{cost_of}
-use Rattle.tsd_core.specs.Carrying.{IsKnown, IsOperation, IsCarriedOut}
+use Rattle.tsd_core.specs.Carrying.{DoesRequest, IsKnown, IsCarriedOut}
 use Rattle.tsd_core.proofs.AtLaws.{at_volume, like_at}
 use Rattle.volume_laws.proofs.BlockLaws.{sectors_most}
 use Rattle.tsd_core.proofs.Likes.{like_back}
-use Rattle.tsd_core.proofs.Operations.{then_ok, if_ok, counted, at_most, most_due, paid_more, carried_out}
+use Rattle.tsd_core.proofs.Operations.{then_ok, if_ok, at_most, most_due, paid_more, carried_out}
 use Rattle.tsd_core.proofs.disk.Core.write.Goals as goal
 
 pub returns : goal.returns
@@ -29,30 +29,22 @@ returns g c = λ kind session shown.
     let t = told_by old.volume in
     let e = c.write_block.ensures in
     let known : IsKnown old.volume = subst (λ (x : Core). IsKnown x.volume) (sym c.self.view_is) c.requires.known in
-    let like : g.D.Device.told → AreLike t (world_on v) = λ told. like_at old.volume v (at_volume old v (subst (λ (x : Core). IsAt x v) (sym c.self.view_is) (c.requires.at told))) in
+    let like : g.D.Device.told → AreLike t (world_on v) = λ told. like_at old.volume v (at_volume old v (subst (λ (x : Core). IsCoreAt x v) (sym c.self.view_is) (c.requires.at told))) in
     let live : is_live t c.args.block ≡ true = subst (λ (x : Core). is_live (told_by x.volume) c.args.block ≡ true) (sym c.self.view_is) c.requires.live in
     let bounds : old.volume.tables.geometry.sectors ≤ 8 = sectors_most old.volume.tables.geometry (subst IsLawful known.geometry known.sized.lawful) in
     let full = filled (block_len t.geometry) c.args.bytes.now in
     let n : ℕ = checkpoint_writes old.volume.ring + batch_cost old.volume.tables.geometry.sectors in
-    let op : IsOperation g.D.Device.told kind q old.volume new.volume v w c.write_block.result = record {
+    let does : DoesRequest g.D.Device.told kind q old.volume new.volume v w c.write_block.result = record {
       like = then_ok c.write_block.result (λ (same : new.volume ≡ record old.volume { ring = new.volume.ring }). subst (λ (x : Volume). AreLike (told_by x) (with_contents t c.args.block full)) (sym same) (like_back (with_contents t c.args.block full) t (contents_like t c.args.block full live))) e.same;
-      ready = then_ok c.write_block.result (λ (same : new.volume ≡ record old.volume { ring = new.volume.ring }). subst (λ (x : Volume). IsReady x) (sym same) (subst (λ (x : Core). IsReady x.volume) (sym c.self.view_is) c.requires.ready.volume)) e.same;
-      unspent = then_ok c.write_block.result (λ (same : new.volume ≡ record old.volume { ring = new.volume.ring }). subst (λ (x : Volume). x.is_spent ≡ false) (sym same) (subst (λ (x : Core). x.volume.is_spent ≡ false) (sym c.self.view_is) c.requires.ready.unspent)) e.same;
-      spent = e.spent;
-      size = e.size;
-      at = e.at;
-      done = e.done;
-      sent = e.sent;
-      any_moment = e.any_moment;
-      any_owed = λ told b. subst (λ m. LeavesOwed v w m) (omega arith) (e.any_owed told);
-      paid = λ b. then_ok c.write_block.result (paid_more (batch_cost old.volume.tables.geometry.sectors) (cost_of t q) old.volume new.volume v w (omega (arith, bounds))) e.paid;
-      most = λ b. most_due n (cost_of t q) old.volume v w e.uses (omega (arith, bounds));
-      limit = λ b. at_most n (600) v w e.uses (omega (arith, bounds, known.ring));
-      works = counted n v w e.uses;
-      faultless = e.faultless;
-      cause = e.cause;
+      ready = then_ok c.write_block.result (λ (same : new.volume ≡ record old.volume { ring = new.volume.ring }). subst (λ (x : Volume). IsVolumeReady x) (sym same) (subst (λ (x : Core). IsVolumeReady x.volume) (sym c.self.view_is) c.requires.ready.volume)) e.same;
+      version = e.version;
+      operation = e.operation;
+      any_owed = λ told b. subst (λ m. LeavesOwed v w m) (omega arith) (e.cost.any_owed told);
+      paid = λ b. then_ok c.write_block.result (paid_more (batch_cost old.volume.tables.geometry.sectors) (cost_of t q) old.volume new.volume v w (omega (arith, bounds))) e.cost.paid;
+      most = λ b. most_due n (cost_of t q) old.volume v w e.cost.uses (omega (arith, bounds));
+      limit = λ b. at_most n (600) v w e.cost.uses (omega (arith, bounds, known.ring));
     } in
     subst (λ (x : Core). IsCarriedOut g.D.Device.told kind q x new v w c.done.result) c.self.view_is
     (subst (IsCarriedOut g.D.Device.told kind q old new v w) (sym c.done.ensures)
-    (carried_out g.D.Device.told kind q old new v w c.write_block.result (λ x. reply.Done) op refl
+    (carried_out g.D.Device.told kind q old new v w c.write_block.result (λ x. reply.Done) does refl
     (if_ok c.write_block.result (λ x e. refl)) (λ x e. absurd (cc)) (λ told. if_ok c.write_block.result (λ x e. absurd (cc))) (if_ok c.write_block.result (λ x. record { body = tt; numbers = tt }))))

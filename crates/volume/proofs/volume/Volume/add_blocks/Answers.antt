@@ -1,3 +1,4 @@
+use Rattle.volume_laws.proofs.OperationLaws.{spent_unless_ok, spent_on_err, works_of, committed_uses}
 use Rattle.std.proofs.Common.{◌≡◌, ◌+◌, ◌*◌, ℕ, List, [], length, refl, sym, ◌∙◌, ap, subst, arith}
 use Rattle.std.specs.Prelude.{OnOk}
 use Rattle.tsd_model.specs.declared.geometry.Geometry.{Geometry}
@@ -17,7 +18,7 @@ use Rattle.volume_laws.proofs.Pointed.{marked}
 use Rattle.volume_laws.proofs.ZeroedLaws.{zeroed_ring, zeroed_bytes, zeroed_moments}
 use Rattle.std.proofs.Common.{Bool, true}
 use Rattle.reclaim.specs.Ahead.{Kept, is_gone, IsAheadOf}
-use Rattle.volume_laws.specs.Graphs.{graph_in}
+use Rattle.image_world.specs.Debt.{graph_in}
 use Rattle.volume_laws.proofs.AheadKept.{growing, none_gone, hides_none, none_hides}
 use Rattle.volume_laws.proofs.OwedLaws.{zeroed_owed}
 use Rattle.image_device.proofs.Outcomes.{on_ok}
@@ -123,42 +124,47 @@ invariant_of-self g c =
       still = v.still;
     }
 
-pub returns-clause-at : goal.returns-clause-at
-returns-clause-at g c told =
-    let z = c.requires.at told in
-    op_at c.commit-outcome.result (has_zeros c.args.self.now.tables c.args.blocks.now) c.args.self.now (now g c) (firmed (g.D.Device.view c.args.dev.now)) (g.D.Device.view c.commit-outcome.new.dev) c.put_new.new.batch (3 * length c.args.blocks.now) 0 _ (this g c) z.at
-    (zeroed_bytes c.args.self.now (g.D.Device.view c.args.dev.now) c.args.blocks.now z)
-    (c.commit-outcome.ensures.done told) (c.commit-outcome.ensures.at told) (c.commit-outcome.ensures.firm told)
-
-pub returns-clause-done : goal.returns-clause-done
-returns-clause-done g c told =
-    let z = c.requires.at told in
-    op_done c.commit-outcome.result (has_zeros c.args.self.now.tables c.args.blocks.now) c.args.self.now (now g c) (firmed (g.D.Device.view c.args.dev.now)) (g.D.Device.view c.commit-outcome.new.dev) c.put_new.new.batch (3 * length c.args.blocks.now) 0 _ (this g c) z.at
-    (zeroed_bytes c.args.self.now (g.D.Device.view c.args.dev.now) c.args.blocks.now z)
-    (c.commit-outcome.ensures.done told) (c.commit-outcome.ensures.at told) (c.commit-outcome.ensures.firm told)
-
 pub returns-clause-told : goal.returns-clause-told
 returns-clause-told g c = op_told c.commit-outcome.result (has_zeros c.args.self.now.tables c.args.blocks.now) c.args.self.now (now g c) c.put_new.new.batch (3 * length c.args.blocks.now) 0 _ (this g c)
 
 pub returns-clause-settled : goal.returns-clause-settled
 returns-clause-settled g c = on_ok c.commit-outcome.result (these g c).settled
 
-pub returns-clause-any_moment : goal.returns-clause-any_moment
-returns-clause-any_moment g c told =
-    let z = c.requires.at told in
-    zeroed_moments c.args.self.now (g.D.Device.view c.args.dev.now) (g.D.Device.view c.commit-outcome.new.dev) c.args.blocks.now c.put_new.new.batch (now g c).tables _ z c.requires.free (these g c).turns
-    (op_world (has_zeros c.args.self.now.tables c.args.blocks.now) c.args.self.now (now g c).tables c.put_new.new.batch (3 * length c.args.blocks.now) 0 (λ w. with_new_blocks w c.args.source c.args.blocks.now) (firmed (g.D.Device.view c.args.dev.now)) (this g c) z.at (zeroed_bytes c.args.self.now (g.D.Device.view c.args.dev.now) c.args.blocks.now z))
-    (c.commit-outcome.ensures.any_moment told)
+pub returns-clause-operation : goal.returns-clause-operation
+returns-clause-operation g c = record {
+  at = λ told.
+      let z = c.requires.at told in
+      op_at c.commit-outcome.result (has_zeros c.args.self.now.tables c.args.blocks.now) c.args.self.now (now g c) (firmed (g.D.Device.view c.args.dev.now)) (g.D.Device.view c.commit-outcome.new.dev) c.put_new.new.batch (3 * length c.args.blocks.now) 0 _ (this g c) z.at
+      (zeroed_bytes c.args.self.now (g.D.Device.view c.args.dev.now) c.args.blocks.now z)
+      (c.commit-outcome.ensures.done told) (c.commit-outcome.ensures.at told) (c.commit-outcome.ensures.firm told);
+  done = λ told.
+      let z = c.requires.at told in
+      op_done c.commit-outcome.result (has_zeros c.args.self.now.tables c.args.blocks.now) c.args.self.now (now g c) (firmed (g.D.Device.view c.args.dev.now)) (g.D.Device.view c.commit-outcome.new.dev) c.put_new.new.batch (3 * length c.args.blocks.now) 0 _ (this g c) z.at
+      (zeroed_bytes c.args.self.now (g.D.Device.view c.args.dev.now) c.args.blocks.now z)
+      (c.commit-outcome.ensures.done told) (c.commit-outcome.ensures.at told) (c.commit-outcome.ensures.firm told);
+  any_moment = λ told.
+      let z = c.requires.at told in
+      zeroed_moments c.args.self.now (g.D.Device.view c.args.dev.now) (g.D.Device.view c.commit-outcome.new.dev) c.args.blocks.now c.put_new.new.batch (now g c).tables _ z c.requires.free (these g c).turns
+      (op_world (has_zeros c.args.self.now.tables c.args.blocks.now) c.args.self.now (now g c).tables c.put_new.new.batch (3 * length c.args.blocks.now) 0 (λ w. with_new_blocks w c.args.source c.args.blocks.now) (firmed (g.D.Device.view c.args.dev.now)) (this g c) z.at (zeroed_bytes c.args.self.now (g.D.Device.view c.args.dev.now) c.args.blocks.now z))
+      (c.commit-outcome.ensures.any_moment told);
+  sent = c.commit-outcome.ensures.sent;
+  unspent = spent_unless_ok c.commit-outcome.result c.is_err-self-inside.result c.is_err-self-inside.ensures.value;
+  spent = spent_on_err c.commit-outcome.result c.is_err-self-inside.result c.is_err-self-inside.ensures.value;
+  faults = c.commit-outcome.ensures.faults;
+  works = works_of _ (g.D.Device.view c.args.dev.now) (g.D.Device.view c.commit-outcome.new.dev) c.commit-outcome.ensures.uses;
+  geometry = ap (λ (w : Volume). w.tables.geometry) c.self.view_is;
+}
 
-pub returns-clause-paid : goal.returns-clause-paid
-returns-clause-paid g c =
-    let cost = batch_cost (3 * length c.args.blocks.now) in
-    let none : cost + lost_cost * 0 ≡ cost = omega arith in
-    subst (λ (k : ℕ). OnOk c.commit-outcome.result (IsPaid k c.args.self.now (g.D.Device.view c.args.dev.now) (now g c) (g.D.Device.view c.commit-outcome.new.dev))) none
-    (op_paid c.commit-outcome.result (has_zeros c.args.self.now.tables c.args.blocks.now) c.args.self.now (now g c) c.self.inside.ring (g.D.Device.view c.args.dev.now) (g.D.Device.view c.commit-outcome.new.dev) c.put_new.new.batch (3 * length c.args.blocks.now) 0 _ (this g c)
-    (ap (λ (w : Volume). w.ring) c.self.view_is) c.commit-outcome.ensures.uses c.commit-outcome.ensures.records)
-
-pub returns-clause-any_owed : goal.returns-clause-any_owed
-returns-clause-any_owed g c told =
-    zeroed_owed c.args.self.now (g.D.Device.view c.args.dev.now) (g.D.Device.view c.commit-outcome.new.dev) c.args.blocks.now c.put_new.new.batch (now g c).tables (c.requires.at told) c.requires.free (these g c).turns
-    (let none = (these g c).settled in omega (arith, none)) (c.commit-outcome.ensures.any_moment told)
+pub returns-clause-cost : goal.returns-clause-cost
+returns-clause-cost g c = record {
+  any_owed = λ told.
+      zeroed_owed c.args.self.now (g.D.Device.view c.args.dev.now) (g.D.Device.view c.commit-outcome.new.dev) c.args.blocks.now c.put_new.new.batch (now g c).tables (c.requires.at told) c.requires.free (these g c).turns
+      (let none = (these g c).settled in omega (arith, none)) (c.commit-outcome.ensures.any_moment told);
+  paid =
+      let cost = batch_cost (3 * length c.args.blocks.now) in
+      let none : cost + lost_cost * 0 ≡ cost = omega arith in
+      subst (λ (k : ℕ). OnOk c.commit-outcome.result (IsPaid k c.args.self.now (g.D.Device.view c.args.dev.now) (now g c) (g.D.Device.view c.commit-outcome.new.dev))) none
+      (op_paid c.commit-outcome.result (has_zeros c.args.self.now.tables c.args.blocks.now) c.args.self.now (now g c) c.self.inside.ring (g.D.Device.view c.args.dev.now) (g.D.Device.view c.commit-outcome.new.dev) c.put_new.new.batch (3 * length c.args.blocks.now) 0 _ (this g c)
+      (ap (λ (w : Volume). w.ring) c.self.view_is) c.commit-outcome.ensures.uses c.commit-outcome.ensures.records);
+  uses = committed_uses c.args.self.now c.self.inside.ring (g.D.Device.view c.args.dev.now) (g.D.Device.view c.commit-outcome.new.dev) c.put_new.new.batch (3 * length c.args.blocks.now) (this g c).few (ap (λ (w : Volume). w.ring) c.self.view_is) c.commit-outcome.ensures.uses;
+}

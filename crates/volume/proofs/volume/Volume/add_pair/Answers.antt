@@ -1,3 +1,5 @@
+use Rattle.volume_laws.specs.Writes.{batch_cost}
+use Rattle.volume_laws.proofs.OperationLaws.{committed_op, committed_within}
 use Rattle.std.proofs.Common.{◌≡◌, ◌≤◌, ◌<◌, ℕ, List, true, false, sym, ◌∙◌, ap, subst, arith}
 use Rattle.std.specs.Prelude.{slice_index}
 use Rattle.tsd_model.specs.declared.geometry.Geometry.{Geometry}
@@ -14,13 +16,12 @@ use Rattle.image_world.specs.Sound.{AreSound}
 use Rattle.image_world.specs.Tables.{Tables}
 use Rattle.image_world.specs.Raw.{left_of, world_with}
 use Rattle.volume_laws.specs.Volume.{Volume, tables_in, told_by}
-use Rattle.volume_laws.specs.Moments.{owed}
+use Rattle.image_world.specs.Debt.{owed, graph_in}
 use Rattle.volume_laws.proofs.Ops.{any_bytes, IsOp, op_at, op_done, op_told, op_moments, op_paid}
 use Rattle.volume_laws.proofs.Pointed.{IsOpenTo, IsAdded, raw_absent, ends_within, count_room, left_pointer, owed_pointer, added}
 use Rattle.std.proofs.lemmas.Bool.{both_ways}
 use Rattle.tsd_model.specs.World.{World}
 use Rattle.reclaim.specs.Ahead.{IsAheadOf, is_gone}
-use Rattle.volume_laws.specs.Graphs.{graph_in}
 use Rattle.volume_laws.proofs.AheadKept.{adding, graph_added, gone_added, hides_same}
 use Rattle.volume_laws.proofs.StepOps.{op_owed}
 use Rattle.volume_laws.proofs.Outcomes.{ok_here, if_here}
@@ -143,30 +144,8 @@ this g c =
     op c.args.self.now (now g c).tables c.put-2.new.self c.args.source c.args.target
     (open_to c.args.self.now c.args.source c.args.target c.requires.ready.1 c.requires.source c.requires.target c.requires.apart c.requires.absent) (these g c)
 
-pub returns-clause-at : goal.returns-clause-at
-returns-clause-at g c told =
-    op_at c.commit-outcome.result any_bytes c.args.self.now (now g c) (g.D.Device.view c.args.dev.now) (g.D.Device.view c.commit-outcome.new.dev) c.put-2.new.self 2 0 _ (this g c) (c.requires.at told) tt
-    (c.commit-outcome.ensures.done told) (c.commit-outcome.ensures.at told) (c.commit-outcome.ensures.firm told)
-
-pub returns-clause-done : goal.returns-clause-done
-returns-clause-done g c told =
-    op_done c.commit-outcome.result any_bytes c.args.self.now (now g c) (g.D.Device.view c.args.dev.now) (g.D.Device.view c.commit-outcome.new.dev) c.put-2.new.self 2 0 _ (this g c) (c.requires.at told) tt
-    (c.commit-outcome.ensures.done told) (c.commit-outcome.ensures.at told) (c.commit-outcome.ensures.firm told)
-
 pub returns-clause-told : goal.returns-clause-told
 returns-clause-told g c = op_told c.commit-outcome.result any_bytes c.args.self.now (now g c) c.put-2.new.self 2 0 _ (this g c)
-
-pub returns-clause-any_moment : goal.returns-clause-any_moment
-returns-clause-any_moment g c told =
-    op_moments any_bytes c.args.self.now (now g c) (g.D.Device.view c.args.dev.now) (g.D.Device.view c.commit-outcome.new.dev) c.put-2.new.self 2 0 _ (this g c) (c.requires.at told) tt (c.commit-outcome.ensures.any_moment told)
-
-pub returns-clause-paid : goal.returns-clause-paid
-returns-clause-paid g c =
-    op_paid c.commit-outcome.result any_bytes c.args.self.now (now g c) c.self.inside.ring (g.D.Device.view c.args.dev.now) (g.D.Device.view c.commit-outcome.new.dev) c.put-2.new.self 2 0 _ (this g c)
-    (ap (λ (w : Volume). w.ring) c.self.view_is) c.commit-outcome.ensures.uses c.commit-outcome.ensures.records
-
-pub returns-clause-any_owed : goal.returns-clause-any_owed
-returns-clause-any_owed g c told = op_owed any_bytes c.args.self.now (g.D.Device.view c.args.dev.now) (g.D.Device.view c.commit-outcome.new.dev) (now g c).tables c.put-2.new.self 2 _ (this g c) (c.requires.at told) (c.commit-outcome.ensures.any_moment told)
 
 pub returns-clause-owes : goal.returns-clause-owes
 returns-clause-owes g c =
@@ -174,3 +153,15 @@ returns-clause-owes g c =
     let all = these g c in
     ap owed all.tables
     ∙ owed_pointer t all.slots c.args.source c.args.target (open_to c.args.self.now c.args.source c.args.target c.requires.ready.1 c.requires.source c.requires.target c.requires.apart c.requires.absent) all.pairs
+
+pub returns-clause-operation : goal.returns-clause-operation
+returns-clause-operation g c =
+    let e = c.commit-outcome.ensures in
+    committed_op g.D.Device.told c.commit-outcome.result any_bytes c.args.self.now (now g c) (g.D.Device.view c.args.dev.now) (g.D.Device.view c.commit-outcome.new.dev) c.put-2.new.self 2 0 _ (λ w. with_pointer w c.args.source c.args.target) (this g c) c.requires.at (λ told. tt)
+    e.done e.at e.firm e.any_moment e.sent e.uses e.faults c.is_err-self-inside.ensures.value (ap (λ (w : Volume). w.tables.geometry) c.self.view_is)
+
+pub returns-clause-cost : goal.returns-clause-cost
+returns-clause-cost g c =
+    let e = c.commit-outcome.ensures in
+    committed_within g.D.Device.told c.commit-outcome.result any_bytes c.args.self.now (now g c) c.self.inside.ring (g.D.Device.view c.args.dev.now) (g.D.Device.view c.commit-outcome.new.dev) c.put-2.new.self 2 0 (owed c.args.self.now.tables) (batch_cost 2) (λ w. with_pointer w c.args.source c.args.target) (this g c) c.requires.at (ap (λ (w : Volume). w.ring) c.self.view_is)
+    e.any_moment e.uses e.records (omega arith) (omega arith)

@@ -1,10 +1,13 @@
-use Rattle.std.proofs.Common.{◌≤◌, ◌+◌, ℕ, List, length, sym, subst}
+use Rattle.volume_laws.proofs.OperationLaws.{kept_then, kept_fails, within_then, within_fails}
+use Rattle.std.proofs.Common.{◌≡◌, ◌≤◌, ◌+◌, ℕ, List, length, sym, ◌∙◌, ap, subst, arith}
+use Rattle.tsd_model.specs.declared.geometry.Geometry.{Geometry}
 use Rattle.image_world.specs.Tables.{pairs_of}
 use Rattle.tsd_model.specs.Step.{with_new_blocks}
 use Rattle.volume_laws.specs.Growing.{AreFree}
-use Rattle.volume_laws.specs.Moments.{LeavesEither}
-use Rattle.volume_laws.specs.Volume.{world_on}
-use Rattle.volume_laws.proofs.Allocated.{told_free, told_room, then_moments}
+use Rattle.image_world.specs.Debt.{owed}
+use Rattle.volume_laws.specs.Operations.{IsOperation, IsWithin}
+use Rattle.volume_laws.specs.Writes.{due, zeroed_cost}
+use Rattle.volume_laws.proofs.Allocated.{told_free, told_room}
 use Rattle.volume.proofs.volume.Volume.allocate.Goals as goal
 
 pub grow-requires-clause-free : goal.grow-requires-clause-free
@@ -19,13 +22,35 @@ grow-requires-clause-room g c =
     let now = c.settle_all.new.self in
     let ok = c.in_ok-settle_all.ensures in
     subst (λ (bs : List ℕ). length (pairs_of now.tables) + length bs ≤ now.tables.geometry.slots) (sym c.as_slice.ensures.value)
-    (told_room c.args.self.now now c.args.blocks.now ok.ready ok.settled ok.told c.settle_all.ensures.size.0 c.requires.room)
+    (told_room c.args.self.now now c.args.blocks.now ok.ready ok.settled ok.told c.in_ok-settle_all.ensures.operation.geometry c.requires.room)
 
-pub returns-clause-any_moment : goal.returns-clause-any_moment
-returns-clause-any_moment g c told =
+pub returns-in_err-settle_all-clause-operation : goal.returns-in_err-settle_all-clause-operation
+returns-in_err-settle_all-clause-operation g c =
+    let told = g.D.Device.told in
+    let view = g.D.Device.view in
+    kept_fails told (λ w. with_new_blocks w c.args.source c.args.blocks.now) c.args.self.now c.settle_all.new.self (view c.args.dev.now) (view c.settle_all.new.dev) _ _ c.from_residual.result c.from_residual.ensures.1 c.in_err-settle_all.ensures.operation
+
+pub returns-in_err-settle_all-clause-cost : goal.returns-in_err-settle_all-clause-cost
+returns-in_err-settle_all-clause-cost g c =
+    let told = g.D.Device.told in
+    let view = g.D.Device.view in
+    within_fails told _ _ _ c.args.self.now c.settle_all.new.self (view c.args.dev.now) (view c.settle_all.new.dev) _ _ _ _ _ c.from_residual.result c.from_residual.ensures.1 c.in_err-settle_all.ensures.cost (omega arith) (omega arith)
+
+pub returns-clause-operation : goal.returns-clause-operation
+returns-clause-operation g c =
+    let told = g.D.Device.told in
+    let view = g.D.Device.view in
+    kept_then told (λ w. with_new_blocks w c.args.source c.args.blocks.now) c.args.self.now c.settle_all.new.self c.grow.new.self (view c.args.dev.now) (view c.settle_all.new.dev) (view c.grow.new.dev) _ c.grow.result c.in_ok-settle_all.ensures.operation
+    (subst (λ (bs : List ℕ). IsOperation told (λ w. with_new_blocks w c.args.source bs) c.settle_all.new.self c.grow.new.self (view c.settle_all.new.dev) (view c.grow.new.dev) c.grow.result) c.as_slice.ensures.value c.grow.ensures.operation)
+
+pub returns-clause-cost : goal.returns-clause-cost
+returns-clause-cost g c =
+    let told = g.D.Device.told in
     let view = g.D.Device.view in
     let ok = c.in_ok-settle_all.ensures in
-    let v1 = view c.settle_all.new.dev in
-    let v2 = view c.grow.new.dev in
-    then_moments (view c.args.dev.now) v1 v2 (λ w. with_new_blocks w c.args.source c.args.blocks.now) (c.settle_all.ensures.any_moment told) (ok.done told) (c.settle_all.ensures.sent told)
-    (subst (λ (bs : List ℕ). LeavesEither v1 v2 (with_new_blocks (world_on v1) c.args.source bs)) c.as_slice.ensures.value (c.grow.ensures.any_moment told))
+    let none = ok.settled in
+    let then = c.grow.ensures.cost in
+    let cost : zeroed_cost c.settle_all.new.self.tables.geometry (length c.as_slice.result.now) ≡ zeroed_cost c.args.self.now.tables.geometry (length c.args.blocks.now) =
+    ap (λ (k : Geometry). zeroed_cost k (length c.as_slice.result.now)) ok.operation.geometry ∙ ap (λ (bs : List ℕ). zeroed_cost c.args.self.now.tables.geometry (length bs)) c.as_slice.ensures.value in
+    within_then told c.args.self.now c.settle_all.new.self c.grow.new.self (view c.args.dev.now) (view c.settle_all.new.dev) (view c.grow.new.dev) _ c.grow.result _ _ _ _ _ _ (owed c.args.self.now.tables) (zeroed_cost c.args.self.now.tables.geometry (length c.args.blocks.now)) (due c.args.self.now + zeroed_cost c.args.self.now.tables.geometry (length c.args.blocks.now)) ok.cost then
+    (omega arith) (omega (arith, none)) (omega (arith, cost)) (omega (arith, cost))

@@ -1,3 +1,7 @@
+use Rattle.std.proofs.Common.{arith}
+use Rattle.volume_laws.specs.Writes.{batch_cost}
+use Rattle.image_world.specs.Debt.{owed}
+use Rattle.volume_laws.proofs.OperationLaws.{committed_op, committed_within}
 use Rattle.std.proofs.Common.{◌≡◌, inl, inr, List, refl, sym, ◌∙◌, ap, subst, Ok}
 use Rattle.std.specs.Prelude.{map}
 use Rattle.std.proofs.lemmas.Bool.{cases_eq}
@@ -52,28 +56,17 @@ this g c =
     (upgraded_in i.header i.pointers i.counts i.live i.caps c.upgrade.new.self i.is_sweeping c.args.self.now.tables c.upgrade.ensures.upgraded (ap (λ (w : Volume). w.tables) c.self.view_is))
     (turns g c) c.put_upgrade.ensures.few
 
-pub returns-clause-at : goal.returns-clause-at
-returns-clause-at g c told =
-    op_at c.commit-outcome.result any_bytes c.args.self.now (now g c) (g.D.Device.view c.args.dev.now) (g.D.Device.view c.commit-outcome.new.dev) c.put_upgrade.new.batch 3 0 _ (this g c) (c.requires.at told) tt
-    (c.commit-outcome.ensures.done told) (c.commit-outcome.ensures.at told) (c.commit-outcome.ensures.firm told)
-
-pub returns-clause-done : goal.returns-clause-done
-returns-clause-done g c told =
-    op_done c.commit-outcome.result any_bytes c.args.self.now (now g c) (g.D.Device.view c.args.dev.now) (g.D.Device.view c.commit-outcome.new.dev) c.put_upgrade.new.batch 3 0 _ (this g c) (c.requires.at told) tt
-    (c.commit-outcome.ensures.done told) (c.commit-outcome.ensures.at told) (c.commit-outcome.ensures.firm told)
-
 pub returns-clause-told : goal.returns-clause-told
 returns-clause-told g c = op_told c.commit-outcome.result any_bytes c.args.self.now (now g c) c.put_upgrade.new.batch 3 0 _ (this g c)
 
-pub returns-clause-any_moment : goal.returns-clause-any_moment
-returns-clause-any_moment g c told =
-    op_moments any_bytes c.args.self.now (now g c) (g.D.Device.view c.args.dev.now) (g.D.Device.view c.commit-outcome.new.dev) c.put_upgrade.new.batch 3 0 _ (this g c) (c.requires.at told) tt (c.commit-outcome.ensures.any_moment told)
+pub returns-clause-operation : goal.returns-clause-operation
+returns-clause-operation g c =
+    let e = c.commit-outcome.ensures in
+    committed_op g.D.Device.told c.commit-outcome.result any_bytes c.args.self.now (now g c) (g.D.Device.view c.args.dev.now) (g.D.Device.view c.commit-outcome.new.dev) c.put_upgrade.new.batch 3 0 _ upgraded (this g c) c.requires.at (λ told. tt)
+    e.done e.at e.firm e.any_moment e.sent e.uses e.faults c.is_err-self-inside.ensures.value (ap (λ (w : Volume). w.tables.geometry) c.self.view_is)
 
-pub returns-clause-any_owed : goal.returns-clause-any_owed
-returns-clause-any_owed g c told =
-    op_owed any_bytes c.args.self.now (g.D.Device.view c.args.dev.now) (g.D.Device.view c.commit-outcome.new.dev) (now g c).tables c.put_upgrade.new.batch 3 _ (this g c) (c.requires.at told) (c.commit-outcome.ensures.any_moment told)
-
-pub returns-clause-paid : goal.returns-clause-paid
-returns-clause-paid g c =
-    op_paid c.commit-outcome.result any_bytes c.args.self.now (now g c) c.self.inside.ring (g.D.Device.view c.args.dev.now) (g.D.Device.view c.commit-outcome.new.dev) c.put_upgrade.new.batch 3 0 _ (this g c)
-    (ap (λ (w : Volume). w.ring) c.self.view_is) c.commit-outcome.ensures.uses c.commit-outcome.ensures.records
+pub returns-clause-cost : goal.returns-clause-cost
+returns-clause-cost g c =
+    let e = c.commit-outcome.ensures in
+    committed_within g.D.Device.told c.commit-outcome.result any_bytes c.args.self.now (now g c) c.self.inside.ring (g.D.Device.view c.args.dev.now) (g.D.Device.view c.commit-outcome.new.dev) c.put_upgrade.new.batch 3 0 (owed c.args.self.now.tables) (batch_cost 3) upgraded (this g c) c.requires.at (ap (λ (w : Volume). w.ring) c.self.view_is)
+    e.any_moment e.uses e.records (omega arith) (omega arith)

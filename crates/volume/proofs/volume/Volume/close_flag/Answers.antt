@@ -1,3 +1,4 @@
+use Rattle.volume_laws.proofs.OperationLaws.{committed_op}
 use Rattle.std.proofs.Common.{◌≡◌, ℕ, List, [], ◌∷◌, false, refl, sym, ◌∙◌, ap, subst}
 use Rattle.image_device.proofs.Outcomes.{on_ok}
 use Rattle.tsd_model.specs.Doomed.{doomed}
@@ -5,12 +6,12 @@ use Rattle.intent_journal.specs.Ring.{commit_writes}
 use Rattle.image_layout.specs.Areas.{sweep_flag}
 use Rattle.image_world.specs.Sound.{AreSound}
 use Rattle.image_world.specs.Tables.{Tables}
-use Rattle.volume_laws.specs.Graphs.{graph_in}
+use Rattle.image_world.specs.Debt.{graph_in}
 use Rattle.volume_laws.specs.Volume.{Volume, tables_in}
 use Rattle.volume_laws.proofs.Ops.{any_bytes, IsOp, op_at, op_done, op_told, op_moments}
 use Rattle.volume_laws.proofs.StepOps.{either_same}
 use Rattle.volume_laws.proofs.TableWorlds.{none_owed}
-use Rattle.volume.proofs.SweepOps.{flag_patch, flag_alone, close_op, whole_has_none, works_of}
+use Rattle.volume.proofs.SweepOps.{flag_patch, flag_alone, close_op, whole_has_none}
 use Rattle.volume.proofs.volume.Volume.close_flag.Given
 use Rattle.volume.proofs.volume.Volume.close_flag.Goals as goal
 
@@ -48,16 +49,6 @@ invariant_of-self g c =
       still = λ _. refl;
     }
 
-pub returns-clause-at : goal.returns-clause-at
-returns-clause-at g c told =
-    op_at c.commit-outcome.result any_bytes c.args.self.now (now g c) (g.D.Device.view c.args.dev.now) (g.D.Device.view c.commit-outcome.new.dev) c.put.new.self 1 0 (λ w. w) (this g c) (c.requires.at told) tt
-    (c.commit-outcome.ensures.done told) (c.commit-outcome.ensures.at told) (c.commit-outcome.ensures.firm told)
-
-pub returns-clause-done : goal.returns-clause-done
-returns-clause-done g c told =
-    op_done c.commit-outcome.result any_bytes c.args.self.now (now g c) (g.D.Device.view c.args.dev.now) (g.D.Device.view c.commit-outcome.new.dev) c.put.new.self 1 0 (λ w. w) (this g c) (c.requires.at told) tt
-    (c.commit-outcome.ensures.done told) (c.commit-outcome.ensures.at told) (c.commit-outcome.ensures.firm told)
-
 pub returns-clause-told : goal.returns-clause-told
 returns-clause-told g c = op_told c.commit-outcome.result any_bytes c.args.self.now (now g c) c.put.new.self 1 0 (λ w. w) (this g c)
 
@@ -65,10 +56,8 @@ pub returns-clause-settled : goal.returns-clause-settled
 returns-clause-settled g c =
     on_ok c.commit-outcome.result ((none_owed (now g c).tables).1 (subst (λ (t : Tables). doomed (graph_in t) ≡ []) (sym (ap (λ (w : Volume). w.tables) c.self.view_is)) (whole_has_none c.args.self.now.tables (sound_of g c) c.requires.whole)))
 
-pub returns-clause-any_moment : goal.returns-clause-any_moment
-returns-clause-any_moment g c told =
-    either_same (g.D.Device.view c.args.dev.now) (g.D.Device.view c.commit-outcome.new.dev)
-    (op_moments any_bytes c.args.self.now (now g c) (g.D.Device.view c.args.dev.now) (g.D.Device.view c.commit-outcome.new.dev) c.put.new.self 1 0 (λ w. w) (this g c) (c.requires.at told) tt (c.commit-outcome.ensures.any_moment told))
-
-pub returns-clause-works : goal.returns-clause-works
-returns-clause-works g c = works_of (commit_writes c.self.inside.ring c.put.new.self) (g.D.Device.view c.args.dev.now) (g.D.Device.view c.commit-outcome.new.dev) c.commit-outcome.ensures.uses
+pub returns-clause-operation : goal.returns-clause-operation
+returns-clause-operation g c =
+    let e = c.commit-outcome.ensures in
+    committed_op g.D.Device.told c.commit-outcome.result any_bytes c.args.self.now (now g c) (g.D.Device.view c.args.dev.now) (g.D.Device.view c.commit-outcome.new.dev) c.put.new.self 1 0 _ (λ w. w) (this g c) c.requires.at (λ told. tt)
+    e.done e.at e.firm e.any_moment e.sent e.uses e.faults c.is_err-self-inside.ensures.value (ap (λ (w : Volume). w.tables.geometry) c.self.view_is)

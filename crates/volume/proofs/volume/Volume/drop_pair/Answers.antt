@@ -1,3 +1,4 @@
+use Rattle.volume_laws.proofs.OperationLaws.{committed_op, committed_uses}
 use Rattle.std.proofs.Common.{◌≡◌, ◌+◌, ◌<◌, ℕ, List, true, false, length, sym, ◌∙◌, ap, subst, arith}
 use Rattle.std.proofs.lemmas.Bool.{both_ways}
 use Rattle.std.specs.Prelude.{slice_index}
@@ -14,14 +15,13 @@ use Rattle.image_world.specs.Sound.{AreSound}
 use Rattle.image_world.specs.Tables.{Tables}
 use Rattle.image_world.specs.Raw.{left_of, world_with}
 use Rattle.volume_laws.specs.Volume.{Volume, tables_in, told_by}
-use Rattle.volume_laws.specs.Moments.{owed}
+use Rattle.image_world.specs.Debt.{owed, graph_in}
 use Rattle.volume_laws.proofs.Ops.{any_bytes, IsOp, op_at, op_done, op_told, op_moments}
 use Rattle.volume_laws.proofs.Dropped.{HoldsPair, IsDropped, less_slots, held_within, count_some, raw_held, left_dropped, dropped}
 use Rattle.image_device.proofs.Outcomes.{on_ok}
 use Rattle.volume_laws.specs.Moments.{made}
 use Rattle.tsd_model.specs.Doomed.{doomed}
 use Rattle.tsd_model.specs.World.{free_count}
-use Rattle.volume_laws.specs.Graphs.{graph_in}
 use Rattle.volume_laws.proofs.Committed.{ok_map}
 use Rattle.volume_laws.proofs.DropOwed.{owed_dropped, drop_paid, drop_counted}
 use Rattle.volume_laws.proofs.StepOps.{owed_moments}
@@ -169,22 +169,8 @@ this g c =
     op c.args.self.now (now g c).tables c.put-2.new.self c.args.source c.args.target
     (drops c.args.self.now c.args.source c.args.target c.requires.ready.1 c.requires.held) (these g c)
 
-pub returns-clause-at : goal.returns-clause-at
-returns-clause-at g c told =
-    op_at c.commit-outcome.result any_bytes c.args.self.now (now g c) (g.D.Device.view c.args.dev.now) (g.D.Device.view c.commit-outcome.new.dev) c.put-2.new.self 2 (owed (now g c).tables) _ (this g c) (c.requires.at told) tt
-    (c.commit-outcome.ensures.done told) (c.commit-outcome.ensures.at told) (c.commit-outcome.ensures.firm told)
-
-pub returns-clause-done : goal.returns-clause-done
-returns-clause-done g c told =
-    op_done c.commit-outcome.result any_bytes c.args.self.now (now g c) (g.D.Device.view c.args.dev.now) (g.D.Device.view c.commit-outcome.new.dev) c.put-2.new.self 2 (owed (now g c).tables) _ (this g c) (c.requires.at told) tt
-    (c.commit-outcome.ensures.done told) (c.commit-outcome.ensures.at told) (c.commit-outcome.ensures.firm told)
-
 pub returns-clause-told : goal.returns-clause-told
 returns-clause-told g c = op_told c.commit-outcome.result any_bytes c.args.self.now (now g c) c.put-2.new.self 2 (owed (now g c).tables) _ (this g c)
-
-pub returns-clause-any_moment : goal.returns-clause-any_moment
-returns-clause-any_moment g c told =
-    op_moments any_bytes c.args.self.now (now g c) (g.D.Device.view c.args.dev.now) (g.D.Device.view c.commit-outcome.new.dev) c.put-2.new.self 2 (owed (now g c).tables) _ (this g c) (c.requires.at told) tt (c.commit-outcome.ensures.any_moment told)
 
 -- what is owed then
 owes : (g : Given.Over) (c : goal.After-self-1 g) → owed (now g c).tables + 1 ≡ owed c.args.self.now.tables + made (told_by c.args.self.now) c.args.source c.args.target
@@ -198,17 +184,6 @@ owes g c =
 pub returns-clause-owed : goal.returns-clause-owed
 returns-clause-owed g c = on_ok c.commit-outcome.result (owes g c)
 
-pub returns-clause-any_owed : goal.returns-clause-any_owed
-returns-clause-any_owed g c told =
-    let e = owes g c in
-    owed_moments c.args.self.now (g.D.Device.view c.args.dev.now) (g.D.Device.view c.commit-outcome.new.dev) c.put-2.new.self (now g c).tables (owed c.args.self.now.tables + made (told_by c.args.self.now) c.args.source c.args.target) (c.requires.at told) (these g c).turns
-    (omega arith) (omega (arith, e)) (c.commit-outcome.ensures.any_moment told)
-
-pub returns-clause-paid : goal.returns-clause-paid
-returns-clause-paid g c =
-    drop_paid c.commit-outcome.result c.args.self.now (now g c) c.self.inside.ring (g.D.Device.view c.args.dev.now) (g.D.Device.view c.commit-outcome.new.dev) c.put-2.new.self (made (told_by c.args.self.now) c.args.source c.args.target) (these g c).few (owes g c)
-    (ap (λ (w : Volume). w.ring) c.self.view_is) c.commit-outcome.ensures.uses c.commit-outcome.ensures.records
-
 pub returns-clause-counted : goal.returns-clause-counted
 returns-clause-counted g c =
     let all = these g c in
@@ -221,3 +196,21 @@ returns-clause-counted g c =
     let free : free_count (told_by (now g c)) ≡ free_count (settle (without_pointer (told_by c.args.self.now) a b)) = ap free_count told in
     (omega (arith, here.0, graph, free), omega (arith, here.1, graph)))
     (op_told c.commit-outcome.result any_bytes c.args.self.now (now g c) c.put-2.new.self 2 (owed (now g c).tables) _ (this g c))
+
+pub returns-clause-operation : goal.returns-clause-operation
+returns-clause-operation g c =
+    let e = c.commit-outcome.ensures in
+    committed_op g.D.Device.told c.commit-outcome.result any_bytes c.args.self.now (now g c) (g.D.Device.view c.args.dev.now) (g.D.Device.view c.commit-outcome.new.dev) c.put-2.new.self 2 (owed (now g c).tables) _ (λ w. settle (without_pointer w c.args.source c.args.target)) (this g c) c.requires.at (λ told. tt)
+    e.done e.at e.firm e.any_moment e.sent e.uses e.faults c.is_err-self-inside.ensures.value (ap (λ (w : Volume). w.tables.geometry) c.self.view_is)
+
+pub returns-clause-cost : goal.returns-clause-cost
+returns-clause-cost g c = record {
+  any_owed = λ told.
+      let e = owes g c in
+      owed_moments c.args.self.now (g.D.Device.view c.args.dev.now) (g.D.Device.view c.commit-outcome.new.dev) c.put-2.new.self (now g c).tables (owed c.args.self.now.tables + made (told_by c.args.self.now) c.args.source c.args.target) (c.requires.at told) (these g c).turns
+      (omega arith) (omega (arith, e)) (c.commit-outcome.ensures.any_moment told);
+  paid =
+      drop_paid c.commit-outcome.result c.args.self.now (now g c) c.self.inside.ring (g.D.Device.view c.args.dev.now) (g.D.Device.view c.commit-outcome.new.dev) c.put-2.new.self (made (told_by c.args.self.now) c.args.source c.args.target) (these g c).few (owes g c)
+      (ap (λ (w : Volume). w.ring) c.self.view_is) c.commit-outcome.ensures.uses c.commit-outcome.ensures.records;
+  uses = committed_uses c.args.self.now c.self.inside.ring (g.D.Device.view c.args.dev.now) (g.D.Device.view c.commit-outcome.new.dev) c.put-2.new.self 2 (these g c).few (ap (λ (w : Volume). w.ring) c.self.view_is) c.commit-outcome.ensures.uses;
+}

@@ -1,9 +1,11 @@
-use Rattle.std.proofs.Common.{◌≡◌, ap, ◌∙◌, arith}
+use Rattle.std.proofs.Common.{◌≡◌, true, ap, ◌∙◌, arith}
+use Rattle.image_world.specs.Debt.{owed}
+use Rattle.volume_laws.specs.Writes.{due}
 use Rattle.tsd_model.specs.World.{free_count}
 use Rattle.image_world.specs.Raw.{world_with, zeros_of}
 use Rattle.volume_laws.specs.Volume.{Volume, told_by}
-use Rattle.volume_laws.proofs.Idle.{world_joined}
-use Rattle.volume.proofs.FinishLaws.{free_left, free_then, uses_due}
+use Rattle.volume_laws.proofs.OperationLaws.{kept_then, op_answers, op_fails, op_ready, within_then, within_answers, within_fails, within_ready}
+use Rattle.volume.proofs.FinishLaws.{free_left, free_then}
 use Rattle.volume.proofs.volume.Volume.finish.Given
 use Rattle.volume.proofs.volume.Volume.finish.Goals as goal
 
@@ -20,14 +22,41 @@ overflow_sub-result g c = omega (arith, after g c, c.raw_free_count-before.ensur
 pub returns-clause-count : goal.returns-clause-count
 returns-clause-count g c = omega (arith, after g c, c.raw_free_count-before.ensures)
 
-pub returns-clause-any_moment : goal.returns-clause-any_moment
-returns-clause-any_moment g c told =
+pub returns-in_err-end_sweep-clause-operation : goal.returns-in_err-end_sweep-clause-operation
+returns-in_err-end_sweep-clause-operation g c =
+    let told = g.D.Device.told in
     let view = g.D.Device.view in
-    let e = c.in_ok-end_sweep.ensures in
-    world_joined (view c.args.dev.now) (view c.end_sweep.new.dev) (view c.settle_doomed.new.dev) (e.any_moment told) (c.in_ok-settle_doomed.ensures.any_moment told) (e.done told) (e.sent told)
+    op_fails told (λ w. w) c.args.self.now c.end_sweep.new.self (view c.args.dev.now) (view c.end_sweep.new.dev) _ _ c.from_residual.result c.from_residual.ensures.1 c.in_err-end_sweep.ensures.operation
 
-pub returns-in_err-settle_doomed-clause-uses : goal.returns-in_err-settle_doomed-clause-uses
-returns-in_err-settle_doomed-clause-uses g c still = uses_due c.args.self.now c.end_sweep.new.self _ _ _ (c.end_sweep.ensures.uses still) (c.in_ok-end_sweep.ensures.paid still) c.settle_doomed.ensures.uses
+pub returns-in_err-end_sweep-clause-cost : goal.returns-in_err-end_sweep-clause-cost
+returns-in_err-end_sweep-clause-cost g c still =
+    let told = g.D.Device.told in
+    let view = g.D.Device.view in
+    within_fails told _ _ _ c.args.self.now c.end_sweep.new.self (view c.args.dev.now) (view c.end_sweep.new.dev) _ _ _ _ _ c.from_residual.result c.from_residual.ensures.1 (c.in_err-end_sweep.ensures.cost still) (omega arith) (omega arith)
 
-pub returns-clause-uses : goal.returns-clause-uses
-returns-clause-uses g c still = uses_due c.args.self.now c.end_sweep.new.self _ _ _ (c.end_sweep.ensures.uses still) (c.in_ok-end_sweep.ensures.paid still) c.settle_doomed.ensures.uses
+pub returns-in_err-settle_doomed-clause-operation : goal.returns-in_err-settle_doomed-clause-operation
+returns-in_err-settle_doomed-clause-operation g c =
+    let told = g.D.Device.told in
+    let view = g.D.Device.view in
+    op_fails told (λ w. w) c.args.self.now c.settle_doomed.new.self (view c.args.dev.now) (view c.settle_doomed.new.dev) _ _ c.from_residual-in_err-settle_doomed.result c.from_residual-in_err-settle_doomed.ensures.1 (kept_then told (λ w. w) c.args.self.now c.end_sweep.new.self c.settle_doomed.new.self (view c.args.dev.now) (view c.end_sweep.new.dev) (view c.settle_doomed.new.dev) _ _ c.in_ok-end_sweep.ensures.operation c.in_err-settle_doomed.ensures.operation)
+
+pub returns-in_err-settle_doomed-clause-cost : goal.returns-in_err-settle_doomed-clause-cost
+returns-in_err-settle_doomed-clause-cost g c still =
+    let told = g.D.Device.told in
+    let view = g.D.Device.view in
+    within_fails told _ _ _ c.args.self.now c.settle_doomed.new.self (view c.args.dev.now) (view c.settle_doomed.new.dev) _ _ _ _ _ c.from_residual-in_err-settle_doomed.result c.from_residual-in_err-settle_doomed.ensures.1 (within_then told c.args.self.now c.end_sweep.new.self c.settle_doomed.new.self (view c.args.dev.now) (view c.end_sweep.new.dev) (view c.settle_doomed.new.dev) _ _ _ _ _ _ _ _ (owed c.args.self.now.tables) 0 (due c.args.self.now) (c.in_ok-end_sweep.ensures.cost still) c.in_err-settle_doomed.ensures.cost (omega arith) (c.in_ok-end_sweep.ensures.less still) (omega arith) (omega arith)) (omega arith) (omega arith)
+
+pub returns-clause-cost : goal.returns-clause-cost
+returns-clause-cost g c still =
+    let told = g.D.Device.told in
+    let view = g.D.Device.view in
+    within_ready told _ _ _ c.args.self.now c.settle_doomed.new.self (view c.args.dev.now) (view c.settle_doomed.new.dev) _ c.make_ready.new.self true c.make_ready.ensures (within_answers told _ _ _ c.args.self.now c.settle_doomed.new.self (view c.args.dev.now) (view c.settle_doomed.new.dev) _ _ (within_then told c.args.self.now c.end_sweep.new.self c.settle_doomed.new.self (view c.args.dev.now) (view c.end_sweep.new.dev) (view c.settle_doomed.new.dev) _ _ _ _ _ _ _ _ (owed c.args.self.now.tables) 0 (due c.args.self.now) (c.in_ok-end_sweep.ensures.cost still) c.in_ok-settle_doomed.ensures.cost (omega arith) (c.in_ok-end_sweep.ensures.less still) (omega arith) (omega arith)))
+
+pub returns-clause-operation : goal.returns-clause-operation
+returns-clause-operation g c =
+    let told = g.D.Device.told in
+    let view = g.D.Device.view in
+    op_ready told (λ w. w) c.args.self.now c.settle_doomed.new.self (view c.args.dev.now) (view c.settle_doomed.new.dev) _ c.make_ready.new.self true c.make_ready.ensures (op_answers told (λ w. w) c.args.self.now c.settle_doomed.new.self (view c.args.dev.now) (view c.settle_doomed.new.dev) _ _ (kept_then told (λ w. w) c.args.self.now c.end_sweep.new.self c.settle_doomed.new.self (view c.args.dev.now) (view c.end_sweep.new.dev) (view c.settle_doomed.new.dev) _ _ c.in_ok-end_sweep.ensures.operation c.in_ok-settle_doomed.ensures.operation))
+
+pub returns-clause-settled : goal.returns-clause-settled
+returns-clause-settled g c = ap (λ (v : Volume). owed v.tables) c.make_ready.ensures ∙ c.in_ok-settle_doomed.ensures.settled

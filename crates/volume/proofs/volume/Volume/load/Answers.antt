@@ -4,8 +4,8 @@ use Rattle.image_device.proofs.Resting.{rests_joined}
 use Rattle.intent_journal.specs.Records.{Record}
 use Rattle.image_layout.specs.Areas.{sweep_flag}
 use Rattle.image_layout.specs.Image.{Image, is_open}
-use Rattle.volume_laws.specs.Volume.{IsAt}
-use Rattle.image_tables.specs.Loaded.{tables_with}
+use Rattle.volume_laws.specs.Volume.{IsVolumeAt}
+use Rattle.image_world.specs.Loaded.{tables_with}
 use Rattle.volume.proofs.Loaded.{loaded_good, loaded_at, loading_failed, parts_fit}
 use Rattle.volume.proofs.volume.Volume.load.Goals as goal
 
@@ -66,7 +66,7 @@ returns-clause-at g c told =
     let one = c.in_ok-tables.ensures.rests told in
     let two = c.in_ok-is_sweeping.ensures.rests told in
     let flag = ap (λ (y : Image). is_open (y sweep_flag)) (sym one.reads) ∙ sym (c.in_ok-is_sweeping.ensures.value told) in
-    subst (λ (rs : List Record). IsAt (record { tables = tables_with h t s; ring = rs; is_ready = false; is_spent = false }) (view c.read_flag.new.dev)) (sym c.requires.empty)
+    subst (λ (rs : List Record). IsVolumeAt (record { tables = tables_with h t s; ring = rs; is_ready = false; is_spent = false }) (view c.read_flag.new.dev)) (sym c.requires.empty)
     (loaded_at h t s false false (view c.args.dev.now) (view c.read_flag.new.dev) c.in_ok-tables.ensures.fit (c.in_ok-tables.ensures.read told).1 (c.requires.firm told) (c.requires.formatted told) (c.requires.closed told) (c.requires.header told) flag
     (two.reads ∙ one.reads) (two.loose ∙ one.loose))
 

@@ -1,8 +1,7 @@
 use Rattle.std.proofs.Common.{◌≡◌, ℕ, false, inl, inr, ap, sym, ◌∙◌}
 use Rattle.std.proofs.lemmas.Bool.{cases_Bool}
 use Rattle.reclaim.specs.Ahead.{IsAheadOf, is_gone}
-use Rattle.volume_laws.specs.Graphs.{graph_in}
-use Rattle.volume_laws.specs.Moments.{owed}
+use Rattle.image_world.specs.Debt.{graph_in, owed}
 use Rattle.volume_laws.specs.Volume.{Volume, tables_in}
 use Rattle.volume_laws.proofs.AheadKept.{none_gone, hides_same}
 use Rattle.volume_laws.proofs.TableWorlds.{none_owed}

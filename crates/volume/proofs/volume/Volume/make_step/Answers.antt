@@ -1,13 +1,14 @@
+use Rattle.volume_laws.proofs.OperationLaws.{committed_op}
 use Rattle.std.proofs.Common.{◌≡◌, refl, sym, ◌∙◌, ap, subst, arith}
 use Rattle.image_device.proofs.Outcomes.{on_ok}
 use Rattle.image_world.specs.Sound.{AreSound}
 use Rattle.image_world.specs.Tables.{Tables}
-use Rattle.volume_laws.specs.Graphs.{graph_in, IsNext}
+use Rattle.volume_laws.specs.Graphs.{IsNext}
+use Rattle.image_world.specs.Debt.{graph_in, owed}
 use Rattle.reclaim.specs.Ahead.{Kept, is_gone}
 use Rattle.volume_laws.proofs.AheadKept.{hides_stepped, ahead_then, gone_then, counted_then}
 use Rattle.volume_laws.proofs.Freed.{next_allowed}
 use Rattle.volume_laws.proofs.TableWorlds.{graph_laid_out}
-use Rattle.volume_laws.specs.Moments.{owed}
 use Rattle.volume_laws.specs.Steps.{MayPut, IsPut, IsStepped, with_all}
 use Rattle.volume_laws.specs.Volume.{Volume, tables_in}
 use Rattle.volume_laws.proofs.Ops.{any_bytes, op_at, op_done, op_told, op_moments}
@@ -86,38 +87,14 @@ note_step-requires g c =
     let next : IsNext t c.args.step.now = subst (λ (u : Tables). IsNext u c.args.step.now) (sym (ap (λ (w : Volume). w.tables) c.self.view_is)) c.requires.next in
     record { told = λ e. (graph_in t, record { laid_out = graph_laid_out t; lost = next.may.lost; step = next.may.step; ahead = c.self.invariant.ahead e }) }
 
-pub returns-clause-at : goal.returns-clause-at
-returns-clause-at g c told =
-    op_at c.commit-outcome.result any_bytes c.args.self.now (now g c) (g.D.Device.view c.args.dev.now) (g.D.Device.view c.commit-outcome.new.dev) c.put_step.new.batch 33 0 (λ w. w) (this g c).op (c.requires.at told) tt
-    (c.commit-outcome.ensures.done told) (c.commit-outcome.ensures.at told) (c.commit-outcome.ensures.firm told)
-
-pub returns-clause-done : goal.returns-clause-done
-returns-clause-done g c told =
-    op_done c.commit-outcome.result any_bytes c.args.self.now (now g c) (g.D.Device.view c.args.dev.now) (g.D.Device.view c.commit-outcome.new.dev) c.put_step.new.batch 33 0 (λ w. w) (this g c).op (c.requires.at told) tt
-    (c.commit-outcome.ensures.done told) (c.commit-outcome.ensures.at told) (c.commit-outcome.ensures.firm told)
-
 pub returns-clause-told : goal.returns-clause-told
 returns-clause-told g c = op_told c.commit-outcome.result any_bytes c.args.self.now (now g c) c.put_step.new.batch 33 0 (λ w. w) (this g c).op
 
 pub returns-clause-lowered : goal.returns-clause-lowered
 returns-clause-lowered g c = on_ok c.commit-outcome.result (let t = this g c in let e = t.takes in let some = t.some in omega (arith, e, some))
 
-pub returns-clause-any_moment : goal.returns-clause-any_moment
-returns-clause-any_moment g c told =
-    either_same (g.D.Device.view c.args.dev.now) (g.D.Device.view c.commit-outcome.new.dev)
-    (op_moments any_bytes c.args.self.now (now g c) (g.D.Device.view c.args.dev.now) (g.D.Device.view c.commit-outcome.new.dev) c.put_step.new.batch 33 0 (λ w. w) (this g c).op (c.requires.at told) tt (c.commit-outcome.ensures.any_moment told))
-
-pub returns-clause-any_owed : goal.returns-clause-any_owed
-returns-clause-any_owed g c told =
-    owed_moments c.args.self.now (g.D.Device.view c.args.dev.now) (g.D.Device.view c.commit-outcome.new.dev) c.put_step.new.batch (now g c).tables (owed c.args.self.now.tables) (c.requires.at told) (put g c).turns
-    (omega arith) (let e = (this g c).takes in omega (arith, e)) (c.commit-outcome.ensures.any_moment told)
-
 ring_is : (g : Given.Over) (c : goal.After-self-1 g) → c.self.inside.ring ≡ c.args.self.now.ring
 ring_is g c = ap (λ (w : Volume). w.ring) c.self.view_is
-
-pub returns-clause-paid : goal.returns-clause-paid
-returns-clause-paid g c =
-    step_paid c.commit-outcome.result c.args.self.now (now g c) c.args.step.now c.self.inside.ring (g.D.Device.view c.args.dev.now) (g.D.Device.view c.commit-outcome.new.dev) c.put_step.new.batch (this g c) (ring_is g c) c.commit-outcome.ensures.uses c.commit-outcome.ensures.records
 
 pub returns-clause-used : goal.returns-clause-used
 returns-clause-used g c =
@@ -127,6 +104,19 @@ pub returns-clause-uses : goal.returns-clause-uses
 returns-clause-uses g c =
     step_most c.args.self.now (now g c).tables c.args.step.now c.self.inside.ring (g.D.Device.view c.args.dev.now) (g.D.Device.view c.commit-outcome.new.dev) c.put_step.new.batch (this g c) (ring_is g c) c.commit-outcome.ensures.uses
 
-pub returns-clause-uses_due : goal.returns-clause-uses_due
-returns-clause-uses_due g c =
-    step_uses c.args.self.now (now g c).tables c.args.step.now c.self.inside.ring (g.D.Device.view c.args.dev.now) (g.D.Device.view c.commit-outcome.new.dev) c.put_step.new.batch (this g c) (ring_is g c) c.commit-outcome.ensures.uses
+pub returns-clause-operation : goal.returns-clause-operation
+returns-clause-operation g c =
+    let e = c.commit-outcome.ensures in
+    committed_op g.D.Device.told c.commit-outcome.result any_bytes c.args.self.now (now g c) (g.D.Device.view c.args.dev.now) (g.D.Device.view c.commit-outcome.new.dev) c.put_step.new.batch 33 0 _ (λ w. w) (this g c).op c.requires.at (λ told. tt)
+    e.done e.at e.firm e.any_moment e.sent e.uses e.faults c.is_err-self-inside.ensures.value (ap (λ (w : Volume). w.tables.geometry) c.self.view_is)
+
+pub returns-clause-cost : goal.returns-clause-cost
+returns-clause-cost g c = record {
+  any_owed = λ told.
+      owed_moments c.args.self.now (g.D.Device.view c.args.dev.now) (g.D.Device.view c.commit-outcome.new.dev) c.put_step.new.batch (now g c).tables (owed c.args.self.now.tables) (c.requires.at told) (put g c).turns
+      (omega arith) (let e = (this g c).takes in omega (arith, e)) (c.commit-outcome.ensures.any_moment told);
+  paid =
+      step_paid c.commit-outcome.result c.args.self.now (now g c) c.args.step.now c.self.inside.ring (g.D.Device.view c.args.dev.now) (g.D.Device.view c.commit-outcome.new.dev) c.put_step.new.batch (this g c) (ring_is g c) c.commit-outcome.ensures.uses c.commit-outcome.ensures.records;
+  uses =
+      step_uses c.args.self.now (now g c).tables c.args.step.now c.self.inside.ring (g.D.Device.view c.args.dev.now) (g.D.Device.view c.commit-outcome.new.dev) c.put_step.new.batch (this g c) (ring_is g c) c.commit-outcome.ensures.uses;
+}

@@ -1,16 +1,17 @@
+use Rattle.volume_laws.proofs.OperationLaws.{committed_op}
 use Rattle.std.proofs.Common.{◌≡◌, false, refl, sym, ◌∙◌, ap, subst}
 use Rattle.image_device.proofs.Outcomes.{on_ok}
 use Rattle.intent_journal.specs.Ring.{commit_writes}
 use Rattle.image_world.specs.Sound.{AreSound}
 use Rattle.image_world.specs.Tables.{Tables}
 use Rattle.reclaim.specs.Ahead.{is_gone}
-use Rattle.volume_laws.specs.Moments.{owed}
+use Rattle.image_world.specs.Debt.{owed}
 use Rattle.volume_laws.specs.Steps.{MayPut, IsPut, IsStepped, with_all}
 use Rattle.volume_laws.specs.Volume.{Volume, tables_in}
 use Rattle.volume_laws.proofs.AheadKept.{hides_stepped}
 use Rattle.volume_laws.proofs.Ops.{any_bytes, IsOp, op_at, op_done, op_told, op_moments}
 use Rattle.volume_laws.proofs.StepOps.{either_same}
-use Rattle.volume.proofs.SweepOps.{sweep_allowed, sweep_op, sweep_lowers, works_of}
+use Rattle.volume.proofs.SweepOps.{sweep_allowed, sweep_op, sweep_lowers}
 use Rattle.volume.proofs.volume.Volume.make_sweep_step.Given
 use Rattle.volume.proofs.volume.Volume.make_sweep_step.Goals as goal
 
@@ -95,26 +96,14 @@ invariant_of-self g c =
       still = v.still;
     }
 
-pub returns-clause-at : goal.returns-clause-at
-returns-clause-at g c told =
-    op_at c.commit-outcome.result any_bytes c.args.self.now (now g c) (g.D.Device.view c.args.dev.now) (g.D.Device.view c.commit-outcome.new.dev) c.put_step.new.batch 33 (owed (now g c).tables) (λ w. w) (this g c) (c.requires.at told) tt
-    (c.commit-outcome.ensures.done told) (c.commit-outcome.ensures.at told) (c.commit-outcome.ensures.firm told)
-
-pub returns-clause-done : goal.returns-clause-done
-returns-clause-done g c told =
-    op_done c.commit-outcome.result any_bytes c.args.self.now (now g c) (g.D.Device.view c.args.dev.now) (g.D.Device.view c.commit-outcome.new.dev) c.put_step.new.batch 33 (owed (now g c).tables) (λ w. w) (this g c) (c.requires.at told) tt
-    (c.commit-outcome.ensures.done told) (c.commit-outcome.ensures.at told) (c.commit-outcome.ensures.firm told)
-
 pub returns-clause-told : goal.returns-clause-told
 returns-clause-told g c = op_told c.commit-outcome.result any_bytes c.args.self.now (now g c) c.put_step.new.batch 33 (owed (now g c).tables) (λ w. w) (this g c)
 
 pub returns-clause-lowered : goal.returns-clause-lowered
 returns-clause-lowered g c = on_ok c.commit-outcome.result (sweep_lowers c.args.self.now.tables (now g c).tables c.args.step.now c.requires.may c.requires.kept (put g c).stepped)
 
-pub returns-clause-any_moment : goal.returns-clause-any_moment
-returns-clause-any_moment g c told =
-    either_same (g.D.Device.view c.args.dev.now) (g.D.Device.view c.commit-outcome.new.dev)
-    (op_moments any_bytes c.args.self.now (now g c) (g.D.Device.view c.args.dev.now) (g.D.Device.view c.commit-outcome.new.dev) c.put_step.new.batch 33 (owed (now g c).tables) (λ w. w) (this g c) (c.requires.at told) tt (c.commit-outcome.ensures.any_moment told))
-
-pub returns-clause-works : goal.returns-clause-works
-returns-clause-works g c = works_of (commit_writes c.self.inside.ring c.put_step.new.batch) (g.D.Device.view c.args.dev.now) (g.D.Device.view c.commit-outcome.new.dev) c.commit-outcome.ensures.uses
+pub returns-clause-operation : goal.returns-clause-operation
+returns-clause-operation g c =
+    let e = c.commit-outcome.ensures in
+    committed_op g.D.Device.told c.commit-outcome.result any_bytes c.args.self.now (now g c) (g.D.Device.view c.args.dev.now) (g.D.Device.view c.commit-outcome.new.dev) c.put_step.new.batch 33 (owed (now g c).tables) _ (λ w. w) (this g c) c.requires.at (λ told. tt)
+    e.done e.at e.firm e.any_moment e.sent e.uses e.faults c.is_err-self-inside.ensures.value (ap (λ (w : Volume). w.tables.geometry) c.self.view_is)

@@ -3,7 +3,7 @@ use Rattle.tsd_model.specs.World.{World}
 use Rattle.tsd_model.specs.Doomed.{doomed}
 use Rattle.image_world.specs.Tables.{Tables}
 use Rattle.reclaim.specs.Tables.{graph_of}
-use Rattle.volume_laws.specs.Graphs.{graph_in}
+use Rattle.image_world.specs.Debt.{graph_in}
 use Rattle.volume_laws.specs.Volume.{Volume}
 use Rattle.volume_laws.proofs.NextLaws.{same_graph, are_tables, have_counts}
 use Rattle.volume_laws.proofs.TableWorlds.{none_owed}

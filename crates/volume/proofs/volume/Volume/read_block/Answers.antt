@@ -1,3 +1,8 @@
+use Rattle.std.proofs.Common.{◌≡◌, arith}
+use Rattle.volume_laws.specs.Moments.{LeavesWorld}
+use Rattle.image_world.specs.Debt.{owed}
+use Rattle.intent_journal.specs.Ring.{checkpoint_writes}
+use Rattle.volume_laws.proofs.OperationLaws.{as_either, spent_unless_ok, spent_on_err, works_of}
 use Rattle.std.proofs.Common.{◌<◌, List, sym, ◌∙◌, ap, subst, Some}
 use Rattle.tsd_model.specs.declared.geometry.Geometry.{Geometry}
 use Rattle.tsd_model.specs.Geometry.{IsLawful, block_len}
@@ -5,12 +10,13 @@ use Rattle.image_device.proofs.Outcomes.{on_ok}
 use Rattle.image_layout.specs.Image.{data_bytes}
 use Rattle.intent_journal.specs.Home.{home}
 use Rattle.intent_journal.specs.Records.{Record}
-use Rattle.intent_journal.specs.Ring.{IsAt as IsRingAt}
+use Rattle.intent_journal.specs.Ring.{IsRingAt}
 use Rattle.image_world.specs.Sound.{AreSound}
 use Rattle.image_world.specs.Tables.{Tables}
 use Rattle.volume_laws.specs.Volume.{Volume}
 use Rattle.volume_laws.proofs.Committed.{ok_map, told_inside}
 use Rattle.volume_laws.proofs.ReadLaws.{rested_at, rested_world, rested_moments, rested_owed, read_bytes}
+use Rattle.volume.proofs.volume.Volume.read_block.Given
 use Rattle.volume.proofs.volume.Volume.read_block.Goals as goal
 
 pub read_parts-outcome-requires : goal.read_parts-outcome-requires
@@ -22,13 +28,6 @@ read_parts-outcome-requires g c =
       inside = subst (λ (k : Geometry). c.args.block < k.blocks) (sym size) (told_inside c.args.self.now c.args.block c.requires.live);
       at = λ told. subst (λ (rs : List Record). IsRingAt rs (g.D.Device.view c.args.dev.now)) (sym (ap (λ (w : Volume). w.ring) c.self.view_is)) (c.requires.at told).ring;
     }
-
-pub returns-clause-at : goal.returns-clause-at
-returns-clause-at g c told = on_ok c.read_parts-outcome.result
-    (rested_at c.args.self.now _ (g.D.Device.view c.args.dev.now) (g.D.Device.view c.read_parts-outcome.new.dev) (ap (λ (w : Volume). w.ring) c.self.view_is) (ap (λ (w : Volume). w.tables) c.self.view_is) (c.requires.at told) (c.read_parts-outcome.ensures.rests told))
-
-pub returns-clause-done : goal.returns-clause-done
-returns-clause-done g c told = on_ok c.read_parts-outcome.result (rested_world (g.D.Device.view c.args.dev.now) (g.D.Device.view c.read_parts-outcome.new.dev) (c.read_parts-outcome.ensures.rests told))
 
 pub returns-clause-bytes : goal.returns-clause-bytes
 returns-clause-bytes g c told =
@@ -42,10 +41,27 @@ returns-clause-full g c =
     let size = c.of.ensures ∙ ap (λ (w : Volume). w.tables.geometry) c.self.view_is in
     ok_map c.read_parts-outcome.result _ _ (λ long. long ∙ ap block_len size) c.read_parts-outcome.ensures.full
 
-pub returns-clause-any_moment : goal.returns-clause-any_moment
-returns-clause-any_moment g c told =
-    rested_moments c.args.self.now (g.D.Device.view c.args.dev.now) (g.D.Device.view c.read_parts-outcome.new.dev) (g.met.D.Device.sound c.args.dev.now told) (c.requires.at told) (c.read_parts-outcome.ensures.rests told)
+kept_now : (g : Given.Over) (c : goal.After-self-1 g) → g.D.Device.told → LeavesWorld (g.D.Device.view c.args.dev.now) (g.D.Device.view c.read_parts-outcome.new.dev)
+kept_now g c told = rested_moments c.args.self.now (g.D.Device.view c.args.dev.now) (g.D.Device.view c.read_parts-outcome.new.dev) (g.met.D.Device.sound c.args.dev.now told) (c.requires.at told) (c.read_parts-outcome.ensures.rests told)
 
-pub returns-clause-any_owed : goal.returns-clause-any_owed
-returns-clause-any_owed g c told =
-    rested_owed c.args.self.now (g.D.Device.view c.args.dev.now) (g.D.Device.view c.read_parts-outcome.new.dev) (g.met.D.Device.sound c.args.dev.now told) (c.requires.at told) (c.read_parts-outcome.ensures.rests told)
+pub returns-clause-operation : goal.returns-clause-operation
+returns-clause-operation g c = record {
+  at = λ told.
+      on_ok c.read_parts-outcome.result
+      (rested_at c.args.self.now _ (g.D.Device.view c.args.dev.now) (g.D.Device.view c.read_parts-outcome.new.dev) (ap (λ (w : Volume). w.ring) c.self.view_is) (ap (λ (w : Volume). w.tables) c.self.view_is) (c.requires.at told) (c.read_parts-outcome.ensures.rests told));
+  done = λ told. on_ok c.read_parts-outcome.result (rested_world (g.D.Device.view c.args.dev.now) (g.D.Device.view c.read_parts-outcome.new.dev) (c.read_parts-outcome.ensures.rests told));
+  any_moment = λ t. as_either _ _ _ (kept_now g c t);
+  sent = λ t. (c.read_parts-outcome.ensures.rests t).sent;
+  unspent = spent_unless_ok c.read_parts-outcome.result c.is_err-self-inside.result c.is_err-self-inside.ensures.value;
+  spent = spent_on_err c.read_parts-outcome.result c.is_err-self-inside.result c.is_err-self-inside.ensures.value;
+  faults = c.read_parts-outcome.ensures.faults;
+  works = works_of _ (g.D.Device.view c.args.dev.now) (g.D.Device.view c.read_parts-outcome.new.dev) c.read_parts-outcome.ensures.uses;
+  geometry = ap (λ (w : Volume). w.tables.geometry) c.self.view_is;
+}
+
+pub returns-clause-cost : goal.returns-clause-cost
+returns-clause-cost g c = record {
+  any_owed = λ told. rested_owed c.args.self.now (g.D.Device.view c.args.dev.now) (g.D.Device.view c.read_parts-outcome.new.dev) (g.met.D.Device.sound c.args.dev.now told) (c.requires.at told) (c.read_parts-outcome.ensures.rests told);
+  paid = on_ok c.read_parts-outcome.result (let ring : checkpoint_writes c.self.inside.ring ≡ checkpoint_writes c.args.self.now.ring = ap (λ (w : Volume). checkpoint_writes w.ring) c.self.view_is in let same = ap (λ (w : Volume). owed w.tables) c.self.view_is in omega (arith, ring, same, c.read_parts-outcome.ensures.uses.most));
+  uses = c.read_parts-outcome.ensures.uses;
+}

@@ -1,3 +1,5 @@
+use Rattle.volume_laws.specs.Writes.{batch_cost}
+use Rattle.volume_laws.proofs.OperationLaws.{committed_op, committed_within}
 use Rattle.std.proofs.Common.{◌≡◌, ℕ, Bool, List, [], ◌∷◌, length, sym, ◌∙◌, ap, subst, arith, Result}
 use Rattle.std.specs.Prelude.{OnOk, OnErr, slice_set}
 use Rattle.tsd_model.specs.Records.{kept}
@@ -14,7 +16,7 @@ use Rattle.cap_store.specs.Changes.{KeepsStored}
 use Rattle.image_world.specs.Tables.{Tables}
 use Rattle.image_world.specs.Raw.{left_of, world_with}
 use Rattle.volume_laws.specs.Volume.{Volume, tables_in}
-use Rattle.volume_laws.specs.Moments.{owed}
+use Rattle.image_world.specs.Debt.{owed}
 use Rattle.volume_laws.proofs.BlockLaws.{put_ok}
 use Rattle.image_world.specs.Turns.{Turns}
 use Rattle.volume_laws.proofs.Ops.{any_bytes, IsOp, op_at, op_done, op_told, op_moments, op_paid}
@@ -66,27 +68,17 @@ this g c =
     (caps_set c.args.self.now.tables i.caps c.set.new.self c.args.block c.args.caps.now p sound (c.self.invariant.kept_version ∙ ap (λ (t : Tables). t.version) is) (ap (λ (t : Tables). t.records) is) set
     c.patch-patch.ensures.inside (subst (λ (q : Patch). KeepsStored i.caps c.set.new.self q) (sym c.patch-patch.ensures.value) c.set.ensures.stored))
 
-pub returns-clause-at : goal.returns-clause-at
-returns-clause-at g c told =
-    op_at c.commit-outcome.result any_bytes c.args.self.now (now g c) (g.D.Device.view c.args.dev.now) (g.D.Device.view c.commit-outcome.new.dev) c.put.new.self 1 0 _ (this g c) (c.requires.at told) tt
-    (c.commit-outcome.ensures.done told) (c.commit-outcome.ensures.at told) (c.commit-outcome.ensures.firm told)
-
-pub returns-clause-done : goal.returns-clause-done
-returns-clause-done g c told =
-    op_done c.commit-outcome.result any_bytes c.args.self.now (now g c) (g.D.Device.view c.args.dev.now) (g.D.Device.view c.commit-outcome.new.dev) c.put.new.self 1 0 _ (this g c) (c.requires.at told) tt
-    (c.commit-outcome.ensures.done told) (c.commit-outcome.ensures.at told) (c.commit-outcome.ensures.firm told)
-
 pub returns-clause-told : goal.returns-clause-told
 returns-clause-told g c = op_told c.commit-outcome.result any_bytes c.args.self.now (now g c) c.put.new.self 1 0 _ (this g c)
 
-pub returns-clause-any_moment : goal.returns-clause-any_moment
-returns-clause-any_moment g c told =
-    op_moments any_bytes c.args.self.now (now g c) (g.D.Device.view c.args.dev.now) (g.D.Device.view c.commit-outcome.new.dev) c.put.new.self 1 0 _ (this g c) (c.requires.at told) tt (c.commit-outcome.ensures.any_moment told)
+pub returns-clause-operation : goal.returns-clause-operation
+returns-clause-operation g c =
+    let e = c.commit-outcome.ensures in
+    committed_op g.D.Device.told c.commit-outcome.result any_bytes c.args.self.now (now g c) (g.D.Device.view c.args.dev.now) (g.D.Device.view c.commit-outcome.new.dev) c.put.new.self 1 0 _ (λ w. with_caps w c.args.block (kept c.args.self.now.tables.version c.args.caps.now)) (this g c) c.requires.at (λ told. tt)
+    e.done e.at e.firm e.any_moment e.sent e.uses e.faults c.is_err-self-inside.ensures.value (ap (λ (w : Volume). w.tables.geometry) c.self.view_is)
 
-pub returns-clause-paid : goal.returns-clause-paid
-returns-clause-paid g c =
-    op_paid c.commit-outcome.result any_bytes c.args.self.now (now g c) c.self.inside.ring (g.D.Device.view c.args.dev.now) (g.D.Device.view c.commit-outcome.new.dev) c.put.new.self 1 0 _ (this g c)
-    (ap (λ (w : Volume). w.ring) c.self.view_is) c.commit-outcome.ensures.uses c.commit-outcome.ensures.records
-
-pub returns-clause-any_owed : goal.returns-clause-any_owed
-returns-clause-any_owed g c told = op_owed any_bytes c.args.self.now (g.D.Device.view c.args.dev.now) (g.D.Device.view c.commit-outcome.new.dev) (now g c).tables c.put.new.self 1 _ (this g c) (c.requires.at told) (c.commit-outcome.ensures.any_moment told)
+pub returns-clause-cost : goal.returns-clause-cost
+returns-clause-cost g c =
+    let e = c.commit-outcome.ensures in
+    committed_within g.D.Device.told c.commit-outcome.result any_bytes c.args.self.now (now g c) c.self.inside.ring (g.D.Device.view c.args.dev.now) (g.D.Device.view c.commit-outcome.new.dev) c.put.new.self 1 0 (owed c.args.self.now.tables) (batch_cost 1) (λ w. with_caps w c.args.block (kept c.args.self.now.tables.version c.args.caps.now)) (this g c) c.requires.at (ap (λ (w : Volume). w.ring) c.self.view_is)
+    e.any_moment e.uses e.records (omega arith) (omega arith)

@@ -1,4 +1,4 @@
-use Rattle.volume_laws.specs.Moments.{owed}
+use Rattle.image_world.specs.Debt.{owed}
 use Rattle.volume_laws.proofs.SettlingLaws.{IsSettling}
 use Rattle.volume.proofs.volume.Volume.settle_doomed.Given as goal
 

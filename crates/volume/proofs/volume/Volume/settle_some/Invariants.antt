@@ -1,6 +1,6 @@
 use Rattle.std.proofs.Common.{◌+◌, ◌*◌, ◌≤◌}
 use Rattle.intent_journal.specs.Ring.{checkpoint_writes}
-use Rattle.volume_laws.specs.Moments.{owed}
+use Rattle.image_world.specs.Debt.{owed}
 use Rattle.volume_laws.proofs.SettlingLaws.{IsSettling}
 use Rattle.volume.proofs.volume.Volume.settle_some.Given as goal
 

@@ -1,15 +1,48 @@
-use Rattle.volume_laws.proofs.Idle.{idle_world, idle_owed}
-use Rattle.std.proofs.Common.{subst}
-use Rattle.volume_laws.specs.Moments.{LeavesOwed, owed}
+use Rattle.std.proofs.Common.{arith, sym, subst, Ok, true, false, Bool, Result}
+use Rattle.image_device.specs.declared.device.Failed.{Failed}
+use Rattle.image_world.specs.Debt.{owed}
+use Rattle.volume_laws.specs.Operations.{IsOperation, IsWithin}
 use Rattle.volume_laws.specs.Volume.{Volume}
+use Rattle.volume_laws.specs.Writes.{due}
+use Rattle.volume_laws.proofs.OperationLaws.{no_op, op_answers, op_fails, none_within, within_answers, within_fails}
 use Rattle.volume.proofs.volume.Volume.settle_step.Goals as goal
 
-pub returns-in-None-clause-any_moment : goal.returns-in-None-clause-any_moment
-returns-in-None-clause-any_moment g c told = idle_world c.args.self.now (g.D.Device.view c.args.dev.now) (g.met.D.Device.sound c.args.dev.now told) (c.requires.at told)
+pub returns-in-None-clause-operation : goal.returns-in-None-clause-operation
+returns-in-None-clause-operation g c =
+    let told = g.D.Device.told in
+    let view = g.D.Device.view in
+    subst (λ (x : Volume). IsOperation {T = Bool} told (λ w. w) c.args.self.now x (view c.args.dev.now) (view c.args.dev.now) (Ok false)) (sym c.next.ensures.same) (no_op told c.args.self.now (view c.args.dev.now) false (g.met.D.Device.sound c.args.dev.now) c.requires.at c.requires.unspent)
 
-pub returns-in-None-clause-any_owed : goal.returns-in-None-clause-any_owed
-returns-in-None-clause-any_owed g c told = idle_owed c.args.self.now (g.D.Device.view c.args.dev.now) (g.met.D.Device.sound c.args.dev.now told) (c.requires.at told)
+pub returns-in-None-clause-cost : goal.returns-in-None-clause-cost
+returns-in-None-clause-cost g c =
+    let told = g.D.Device.told in
+    let view = g.D.Device.view in
+    subst (λ (x : Volume). IsWithin {T = Bool} told (owed c.args.self.now.tables) 0 (due c.args.self.now) c.args.self.now x (view c.args.dev.now) (view c.args.dev.now) (Ok false)) (sym c.next.ensures.same) (none_within told c.args.self.now (view c.args.dev.now) false (due c.args.self.now) (g.met.D.Device.sound c.args.dev.now) c.requires.at)
 
-pub returns-in_err-make_step-in-Some-clause-any_owed : goal.returns-in_err-make_step-in-Some-clause-any_owed
-returns-in_err-make_step-in-Some-clause-any_owed g c told =
-    subst (λ (v : Volume). LeavesOwed (g.D.Device.view c.args.dev.now) (g.D.Device.view c.make_step.new.dev) (owed v.tables)) c.next.ensures.same (c.make_step.ensures.any_owed told)
+pub returns-in_err-make_step-in-Some-clause-operation : goal.returns-in_err-make_step-in-Some-clause-operation
+returns-in_err-make_step-in-Some-clause-operation g c =
+    let told = g.D.Device.told in
+    let view = g.D.Device.view in
+    subst (λ (x : Volume). IsOperation told (λ w. w) x c.make_step.new.self (view c.args.dev.now) (view c.make_step.new.dev) c.from_residual.result) c.next.ensures.same
+    (op_fails told (λ w. w) c.next.new.self c.make_step.new.self (view c.args.dev.now) (view c.make_step.new.dev) _ _ c.from_residual.result c.from_residual.ensures.1 c.in_err-make_step-in-Some.ensures.operation)
+
+pub returns-in_err-make_step-in-Some-clause-cost : goal.returns-in_err-make_step-in-Some-clause-cost
+returns-in_err-make_step-in-Some-clause-cost g c =
+    let told = g.D.Device.told in
+    let view = g.D.Device.view in
+    subst (λ (x : Volume). IsWithin told (owed x.tables) 0 (due x) x c.make_step.new.self (view c.args.dev.now) (view c.make_step.new.dev) c.from_residual.result) c.next.ensures.same
+    (within_fails told _ _ _ c.next.new.self c.make_step.new.self (view c.args.dev.now) (view c.make_step.new.dev) _ _ _ _ _ c.from_residual.result c.from_residual.ensures.1 c.in_err-make_step-in-Some.ensures.cost (omega arith) (omega arith))
+
+pub returns-in_ok-make_step-in-Some-clause-operation : goal.returns-in_ok-make_step-in-Some-clause-operation
+returns-in_ok-make_step-in-Some-clause-operation g c =
+    let told = g.D.Device.told in
+    let view = g.D.Device.view in
+    subst (λ (x : Volume). IsOperation {T = Bool} told (λ w. w) x c.make_step.new.self (view c.args.dev.now) (view c.make_step.new.dev) (Ok true)) c.next.ensures.same
+    (op_answers told (λ w. w) c.next.new.self c.make_step.new.self (view c.args.dev.now) (view c.make_step.new.dev) _ true c.in_ok-make_step-in-Some.ensures.operation)
+
+pub returns-in_ok-make_step-in-Some-clause-cost : goal.returns-in_ok-make_step-in-Some-clause-cost
+returns-in_ok-make_step-in-Some-clause-cost g c =
+    let told = g.D.Device.told in
+    let view = g.D.Device.view in
+    subst (λ (x : Volume). IsWithin {T = Bool} told (owed x.tables) 0 (due x) x c.make_step.new.self (view c.args.dev.now) (view c.make_step.new.dev) (Ok true)) c.next.ensures.same
+    (within_answers told _ _ _ c.next.new.self c.make_step.new.self (view c.args.dev.now) (view c.make_step.new.dev) _ true c.in_ok-make_step-in-Some.ensures.cost)

@@ -1,45 +1,13 @@
-use Rattle.std.proofs.Common.{◌≡◌, refl, sym, ◌∙◌, ap, subst, arith}
+use Rattle.image_world.specs.Debt.{owed}
+use Rattle.volume_laws.proofs.OperationLaws.{kept_then, then_kept, kept_fails, op_answers, op_fails, op_ready}
+use Rattle.std.proofs.Common.{◌≡◌, true, refl, sym, ◌∙◌, ap, subst, arith}
 use Rattle.tsd_model.specs.Reach.{swept, reach}
 use Rattle.tsd_model.specs.World.{World, free_count, has_number}
 use Rattle.image_world.specs.Raw.{world_with, zeros_of}
-use Rattle.volume_laws.specs.Volume.{Volume, IsAt, told_by, world_on}
-use Rattle.volume_laws.proofs.Allocated.{then_moments}
+use Rattle.volume_laws.specs.Volume.{Volume, IsVolumeAt, told_by, world_on}
 use Rattle.volume.proofs.FinishLaws.{free_restricted, free_then}
-use Rattle.volume.proofs.SweepOps.{either_then}
 use Rattle.volume.proofs.volume.Volume.sweep.Given
 use Rattle.volume.proofs.volume.Volume.sweep.Goals as goal
-
-pub returns-in_err-begin_sweep-clause-any_moment : goal.returns-in_err-begin_sweep-clause-any_moment
-returns-in_err-begin_sweep-clause-any_moment g c told =
-    let view = g.D.Device.view in
-    let s = c.in_ok-settle_doomed.ensures in
-    then_moments (view c.args.dev.now) (view c.settle_doomed.new.dev) (view c.begin_sweep.new.dev) (λ w. swept w) (s.any_moment told) (s.done told) (s.sent told) (c.in_err-begin_sweep.ensures.any_moment told)
-
-pub returns-in_err-end_open_sweep-clause-any_moment : goal.returns-in_err-end_open_sweep-clause-any_moment
-returns-in_err-end_open_sweep-clause-any_moment g c told =
-    let view = g.D.Device.view in
-    let s = c.in_ok-settle_doomed.ensures in
-    let b = c.in_ok-begin_sweep.ensures in
-    either_then (view c.args.dev.now) (view c.begin_sweep.new.dev) (view c.end_open_sweep.new.dev) (swept (world_on (view c.args.dev.now)))
-    (then_moments (view c.args.dev.now) (view c.settle_doomed.new.dev) (view c.begin_sweep.new.dev) (λ w. swept w) (s.any_moment told) (s.done told) (s.sent told) (b.any_moment told))
-    (c.in_err-end_open_sweep.ensures.any_moment told) (b.done told ∙ ap (λ (w : World). swept w) (s.done told)) (b.sent told ∙ s.sent told)
-
-pub returns-clause-any_moment : goal.returns-clause-any_moment
-returns-clause-any_moment g c told =
-    let view = g.D.Device.view in
-    let s = c.in_ok-settle_doomed.ensures in
-    let b = c.in_ok-begin_sweep.ensures in
-    either_then (view c.args.dev.now) (view c.begin_sweep.new.dev) (view c.end_open_sweep.new.dev) (swept (world_on (view c.args.dev.now)))
-    (then_moments (view c.args.dev.now) (view c.settle_doomed.new.dev) (view c.begin_sweep.new.dev) (λ w. swept w) (s.any_moment told) (s.done told) (s.sent told) (b.any_moment told))
-    (c.in_ok-end_open_sweep.ensures.any_moment told) (b.done told ∙ ap (λ (w : World). swept w) (s.done told)) (b.sent told ∙ s.sent told)
-
-pub returns-clause-at : goal.returns-clause-at
-returns-clause-at g c told =
-    let a = c.in_ok-end_open_sweep.ensures.at told in
-    subst (λ (v : Volume). IsAt v (g.D.Device.view c.end_open_sweep.new.dev)) (sym c.make_ready.ensures) (record { firm = a.firm; ring = a.ring; good = a.good; tables = a.tables })
-
-pub returns-clause-done : goal.returns-clause-done
-returns-clause-done g c told = c.in_ok-end_open_sweep.ensures.done told ∙ (c.in_ok-begin_sweep.ensures.done told ∙ ap (λ (w : World). swept w) (c.in_ok-settle_doomed.ensures.done told))
 
 pub returns-clause-told : goal.returns-clause-told
 returns-clause-told g c =
@@ -72,3 +40,33 @@ overflow_sub-result g c =
 
 pub returns-clause-count : goal.returns-clause-count
 returns-clause-count g c = omega (arith, before g c, after g c)
+
+pub returns-in_err-settle_doomed-clause-operation : goal.returns-in_err-settle_doomed-clause-operation
+returns-in_err-settle_doomed-clause-operation g c =
+    let told = g.D.Device.told in
+    let view = g.D.Device.view in
+    kept_fails told (λ w. swept w) c.args.self.now c.settle_doomed.new.self (view c.args.dev.now) (view c.settle_doomed.new.dev) _ _ c.from_residual.result c.from_residual.ensures.1 c.in_err-settle_doomed.ensures.operation
+
+pub returns-in_err-begin_sweep-clause-operation : goal.returns-in_err-begin_sweep-clause-operation
+returns-in_err-begin_sweep-clause-operation g c =
+    let told = g.D.Device.told in
+    let view = g.D.Device.view in
+    op_fails told (λ w. swept w) c.args.self.now c.begin_sweep.new.self (view c.args.dev.now) (view c.begin_sweep.new.dev) _ _ c.from_residual-in_err-begin_sweep.result c.from_residual-in_err-begin_sweep.ensures.1
+    (kept_then told (λ w. swept w) c.args.self.now c.settle_doomed.new.self c.begin_sweep.new.self (view c.args.dev.now) (view c.settle_doomed.new.dev) (view c.begin_sweep.new.dev) _ _ c.in_ok-settle_doomed.ensures.operation c.in_err-begin_sweep.ensures.operation)
+
+pub returns-in_err-end_open_sweep-clause-operation : goal.returns-in_err-end_open_sweep-clause-operation
+returns-in_err-end_open_sweep-clause-operation g c =
+    let told = g.D.Device.told in
+    let view = g.D.Device.view in
+    op_fails told (λ w. swept w) c.args.self.now c.end_open_sweep.new.self (view c.args.dev.now) (view c.end_open_sweep.new.dev) _ _ c.from_residual-in_err-end_open_sweep.result c.from_residual-in_err-end_open_sweep.ensures.1
+    (then_kept told (λ w. swept w) c.args.self.now c.begin_sweep.new.self c.end_open_sweep.new.self (view c.args.dev.now) (view c.begin_sweep.new.dev) (view c.end_open_sweep.new.dev) _ _ (kept_then told (λ w. swept w) c.args.self.now c.settle_doomed.new.self c.begin_sweep.new.self (view c.args.dev.now) (view c.settle_doomed.new.dev) (view c.begin_sweep.new.dev) _ _ c.in_ok-settle_doomed.ensures.operation c.in_ok-begin_sweep.ensures.operation) c.in_err-end_open_sweep.ensures.operation)
+
+pub returns-clause-operation : goal.returns-clause-operation
+returns-clause-operation g c =
+    let told = g.D.Device.told in
+    let view = g.D.Device.view in
+    op_ready told (λ w. swept w) c.args.self.now c.end_open_sweep.new.self (view c.args.dev.now) (view c.end_open_sweep.new.dev) _ c.make_ready.new.self true c.make_ready.ensures (op_answers told (λ w. swept w) c.args.self.now c.end_open_sweep.new.self (view c.args.dev.now) (view c.end_open_sweep.new.dev) _ _
+    (then_kept told (λ w. swept w) c.args.self.now c.begin_sweep.new.self c.end_open_sweep.new.self (view c.args.dev.now) (view c.begin_sweep.new.dev) (view c.end_open_sweep.new.dev) _ _ (kept_then told (λ w. swept w) c.args.self.now c.settle_doomed.new.self c.begin_sweep.new.self (view c.args.dev.now) (view c.settle_doomed.new.dev) (view c.begin_sweep.new.dev) _ _ c.in_ok-settle_doomed.ensures.operation c.in_ok-begin_sweep.ensures.operation) c.in_ok-end_open_sweep.ensures.operation))
+
+pub returns-clause-settled : goal.returns-clause-settled
+returns-clause-settled g c = ap (λ (v : Volume). owed v.tables) c.make_ready.ensures ∙ c.in_ok-end_open_sweep.ensures.settled

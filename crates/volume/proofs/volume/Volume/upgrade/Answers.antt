@@ -1,29 +1,47 @@
-use Rattle.std.proofs.Common.{◌≡◌, ◌∙◌, ap, arith}
+use Rattle.std.proofs.Common.{◌≡◌, ◌+◌, [], ap, arith}
 use Rattle.tsd_model.specs.Records.{upgraded}
-use Rattle.volume_laws.specs.Moments.{owed}
+use Rattle.intent_journal.specs.Ring.{checkpoint_writes}
+use Rattle.image_world.specs.Debt.{owed}
+use Rattle.volume_laws.specs.Operations.{IsWithin}
 use Rattle.volume_laws.specs.Volume.{Volume}
-use Rattle.volume_laws.proofs.Allocated.{change_first}
-use Rattle.volume_laws.proofs.Idle.{owed_joined}
+use Rattle.volume_laws.specs.Writes.{batch_cost, due}
+use Rattle.volume_laws.proofs.OperationLaws.{then_kept, op_fails, within_then, within_fails}
 use Rattle.volume.proofs.volume.Volume.upgrade.Goals as goal
 
-pub returns-in_err-empty_ring-clause-any_moment : goal.returns-in_err-empty_ring-clause-any_moment
-returns-in_err-empty_ring-clause-any_moment g c told =
+pub returns-in_err-change_version-clause-cost : goal.returns-in_err-change_version-clause-cost
+returns-in_err-change_version-clause-cost g c =
+    let told = g.D.Device.told in
     let view = g.D.Device.view in
-    change_first (view c.args.dev.now) (view c.change_version.new.dev) (view c.empty_ring.new.dev) upgraded (c.change_version.ensures.any_moment told) (c.in_ok-change_version.ensures.done told) (c.change_version.ensures.sent told) (c.empty_ring.ensures.any_moment told)
+    within_fails told _ _ _ c.args.self.now c.change_version.new.self (view c.args.dev.now) (view c.change_version.new.dev) _ _ _ _ _ c.from_residual.result c.from_residual.ensures.1 c.in_err-change_version.ensures.cost (omega arith) (omega arith)
 
-pub returns-clause-any_moment : goal.returns-clause-any_moment
-returns-clause-any_moment g c told =
+pub returns-in_err-empty_ring-clause-operation : goal.returns-in_err-empty_ring-clause-operation
+returns-in_err-empty_ring-clause-operation g c =
+    let told = g.D.Device.told in
     let view = g.D.Device.view in
-    change_first (view c.args.dev.now) (view c.empty_ring.new.dev) (view c.erase.new.dev) upgraded
-    (change_first (view c.args.dev.now) (view c.change_version.new.dev) (view c.empty_ring.new.dev) upgraded (c.change_version.ensures.any_moment told) (c.in_ok-change_version.ensures.done told) (c.change_version.ensures.sent told) (c.empty_ring.ensures.any_moment told))
-    (c.in_ok-empty_ring.ensures.done told ∙ c.in_ok-change_version.ensures.done told) (c.empty_ring.ensures.sent told ∙ c.change_version.ensures.sent told) (c.erase.ensures.any_moment told)
+    op_fails told upgraded c.args.self.now c.empty_ring.new.self (view c.args.dev.now) (view c.empty_ring.new.dev) _ _ c.from_residual-in_err-empty_ring.result c.from_residual-in_err-empty_ring.ensures.1 (then_kept told upgraded c.args.self.now c.change_version.new.self c.empty_ring.new.self (view c.args.dev.now) (view c.change_version.new.dev) (view c.empty_ring.new.dev) _ _ c.in_ok-change_version.ensures.operation c.in_err-empty_ring.ensures.operation)
 
-pub returns-clause-any_owed : goal.returns-clause-any_owed
-returns-clause-any_owed g c told =
+pub returns-clause-operation : goal.returns-clause-operation
+returns-clause-operation g c =
+    let told = g.D.Device.told in
+    let view = g.D.Device.view in
+    then_kept told upgraded c.args.self.now c.empty_ring.new.self c.erase.new.self (view c.args.dev.now) (view c.empty_ring.new.dev) (view c.erase.new.dev) _ c.erase.result (then_kept told upgraded c.args.self.now c.change_version.new.self c.empty_ring.new.self (view c.args.dev.now) (view c.change_version.new.dev) (view c.empty_ring.new.dev) _ _ c.in_ok-change_version.ensures.operation c.in_ok-empty_ring.ensures.operation) c.erase.ensures.operation
+
+pub returns-in_err-empty_ring-clause-cost : goal.returns-in_err-empty_ring-clause-cost
+returns-in_err-empty_ring-clause-cost g c =
+    let told = g.D.Device.told in
+    let view = g.D.Device.view in
+    let one = c.change_version.ensures.owes in
+    within_fails told _ _ _ c.args.self.now c.empty_ring.new.self (view c.args.dev.now) (view c.empty_ring.new.dev) _ _ _ _ _ c.from_residual-in_err-empty_ring.result c.from_residual-in_err-empty_ring.ensures.1
+    (within_then told c.args.self.now c.change_version.new.self c.empty_ring.new.self (view c.args.dev.now) (view c.change_version.new.dev) (view c.empty_ring.new.dev) _ _ _ _ _ _ _ _ (owed c.args.self.now.tables) (batch_cost 3) (checkpoint_writes c.args.self.now.ring + batch_cost 3) c.in_ok-change_version.ensures.cost c.in_err-empty_ring.ensures.cost (omega arith) (omega (arith, one)) (omega arith) (omega (arith, one)))
+    (omega arith) (omega arith)
+
+pub returns-clause-cost : goal.returns-clause-cost
+returns-clause-cost g c =
+    let told = g.D.Device.told in
     let view = g.D.Device.view in
     let one = c.change_version.ensures.owes in
     let two : owed c.empty_ring.new.self.tables ≡ owed c.change_version.new.self.tables = ap (λ (v : Volume). owed v.tables) c.in_ok-empty_ring.ensures.same in
-    owed_joined (view c.args.dev.now) (view c.empty_ring.new.dev) (view c.erase.new.dev) (owed c.empty_ring.new.self.tables) (owed c.args.self.now.tables)
-    (owed_joined (view c.args.dev.now) (view c.change_version.new.dev) (view c.empty_ring.new.dev) (owed c.change_version.new.self.tables) (owed c.args.self.now.tables)
-    (c.change_version.ensures.any_owed told) (c.empty_ring.ensures.any_owed told) (omega (arith, one)))
-    (c.erase.ensures.any_owed told) (omega (arith, one, two))
+    let ring : checkpoint_writes c.empty_ring.new.self.ring ≡ checkpoint_writes [] = ap (λ (v : Volume). checkpoint_writes v.ring) c.in_ok-empty_ring.ensures.same in
+    within_then told c.args.self.now c.empty_ring.new.self c.erase.new.self (view c.args.dev.now) (view c.empty_ring.new.dev) (view c.erase.new.dev) _ c.erase.result _ _ _ _ _ _ (owed c.args.self.now.tables) (batch_cost 3 + 113) (checkpoint_writes c.args.self.now.ring + batch_cost 3 + 113)
+    (within_then told c.args.self.now c.change_version.new.self c.empty_ring.new.self (view c.args.dev.now) (view c.change_version.new.dev) (view c.empty_ring.new.dev) _ _ _ _ _ _ _ _ (owed c.args.self.now.tables) (batch_cost 3) (checkpoint_writes c.args.self.now.ring + batch_cost 3) c.in_ok-change_version.ensures.cost c.in_ok-empty_ring.ensures.cost (omega arith) (omega (arith, one)) (omega arith) (omega (arith, one)))
+    c.erase.ensures.cost (omega arith) (omega (arith, one, two)) (omega arith) (omega (arith, one, two, ring))

@@ -1,0 +1,205 @@
+use Rattle.std.proofs.Common.{◌≡◌, ◌≢◌, ℕ, ◌+◌, ◌-◌, ◌*◌, ◌<◌, ◌≤◌, true, length, refl, sym, ◌∙◌, ap, subst, arith, Ok, Err}
+use Rattle.std.specs.Prelude.{drop}
+use Rattle.tsd_model.specs.Geometry.{block_len}
+use Rattle.tsd_model.specs.World.{has_number}
+use Rattle.fs_trees.specs.Inode.{are_apart}
+use Rattle.fs_client.specs.May.{MayWrite}
+use Rattle.fs_trees.specs.Cluster.{bytes_room}
+use Rattle.fs_trees.specs.Needs.{clusters_for}
+use Rattle.fs_trees.specs.declared.refusal.FsRefusal.TheVariants as no
+use Rattle.fs_client.proofs.LookLaws.{no_look}
+use Rattle.fs_client.specs.Steps.{no_room_in}
+use Rattle.fs_port.specs.Runs.{Runs}
+use Rattle.fs_client.proofs.RunLaws.{runs_look, runs_but_refuses, runs_as, runs_more, runs_refused, then_runs}
+use Rattle.chain_changes.specs.Making.{IsAside}
+use Rattle.chain_changes.specs.Filling.{AsideWith, Wrote}
+use Rattle.chain_changes.proofs.ChainLaws.{aside_first}
+use Rattle.chain_changes.proofs.WriteLaws.{in_drop}
+use Rattle.chain_changes.proofs.FileLaws.{clusters, some_clusters, few_clusters, long_room, behind_may, behind_apart, behind_enough, aside_so, is_file}
+use Rattle.chain_changes.proofs.file.new_file.Goals as goal
+
+pub bytes_room-requires : goal.bytes_room-requires
+bytes_room-requires g c = c.requires.head
+
+pub returns-then-bytes_room-eq0 : goal.returns-then-bytes_room-eq0
+returns-then-bytes_room-eq0 g c =
+    let told = g.K.Blocks.told in
+    let first = g.K.Blocks.view c.args.disk.now in
+    let root = c.args.client.now.root in
+    let never : told → ⊥ = λ t.
+    let some = long_room first.world (c.requires.valid t).valid in
+    let none : bytes_room (block_len first.world.geometry) ≡ 0 = ap bytes_room (sym (c.requires.len t)) ∙ (sym c.bytes_room.ensures ∙ c.if-bytes_room-eq0.true) in
+    omega (arith, some, none) in
+    record {
+      made = λ t. tt;
+      some = tt;
+      linkable = tt;
+      room = λ t. tt;
+      full = λ t. absurd (never t);
+      same = λ t ne. refl;
+      runs = runs_but_refuses told first first (IsAside root first.world) tt no.NotThisFs (λ d. cc)
+          (runs_look told first first (IsAside root first.world) (Ok tt) (λ t w is. subst (IsAside root first.world) (sym is) (aside_first root first.world c.args.source (c.requires.stage t)))
+          (no_look told first c.requires.unspent (λ t. g.met.K.Blocks.sound c.args.disk.now t c.requires.unspent) c.requires.valid));
+    }
+
+pub blocks_wanted-wanted-requires : goal.blocks_wanted-wanted-requires
+blocks_wanted-wanted-requires g c = record {
+  small = c.len.ensures.fits;
+  few = c.requires.ahead;
+  room = more c.args.len c.bytes_room.result c.requires.head c.bytes_room.ensures c.if-bytes_room-eq0.false;
+}
+  where
+    more : (len room : ℕ) → 16 ≤ len → room ≡ len - 16 → room ≢ 0 → 16 < len
+    more len room h e ne = grind arith
+
+pub new_chain-requires : goal.new_chain-requires
+new_chain-requires g c =
+    let told = g.K.Blocks.told in
+    let me = c.args.client.now in
+    let first = g.K.Blocks.view c.args.disk.now in
+    let bytes = c.args.bytes.now in
+    let ahead = c.args.ahead in
+    let source = c.args.source in
+    let wanted = c.blocks_wanted-wanted.result in
+    let all = clusters_for first.world.geometry (length bytes) + ahead in
+    let is : told → wanted ≡ all = λ t. c.blocks_wanted-wanted.ensures ∙ (ap (λ n. clusters n (bytes_room c.args.len) + ahead) c.len.ensures.value ∙ ap (λ n. clusters (length bytes) (bytes_room n) + ahead) (c.requires.len t)) in
+    record {
+      unspent = c.requires.unspent;
+      valid = c.requires.valid;
+      may = c.requires.may;
+      stage = c.requires.stage;
+      few = λ t.
+          let few = few_clusters (length bytes) (bytes_room (block_len first.world.geometry)) (subst (λ n. n ≤ 4096) c.len.ensures.value c.len.ensures.fits) (long_room first.world (c.requires.valid t).valid) in
+          let one = c.requires.ahead in
+          omega (arith, is t, few, one);
+    }
+
+pub returns-in-Err : goal.returns-in-Err
+returns-in-Err g c =
+    let told = g.K.Blocks.told in
+    let me = c.args.client.now in
+    let first = g.K.Blocks.view c.args.disk.now in
+    let bytes = c.args.bytes.now in
+    let ahead = c.args.ahead in
+    let source = c.args.source in
+    let wanted = c.blocks_wanted-wanted.result in
+    let all = clusters_for first.world.geometry (length bytes) + ahead in
+    let is : told → wanted ≡ all = λ t. c.blocks_wanted-wanted.ensures ∙ (ap (λ n. clusters n (bytes_room c.args.len) + ahead) c.len.ensures.value ∙ ap (λ n. clusters (length bytes) (bytes_room n) + ahead) (c.requires.len t)) in
+    let mid = g.K.Blocks.view c.new_chain.new.disk in
+    let P = IsAside me.root first.world in
+    let e = c.in-Err.ensures in
+    record {
+      made = λ t. tt;
+      some = tt;
+      linkable = tt;
+      room = λ t. tt;
+      full = λ t ne. ap (λ n. no_room_in first.world n n) (sym (is t)) ∙ e.full t ne;
+      same = e.same;
+      runs = e.runs;
+    }
+
+pub blocks_behind-requires : goal.blocks_behind-requires
+blocks_behind-requires g c =
+    let many = c.in-Ok.ensures.many in
+    let wanted = c.blocks_wanted-wanted.ensures in
+    let some = some_clusters c.len.result (bytes_room c.args.len) in
+    omega (arith, many, wanted, some)
+
+pub write_chain-requires : goal.write_chain-requires
+write_chain-requires g c =
+    let told = g.K.Blocks.told in
+    let me = c.args.client.now in
+    let first = g.K.Blocks.view c.args.disk.now in
+    let bytes = c.args.bytes.now in
+    let ahead = c.args.ahead in
+    let source = c.args.source in
+    let wanted = c.blocks_wanted-wanted.result in
+    let all = clusters_for first.world.geometry (length bytes) + ahead in
+    let is : told → wanted ≡ all = λ t. c.blocks_wanted-wanted.ensures ∙ (ap (λ n. clusters n (bytes_room c.args.len) + ahead) c.len.ensures.value ∙ ap (λ n. clusters (length bytes) (bytes_room n) + ahead) (c.requires.len t)) in
+    let mid = g.K.Blocks.view c.new_chain.new.disk in
+    let P = IsAside me.root first.world in
+    let e = c.in-Ok.ensures in
+    let blocks = c.in-Ok.blocks in
+    let own_is = c.blocks_behind.ensures.value in
+    let own = c.blocks_behind.result.now in
+    let data_is = c.as_slice.ensures.value in
+    record {
+      unspent = e.runs.unspent.0;
+      valid = λ t. (e.runs.valid t).0;
+      may = λ t. subst (λ bs. (b : ℕ) → has_number bs b ≡ true → MayWrite me mid b) (sym own_is) (behind_may me first mid mid source ahead wanted bytes blocks (c.requires.stage t) (c.requires.valid t).valid (is t) (e.made t));
+      apart = λ t. ap are_apart own_is ∙ behind_apart me first mid mid source ahead wanted bytes blocks (c.requires.stage t) (c.requires.valid t).valid (is t) (e.made t);
+      linkable = λ b h. e.linkable b (in_drop blocks ahead b (ap (λ bs. has_number bs b) (sym own_is) ∙ h));
+      len = λ t. c.requires.len t ∙ ap block_len (sym (e.made t).making.geometry);
+      head = c.requires.head;
+      few = c.requires.few;
+      many = c.blocks_behind.ensures.fits;
+      enough = λ t. subst (λ bs. length bs ≤ bytes_room c.args.len * length own) (sym data_is) (subst (λ bs. length bytes ≤ bytes_room c.args.len * length bs) (sym own_is)
+          (subst (λ n. length bytes ≤ bytes_room n * length (drop ahead blocks)) (sym (c.requires.len t)) (behind_enough me first mid mid source ahead wanted bytes blocks (c.requires.stage t) (c.requires.valid t).valid (is t) (e.made t))));
+    }
+
+pub returns-in-Ok-write_chain : goal.returns-in-Ok-write_chain
+returns-in-Ok-write_chain g c =
+    let told = g.K.Blocks.told in
+    let me = c.args.client.now in
+    let first = g.K.Blocks.view c.args.disk.now in
+    let bytes = c.args.bytes.now in
+    let ahead = c.args.ahead in
+    let source = c.args.source in
+    let wanted = c.blocks_wanted-wanted.result in
+    let all = clusters_for first.world.geometry (length bytes) + ahead in
+    let is : told → wanted ≡ all = λ t. c.blocks_wanted-wanted.ensures ∙ (ap (λ n. clusters n (bytes_room c.args.len) + ahead) c.len.ensures.value ∙ ap (λ n. clusters (length bytes) (bytes_room n) + ahead) (c.requires.len t)) in
+    let mid = g.K.Blocks.view c.new_chain.new.disk in
+    let P = IsAside me.root first.world in
+    let e = c.in-Ok.ensures in
+    let blocks = c.in-Ok.blocks in
+    let own_is = c.blocks_behind.ensures.value in
+    let new = g.K.Blocks.view c.write_chain.new.disk in
+    let u = c.in-Ok-write_chain.ensures in
+    let data_is = c.as_slice.ensures.value in
+    let wrote : told → Wrote me mid new (drop ahead blocks) bytes = λ t. subst (Wrote me mid new (drop ahead blocks)) data_is (subst (λ bs. Wrote me mid new bs c.as_slice.result.now) own_is (u.wrote t)) in
+    let ran : Runs {X = Unit {0}} told mid new (AsideWith me.root (drop ahead blocks) mid.world) (Ok tt) = subst (λ bs. Runs {X = Unit {0}} told mid new (AsideWith me.root bs mid.world) (Ok tt)) own_is u.runs in
+    record {
+      made = λ t. is_file me first mid new source ahead wanted bytes blocks (c.requires.stage t) (c.requires.valid t).valid (is t) (e.made t) (wrote t);
+      some =
+          let many = e.many in
+          let much = c.blocks_wanted-wanted.ensures in
+          let some = some_clusters c.len.result (bytes_room c.args.len) in
+          omega (arith, many, much, some);
+      linkable = e.linkable;
+      room = λ t. ap (λ n. no_room_in first.world n n) (sym (is t)) ∙ e.room t;
+      full = λ t. tt;
+      same = λ t. tt;
+      runs = runs_as told first new P tt blocks (then_runs told first mid new P blocks (Ok tt) e.runs
+          (runs_more told mid new (AsideWith me.root (drop ahead blocks) mid.world) P (Ok tt) (λ t. aside_so me first mid new source ahead wanted bytes blocks (c.requires.stage t) (c.requires.valid t).valid (is t) (e.made t)) ran));
+    }
+
+pub returns-in-Err-write_chain : goal.returns-in-Err-write_chain
+returns-in-Err-write_chain g c =
+    let told = g.K.Blocks.told in
+    let me = c.args.client.now in
+    let first = g.K.Blocks.view c.args.disk.now in
+    let bytes = c.args.bytes.now in
+    let ahead = c.args.ahead in
+    let source = c.args.source in
+    let wanted = c.blocks_wanted-wanted.result in
+    let all = clusters_for first.world.geometry (length bytes) + ahead in
+    let is : told → wanted ≡ all = λ t. c.blocks_wanted-wanted.ensures ∙ (ap (λ n. clusters n (bytes_room c.args.len) + ahead) c.len.ensures.value ∙ ap (λ n. clusters (length bytes) (bytes_room n) + ahead) (c.requires.len t)) in
+    let mid = g.K.Blocks.view c.new_chain.new.disk in
+    let P = IsAside me.root first.world in
+    let e = c.in-Ok.ensures in
+    let blocks = c.in-Ok.blocks in
+    let own_is = c.blocks_behind.ensures.value in
+    let new = g.K.Blocks.view c.write_chain.new.disk in
+    let u = c.in-Err-write_chain.ensures in
+    let r = c.in-Err-write_chain.refusal in
+    let ran : Runs {X = Unit {0}} told mid new (AsideWith me.root (drop ahead blocks) mid.world) (Err r) = subst (λ bs. Runs {X = Unit {0}} told mid new (AsideWith me.root bs mid.world) (Err r)) own_is u.runs in
+    record {
+      made = λ t. tt;
+      some = tt;
+      linkable = tt;
+      room = λ t. tt;
+      full = λ t ne. absurd (ne (u.only t));
+      same = λ t ne. absurd (ne (u.only t));
+      runs = runs_refused told first new P r (then_runs told first mid new P blocks (Err r) e.runs
+          (runs_more told mid new (AsideWith me.root (drop ahead blocks) mid.world) P (Err r) (λ t. aside_so me first mid new source ahead wanted bytes blocks (c.requires.stage t) (c.requires.valid t).valid (is t) (e.made t)) ran));
+    }

@@ -1,6 +1,0 @@
-use Rattle.chain_files.proofs.WriteLaws.{Writing}
-use Rattle.chain_files.proofs.bytes.write_chain.Given as goal
-
--- the clusters so far were written
-abbrev pub invariant-loop-place : goal.invariant-loop-place
-invariant-loop-place g l = Writing g.K.Blocks.told l.client (g.K.Blocks.view l.fn.disk) (g.K.Blocks.view l.disk) l.blocks l.bytes l.room l.place l.rest

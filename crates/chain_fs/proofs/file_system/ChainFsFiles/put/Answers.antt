@@ -1,0 +1,13 @@
+use Rattle.fs_trees.specs.declared.ask.ShellAsk.TheVariants as ask
+use Rattle.fs_trees.specs.declared.refusal.FsRefusal.TheVariants as no
+use Rattle.fs_client.proofs.FilesLaws.{unasked_changes, mounted_changes}
+use Rattle.chain_reading.specs.Asking.{mounted_by}
+use Rattle.chain_fs.specs.View.{chain_view}
+use Rattle.fs_client.proofs.MountLaws.{other_fault}
+use Rattle.chain_fs.proofs.file_system.ChainFsFiles.put.Goals as goal
+
+pub returns-then-self-clause-changes : goal.returns-then-self-clause-changes
+returns-then-self-clause-changes g c = mounted_changes (mounted_by c.args.self.now.client) c.args.self.now.mounted (g.K.Blocks.view c.args.disk.now) (g.K.Blocks.view c.put.new.disk) g.K.Blocks.told c.put.result (ask.Put c.args.path.now c.args.bytes.now) c.if-self.true c.put.ensures.changes
+
+pub returns-else-self-clause-changes : goal.returns-else-self-clause-changes
+returns-else-self-clause-changes g c = unasked_changes g.K.Blocks.told (g.K.Blocks.view c.args.disk.now) no.NotThisFs other_fault c.requires.ready.unspent (λ t. g.met.K.Blocks.sound c.args.disk.now t c.requires.ready.unspent) c.requires.valid (chain_view c.args.self.now) (ask.Put c.args.path.now c.args.bytes.now)

@@ -1,5 +1,0 @@
-use Rattle.chain_laws.proofs.DecidedLaws.{the_directory_grows}
-use Rattle.chain_laws.proofs.a_new_cluster_is_linked.Goals as goal
-
-pub returns : goal.returns
-returns c = the_directory_grows

@@ -1,3 +1,0 @@
-pub mod Chained
-pub mod Changed
-pub mod Decided

@@ -1,7 +1,0 @@
-use Rattle.fs_trees.specs.Names.{are_distinct}
-use Rattle.chain_looking.proofs.PageLaws.{Comparing}
-use Rattle.chain_looking.proofs.comparing.are_names_distinct.Given as goal
-
--- the names of the clusters before this one stand once
-abbrev pub invariant-loop-place : goal.invariant-loop-place
-invariant-loop-place g l = Comparing g.K.Blocks.told l.client (g.K.Blocks.view l.fn.disk) (g.K.Blocks.view l.disk) l.fn.client.root l.place l.block are_distinct

@@ -1,5 +1,0 @@
-pub mod MakeLaws
-pub mod StandLaws
-pub mod TidyLaws
-pub mod PageLaws
-pub mod MountLaws

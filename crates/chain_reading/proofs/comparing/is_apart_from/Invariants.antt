@@ -1,0 +1,9 @@
+use Rattle.fs_trees.specs.Fields.{entry_names}
+use Rattle.chain_layout.specs.Held.{entries_in}
+use Rattle.chain_reading.specs.Comparing.{are_apart_from}
+use Rattle.chain_reading.proofs.PageLaws.{Comparing}
+use Rattle.chain_reading.proofs.comparing.is_apart_from.Given as goal
+
+-- the names of the clusters before this one are others
+abbrev pub invariant-loop-place : goal.invariant-loop-place
+invariant-loop-place g l = Comparing g.K.Blocks.told l.client (g.K.Blocks.view l.fn.disk) (g.K.Blocks.view l.disk) l.fn.first l.place l.block (are_apart_from (entry_names (entries_in l.page)))

@@ -1,4 +1,0 @@
-pub mod StepForm
-pub mod Serving
-pub mod Kept
-pub mod RunCosts

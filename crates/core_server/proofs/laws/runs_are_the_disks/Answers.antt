@@ -1,6 +1,0 @@
-use Rattle.image_world.specs.Stands.{Stands}
-use Rattle.serving.proofs.ModelRuns.{model_run}
-use Rattle.core_server.proofs.laws.runs_are_the_disks.Goals as goal
-
-pub returns : goal.returns
-returns c = model_run Stands

@@ -1,5 +1,0 @@
-use Rattle.core_server.proofs.Serving.{more_left}
-use Rattle.core_server.proofs.server.CoreServerHandler.settle_some.Goals as goal
-
-pub returns-clause-more : goal.returns-clause-more
-returns-clause-more g c told = more_left _ (g.D.Device.view c.settle_some.new.dev) c.settle_some.result c.settle_some.ensures.more (c.settle_some.ensures.at told)

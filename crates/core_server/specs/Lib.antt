@@ -1,3 +1,0 @@
-pub mod Server
-pub mod StandsLaws
-pub mod Laws

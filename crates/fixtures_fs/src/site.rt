@@ -1,0 +1,239 @@
+//! A file system over a disk, call by call.
+
+ghost use Rattle.std.specs.Prelude.{◌≡◌, IsTrue, IfOk};
+ghost use Rattle.fs_trees.specs.Names.{is_path};
+ghost use Rattle.fixtures_fs.specs.Ours.{IsOurs};
+
+use crate::disks::{Answering, Untold, WRITE, fresh};
+use chain_fs::ChainFs;
+use fs_port::{Blocks, Files, PlainBlocks, free_blocks};
+use fs_trees::{FsRefusal, Name, Path, ShellKind};
+use inode_fs::InodeFs;
+use std::alloc::Global;
+use tsd_model::{Data, NoMemory};
+
+/// A path whose names are names.
+#[derive(Drop)]
+pub struct Named {
+    pub path: Path,
+    ghost is_named: { IsTrue (is_path path) },
+}
+
+/// A file system and its disk.
+#[derive(Drop)]
+pub struct Site<F: Files + Drop, A: Answering> {
+    pub files: F,
+    pub disk: Untold<A>,
+    ghost is_ours: { IsOurs (F.view files) },
+}
+
+/// A file system over a plain disk.
+pub type PlainSite<F> = Site<F, PlainBlocks>;
+
+/// A file system that tests try.
+pub trait Tested: Files + Drop {
+    /// Its layout, by which lines of the shell are read.
+    fn kind(&self) -> ShellKind
+        ensures { result ≡ (Self.view self.now).kind };
+
+    /// A file system for session 1 at block 0, of which nothing is mounted.
+    fn unmounted(alloc: Global) -> Result<Self, NoMemory>
+        ensures { IfOk result (λ f. IsOurs (Self.view f)) };
+
+    /// A new file with the bytes of another; NotThisFs where the layout has no copies.
+    fn copy_in<A: Answering>(
+        site: &mut Site<Self, A>,
+        path: &Named,
+        new: &Named,
+    ) -> Result<(), FsRefusal>;
+}
+
+impl Tested for InodeFs {
+    fn kind(&self) -> ShellKind {
+        ShellKind::Inode
+    }
+
+    fn unmounted(alloc: Global) -> Result<InodeFs, NoMemory> {
+        InodeFs::new(alloc, 0, &WRITE, 1)
+    }
+
+    fn copy_in<A: Answering>(
+        site: &mut Site<InodeFs, A>,
+        path: &Named,
+        new: &Named,
+    ) -> Result<(), FsRefusal> {
+        site.copy(path, new)
+    }
+}
+
+impl Tested for ChainFs {
+    fn kind(&self) -> ShellKind {
+        ShellKind::Chain
+    }
+
+    fn unmounted(alloc: Global) -> Result<ChainFs, NoMemory> {
+        ChainFs::new(alloc, 0, &WRITE, 1)
+    }
+
+    fn copy_in<A: Answering>(
+        _site: &mut Site<ChainFs, A>,
+        _path: &Named,
+        _new: &Named,
+    ) -> Result<(), FsRefusal> {
+        Err(FsRefusal::NotThisFs)
+    }
+}
+
+/// A file system that knows nothing of this disk, over it; None where there is no memory.
+pub fn over<F: Tested, A: Answering>(alloc: Global, disk: Untold<A>) -> Option<Site<F, A>> {
+    let files = F::unmounted(alloc).ok()?;
+    Some(Site { files, disk })
+}
+
+/// A fresh plain disk of so many blocks with so many slots, and a file system of which nothing is mounted; None where
+/// there is no such disk or no memory.
+pub fn begun<F: Tested>(
+    alloc: Global,
+    sectors: u32,
+    blocks: u32,
+    slots: u32,
+) -> Option<Site<F, PlainBlocks>> {
+    over(alloc, fresh(alloc, sectors, blocks, slots)?)
+}
+
+/// The same disk, which goes on, and a file system that knows nothing of it; None where there is no memory.
+pub fn again<F: Tested, A: Answering>(alloc: Global, site: Site<F, A>) -> Option<Site<F, A>> {
+    let Site { files: _, disk } = site;
+    over(alloc, disk.mended())
+}
+
+impl<F: Files + Drop, A: Answering> Site<F, A> {
+    ghost use Rattle.fs_port.specs.Files.{IsClientReady};
+    ghost use Rattle.fixtures_fs.specs.Untold.{untold_view};
+
+    /// Whether the file system may be called.
+    #[tactic(auto, using(crate::proofs::SiteLaws::is_ready))]
+    fn is_ready(&self) -> bool
+        ensures { IsTrue result
+            → IsClientReady (F.view self.now.files) (untold_view self.now.disk.geometry self.now.disk.faults
+            self.now.disk.is_stopped) }
+    {
+        !self.disk.is_spent() && self.disk.geometry().primaries > 0
+    }
+
+    /// An empty tree, mounted.
+    pub fn make(&mut self) -> Result<(), FsRefusal> {
+        if !self.is_ready() {
+            return Err(FsRefusal::Device);
+        }
+        self.files.make(&mut self.disk)
+    }
+
+    /// Mounts what is there.
+    pub fn mount(&mut self) -> Result<(), FsRefusal> {
+        if !self.is_ready() {
+            return Err(FsRefusal::Device);
+        }
+        self.files.mount(&mut self.disk)
+    }
+
+    /// A file of these bytes.
+    pub fn put(&mut self, path: &Named, bytes: &Data) -> Result<(), FsRefusal> {
+        if !self.is_ready() {
+            return Err(FsRefusal::Device);
+        }
+        self.files.put(&mut self.disk, &path.path, bytes)
+    }
+
+    /// These bytes at the end of a file.
+    pub fn append(&mut self, path: &Named, bytes: &Data) -> Result<(), FsRefusal> {
+        if !self.is_ready() {
+            return Err(FsRefusal::Device);
+        }
+        self.files.append(&mut self.disk, &path.path, bytes)
+    }
+
+    /// A new directory; NotThisFs where the layout has none.
+    pub fn make_dir(&mut self, path: &Named) -> Result<(), FsRefusal> {
+        if !self.is_ready() {
+            return Err(FsRefusal::Device);
+        }
+        if !self.files.has_dirs() {
+            return Err(FsRefusal::NotThisFs);
+        }
+        self.files.make_dir(&mut self.disk, &path.path)
+    }
+
+    /// The end of a file or of an empty directory.
+    pub fn remove(&mut self, path: &Named) -> Result<(), FsRefusal> {
+        if !self.is_ready() {
+            return Err(FsRefusal::Device);
+        }
+        self.files.remove(&mut self.disk, &path.path)
+    }
+
+    /// How many bytes a file has.
+    pub fn size(&mut self, path: &Named) -> Result<u64, FsRefusal> {
+        if !self.is_ready() {
+            return Err(FsRefusal::Device);
+        }
+        self.files.size(&mut self.disk, &path.path)
+    }
+
+    /// The bytes of a file from a place on.
+    pub fn read_part(
+        &mut self,
+        path: &Named,
+        start: u64,
+        into: &mut Data,
+    ) -> Result<(), FsRefusal> {
+        if !self.is_ready() {
+            return Err(FsRefusal::Device);
+        }
+        self.files
+            .read_part(&mut self.disk, &path.path, start, into)
+    }
+
+    /// The first name above this one.
+    pub fn name_after(&mut self, path: &Named, after: &Name) -> Result<Option<Name>, FsRefusal> {
+        if !self.is_ready() {
+            return Err(FsRefusal::Device);
+        }
+        self.files.name_after(&mut self.disk, &path.path, after)
+    }
+
+    /// How many blocks are free.
+    pub fn free(&mut self) -> Result<u32, FsRefusal> {
+        if !self.is_ready() {
+            return Err(FsRefusal::Device);
+        }
+        free_blocks(&mut self.disk)
+    }
+
+    /// The bytes of a file of at most 63 parts, part by part, the last without bytes.
+    pub fn cat(&mut self, alloc: Global, path: &Named) -> Result<Vec<u8>, FsRefusal> {
+        let size = self.size(path)?;
+        let mut all = Vec::new(alloc);
+        let mut part = Data::new();
+        for _ in 0..64 {
+            self.read_part(path, all.len() as u64, &mut part)?;
+            if all.extend_from_slice(part.as_slice()).is_err() {
+                return Err(FsRefusal::Device);
+            }
+            if part.is_empty() && all.len() as u64 == size {
+                return Ok(all);
+            }
+        }
+        Err(FsRefusal::Device)
+    }
+}
+
+impl<A: Answering> Site<InodeFs, A> {
+    /// A new file with the bytes of another.
+    pub fn copy(&mut self, path: &Named, new: &Named) -> Result<(), FsRefusal> {
+        if !self.is_ready() {
+            return Err(FsRefusal::Device);
+        }
+        self.files.copy(&mut self.disk, &path.path, &new.path)
+    }
+}

@@ -1,5 +1,0 @@
-use Rattle.fs_asks.proofs.FormLaws.{no_gone}
-use Rattle.fs_asks.proofs.client.gone_in.Goals as goal
-
-pub returns-in_default : goal.returns-in_default
-returns-in_default c = no_gone c.args.reply c.in_default.not-Gone c.in_default.not-Refused

@@ -1,4 +1,0 @@
-pub mod Client
-pub mod Asks
-pub mod May
-pub mod Leftovers

@@ -1,0 +1,56 @@
+-- A call that begins where others only looked before.
+use Rattle.std.proofs.Common.{◌≡◌, cond, sym, ◌∙◌, ap, subst, inl, inr, Result, Ok, Err}
+use Rattle.tsd_model.specs.World.{World, is_free}
+use Rattle.tsd_model.specs.Valid.{IsValid}
+use Rattle.fs_trees.specs.Tree.{nothing}
+use Rattle.fs_trees.specs.Answer.{Answer}
+use Rattle.fs_trees.specs.Layouts.{tree_at, IsTidy, step_in}
+use Rattle.fs_trees.specs.Outside.{OthersStay}
+use Rattle.fs_trees.specs.Step.{Outcome}
+use Rattle.fs_trees.specs.declared.ask.ShellAsk.{ShellAsk}
+use Rattle.fs_trees.specs.declared.refusal.FsRefusal.{FsRefusal}
+use Rattle.fs_port.specs.View.{View}
+use Rattle.fs_port.specs.Files.{FilesView, Answers, IsEitherTree, LeavesTidyWorld, step_on, unless_refused}
+use Rattle.fs_client.specs.May.{OnlyLooks}
+use Rattle.fs_port.specs.Runs.{Changes, Runs}
+use Rattle.fs_port.proofs.RunLaws.{on_answer}
+use Rattle.fs_client.proofs.RunLaws.{runs_look, runs_more, then_runs, changes_of, as_before}
+
+module _ (f : FilesView) (first rd : View) (a : ShellAsk) (same : rd.world ≡ first.world) where
+  -- the step there, by the world
+  abbrev step_of : World → Outcome
+  step_of w = step_in f.kind w f.root (cond f.mounted (tree_at f.kind w f.root) nothing) a
+
+  same_step : step_on f rd a ≡ step_on f first a
+  same_step = ap (λ w. step_in f.kind w f.root (cond f.mounted (tree_at f.kind w f.root) nothing) a) same
+
+  pub answers_again : {X : Type 0} (fin : View) (result : Result X FsRefusal) (tells : X → Answer → Type 0) → Answers f rd fin a result tells → Answers f first fin a result tells
+  answers_again fin (Ok y) tells h = record { ok = (subst (λ o. tells y o.answer) same_step h.ok.0, h.ok.1 ∙ ap (λ o. o.tree) same_step); err = tt }
+  answers_again fin (Err r) tells h = record { ok = tt; err = λ ne. let k = h.err ne in (ap (λ o. o.answer) (sym same_step) ∙ k.0, k.1 ∙ same) }
+
+  leaves_again : (fin : View) → LeavesTidyWorld f rd fin → LeavesTidyWorld f first fin
+  leaves_again fin h = record {
+    unspent = h.unspent;
+    tidy = λ tidy. h.tidy (subst (λ w. IsTidy f.kind w f.root) (sym same) tidy);
+    others = subst (λ w. OthersStay f.root w fin.world) same h.others;
+    taken = λ b free. h.taken b (ap (λ w. is_free w b) same ∙ free);
+  }
+
+  either_again : (w : World) → IsEitherTree f rd a w → IsEitherTree f first a w
+  either_again w h = (
+    elim h.0 [
+      | inl before ↦ inl (before ∙ ap (λ v. tree_at f.kind v f.root) same)
+      | inr after ↦ inr (after ∙ ap (λ v. unless_refused (step_of v).answer (step_of v).tree (tree_at f.kind v f.root)) same)
+    ],
+    record { valid = h.1.valid; geometry = h.1.geometry ∙ ap (λ v. v.geometry) same; others = subst (λ v. OthersStay f.root v w) same h.1.others },
+  )
+
+pub changes_again : {X Y : Type 0} (told : Type 0) (f : FilesView) (first rd fin : View) (a : ShellAsk) (x : X) (result : Result Y FsRefusal) → (told → IsValid first.world) → OnlyLooks told first rd (Ok x) → Changes told f rd fin a result → Changes told f first fin a result
+changes_again {X} {Y} told f first rd fin a x result valid looks h =
+    changes_of told f first fin a result (λ t. on_answer (LeavesTidyWorld f rd fin) (LeavesTidyWorld f first fin) result (leaves_again f first rd a (looks.looked t).0.world fin) (h.world t))
+    (then_runs told first rd fin (IsEitherTree f first a) x result
+    (runs_look told first rd (IsEitherTree f first a) (Ok x) (λ t w is. as_before f first a w (valid t) is) looks)
+    (runs_more told rd fin (IsEitherTree f rd a) (IsEitherTree f first a) result (λ t w either. either_again f first rd a (looks.looked t).0.world w either) ran))
+  where
+    ran : Runs told rd fin (IsEitherTree f rd a) result
+    ran = record { valid = h.valid; crash = h.crash; stays = h.stays; counts = h.counts; unspent = h.unspent; faultless = h.faultless; cause = h.cause; spent = h.spent }

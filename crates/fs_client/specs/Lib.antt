@@ -1,0 +1,9 @@
+pub mod Client
+pub mod Asks
+pub mod May
+pub mod Leftovers
+pub mod Steps
+pub mod Marked
+pub mod Held
+pub mod Changing
+pub mod Trimming

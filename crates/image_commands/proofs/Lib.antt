@@ -1,6 +1,0 @@
-mod Saying
-mod Formatted
-mod Upgraded
-mod Requests
-mod LoadRuns
-mod Loaded

@@ -1,0 +1,13 @@
+pub mod StepForm
+pub mod Serving
+pub mod Kept
+pub mod RunCosts
+mod Opened
+mod Started
+mod FreshRuns
+mod Saying
+mod Formatted
+mod Upgraded
+mod Requests
+mod LoadRuns
+mod Loaded

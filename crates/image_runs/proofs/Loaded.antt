@@ -1,0 +1,157 @@
+-- A load over an image, from its opening to its line.
+use Rattle.std.proofs.Common.{◌≡◌, ◌⊎◌, inl, inr, ℕ, ◌≤◌, List, length, refl, sym, ◌∙◌, ap, subst, arith}
+use Rattle.std.specs.Prelude.{Result, Ok, Err, OnOk, IfErr}
+use Rattle.tsd_model.specs.World.{World, free_count}
+use Rattle.tsd_model.specs.Step.{State}
+use Rattle.tsd_model.specs.declared.requests.PlaceKind.{PlaceKind}
+use Rattle.disk_laws.proofs.ByteLaws.{free_count_like}
+use Rattle.image_device.specs.View.{View, IsPart, IsLeftInPut}
+use Rattle.image_device.specs.Runs.{IsFirm, LeavesOnly}
+use Rattle.image_device.proofs.Moments.{joined, weakened}
+use Rattle.image_layout.specs.Image.{Image}
+use Rattle.image_world.specs.Faults.{IsGood}
+use Rattle.image_world.specs.Stands.{Stands, world_of}
+use Rattle.recovery.specs.Opening.{StandAlike}
+use Rattle.tsd_words.specs.declared.status.Status.{Status}
+use Rattle.tsd_words.specs.declared.status.Status.TheVariants as status
+use Rattle.tsd_core.specs.Core.{Core, IsCoreAt, state_on, told_world}
+use Rattle.volume_laws.specs.Quiet.{IsQuiet}
+use Rattle.tsd_core.proofs.AtLaws.{at_volume, like_at}
+use Rattle.tsd_words.specs.Lines.{line_of, load_words}
+use Rattle.tsd_words.specs.declared.lines.Summary.{Summary}
+use Rattle.image_runs.specs.Opened.{IsJudged, IsUnopened}
+use Rattle.image_runs.specs.Sending.{IsStopped}
+use Rattle.image_runs.specs.Load.{HasLoaded, IsLeftOfLoad, IsLoaded, IsLoadedBy, grants, load_line, loaded, loaded_replies, refusals}
+use Rattle.image_runs.specs.Applying.{HasApplied, IsSummary, LeavesRun}
+use Rattle.image_runs.proofs.Saying.{put_over, still_firm}
+use Rattle.image_runs.proofs.Upgraded.{alike_of}
+
+-- ---- once all requests are carried out
+
+-- what a core tells of the world in the end
+pub summed : (kind : PlaceKind) (seed : List ℕ) (w : World) (count : ℕ) (c : Core) (new : View) (s : State) (granted refused free pointers : ℕ) → HasApplied kind seed w count s granted refused
+    → IsCoreAt c new → state_on c new.reads ≡ s → free ≡ free_count (told_world c) → pointers ≡ length (told_world c).pairs
+    → IsSummary kind seed w count (record { count = count; granted = granted; refused = refused; free = free; pointers = pointers })
+summed kind seed w count c new s granted refused free pointers had at state free_is pointers_are =
+    let like = like_at c.volume new (at_volume c new at) in
+    let last = state ∙ had.state in
+    record {
+      count_is = refl;
+      granted_are = had.granted_are;
+      refused_are = had.refused_are;
+      free_is = free_is ∙ free_count_like (told_world c) (world_of new.reads) like ∙ ap (λ (u : State). free_count u.world) last;
+      pointers_are = pointers_are ∙ ap (λ (es : List (ℕ × ℕ)). length es) like.pairs ∙ ap (λ (u : State). length u.world.pairs) last;
+    }
+
+pub loaded_there : (kind : PlaceKind) (seed : List ℕ) (image : Image) (count : ℕ) (c : Core) (new : View) (s : State) (granted refused : ℕ) → HasApplied kind seed (world_of image) count s granted refused
+    → IsGood image → IsCoreAt c new → state_on c new.reads ≡ s → IsQuiet new.reads → IsLoaded kind seed image count new
+loaded_there kind seed image count c new s granted refused had good at state quiet = record {
+  firm = at.0;
+  load = record { good = good; stands = record { good = at.1.good; world = sym (ap (λ (u : State). u.world) (state ∙ had.state)) } };
+  quiet = quiet;
+}
+
+-- ---- from the image that was opened
+
+loaded_from : (kind : PlaceKind) (seed : List ℕ) (old mid : Image) (count : ℕ) (v : View) → IsGood old → world_of mid ≡ world_of old → IsLoaded kind seed mid count v → IsLoaded kind seed old count v
+loaded_from kind seed old mid count v good same is = record {
+  firm = is.firm;
+  load = record { good = good; stands = subst (λ (w : World). Stands v.reads (loaded kind seed w count).world) same is.load.stands };
+  quiet = is.quiet;
+}
+
+pub loaded_on : {T : Type 0} → (kind : PlaceKind) (seed : List ℕ) (old mid : Image) (count : ℕ) (v : View) (result : Result T Status) → IsGood old → world_of mid ≡ world_of old
+    → OnOk result (IsLoaded kind seed mid count v) → OnOk result (IsLoaded kind seed old count v)
+loaded_on kind seed old mid count v (Ok x) good same is = loaded_from kind seed old mid count v good same is
+loaded_on kind seed old mid count v (Err why) good same is = tt
+
+-- what a crash leaves of opening and a load
+abbrev left_by : PlaceKind → List ℕ → ℕ → View → Image → List ℕ → Type 0
+left_by kind seed count old x f = (StandAlike old.reads x ⊎ ((n : ℕ) × (n ≤ count) × IsLoadedBy kind seed old.reads n x)) × (f ≡ old.sent)
+
+pub load_moments : (kind : PlaceKind) (seed : List ℕ) (count : ℕ) (old mid new : View) → IsGood old.reads → world_of mid.reads ≡ world_of old.reads → mid.sent ≡ old.sent
+    → LeavesOnly old mid (λ x f. StandAlike old.reads x × (f ≡ old.sent)) → LeavesRun kind seed count mid new
+    → LeavesOnly old new (λ x f. (StandAlike old.reads x ⊎ ((n : ℕ) × (n ≤ count) × IsLoadedBy kind seed old.reads n x)) × (f ≡ old.sent))
+load_moments kind seed count old mid new good same sent opening run =
+    joined old mid new (left_by kind seed count old) _ (weakened old mid _ (left_by kind seed count old) opening (λ x f left. (inl left.0, left.1))) run
+    (λ x f left. (
+      inr (left.0.0, left.0.1, record { good = good; stands = subst (λ (w : World). Stands x (loaded kind seed w left.0.0).world) same left.0.2 }),
+      left.1 ∙ sent,
+    ))
+
+-- where no request was carried out
+still_alike : (kind : PlaceKind) (seed : List ℕ) (old mid new : View) → IsGood old.reads → world_of mid.reads ≡ world_of old.reads → mid.sent ≡ old.sent
+    → LeavesOnly old mid (λ x f. StandAlike old.reads x × (f ≡ old.sent)) → LeavesRun kind seed 0 mid new → LeavesOnly old new (λ x f. StandAlike old.reads x × (f ≡ old.sent))
+still_alike kind seed old mid new good same sent opening run =
+    joined old mid new (λ x f. StandAlike old.reads x × (f ≡ old.sent)) _ opening run
+    (λ x f left.
+    let none : left.0.0 ≡ 0 = omega (arith, left.0.1) in
+    let here : Stands x (world_of mid.reads) = subst (λ (n : ℕ). Stands x (loaded kind seed (world_of mid.reads) n).world) none left.0.2 in
+    (alike_of old.reads x good (subst (λ (w : World). Stands x w) same here), left.1 ∙ sent))
+
+pub starved_alike : {T : Type 0} → (kind : PlaceKind) (seed : List ℕ) (old mid new : View) (result : Result T Status) → IsGood old.reads → world_of mid.reads ≡ world_of old.reads → mid.sent ≡ old.sent
+    → (IsFirm old → LeavesOnly old mid (λ x f. StandAlike old.reads x × (f ≡ old.sent))) → IfErr result (λ why. why ≡ status.NoMemory → LeavesRun kind seed 0 mid new)
+    → IfErr result (λ why. why ≡ status.NoMemory → IsFirm old → LeavesOnly old new (λ x f. StandAlike old.reads x × (f ≡ old.sent)))
+starved_alike kind seed old mid new (Ok x) good same sent opening run = tt
+starved_alike kind seed old mid new (Err why) good same sent opening run = λ e firm. still_alike kind seed old mid new good same sent (opening firm) (run e)
+
+-- ---- statuses
+
+stopped_judged : (image : Image) (why : Status) → IsStopped why → IsJudged image why × IsUnopened why
+stopped_judged image status.DeviceFault stops = (tt, tt)
+stopped_judged image status.NoMemory stops = (tt, tt)
+stopped_judged image status.Done stops = absurd stops
+stopped_judged image (status.NotImage reason) stops = absurd stops
+stopped_judged image status.Usage stops = absurd stops
+stopped_judged image status.SourceFault stops = absurd stops
+stopped_judged image status.PutFault stops = absurd stops
+stopped_judged image status.TooLong stops = absurd stops
+stopped_judged image status.Truncated stops = absurd stops
+stopped_judged image (status.RootDenied level) stops = absurd stops
+
+pub judged_on : {T : Type 0} → (image : Image) (result : Result T Status) → IfErr result IsStopped → IfErr result (IsJudged image)
+judged_on image (Ok x) stops = tt
+judged_on image (Err why) stops = (stopped_judged image why stops).0
+
+pub unopened_on : {T : Type 0} → (image : Image) (result : Result T Status) → IfErr result IsStopped → IfErr result IsUnopened
+unopened_on image (Ok x) stops = tt
+unopened_on image (Err why) stops = (stopped_judged image why stops).1
+
+-- nothing was loaded
+pub not_loaded : (why : Status) (kind : PlaceKind) (seed : List ℕ) (count : ℕ) (old new : View) → IsUnopened why → IsJudged old.reads why → new.sent ≡ old.sent → HasLoaded why kind seed count old new
+not_loaded (status.NotImage reason) kind seed count old new stops judged sent = (judged, sent)
+not_loaded status.DeviceFault kind seed count old new stops judged sent = sent
+not_loaded status.NoMemory kind seed count old new stops judged sent = sent
+not_loaded status.Done kind seed count old new stops judged sent = absurd stops
+not_loaded status.Usage kind seed count old new stops judged sent = absurd stops
+not_loaded status.SourceFault kind seed count old new stops judged sent = absurd stops
+not_loaded status.PutFault kind seed count old new stops judged sent = absurd stops
+not_loaded status.TooLong kind seed count old new stops judged sent = absurd stops
+not_loaded status.Truncated kind seed count old new stops judged sent = absurd stops
+not_loaded (status.RootDenied level) kind seed count old new stops judged sent = absurd stops
+
+-- ---- the line
+
+pub line_is : (kind : PlaceKind) (seed : List ℕ) (image : Image) (count : ℕ) (s : Summary) → IsSummary kind seed (world_of image) count s
+    → line_of (load_words s.count s.granted s.refused s.free s.pointers) ≡ load_line kind seed image count
+line_is kind seed image count s is =
+    ap (λ (n : ℕ). line_of (load_words n s.granted s.refused s.free s.pointers)) is.count_is
+    ∙ ap (λ (n : ℕ). line_of (load_words count n s.refused s.free s.pointers)) is.granted_are
+    ∙ ap (λ (n : ℕ). line_of (load_words count (grants (loaded_replies kind seed (world_of image) count)) n s.free s.pointers)) is.refused_are
+    ∙ ap (λ (n : ℕ). line_of (load_words count (grants (loaded_replies kind seed (world_of image) count)) (refusals (loaded_replies kind seed (world_of image) count)) n s.pointers)) is.free_is
+    ∙ ap (λ (n : ℕ). line_of (load_words count (grants (loaded_replies kind seed (world_of image) count)) (refusals (loaded_replies kind seed (world_of image) count)) (free_count (loaded kind seed (world_of image) count).world) n)) is.pointers_are
+
+pub loaded_still : (kind : PlaceKind) (seed : List ℕ) (image : Image) (count : ℕ) (mid new : View) → IsLoaded kind seed image count mid → new.reads ≡ mid.reads → new.loose ≡ mid.loose → IsLoaded kind seed image count new
+loaded_still kind seed image count mid new is reads loose = record {
+  firm = still_firm mid new is.firm loose;
+  load = subst (λ (x : Image). IsLoadedBy kind seed image count x) (sym reads) is.load;
+  quiet = subst (λ (x : Image). IsQuiet x) (sym reads) is.quiet;
+}
+
+pub line_moments : (kind : PlaceKind) (seed : List ℕ) (count : ℕ) (old mid new : View) → IsLoaded kind seed old.reads count mid → mid.sent ≡ old.sent
+    → LeavesOnly old mid (λ x f. (StandAlike old.reads x ⊎ ((n : ℕ) × (n ≤ count) × IsLoadedBy kind seed old.reads n x)) × (f ≡ old.sent))
+    → LeavesOnly mid new (IsLeftInPut (load_line kind seed old.reads count) mid) → LeavesOnly old new (IsLeftOfLoad kind seed count old)
+line_moments kind seed count old mid new is sent before putting =
+    put_over old mid new (load_line kind seed old.reads count) (left_by kind seed count old) (IsLeftOfLoad kind seed count old) is.firm before putting
+    (λ x f left. inl left)
+    (λ f part. inr (is.load, subst (λ (b : List ℕ). IsPart b (load_line kind seed old.reads count) f) sent part))

@@ -1,0 +1,16 @@
+use Rattle.std.proofs.Common.{◌∙◌, ap}
+use Rattle.tsd_model.specs.World.{World}
+use Rattle.tsd_core.proofs.AtLaws.{like_at}
+use Rattle.volume_laws.specs.Volume.{told_by, world_on}
+use Rattle.tsd_words.specs.Lines.{clean_line}
+use Rattle.image_runs.proofs.Saying.{clean_like}
+use Rattle.image_runs.proofs.check.judge.Goals as goal
+
+pub returns-in-Ok-clause-found : goal.returns-in-Ok-clause-found
+returns-in-Ok-clause-found g c told =
+    let mid = g.D.Device.view c.open_volume.new.dev in (
+      c.in-Ok.ensures.read told,
+      c.world_line.ensures
+          ∙ clean_like (told_by c.in-Ok.volume) (world_on mid) (like_at c.in-Ok.volume mid (c.in-Ok.ensures.at told))
+          ∙ ap (λ (w : World). clean_line w) (c.in-Ok.ensures.done told),
+    )

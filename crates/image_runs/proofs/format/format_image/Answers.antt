@@ -1,0 +1,66 @@
+use Rattle.std.proofs.Common.{◌≡◌, inl, ℕ, List, ◌++◌, ◌∙◌, ap, subst}
+use Rattle.tsd_model.specs.Run.{fresh_world}
+use Rattle.tsd_model.specs.declared.caps.CapPair.{CapPair}
+use Rattle.image_device.specs.View.{IsLeftInPut}
+use Rattle.image_device.specs.Runs.{LeavesOnly}
+use Rattle.image_device.proofs.Moments.{weakened}
+use Rattle.image_world.specs.Stands.{Stands}
+use Rattle.recovery.specs.Formatting.{IsFormatting}
+use Rattle.tsd_words.specs.Lines.{cap_lines}
+use Rattle.image_runs.specs.Sending.{IsCut}
+use Rattle.image_runs.proofs.Saying.{cut_from}
+use Rattle.image_runs.proofs.Formatted.{formatted_still, format_moments}
+use Rattle.image_runs.proofs.format.format_image.Goals as goal
+
+pub returns-in-Ok-put_all-clause-made : goal.returns-in-Ok-put_all-clause-made
+returns-in-Ok-put_all-clause-made g c told =
+    let old = g.P.Device.view c.args.port.now in
+    let mid = g.P.Device.view c.format.new.dev in
+    let new = g.P.Device.view c.put_all.new.port in
+    let geometry = c.args.words.now.geometry in
+    let text = c.as_slice.ensures.value ∙ c.cap_lines.ensures ∙ ap (λ (l : List CapPair). cap_lines 0 l) c.caps_of-caps.ensures.value in (
+      formatted_still c.args.words.now mid new (c.in-Ok.ensures.firm told) (subst (λ (l : List CapPair). Stands mid.reads (fresh_world geometry l)) c.caps_of-caps.ensures.value (c.in-Ok.ensures.done told))
+          (c.in-Ok.ensures.quiet told) (c.put_all.ensures.reads told) (c.put_all.ensures.loose told),
+      c.in-Ok-put_all.ensures.sent told ∙ ap (λ (b : List ℕ). b ++ c.as_slice.result.now) (c.format.ensures.sent told) ∙ ap (λ (t : List ℕ). old.sent ++ t) text,
+    )
+
+pub returns-in-Err-put_all-clause-made : goal.returns-in-Err-put_all-clause-made
+returns-in-Err-put_all-clause-made g c told =
+    let old = g.P.Device.view c.args.port.now in
+    let mid = g.P.Device.view c.format.new.dev in
+    let new = g.P.Device.view c.put_all.new.port in
+    let geometry = c.args.words.now.geometry in
+    let text = c.as_slice.ensures.value ∙ c.cap_lines.ensures ∙ ap (λ (l : List CapPair). cap_lines 0 l) c.caps_of-caps.ensures.value in (
+      formatted_still c.args.words.now mid new (c.in-Ok.ensures.firm told) (subst (λ (l : List CapPair). Stands mid.reads (fresh_world geometry l)) c.caps_of-caps.ensures.value (c.in-Ok.ensures.done told))
+          (c.in-Ok.ensures.quiet told) (c.put_all.ensures.reads told) (c.put_all.ensures.loose told),
+      subst (λ (t : List ℕ). IsCut old.sent t new.sent) text (cut_from old.sent mid.sent c.as_slice.result.now new.sent (c.format.ensures.sent told) (c.in-Err-put_all.ensures.part told)),
+    )
+
+pub returns-in-Ok-put_all-clause-any_moment : goal.returns-in-Ok-put_all-clause-any_moment
+returns-in-Ok-put_all-clause-any_moment g c told =
+    let old = g.P.Device.view c.args.port.now in
+    let mid = g.P.Device.view c.format.new.dev in
+    let new = g.P.Device.view c.put_all.new.port in
+    let geometry = c.args.words.now.geometry in
+    let text = c.as_slice.ensures.value ∙ c.cap_lines.ensures ∙ ap (λ (l : List CapPair). cap_lines 0 l) c.caps_of-caps.ensures.value in
+    format_moments c.args.words.now old mid new (c.in-Ok.ensures.firm told) (subst (λ (l : List CapPair). Stands mid.reads (fresh_world geometry l)) c.caps_of-caps.ensures.value (c.in-Ok.ensures.done told))
+    (c.format.ensures.sent told) (subst (λ (l : List CapPair). LeavesOnly old mid (λ x f. IsFormatting old (fresh_world geometry l) x f × (f ≡ old.sent))) c.caps_of-caps.ensures.value (c.format.ensures.any_moment told))
+    (subst (λ (t : List ℕ). LeavesOnly mid new (IsLeftInPut t mid)) text (c.put_all.ensures.any_moment told))
+
+pub returns-in-Err-put_all-clause-any_moment : goal.returns-in-Err-put_all-clause-any_moment
+returns-in-Err-put_all-clause-any_moment g c told =
+    let old = g.P.Device.view c.args.port.now in
+    let mid = g.P.Device.view c.format.new.dev in
+    let new = g.P.Device.view c.put_all.new.port in
+    let geometry = c.args.words.now.geometry in
+    let text = c.as_slice.ensures.value ∙ c.cap_lines.ensures ∙ ap (λ (l : List CapPair). cap_lines 0 l) c.caps_of-caps.ensures.value in
+    format_moments c.args.words.now old mid new (c.in-Ok.ensures.firm told) (subst (λ (l : List CapPair). Stands mid.reads (fresh_world geometry l)) c.caps_of-caps.ensures.value (c.in-Ok.ensures.done told))
+    (c.format.ensures.sent told) (subst (λ (l : List CapPair). LeavesOnly old mid (λ x f. IsFormatting old (fresh_world geometry l) x f × (f ≡ old.sent))) c.caps_of-caps.ensures.value (c.format.ensures.any_moment told))
+    (subst (λ (t : List ℕ). LeavesOnly mid new (IsLeftInPut t mid)) text (c.put_all.ensures.any_moment told))
+
+pub returns-in-Err-clause-any_moment : goal.returns-in-Err-clause-any_moment
+returns-in-Err-clause-any_moment g c told =
+    let old = g.P.Device.view c.args.port.now in
+    let mid = g.P.Device.view c.format.new.dev in
+    let geometry = c.args.words.now.geometry in
+    weakened old mid _ _ (subst (λ (l : List CapPair). LeavesOnly old mid (λ x f. IsFormatting old (fresh_world geometry l) x f × (f ≡ old.sent))) c.caps_of-caps.ensures.value (c.format.ensures.any_moment told)) (λ x f left. inl left)

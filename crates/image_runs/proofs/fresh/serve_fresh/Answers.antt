@@ -1,0 +1,48 @@
+use Rattle.std.proofs.Common.{◌≡◌, List, refl, sym, subst, append-nil}
+use Rattle.image_device.specs.Runs.{LeavesOnly}
+use Rattle.image_world.specs.Stands.{Stands}
+use Rattle.recovery.specs.Formatting.{IsFormatting}
+use Rattle.tsd_model.specs.Run.{fresh_world}
+use Rattle.tsd_model.specs.declared.caps.CapPair.{CapPair}
+use Rattle.image_runs.specs.Server.{disk_rules}
+use Rattle.serving.specs.Voice.{spoken_counted}
+use Rattle.serving.specs.Ran.{moments, taking}
+use Rattle.image_runs.specs.Fresh.{single_world}
+use Rattle.image_runs.proofs.FreshRuns.{ran_formatted, ran_unformatted}
+use Rattle.image_runs.proofs.fresh.serve_fresh.Goals as goal
+
+pub returns-in-Ok-clause-ran : goal.returns-in-Ok-clause-ran
+returns-in-Ok-clause-ran g c =
+    let old = g.P.Device.view c.args.port.now in
+    let mid = g.P.Device.view c.format.new.dev in
+    let new = g.P.Device.view c.serve_image.new.port in
+    let took = taking g.S.Source.told g.S.Source.taken g.S.Source.left_bytes g.S.Source.ended c.args.source.now c.serve_image.new.source in
+    let geometry = c.args.geometry.now in
+    ran_formatted c.serve_image.result g.R.Replies.voice g.R.Protocol.spelling c.args.place.now.kind (single_world geometry c.args.caps.now) c.args.limit took g.P.Device.told _ _ old mid new
+    (spoken_counted disk_rules g.R.Replies.voice (λ s q r t given. given.1) g.met.R.Replies.apart)
+    (λ told. record {
+      formatted = record {
+        stands = subst (λ (l : List CapPair). Stands mid.reads (fresh_world geometry l)) c.one_pair.ensures (c.in-Ok.ensures.done told);
+        quiet = c.in-Ok.ensures.quiet told;
+        firm = c.in-Ok.ensures.firm told;
+        sent = c.format.ensures.sent told;
+      };
+      leaves = subst (λ (l : List CapPair). LeavesOnly old mid (λ x f. IsFormatting old (fresh_world geometry l) x f × (f ≡ old.sent))) c.one_pair.ensures (c.format.ensures.any_moment told);
+      uses = c.format.ensures.uses;
+    })
+    c.serve_image.ensures.read
+    c.serve_image.ensures.ran
+
+pub returns-in-Err-clause-ran : goal.returns-in-Err-clause-ran
+returns-in-Err-clause-ran g c =
+    let old = g.P.Device.view c.args.port.now in
+    let new = g.P.Device.view c.format.new.dev in
+    let took = taking g.S.Source.told g.S.Source.taken g.S.Source.left_bytes g.S.Source.ended c.args.source.now c.args.source.now in
+    let geometry = c.args.geometry.now in
+    ran_unformatted g.R.Replies.voice g.R.Protocol.spelling c.args.place.now.kind (single_world geometry c.args.caps.now) c.args.limit took (moments g.P.Device.told g.P.Device.view c.args.port.now c.format.new.dev)
+    (spoken_counted disk_rules g.R.Replies.voice (λ s q r t given. given.1) g.met.R.Replies.apart)
+    (record { taken = λ tells. sym (append-nil _); left = λ tells. refl })
+    refl
+    c.format.ensures.sent
+    (λ told. subst (λ (l : List CapPair). LeavesOnly old new (λ x f. IsFormatting old (fresh_world geometry l) x f × (f ≡ old.sent))) c.one_pair.ensures (c.format.ensures.any_moment told))
+    c.format.ensures.uses

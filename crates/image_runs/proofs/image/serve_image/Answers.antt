@@ -1,0 +1,119 @@
+use Rattle.std.proofs.Common.{inl, inr, ℕ, [], refl, sym, ◌∙◌, ap, subst, append-nil, arith, lit<}
+use Rattle.std.specs.Prelude.{Err}
+use Rattle.image_device.specs.Counts.{Rose}
+use Rattle.tsd_words.specs.declared.status.Status.{Status}
+use Rattle.image_runs.specs.Server.{disk_rules, placed_on}
+use Rattle.serving.specs.Voice.{spoken_counted}
+use Rattle.image_runs.specs.Served.{start_of}
+use Rattle.image_runs.proofs.Started.{placed_at, ends_opened, ends_unopened, judged_by, not_of_source, not_of_put}
+use Rattle.image_runs.proofs.image.serve_image.Goals as goal
+
+pub serve_core-requires-clause-few : goal.serve_core-requires-clause-few
+serve_core-requires-clause-few g c = c.requires.few
+
+pub serve_core-requires-clause-fresh : goal.serve_core-requires-clause-fresh
+serve_core-requires-clause-fresh g c = c.requires.fresh
+
+pub serve_core-requires-clause-ready : goal.serve_core-requires-clause-ready
+serve_core-requires-clause-ready g c = c.in-Ok.ensures.ready
+
+pub serve_core-requires-clause-at : goal.serve_core-requires-clause-at
+serve_core-requires-clause-at g c = c.in-Ok.ensures.at
+
+pub array_drop-core-inside-requires : goal.array_drop-core-inside-requires
+array_drop-core-inside-requires g c = lit< tt
+
+pub returns-in-Ok-clause-read : goal.returns-in-Ok-clause-read
+returns-in-Ok-clause-read g c told =
+    let ran = c.serve_core.ensures.ran in
+    judged_by (g.P.Device.view c.args.port.now).reads c.serve_core.result g.R.Protocol.spelling c.args.limit ran.bytes _ ran.asked ran.these (c.in-Ok.ensures.read told)
+
+pub returns-in-Ok-clause-ran : goal.returns-in-Ok-clause-ran
+returns-in-Ok-clause-ran g c =
+    let ran = c.serve_core.ensures.ran in
+    let old = g.P.Device.view c.args.port.now in
+    let mid = g.P.Device.view c.open_core.new.dev in
+    let new = g.P.Device.view c.serve_core.new.port in
+    record {
+      bytes = ran.bytes;
+      came_in = ran.came_in;
+      asked = ran.asked;
+      these = inr ran.these;
+      final = placed_on c.args.place.now.kind c.serve_core.new.core new.reads;
+      ends = λ told.
+          ends_opened c.serve_core.result g.R.Replies.voice c.args.place.now.kind old mid new ran.asked _ _ _ (spoken_counted disk_rules g.R.Replies.voice (λ s q r t given. given.1) g.met.R.Replies.apart)
+          (placed_at c.args.place.now.kind c.in-Ok.core mid.reads _ (c.in-Ok.ensures.state told)) (c.in-Ok.ensures.settled told)
+          (record {
+            sent = c.open_core.ensures.sent told;
+            any_moment = c.open_core.ensures.any_moment told;
+            any_debt = c.open_core.ensures.any_debt told;
+            writes = c.in-Ok.ensures.paid told;
+          })
+          (ran.ends told)
+          (λ done.
+          let at = c.serve_core.ensures.at (λ fault. cc) told in
+          record {
+            firm = at.0;
+            stands = record { good = at.1.good; world = refl };
+            quiet = c.serve_core.ensures.closed done told;
+          });
+    }
+
+pub returns-in-Ok-clause-source_fault : goal.returns-in-Ok-clause-source_fault
+returns-in-Ok-clause-source_fault g c = c.serve_core.ensures.source_fault
+
+pub returns-in-Ok-clause-device_fault : goal.returns-in-Ok-clause-device_fault
+returns-in-Ok-clause-device_fault g c e = subst (λ (n : ℕ). Rose n (g.P.Device.view c.serve_core.new.port).faults) (c.in-Ok.ensures.faults.1 (λ e. cc)) (c.serve_core.ensures.device_fault e)
+
+pub returns-in-Ok-clause-put_fault : goal.returns-in-Ok-clause-put_fault
+returns-in-Ok-clause-put_fault g c e = subst (λ (n : ℕ). Rose n (g.P.Device.view c.serve_core.new.port).put_faults) c.open_core.ensures.works.put_faults (c.serve_core.ensures.put_fault e)
+
+pub returns-in-Ok-clause-no_source_fault : goal.returns-in-Ok-clause-no_source_fault
+returns-in-Ok-clause-no_source_fault g c = c.serve_core.ensures.no_source_fault
+
+pub returns-in-Ok-clause-no_device_fault : goal.returns-in-Ok-clause-no_device_fault
+returns-in-Ok-clause-no_device_fault g c other = c.serve_core.ensures.no_device_fault other ∙ c.in-Ok.ensures.faults.1 (λ e. cc)
+
+pub returns-in-Ok-clause-no_put_fault : goal.returns-in-Ok-clause-no_put_fault
+returns-in-Ok-clause-no_put_fault g c other = c.serve_core.ensures.no_put_fault other ∙ c.open_core.ensures.works.put_faults
+
+pub returns-in-Err-clause-read : goal.returns-in-Err-clause-read
+returns-in-Err-clause-read g c = c.in-Err.ensures.read
+
+pub returns-in-Err-clause-ran : goal.returns-in-Err-clause-ran
+returns-in-Err-clause-ran g c =
+    let old = g.P.Device.view c.args.port.now in
+    record {
+      bytes = [];
+      came_in = record { taken = λ tells. sym (append-nil _); left = λ tells. refl };
+      asked = [];
+      these = inl (record { why = c.in-Err.ensures.stops; untouched = refl; none = refl; sent = c.open_core.ensures.sent; alike = c.open_core.ensures.any_moment });
+      final = start_of c.args.place.now.kind old.reads;
+      ends = λ told.
+          ends_unopened c.in-Err.why g.R.Replies.voice c.args.place.now.kind old (g.P.Device.view c.open_core.new.dev) (spoken_counted disk_rules g.R.Replies.voice (λ s q r t given. given.1) g.met.R.Replies.apart)
+          c.in-Err.ensures.stops
+          (record {
+            sent = c.open_core.ensures.sent told;
+            any_moment = c.open_core.ensures.any_moment told;
+            any_debt = c.open_core.ensures.any_debt told;
+            writes = λ quiet. omega (arith, c.open_core.ensures.unwritten told quiet);
+          });
+    }
+
+pub returns-in-Err-clause-source_fault : goal.returns-in-Err-clause-source_fault
+returns-in-Err-clause-source_fault g c e = absurd (not_of_source c.in-Err.why c.in-Err.ensures.stops e)
+
+pub returns-in-Err-clause-device_fault : goal.returns-in-Err-clause-device_fault
+returns-in-Err-clause-device_fault g c e = c.in-Err.ensures.faults.0 (ap (λ (w : Status). Err w) e)
+
+pub returns-in-Err-clause-put_fault : goal.returns-in-Err-clause-put_fault
+returns-in-Err-clause-put_fault g c e = absurd (not_of_put c.in-Err.why c.in-Err.ensures.stops e)
+
+pub returns-in-Err-clause-no_source_fault : goal.returns-in-Err-clause-no_source_fault
+returns-in-Err-clause-no_source_fault g c other = refl
+
+pub returns-in-Err-clause-no_device_fault : goal.returns-in-Err-clause-no_device_fault
+returns-in-Err-clause-no_device_fault g c other = c.in-Err.ensures.faults.1 (λ e. other (cc))
+
+pub returns-in-Err-clause-no_put_fault : goal.returns-in-Err-clause-no_put_fault
+returns-in-Err-clause-no_put_fault g c other = c.open_core.ensures.works.put_faults

@@ -1,0 +1,6 @@
+use Rattle.image_world.specs.Stands.{Stands}
+use Rattle.serving.proofs.ModelRuns.{model_run}
+use Rattle.image_runs.proofs.laws.runs_are_the_disks.Goals as goal
+
+pub returns : goal.returns
+returns c = model_run Stands

@@ -1,0 +1,23 @@
+use Rattle.std.proofs.Common.{◌≡◌, ◌+◌}
+use Rattle.image_world.specs.Stands.{world_of}
+use Rattle.load_gen.specs.Load.{load_of}
+use Rattle.tsd_core.specs.Core.{IsCoreAt, IsCoreReady, state_on, told_world}
+use Rattle.volume_laws.specs.Writes.{Works}
+use Rattle.image_runs.specs.Applying.{HasApplied, LeavesRun}
+use Rattle.image_runs.proofs.load.apply_all.Given as goal
+
+abbrev pub invariant-loop-number : goal.invariant-loop-number
+invariant-loop-number g l =
+    let start = g.D.Device.view l.initial.dev in
+    let now = g.D.Device.view l.dev in
+    record {
+      ready : IsCoreReady l.core;
+      at : g.D.Device.told → IsCoreAt l.core now;
+      applied : g.D.Device.told → HasApplied l.place.kind l.load.seed (world_of start.reads) l._number (state_on l.core now.reads) l.tally.granted l.tally.refused;
+      one : l.tally.granted + l.tally.refused ≡ l._number;
+      draws : l.draws ≡ load_of l.load.seed (told_world l.initial.core).geometry l._number;
+      sent : g.D.Device.told → now.sent ≡ start.sent;
+      moments : g.D.Device.told → LeavesRun l.place.kind l.load.seed l._number start now;
+      works : Works start now;
+      faults : now.faults ≡ start.faults;
+    }

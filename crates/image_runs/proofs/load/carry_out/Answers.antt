@@ -1,0 +1,51 @@
+use Rattle.std.proofs.Common.{◌≡◌, inl, sym, subst}
+use Rattle.std.specs.Prelude.{ℕ, IfOk}
+use Rattle.tsd_model.specs.World.{World}
+use Rattle.image_device.specs.Counts.{CountsFaultOf}
+use Rattle.image_device.proofs.Moments.{weakened}
+use Rattle.volume_laws.specs.Volume.{Volume}
+use Rattle.volume_laws.specs.Volume.{IsVolumeAt}
+use Rattle.tsd_core.proofs.AtLaws.{at_core}
+use Rattle.tsd_words.specs.declared.status.Status.TheVariants as status
+use Rattle.image_runs.specs.Applying.{IsSummary}
+use Rattle.image_runs.proofs.Loaded.{loaded_on, load_moments, starved_alike, judged_on, unopened_on}
+use Rattle.image_runs.proofs.load.carry_out.Goals as goal
+
+pub returns-in-Ok-clause-loaded : goal.returns-in-Ok-clause-loaded
+returns-in-Ok-clause-loaded g c told =
+    let old = g.D.Device.view c.args.dev.now in
+    let mid = g.D.Device.view c.open_volume.new.dev in
+    loaded_on c.args.place.now.kind c.args.load.now.seed old.reads mid.reads c.args.load.now.count (g.D.Device.view c.run.new.dev) c.run.result (c.in-Ok.ensures.read told) (c.in-Ok.ensures.done told) (c.run.ensures.loaded told)
+
+pub returns-in-Ok-clause-summary : goal.returns-in-Ok-clause-summary
+returns-in-Ok-clause-summary g c told =
+    subst (λ (w : World). IfOk c.run.result (λ s. IsSummary c.args.place.now.kind c.args.load.now.seed w c.args.load.now.count s)) (c.in-Ok.ensures.done told) (c.run.ensures.summary told)
+
+pub returns-in-Ok-clause-judged : goal.returns-in-Ok-clause-judged
+returns-in-Ok-clause-judged g c told = judged_on (g.D.Device.view c.args.dev.now).reads c.run.result c.run.ensures.stops
+
+pub returns-in-Ok-clause-stops : goal.returns-in-Ok-clause-stops
+returns-in-Ok-clause-stops g c = unopened_on (g.D.Device.view c.args.dev.now).reads c.run.result c.run.ensures.stops
+
+pub returns-in-Ok-clause-any_moment : goal.returns-in-Ok-clause-any_moment
+returns-in-Ok-clause-any_moment g c told firm =
+    load_moments c.args.place.now.kind c.args.load.now.seed c.args.load.now.count (g.D.Device.view c.args.dev.now) (g.D.Device.view c.open_volume.new.dev) (g.D.Device.view c.run.new.dev)
+    (c.in-Ok.ensures.read told) (c.in-Ok.ensures.done told) (c.open_volume.ensures.sent told) (c.open_volume.ensures.any_moment told firm) (c.run.ensures.any_moment told)
+
+pub returns-in-Ok-clause-no_memory : goal.returns-in-Ok-clause-no_memory
+returns-in-Ok-clause-no_memory g c told =
+    starved_alike c.args.place.now.kind c.args.load.now.seed (g.D.Device.view c.args.dev.now) (g.D.Device.view c.open_volume.new.dev) (g.D.Device.view c.run.new.dev) c.run.result
+    (c.in-Ok.ensures.read told) (c.in-Ok.ensures.done told) (c.open_volume.ensures.sent told) (c.open_volume.ensures.any_moment told) (c.run.ensures.no_memory told)
+
+pub returns-in-Err-clause-any_moment : goal.returns-in-Err-clause-any_moment
+returns-in-Err-clause-any_moment g c told firm =
+    weakened (g.D.Device.view c.args.dev.now) (g.D.Device.view c.open_volume.new.dev) _ _ (c.open_volume.ensures.any_moment told firm) (λ x f left. (inl left.0, left.1))
+
+pub run-requires-clause-at : goal.run-requires-clause-at
+run-requires-clause-at g c told =
+    let mid = g.D.Device.view c.open_volume.new.dev in
+    at_core c.new-core.result mid (subst (λ (v : Volume). IsVolumeAt v mid) (sym c.new-core.ensures.volume) (c.in-Ok.ensures.at told))
+
+pub returns-in-Ok-clause-faults : goal.returns-in-Ok-clause-faults
+returns-in-Ok-clause-faults g c =
+    subst (λ (n : ℕ). CountsFaultOf status.DeviceFault c.run.result n (g.D.Device.view c.run.new.dev).faults) (c.in-Ok.ensures.faults.1 (λ e. cc)) c.run.ensures.faults

@@ -1,0 +1,30 @@
+use Rattle.std.proofs.Common.{◌≡◌, true, sym, subst}
+use Rattle.serving.specs.Ran.{Ran, moments, taking}
+use Rattle.serving.specs.Voice.{spoken}
+use Rattle.tsd_core.specs.Core.{Core, IsCoreAt, IsCoreReady, state_on}
+use Rattle.volume_laws.specs.Writes.{due}
+use Rattle.image_runs.specs.Server.{disk_rules, disk_work, placed_on}
+use Rattle.image_runs.proofs.Kept.{ran_here}
+use Rattle.image_runs.proofs.run.serve_core.Goals as goal
+
+pub returns-clause-ran : goal.returns-clause-ran
+returns-clause-ran g c =
+    let old = g.P.Device.view c.args.port.now in
+    let new = g.P.Device.view c.serve.new.port in
+    let start = placed_on c.args.place.now.kind c.args.core.now old.reads in
+    let kind = c.args.place.now.kind in
+    let took = taking g.S.Source.told g.S.Source.taken g.S.Source.left_bytes g.S.Source.ended c.args.source.now c.serve.new.source in
+    let port = moments g.P.Device.told g.P.Device.view c.args.port.now c.serve.new.port in
+    let here = ran_here c.serve.result g.R.Replies.voice g.R.Protocol.spelling start c.serve.new.server.place.now.kind (state_on c.serve.new.server.core.now new.reads) c.args.limit took (due c.args.core.now.volume) port c.serve.ensures.ran in
+    subst
+    (λ (d : Core). Ran c.serve.result (spoken disk_rules g.R.Replies.voice) disk_work g.R.Protocol.spelling start (placed_on kind d new.reads) c.args.limit took (due c.args.core.now.volume) port)
+    (sym (c.core-1.given.1 (sym c.serve.ensures.lender))) here
+
+pub returns-clause-ready : goal.returns-clause-ready
+returns-clause-ready g c other = subst (λ (d : Core). IsCoreReady d) (sym (c.core-1.given.1 (sym c.serve.ensures.lender))) (c.serve.ensures.ready other)
+
+pub returns-clause-spent : goal.returns-clause-spent
+returns-clause-spent g c failed = subst (λ (d : Core). d.volume.is_spent ≡ true) (sym (c.core-1.given.1 (sym c.serve.ensures.lender))) (c.serve.ensures.spent failed)
+
+pub returns-clause-at : goal.returns-clause-at
+returns-clause-at g c other told = subst (λ (d : Core). IsCoreAt d (g.P.Device.view c.serve.new.port)) (sym (c.core-1.given.1 (sym c.serve.ensures.lender))) (c.serve.ensures.at other told)

@@ -1,0 +1,36 @@
+use Rattle.std.proofs.Common.{inl}
+use Rattle.image_runs.specs.Opened.{IsJudged, IsUnopened}
+use Rattle.image_device.proofs.Moments.{weakened}
+use Rattle.image_runs.proofs.Upgraded.{by_device, counted_since, not_for_memory, upgrade_moments, upgraded_there}
+use Rattle.image_runs.proofs.upgrade.upgrade.Goals as goal
+
+pub returns-in-Ok-clause-upgraded : goal.returns-in-Ok-clause-upgraded
+returns-in-Ok-clause-upgraded g c told =
+    upgraded_there (g.D.Device.view c.args.dev.now) (g.D.Device.view c.open_volume.new.dev) (g.D.Device.view c.upgrade_at.new.dev) c.upgrade_at.new.volume c.upgrade_at.result
+    (c.in-Ok.ensures.read told) (c.in-Ok.ensures.done told) (c.upgrade_at.ensures.at told) (c.upgrade_at.ensures.done told) (c.upgrade_at.ensures.closed told) (c.upgrade_at.ensures.erased told)
+
+pub returns-in-Ok-clause-any_moment : goal.returns-in-Ok-clause-any_moment
+returns-in-Ok-clause-any_moment g c told firm =
+    upgrade_moments (g.D.Device.view c.args.dev.now) (g.D.Device.view c.open_volume.new.dev) (g.D.Device.view c.upgrade_at.new.dev) (c.in-Ok.ensures.read told) (c.in-Ok.ensures.done told)
+    (c.open_volume.ensures.sent told) (c.open_volume.ensures.any_moment told firm) (c.upgrade_at.ensures.any_moment told)
+
+pub returns-in-Err-clause-any_moment : goal.returns-in-Err-clause-any_moment
+returns-in-Err-clause-any_moment g c told firm =
+    weakened (g.D.Device.view c.args.dev.now) (g.D.Device.view c.open_volume.new.dev) _ _ (c.open_volume.ensures.any_moment told firm) (λ x f left. (inl left.0, left.1))
+
+pub returns-in-Ok-clause-no_memory : goal.returns-in-Ok-clause-no_memory
+returns-in-Ok-clause-no_memory g c told = not_for_memory _ c.upgrade_at.result c.upgrade_at.ensures.failed
+
+pub returns-in-Err-clause-no_memory : goal.returns-in-Err-clause-no_memory
+returns-in-Err-clause-no_memory g c told memory = c.open_volume.ensures.any_moment told
+
+pub returns-in-Ok-clause-judged : goal.returns-in-Ok-clause-judged
+returns-in-Ok-clause-judged g c told = by_device (IsJudged (g.D.Device.view c.args.dev.now).reads) c.upgrade_at.result c.upgrade_at.ensures.failed tt
+
+pub returns-in-Ok-clause-stops : goal.returns-in-Ok-clause-stops
+returns-in-Ok-clause-stops g c = by_device IsUnopened c.upgrade_at.result c.upgrade_at.ensures.failed tt
+
+pub returns-in-Ok-clause-faults : goal.returns-in-Ok-clause-faults
+returns-in-Ok-clause-faults g c =
+    counted_since (g.D.Device.view c.args.dev.now).faults (g.D.Device.view c.open_volume.new.dev).faults (g.D.Device.view c.upgrade_at.new.dev).faults c.upgrade_at.result
+    (c.in-Ok.ensures.faults.1 (λ e. cc)) c.upgrade_at.ensures.failed c.upgrade_at.ensures.faults

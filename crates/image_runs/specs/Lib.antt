@@ -1,0 +1,12 @@
+pub mod Server
+pub mod StandsLaws
+pub mod Laws
+pub mod Opened
+pub mod Served
+pub mod Fresh
+pub mod Sending
+pub mod Check
+pub mod Format
+pub mod Upgrade
+pub mod Load
+pub mod Applying

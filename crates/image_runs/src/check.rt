@@ -1,0 +1,79 @@
+//! `check`: how large the world of an image is, or what is wrong with it.
+
+ghost use Rattle.std.specs.Prelude.{◌≡◌, ◌≢◌, IfOk, IfErr, OnOk};
+ghost use Rattle.image_device.specs.Counts.{CountsFaultOf, Rose};
+ghost use Rattle.image_device.specs.Runs.{IsFirm, LeavesOnly};
+ghost use Rattle.recovery.specs.Opening.{StandAlike};
+ghost use Rattle.volume_laws.specs.Volume.{IsVolumeReady, told_by};
+ghost use Rattle.volume_laws.specs.Writes.{Works};
+ghost use Rattle.tsd_words.specs.Lines.{clean_line};
+ghost use Rattle.image_runs.specs.Sending.{IsEnding, IsStopped};
+ghost use Rattle.image_runs.specs.Check.{HasChecked, IsFinding, IsCheckFound, IsSaying};
+
+use crate::opening::open_volume;
+use image_device::{Device, Port, put_all};
+use script_text::OutBuf;
+use std::alloc::Global;
+use tsd_words::{Status, clean_line, image_line};
+use volume::Volume;
+
+/// Opens an image and puts one line: how many blocks of its world are live and how many free, and how many pointers are
+/// held; or, where it stands for no world, the first test that it fails.
+///
+/// The status is Done or NotImage by what was found, DeviceFault or PutFault where that count rose, or NoMemory where
+/// none was found to open the image.
+pub fn check_image<P: Port>(alloc: Global, port: &mut P) -> Status
+    ensures ending { IsEnding result }
+    ensures said { P.told → HasChecked result (P.view port.old).reads (P.view port.old).sent (P.view port.new).sent }
+    // A crash at any moment leaves an image of the same world, or of none where the image stood for none.
+    ensures any_moment { P.told → IsFirm (P.view port.old) → LeavesOnly (P.view port.old) (P.view port.new)
+        (λ x f. StandAlike (P.view port.old).reads x × IsSaying (P.view port.old).reads (P.view port.old).sent f) }
+    // A count of faults rose only where the status is that fault's.
+    ensures device_fault { result ≡ Status.DeviceFault → Rose (P.view port.old).faults (P.view port.new).faults }
+    ensures put_fault { result ≡ Status.PutFault → Rose (P.view port.old).put_faults (P.view port.new).put_faults }
+    ensures no_device_fault { result ≢ Status.DeviceFault → (P.view port.new).faults ≡ (P.view port.old).faults }
+    ensures no_put_fault { result ≢ Status.PutFault → (P.view port.new).put_faults ≡ (P.view port.old).put_faults }
+{
+    let mut line = OutBuf::new();
+    match judge(alloc, port, &mut line) {
+        Ok(found) => match put_all(port, line.as_slice()) {
+            Ok(()) => found,
+            Err(_) => Status::PutFault,
+        },
+        Err(why) => why,
+    }
+}
+
+/// Opens an image. The line is left that says what was found.
+fn judge<D: Device>(alloc: Global, dev: &mut D, line: &mut OutBuf) -> Result<Status, Status>
+    ensures finding { IfOk result IsFinding }
+    ensures failing { IfErr result IsStopped }
+    ensures found { D.told → IfOk result (λ s. IsCheckFound (D.view dev.old).reads s line.new) }
+    ensures sent { D.told → (D.view dev.new).sent ≡ (D.view dev.old).sent }
+    ensures any_moment { D.told → IsFirm (D.view dev.old) → LeavesOnly (D.view dev.old) (D.view dev.new)
+        (λ x f. StandAlike (D.view dev.old).reads x × (f ≡ (D.view dev.old).sent)) }
+    ensures works { Works (D.view dev.old) (D.view dev.new) }
+    ensures faults { CountsFaultOf Status.DeviceFault result (D.view dev.old).faults (D.view dev.new).faults }
+{
+    match open_volume(alloc, dev) {
+        Ok(volume) => {
+            *line = world_line(&volume);
+            Ok(Status::Done)
+        }
+        Err(Status::NotImage(fault)) => {
+            image_line(&fault, line);
+            Ok(Status::NotImage(fault))
+        }
+        Err(why) => Err(why),
+    }
+}
+
+/// The line of a volume's world.
+fn world_line(volume: &Volume) -> OutBuf
+    requires { IsVolumeReady volume.now }
+    ensures { result ≡ clean_line (told_by volume.now) }
+{
+    let size = volume.geometry();
+    let free = volume.free_count();
+    clean_line(size.blocks - free, free, volume.pointers())
+}

@@ -1,0 +1,59 @@
+//! `format`: a disk made anew, with capabilities of a seed.
+
+ghost use Rattle.std.specs.Prelude.{◌≡◌, ◌≢◌, ◌≤◌, length, take};
+ghost use Rattle.tsd_model.specs.Geometry.{IsLawful};
+ghost use Rattle.image_device.specs.Counts.{Rose};
+ghost use Rattle.image_layout.specs.declared.fault.ImageFault.{ImageFault};
+ghost use Rattle.image_device.specs.Runs.{LeavesOnly};
+ghost use Rattle.image_runs.specs.Sending.{IsEnding};
+ghost use Rattle.image_runs.specs.Format.{HasFormatted, IsLeftOfFormat, caps_of};
+
+use cap_store::seed_caps;
+use image_device::{Port, put_all};
+use recovery::format;
+use tsd_model::CapList;
+use tsd_words::{Format, Status, cap_lines};
+
+/// Formats an image of the words' size, with the capabilities that the seed gives, and puts one line for each primary
+/// block: its number, and its capabilities to read and to write. It takes no memory.
+///
+/// The status is Done, or DeviceFault or PutFault where that count rose.
+pub fn format_image<P: Port>(port: &mut P, words: &Format) -> Status
+    requires lawful { IsLawful words.now.geometry }
+    ensures ending { IsEnding result }
+    // No image is opened, and no memory taken.
+    ensures image { (why : ImageFault) → result ≢ Status.NotImage why }
+    ensures memory { result ≢ Status.NoMemory }
+    ensures made { P.told → HasFormatted result words.now (P.view port.old) (P.view port.new) }
+    // A crash at any moment leaves what formatting may, and wherever a byte was sent the fresh world.
+    ensures any_moment { P.told → LeavesOnly (P.view port.old) (P.view port.new) (IsLeftOfFormat words.now
+        (P.view port.old)) }
+    // A count of faults rose only where the status is that fault's.
+    ensures device_fault { result ≡ Status.DeviceFault → Rose (P.view port.old).faults (P.view port.new).faults }
+    ensures put_fault { result ≡ Status.PutFault → Rose (P.view port.old).put_faults (P.view port.new).put_faults }
+    ensures no_device_fault { result ≢ Status.DeviceFault → (P.view port.new).faults ≡ (P.view port.old).faults }
+    ensures no_put_fault { result ≢ Status.PutFault → (P.view port.new).put_faults ≡ (P.view port.old).put_faults }
+{
+    let caps = caps_of(words);
+    match format(port, &words.geometry, &caps) {
+        Ok(()) => match put_all(port, cap_lines(&caps).as_slice()) {
+            Ok(()) => Status::Done,
+            Err(_) => Status::PutFault,
+        },
+        Err(_) => Status::DeviceFault,
+    }
+}
+
+/// The capabilities of the primary blocks.
+fn caps_of(words: &Format) -> CapList
+    requires { IsLawful words.now.geometry }
+    ensures value { result ≡ caps_of words.now }
+    ensures each { length result ≡ words.now.geometry.primaries }
+{
+    let all = seed_caps(&words.seed);
+    let mut caps = CapList::new();
+    for pair in &all.as_slice()[..words.geometry.primaries as usize] {
+        let _fits = caps.push(*pair);
+    }
+    caps
+}

@@ -1,0 +1,62 @@
+//! One run over an image that is formatted first.
+
+ghost use Rattle.std.specs.Prelude.{◌≡◌, ◌≢◌, ◌≤◌, ◌∷◌, []};
+ghost use Rattle.image_device.specs.Counts.{Rose};
+ghost use Rattle.image_runs.specs.Fresh.{FreshRan, single_world};
+ghost use Rattle.serving.specs.Ran.{moments, taking};
+ghost use Rattle.tsd_model.specs.Geometry.{IsLawful};
+
+use crate::image::serve_image;
+use image_device::{Port, Source};
+use place_policy::Placement;
+use recovery::format;
+use serving::{INPUT_MAX, Protocol, Replies};
+use std::alloc::Global;
+use tsd_model::{CapList, CapPair, Geometry, Request};
+use tsd_words::Status;
+
+/// Formats an image with one primary block, of these capabilities, and then serves the requests of an input until it
+/// ends, as [`serve_image`] does.
+///
+/// The status is DeviceFault where that count rose, NoMemory where none was found to open the image, or else how the
+/// loop ended: Done, SourceFault or PutFault where that count rose, TooLong, or Truncated.
+pub fn serve_fresh<S: Source, P: Port, R: Protocol<Request = Request> + Replies>(
+    alloc: Global,
+    geometry: &Geometry,
+    caps: &CapPair,
+    place: &Placement,
+    protocol: &mut R,
+    source: &mut S,
+    port: &mut P,
+    limit: u64,
+) -> Status
+    requires lawful { IsLawful geometry.now }
+    requires single { geometry.now.primaries ≡ 1 }
+    requires few { limit ≤ INPUT_MAX }
+    requires fresh { R.was_fed [] protocol.old }
+    // What came in and what was sent, by status; what a crash at any moment may have left; and what the disk is after
+    // Done.
+    ensures ran { FreshRan result R.voice R.spelling place.now.kind (single_world geometry.now caps.now) limit
+        (taking S.told S.taken S.left_bytes S.ended source.old source.new) (moments P.told P.view port.old port.new) }
+    // A count of faults rose only where the status is that fault's.
+    ensures source_fault { result ≡ Status.SourceFault → Rose (S.faults source.old) (S.faults source.new) }
+    ensures device_fault { result ≡ Status.DeviceFault → Rose (P.view port.old).faults (P.view port.new).faults }
+    ensures put_fault { result ≡ Status.PutFault → Rose (P.view port.old).put_faults (P.view port.new).put_faults }
+    ensures no_source_fault { result ≢ Status.SourceFault → S.faults source.new ≡ S.faults source.old }
+    ensures no_device_fault { result ≢ Status.DeviceFault → (P.view port.new).faults ≡ (P.view port.old).faults }
+    ensures no_put_fault { result ≢ Status.PutFault → (P.view port.new).put_faults ≡ (P.view port.old).put_faults }
+{
+    match format(port, geometry, &one_pair(caps)) {
+        Ok(()) => serve_image(alloc, place, protocol, source, port, limit),
+        Err(_) => Status::DeviceFault,
+    }
+}
+
+/// A list of one pair.
+fn one_pair(caps: &CapPair) -> CapList
+    ensures { result ≡ caps.now ∷ [] }
+{
+    let mut list = CapList::new();
+    let _fits = list.push(*caps);
+    list
+}

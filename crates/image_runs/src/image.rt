@@ -1,0 +1,52 @@
+//! One run over an image.
+
+ghost use Rattle.std.specs.Prelude.{◌≡◌, ◌≢◌, ◌≤◌, []};
+ghost use Rattle.image_device.specs.Counts.{Rose};
+ghost use Rattle.serving.specs.Ran.{moments, taking};
+ghost use Rattle.image_runs.specs.Opened.{IsJudged};
+ghost use Rattle.image_runs.specs.Served.{ImageRan};
+
+use crate::opening::open_core;
+use crate::run::serve_core;
+use image_device::{Port, Source};
+use place_policy::Placement;
+use serving::{INPUT_MAX, Protocol, Replies};
+use std::alloc::Global;
+use tsd_model::Request;
+use tsd_words::Status;
+
+/// Opens an image and serves the requests of an input until it ends, with no session open at the start. Free blocks are
+/// taken by `place`, and at most `limit` bytes are served.
+///
+/// The status is NotImage where the image stands for no world, NoMemory where none was found to open it, DeviceFault
+/// where that count rose, or else how the loop ended: Done, SourceFault or PutFault where that count rose, TooLong, or
+/// Truncated.
+#[tactic(none)]
+pub fn serve_image<S: Source, P: Port, R: Protocol<Request = Request> + Replies>(
+    alloc: Global,
+    place: &Placement,
+    protocol: &mut R,
+    source: &mut S,
+    port: &mut P,
+    limit: u64,
+) -> Status
+    requires few { limit ≤ INPUT_MAX }
+    requires fresh { R.was_fed [] protocol.old }
+    ensures read { P.told → IsJudged (P.view port.old).reads result }
+    // What came in and what was sent, by status; what a crash at any moment may have left; and what the disk is after
+    // Done.
+    ensures ran { ImageRan result R.voice R.spelling place.now.kind limit
+        (taking S.told S.taken S.left_bytes S.ended source.old source.new) (moments P.told P.view port.old port.new) }
+    // A count of faults rose only where the status is that fault's.
+    ensures source_fault { result ≡ Status.SourceFault → Rose (S.faults source.old) (S.faults source.new) }
+    ensures device_fault { result ≡ Status.DeviceFault → Rose (P.view port.old).faults (P.view port.new).faults }
+    ensures put_fault { result ≡ Status.PutFault → Rose (P.view port.old).put_faults (P.view port.new).put_faults }
+    ensures no_source_fault { result ≢ Status.SourceFault → S.faults source.new ≡ S.faults source.old }
+    ensures no_device_fault { result ≢ Status.DeviceFault → (P.view port.new).faults ≡ (P.view port.old).faults }
+    ensures no_put_fault { result ≢ Status.PutFault → (P.view port.new).put_faults ≡ (P.view port.old).put_faults }
+{
+    match open_core(alloc, port) {
+        Ok(mut core) => serve_core(&mut core, place, protocol, source, port, limit),
+        Err(why) => why,
+    }
+}

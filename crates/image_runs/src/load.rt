@@ -1,0 +1,236 @@
+//! `load`: the requests of a seed, carried out.
+
+ghost use Rattle.std.specs.Prelude.{◌≡◌, ◌≢◌, ℕ, ◌+◌, ◌<◌, ◌≤◌, ◌⊎◌, ◌^◌, IfOk};
+ghost use Rattle.std.specs.Prelude.{OnOk, OnErr, IfErr};
+ghost use Rattle.image_device.specs.Counts.{CountsFaultOf, Rose};
+ghost use Rattle.image_device.specs.Runs.{IsFirm, LeavesOnly};
+ghost use Rattle.image_world.specs.Stands.{world_of};
+ghost use Rattle.tsd_model.specs.Run.{at_rest};
+ghost use Rattle.load_gen.specs.Load.{load_of};
+ghost use Rattle.recovery.specs.Opening.{StandAlike};
+ghost use Rattle.tsd_model.specs.Run.{IsAnswer};
+ghost use Rattle.volume_laws.specs.Moments.{LeavesEither};
+ghost use Rattle.volume_laws.specs.Writes.{Works};
+ghost use Rattle.tsd_core.specs.Applying.{next_world};
+ghost use Rattle.tsd_core.specs.Core.{IsCoreAt, IsCoreReady, state_on, told_world};
+ghost use Rattle.tsd_model.specs.declared.replies.Reply.TheVariants as replied;
+ghost use Rattle.image_runs.specs.Sending.{IsEnding, IsStopped};
+ghost use Rattle.image_runs.specs.Load.{HasLoaded, IsLeftOfLoad, IsLoaded, IsLoadedBy};
+ghost use Rattle.image_runs.specs.Applying.{HasApplied, IsNext, IsSummary, LeavesRun, more_granted, more_refused};
+ghost use Rattle.image_runs.specs.Opened.{IsJudged, IsUnopened};
+
+use crate::opening::open_volume;
+use image_device::{Device, Failed, Port, put_all};
+use load_gen::LoadGen;
+use place_policy::Placement;
+use std::alloc::Global;
+use tsd_core::Core;
+use tsd_model::{Reply, Request};
+use tsd_words::{Load, Status, Summary, load_line};
+
+/// How many requests were granted and how many refused.
+#[derive(Clone, Copy)]
+struct Tally {
+    granted: u32,
+    refused: u32,
+}
+
+impl Tally {
+    /// Counts a reply. Want of memory is none.
+    fn count(&mut self, reply: &Reply) -> Result<(), Status>
+        requires { self.old.granted + self.old.refused < 2 ^ 31 }
+        ensures granted { OnOk result (self.new.granted ≡ self.old.granted + more_granted reply.now) }
+        ensures refused { OnOk result (self.new.refused ≡ self.old.refused + more_refused reply.now) }
+        ensures one { OnOk result (self.new.granted + self.new.refused ≡ self.old.granted + self.old.refused + 1) }
+        ensures memory { OnOk result (reply.now ≢ replied.NoMemory) }
+        ensures none { IfErr result (λ why. (why ≡ Status.NoMemory) × (reply.now ≡ replied.NoMemory)) }
+    {
+        match reply {
+            Reply::NoMemory => return Err(Status::NoMemory),
+            Reply::Refused(_) => self.refused += 1,
+            _ => self.granted += 1,
+        }
+        Ok(())
+    }
+}
+
+/// Opens an image, carries out the first COUNT requests of the seed, with no session open at the start, does what is
+/// left to be done, and puts one line: how many were granted and how many refused, and how many blocks are free and
+/// pointers held in the end. Free blocks are taken by `place`.
+///
+/// The status is Done, NotImage where the image stands for no world, DeviceFault or PutFault where that count rose, or
+/// NoMemory where none was found to open the image or its session.
+pub fn load_image<P: Port>(alloc: Global, load: &Load, place: &Placement, port: &mut P) -> Status
+    requires few { load.now.count ≤ 200000 }
+    ensures ending { IsEnding result }
+    ensures loaded { P.told → HasLoaded result place.now.kind load.now.seed load.now.count (P.view port.old)
+        (P.view port.new) }
+    // A crash at any moment leaves a world of the run of the requests, and wherever a byte was sent the last one.
+    ensures any_moment { P.told → IsFirm (P.view port.old) → LeavesOnly (P.view port.old) (P.view port.new)
+        (IsLeftOfLoad place.now.kind load.now.seed load.now.count (P.view port.old)) }
+    // Without memory no request is carried out.
+    ensures no_memory { P.told → result ≡ Status.NoMemory → IsFirm (P.view port.old)
+        → LeavesOnly (P.view port.old) (P.view port.new) (λ x f. StandAlike (P.view port.old).reads x
+        × (f ≡ (P.view port.old).sent)) }
+    // A count of faults rose only where the status is that fault's.
+    ensures device_fault { result ≡ Status.DeviceFault → Rose (P.view port.old).faults (P.view port.new).faults }
+    ensures put_fault { result ≡ Status.PutFault → Rose (P.view port.old).put_faults (P.view port.new).put_faults }
+    ensures no_device_fault { result ≢ Status.DeviceFault → (P.view port.new).faults ≡ (P.view port.old).faults }
+    ensures no_put_fault { result ≢ Status.PutFault → (P.view port.new).put_faults ≡ (P.view port.old).put_faults }
+{
+    match carry_out(alloc, load, place, port) {
+        Ok(summary) => match put_all(port, load_line(&summary).as_slice()) {
+            Ok(()) => Status::Done,
+            Err(_) => Status::PutFault,
+        },
+        Err(why) => why,
+    }
+}
+
+/// Opens an image and carries out the requests.
+fn carry_out<D: Device>(
+    alloc: Global,
+    load: &Load,
+    place: &Placement,
+    dev: &mut D,
+) -> Result<Summary, Status>
+    requires few { load.now.count ≤ 200000 }
+    ensures loaded { D.told → OnOk result (IsLoaded place.now.kind load.now.seed (D.view dev.old).reads load.now.count
+        (D.view dev.new)) }
+    ensures summary { D.told
+        → IfOk result (λ s. IsSummary place.now.kind load.now.seed (world_of (D.view dev.old).reads) load.now.count
+        s) }
+    ensures judged { D.told → IfErr result (IsJudged (D.view dev.old).reads) }
+    ensures stops { IfErr result IsUnopened }
+    ensures sent { D.told → (D.view dev.new).sent ≡ (D.view dev.old).sent }
+    ensures any_moment { D.told → IsFirm (D.view dev.old) → LeavesOnly (D.view dev.old) (D.view dev.new)
+        (λ x f. (StandAlike (D.view dev.old).reads x ⊎ ((n : ℕ) × (n ≤ load.now.count)
+        × IsLoadedBy place.now.kind load.now.seed (D.view dev.old).reads n x)) × (f ≡ (D.view dev.old).sent)) }
+    ensures no_memory { D.told → IfErr result (λ why. why ≡ Status.NoMemory → IsFirm (D.view dev.old)
+        → LeavesOnly (D.view dev.old) (D.view dev.new) (λ x f. StandAlike (D.view dev.old).reads x
+        × (f ≡ (D.view dev.old).sent))) }
+    ensures works { Works (D.view dev.old) (D.view dev.new) }
+    ensures faults { CountsFaultOf Status.DeviceFault result (D.view dev.old).faults (D.view dev.new).faults }
+{
+    match open_volume(alloc, dev) {
+        Ok(volume) => {
+            let mut draws = LoadGen::new(&load.seed, &volume.geometry());
+            let mut core = Core::new(alloc, volume);
+            run(&mut core, dev, place, &mut draws, load)
+        }
+        Err(why) => Err(why),
+    }
+}
+
+/// Carries out the requests on a disk with no session open, and does what is left to be done.
+fn run<D: Device>(
+    core: &mut Core,
+    dev: &mut D,
+    place: &Placement,
+    draws: &mut LoadGen,
+    load: &Load,
+) -> Result<Summary, Status>
+    requires few { load.now.count ≤ 200000 }
+    requires ready { IsCoreReady core.old }
+    requires at { D.told → IsCoreAt core.old (D.view dev.old) }
+    requires start { D.told → state_on core.old (D.view dev.old).reads ≡ at_rest (world_of (D.view dev.old).reads) }
+    requires draws { draws.old ≡ load_of load.now.seed (told_world core.old).geometry 0 }
+    ensures loaded { D.told → OnOk result (IsLoaded place.now.kind load.now.seed (D.view dev.old).reads load.now.count
+        (D.view dev.new)) }
+    ensures summary { D.told
+        → IfOk result (λ s. IsSummary place.now.kind load.now.seed (world_of (D.view dev.old).reads) load.now.count
+        s) }
+    ensures stops { IfErr result IsStopped }
+    ensures sent { D.told → (D.view dev.new).sent ≡ (D.view dev.old).sent }
+    ensures any_moment { D.told → LeavesRun place.now.kind load.now.seed load.now.count (D.view dev.old)
+        (D.view dev.new) }
+    ensures no_memory { D.told → IfErr result (λ why. why ≡ Status.NoMemory
+        → LeavesRun place.now.kind load.now.seed 0 (D.view dev.old) (D.view dev.new)) }
+    ensures works { Works (D.view dev.old) (D.view dev.new) }
+    ensures faults { CountsFaultOf Status.DeviceFault result (D.view dev.old).faults (D.view dev.new).faults }
+{
+    let tally = match apply_all(core, dev, place, draws, load) {
+        Ok(tally) => tally,
+        Err(why) => return Err(why),
+    };
+    match core.close(dev) {
+        Ok(()) => Ok(Summary {
+            count: load.count,
+            granted: tally.granted,
+            refused: tally.refused,
+            free: core.free_count(),
+            pointers: core.pointers(),
+        }),
+        Err(_) => Err(Status::DeviceFault),
+    }
+}
+
+/// Carries out the requests one after another.
+fn apply_all<D: Device>(
+    core: &mut Core,
+    dev: &mut D,
+    place: &Placement,
+    draws: &mut LoadGen,
+    load: &Load,
+) -> Result<Tally, Status>
+    requires few { load.now.count ≤ 200000 }
+    requires ready { IsCoreReady core.old }
+    requires at { D.told → IsCoreAt core.old (D.view dev.old) }
+    requires start { D.told → state_on core.old (D.view dev.old).reads ≡ at_rest (world_of (D.view dev.old).reads) }
+    requires draws { draws.old ≡ load_of load.now.seed (told_world core.old).geometry 0 }
+    ensures ready { OnOk result (IsCoreReady core.new) }
+    ensures at { D.told → OnOk result (IsCoreAt core.new (D.view dev.new)) }
+    ensures applied { D.told
+        → IfOk result (λ t. HasApplied place.now.kind load.now.seed (world_of (D.view dev.old).reads) load.now.count
+        (state_on core.new (D.view dev.new).reads) t.granted t.refused) }
+    ensures stops { IfErr result IsStopped }
+    ensures sent { D.told → (D.view dev.new).sent ≡ (D.view dev.old).sent }
+    ensures any_moment { D.told → LeavesRun place.now.kind load.now.seed load.now.count (D.view dev.old)
+        (D.view dev.new) }
+    ensures no_memory { D.told → IfErr result (λ why. why ≡ Status.NoMemory
+        → LeavesRun place.now.kind load.now.seed 0 (D.view dev.old) (D.view dev.new)) }
+    ensures works { Works (D.view dev.old) (D.view dev.new) }
+    ensures faults { CountsFaultOf Status.DeviceFault result (D.view dev.old).faults (D.view dev.new).faults }
+{
+    let mut tally = Tally {
+        granted: 0,
+        refused: 0,
+    };
+    for _number in 0..load.count {
+        apply_next(core, dev, place, &draws.next_request(), &mut tally)?;
+    }
+    Ok(tally)
+}
+
+/// Carries out one request and counts it.
+fn apply_next<D: Device>(
+    core: &mut Core,
+    dev: &mut D,
+    place: &Placement,
+    request: &Request,
+    tally: &mut Tally,
+) -> Result<(), Status>
+    requires few { tally.old.granted + tally.old.refused < 2 ^ 31 }
+    requires ready { IsCoreReady core.old }
+    requires at { D.told → IsCoreAt core.old (D.view dev.old) }
+    ensures ready { OnOk result (IsCoreReady core.new) }
+    ensures at { D.told → OnOk result (IsCoreAt core.new (D.view dev.new)) }
+    ensures next { D.told → OnOk result (IsNext place.now.kind (state_on core.old (D.view dev.old).reads) request.now
+        (state_on core.new (D.view dev.new).reads) tally.old.granted tally.old.refused tally.new.granted
+        tally.new.refused) }
+    ensures one { OnOk result (tally.new.granted + tally.new.refused ≡ tally.old.granted + tally.old.refused + 1) }
+    ensures stops { IfErr result IsStopped }
+    ensures starved { D.told → IfErr result (λ why. why ≡ Status.NoMemory
+        → IsAnswer place.now.kind (state_on core.old (D.view dev.old).reads) request.now replied.NoMemory
+        (state_on core.new (D.view dev.new).reads)) }
+    ensures sent { D.told → (D.view dev.new).sent ≡ (D.view dev.old).sent }
+    ensures any_moment { D.told → LeavesEither (D.view dev.old) (D.view dev.new) (next_world place.now.kind
+        (state_on core.old (D.view dev.old).reads) request.now) }
+    ensures works { Works (D.view dev.old) (D.view dev.new) }
+    ensures faults { CountsFaultOf Status.DeviceFault result (D.view dev.old).faults (D.view dev.new).faults }
+{
+    match core.apply(dev, place, request) {
+        Ok(reply) => tally.count(&reply),
+        Err(Failed) => Err(Status::DeviceFault),
+    }
+}

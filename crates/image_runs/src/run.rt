@@ -1,0 +1,53 @@
+//! The loop over a core.
+
+ghost use Rattle.std.specs.Prelude.{◌≡◌, ◌≢◌, ◌≤◌, [], true};
+ghost use Rattle.image_device.specs.Counts.{Rose};
+ghost use Rattle.serving.specs.Ran.{Ran, moments, taking};
+ghost use Rattle.serving.specs.Voice.{spoken};
+ghost use Rattle.tsd_core.specs.Core.{IsCoreAt, IsCoreReady};
+ghost use Rattle.volume_laws.specs.Quiet.{IsQuiet};
+ghost use Rattle.volume_laws.specs.Writes.{due};
+ghost use Rattle.image_runs.specs.Server.{disk_rules, disk_work, placed_on};
+
+use crate::server::CoreServer;
+use image_device::{Port, Source};
+use place_policy::Placement;
+use serving::{INPUT_MAX, Protocol, Replies, serve};
+use tsd_core::Core;
+use tsd_model::Request;
+use tsd_words::Status;
+
+/// Serves the requests of an input by a core until it ends, as `serving::serve` does. Free blocks are taken by `place`.
+pub fn serve_core<S: Source, P: Port, R: Protocol<Request = Request> + Replies>(
+    core: &mut Core,
+    place: &Placement,
+    protocol: &mut R,
+    source: &mut S,
+    port: &mut P,
+    limit: u64,
+) -> Status
+    requires few { limit ≤ INPUT_MAX }
+    requires fresh { R.was_fed [] protocol.old }
+    requires ready { IsCoreReady core.old }
+    requires at { P.told → IsCoreAt core.old (P.view port.old) }
+    ensures ran { Ran result (spoken disk_rules R.voice) disk_work R.spelling
+        (placed_on place.now.kind core.old (P.view port.old).reads)
+        (placed_on place.now.kind core.new (P.view port.new).reads) limit
+        (taking S.told S.taken S.left_bytes S.ended source.old source.new) (due core.old.volume)
+        (moments P.told P.view port.old port.new) }
+    // Unless the device failed, the core may be used again; else it is spent.
+    ensures ready { result ≢ Status.DeviceFault → IsCoreReady core.new }
+    ensures at { result ≢ Status.DeviceFault → P.told → IsCoreAt core.new (P.view port.new) }
+    ensures spent { result ≡ Status.DeviceFault → core.new.volume.is_spent ≡ true }
+    ensures closed { result ≡ Status.Done → P.told → IsQuiet (P.view port.new).reads }
+    // A count of faults rose only where the status is that fault's.
+    ensures source_fault { result ≡ Status.SourceFault → Rose (S.faults source.old) (S.faults source.new) }
+    ensures device_fault { result ≡ Status.DeviceFault → Rose (P.view port.old).faults (P.view port.new).faults }
+    ensures put_fault { result ≡ Status.PutFault → Rose (P.view port.old).put_faults (P.view port.new).put_faults }
+    ensures no_source_fault { result ≢ Status.SourceFault → S.faults source.new ≡ S.faults source.old }
+    ensures no_device_fault { result ≢ Status.DeviceFault → (P.view port.new).faults ≡ (P.view port.old).faults }
+    ensures no_put_fault { result ≢ Status.PutFault → (P.view port.new).put_faults ≡ (P.view port.old).put_faults }
+{
+    let mut server = CoreServer { core, place };
+    serve(&mut server, protocol, source, port, limit)
+}

@@ -1,0 +1,94 @@
+//! `upgrade`: an image that keeps digests in place of capabilities.
+
+ghost use Rattle.std.specs.Prelude.{◌≡◌, ◌≢◌, ℕ, ◌≤◌, ◌⊎◌, false, OnOk, OnErr, IfErr};
+ghost use Rattle.image_device.specs.Counts.{CountsFault, CountsFaultOf, Rose};
+ghost use Rattle.image_device.specs.Runs.{IsFirm, LeavesOnly};
+ghost use Rattle.image_device.specs.Image.{zeros};
+ghost use Rattle.image_world.specs.Fresh.{AreClosed};
+ghost use Rattle.tsd_model.specs.Records.{upgraded};
+ghost use Rattle.volume_laws.specs.Moments.{LeavesEither};
+ghost use Rattle.volume_laws.specs.Volume.{IsVolumeAt, IsVolumeReady, world_on};
+ghost use Rattle.volume_laws.specs.Writes.{Works};
+ghost use Rattle.recovery.specs.Opening.{StandAlike};
+ghost use Rattle.image_runs.specs.Sending.{IsEnding};
+ghost use Rattle.image_runs.specs.Upgrade.{HasUpgraded, IsLeftOfUpgrade, IsUpgradeOf, IsUpgraded};
+ghost use Rattle.image_runs.specs.Opened.{IsJudged, IsUnopened};
+
+use crate::opening::open_volume;
+use image_device::{Device, Port, put_all};
+use std::alloc::Global;
+use tsd_words::{Status, upgrade_line};
+use volume::Volume;
+
+/// Opens an image, keeps only the digest of each capability from then on, erases what the journal held of earlier ones,
+/// and puts one line. An image that keeps digests already is left so.
+///
+/// The status is Done, NotImage where the image stands for no world, DeviceFault or PutFault where that count rose, or
+/// NoMemory where none was found to open the image.
+pub fn upgrade_image<P: Port>(alloc: Global, port: &mut P) -> Status
+    ensures ending { IsEnding result }
+    ensures upgraded { P.told → HasUpgraded result (P.view port.old) (P.view port.new) }
+    // A crash at any moment leaves the world before or the upgraded one, and wherever a byte was sent the latter.
+    ensures any_moment { P.told → IsFirm (P.view port.old) → LeavesOnly (P.view port.old) (P.view port.new)
+        (IsLeftOfUpgrade (P.view port.old)) }
+    // Without memory nothing is upgraded.
+    ensures no_memory { P.told → result ≡ Status.NoMemory → IsFirm (P.view port.old)
+        → LeavesOnly (P.view port.old) (P.view port.new) (λ x f. StandAlike (P.view port.old).reads x
+        × (f ≡ (P.view port.old).sent)) }
+    // A count of faults rose only where the status is that fault's.
+    ensures device_fault { result ≡ Status.DeviceFault → Rose (P.view port.old).faults (P.view port.new).faults }
+    ensures put_fault { result ≡ Status.PutFault → Rose (P.view port.old).put_faults (P.view port.new).put_faults }
+    ensures no_device_fault { result ≢ Status.DeviceFault → (P.view port.new).faults ≡ (P.view port.old).faults }
+    ensures no_put_fault { result ≢ Status.PutFault → (P.view port.new).put_faults ≡ (P.view port.old).put_faults }
+{
+    match upgrade(alloc, port) {
+        Ok(()) => match put_all(port, upgrade_line().as_slice()) {
+            Ok(()) => Status::Done,
+            Err(_) => Status::PutFault,
+        },
+        Err(why) => why,
+    }
+}
+
+/// Opens an image and upgrades it.
+fn upgrade<D: Device>(alloc: Global, dev: &mut D) -> Result<(), Status>
+    ensures upgraded { D.told → OnOk result (IsUpgraded (D.view dev.old).reads (D.view dev.new)) }
+    ensures judged { D.told → IfErr result (IsJudged (D.view dev.old).reads) }
+    ensures stops { IfErr result IsUnopened }
+    ensures sent { D.told → (D.view dev.new).sent ≡ (D.view dev.old).sent }
+    ensures any_moment { D.told → IsFirm (D.view dev.old) → LeavesOnly (D.view dev.old) (D.view dev.new)
+        (λ x f. (StandAlike (D.view dev.old).reads x ⊎ IsUpgradeOf (D.view dev.old).reads x)
+        × (f ≡ (D.view dev.old).sent)) }
+    ensures no_memory { D.told → IfErr result (λ why. why ≡ Status.NoMemory → IsFirm (D.view dev.old)
+        → LeavesOnly (D.view dev.old) (D.view dev.new) (λ x f. StandAlike (D.view dev.old).reads x
+        × (f ≡ (D.view dev.old).sent))) }
+    ensures works { Works (D.view dev.old) (D.view dev.new) }
+    ensures faults { CountsFaultOf Status.DeviceFault result (D.view dev.old).faults (D.view dev.new).faults }
+{
+    match open_volume(alloc, dev) {
+        Ok(mut volume) => upgrade_at(&mut volume, dev),
+        Err(why) => Err(why),
+    }
+}
+
+/// Upgrades an open volume.
+fn upgrade_at<D: Device>(volume: &mut Volume, dev: &mut D) -> Result<(), Status>
+    requires ready { IsVolumeReady volume.old }
+    requires unspent { volume.old.is_spent ≡ false }
+    requires at { D.told → IsVolumeAt volume.old (D.view dev.old) }
+    ensures at { D.told → OnOk result (IsVolumeAt volume.new (D.view dev.new)) }
+    ensures done { D.told → OnOk result (world_on (D.view dev.new) ≡ upgraded (world_on (D.view dev.old))) }
+    ensures closed { D.told → OnOk result (AreClosed (D.view dev.new).reads) }
+    ensures erased { D.told → OnOk result ((n : ℕ) → 4 ≤ n → n ≤ 116 → (D.view dev.new).reads n ≡ zeros) }
+    ensures failed { IfErr result (λ why. why ≡ Status.DeviceFault) }
+    ensures sent { D.told → (D.view dev.new).sent ≡ (D.view dev.old).sent }
+    ensures any_moment { D.told → LeavesEither (D.view dev.old) (D.view dev.new)
+        (upgraded (world_on (D.view dev.old))) }
+    ensures works { Works (D.view dev.old) (D.view dev.new) }
+    ensures faults { CountsFault result (D.view dev.old).faults (D.view dev.new).faults }
+{
+    match volume.upgrade(dev) {
+        Ok(()) => Ok(()),
+        Err(_) => Err(Status::DeviceFault),
+    }
+}

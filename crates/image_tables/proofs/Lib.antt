@@ -1,5 +1,0 @@
-pub mod EndLaws
-pub mod CountLaws
-pub mod TestLaws
-pub mod LoadLaws
-pub mod CapsLaws

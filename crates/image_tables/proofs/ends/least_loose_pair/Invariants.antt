@@ -1,5 +1,0 @@
-use Rattle.image_tables.specs.Tests.{IsLeastLoose}
-use Rattle.image_tables.proofs.ends.least_loose_pair.Given as goal
-
-abbrev pub invariant-loop-slot : goal.invariant-loop-slot
-invariant-loop-slot l = IsLeastLoose l.pointers.slots l.live.live l.slot l.least

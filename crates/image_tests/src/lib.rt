@@ -1,8 +1,0 @@
-//! Tests of what an image means: its tables together.
-//!
-//! They use public calls alone and show what no clause says. They stand in a crate of their own, so that a change of a test
-//! proves no other crate again. Nothing stands on it, and it promises nothing.
-#![tactic(auto)]
-
-#[cfg(test)]
-mod tables;

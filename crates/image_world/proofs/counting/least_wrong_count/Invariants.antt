@@ -1,0 +1,5 @@
+use Rattle.image_world.specs.Tests.{AreSame}
+use Rattle.image_world.proofs.counting.least_wrong_count.Given as goal
+
+abbrev pub invariant-loop-block : goal.invariant-loop-block
+invariant-loop-block l = AreSame l.counts.counts l.found l.block

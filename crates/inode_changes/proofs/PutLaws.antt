@@ -1,0 +1,263 @@
+-- What a put answers, by the refusal that applies first, and what the file is made of.
+use Rattle.std.proofs.Common.{◌≡◌, ℕ, suc, ◌+◌, ◌*◌, ◌/◌, ◌<◌, ◌≤◌, Bool, true, false, not, ◌&&◌, nat_lt, nat_le, List, [], ◌∷◌, ◌++◌, length, refl, sym, ◌∙◌, ap, subst, arith, Option, Some, None}
+use Rattle.std.proofs.lemmas.Bool.Decides.{nat_tests}
+use Rattle.std.proofs.lemmas.List.{take_all}
+use Rattle.std.specs.Prelude.{map, take}
+use Rattle.std.specs.Int.{div_ceil}
+use Rattle.tsd_model.specs.Geometry.{block_len}
+use Rattle.tsd_model.specs.World.{World, free_count, has_number}
+use Rattle.tsd_model.specs.declared.geometry.Geometry.{Geometry}
+use Rattle.fs_trees.specs.Names.{Path, is_path}
+use Rattle.fs_trees.specs.Tree.{Tree, nothing, a_file, a_dir, at, is_there, is_dir, names_in}
+use Rattle.fs_trees.specs.Fields.{Entry, entry_names, numbers}
+use Rattle.fs_trees.specs.Inode.{Inode, directory, regular, entries_room, data_room, are_apart}
+use Rattle.fs_trees.specs.InodeTree as inodes
+use Rattle.fs_trees.specs.InodeTree.{inode_at, node_at, inodes_under, inode_tree}
+use Rattle.fs_trees.specs.Needs.{need}
+use Rattle.fs_trees.specs.Refusals.{Need, when, first_of, directory_of, lost_on_the_way, no_file, dir_full, too_big, no_room, refusal}
+use Rattle.fs_trees.specs.declared.ask.ShellAsk.TheVariants as ask
+use Rattle.fs_trees.specs.declared.ask.ShellKind.TheVariants as kind
+use Rattle.fs_trees.specs.declared.refusal.FsRefusal.{FsRefusal}
+use Rattle.fs_trees.specs.declared.refusal.FsRefusal.TheVariants as no
+use Rattle.fs_port.specs.View.{View}
+use Rattle.fs_port.specs.Calls.{IsValidNow, Stays}
+use Rattle.fs_client.specs.declared.client.Client.{Client}
+use Rattle.fs_client.specs.May.{Looked}
+use Rattle.fs_client.specs.Steps.{no_room_in}
+use Rattle.fs_client.specs.Changing.{refused_on, no_place_found}
+use Rattle.fs_client.proofs.AskLaws.{is_mounted}
+use Rattle.inode_changes.proofs.PlaceLaws.{none_at, old_at, there_at, said_place}
+use Rattle.inode_layout.specs.Block.{inode_of, block_len_of}
+use Rattle.inode_layout.specs.Said.{is_directory, entries_said, blocks_said, entry_said}
+use Rattle.inode_walks.specs.declared.finding.Place.{Place}
+use Rattle.inode_walks.specs.Asking.{tree_of, mounted_by}
+use Rattle.inode_walks.specs.Finding.{IsPlace}
+use Rattle.inode_walks.proofs.FoundLaws.{dir_said, names_there, entry_by}
+use Rattle.inode_walks.proofs.FileLaws.{stands_still}
+use Rattle.inode_walks.proofs.FurtherLaws.{a_level, child_there}
+use Rattle.inode_walks.proofs.WalkLaws.{file_node, dir_node}
+use Rattle.inode_changes.specs.declared.content.Content.{Content}
+use Rattle.inode_changes.specs.Content.{shared_count, shared_of, new_bytes, new_count, all_count, HasRoom, IsFor}
+use Rattle.inode_changes.specs.Filling.{joined}
+use Rattle.inode_changes.specs.Entering as entering
+use Rattle.inode_changes.specs.Entering.{Grounds, AreOfFiles}
+use Rattle.inode_changes.specs.NewFile.{bytes_of}
+use Rattle.inode_changes.proofs.EntryLaws.{entry_of}
+use Rattle.inode_changes.specs.Putting.{PutsFile, IsOf}
+use Rattle.inode_changes.proofs.AppendLaws.{dir_only}
+use Rattle.inode_changes.proofs.GrowLaws.{root_is_dir}
+
+-- ---- the refusals in their order
+
+module _ (g : Geometry) (t : Tree) (free held : ℕ) (n : Need) (root : is_dir t ≡ true) (x : List ℕ) where
+  -- what is left behind the way
+  abbrev behind : Path → List (Option FsRefusal)
+  behind p = no_file t p ∷ dir_full kind.Inode g t p ∷ too_big kind.Inode g (length x) ∷ no_room g free held n
+
+  abbrev full : Path → Bool
+  full p = not (is_there (at t p)) && nat_le (entries_room (block_len g)) (length (names_in (at t (directory_of p))))
+
+  pub put_lost : (p : Path) (e : FsRefusal) → no_place_found t p no.IsDir ≡ Some e → refusal kind.Inode g t free held n (ask.Put p x) ≡ Some e
+  put_lost [] e h =
+      is_mounted t (lost_on_the_way t [] ∷ behind []) (dir_only t root)
+      ∙ (ap (λ b. first_of (when b no.IsDir ∷ dir_full kind.Inode g t [] ∷ too_big kind.Inode g (length x) ∷ no_room g free held n)) root ∙ h)
+  put_lost (m ∷ ms) e h = is_mounted t (lost_on_the_way t (m ∷ ms) ∷ behind (m ∷ ms)) (dir_only t root) ∙ ap (λ o. first_of (o ∷ behind (m ∷ ms))) h
+
+  put_way : (p : Path) → ◌≡◌ {A = Option FsRefusal} (no_place_found t p no.IsDir) None → refusal kind.Inode g t free held n (ask.Put p x) ≡ first_of (behind p)
+  put_way [] h = absurd (cc)
+  put_way (m ∷ ms) h = is_mounted t (lost_on_the_way t (m ∷ ms) ∷ behind (m ∷ ms)) (dir_only t root) ∙ ap (λ o. first_of (o ∷ behind (m ∷ ms))) h
+
+  module _ (p : Path) (h : ◌≡◌ {A = Option FsRefusal} (no_place_found t p no.IsDir) None) where
+    pub put_dir : is_dir (at t p) ≡ true → refusal kind.Inode g t free held n (ask.Put p x) ≡ Some no.IsDir
+    put_dir k = put_way p h ∙ ap (λ b. first_of (when b no.IsDir ∷ dir_full kind.Inode g t p ∷ too_big kind.Inode g (length x) ∷ no_room g free held n)) k
+
+    module _ (k : is_dir (at t p) ≡ false) where
+      no_dir_there : refusal kind.Inode g t free held n (ask.Put p x) ≡ first_of (when (full p) no.DirFull ∷ too_big kind.Inode g (length x) ∷ no_room g free held n)
+      no_dir_there = put_way p h ∙ ap (λ b. first_of (when b no.IsDir ∷ dir_full kind.Inode g t p ∷ too_big kind.Inode g (length x) ∷ no_room g free held n)) k
+
+      pub put_full : (not (is_there (at t p)) && nat_le (entries_room (block_len g)) (length (names_in (at t (directory_of p))))) ≡ true → refusal kind.Inode g t free held n (ask.Put p x) ≡ Some no.DirFull
+      put_full f = no_dir_there ∙ ap (λ b. first_of (when b no.DirFull ∷ too_big kind.Inode g (length x) ∷ no_room g free held n)) f
+
+      module _ (f : (not (is_there (at t p)) && nat_le (entries_room (block_len g)) (length (names_in (at t (directory_of p))))) ≡ false) where
+        listed : refusal kind.Inode g t free held n (ask.Put p x) ≡ first_of (when (nat_lt (data_room (block_len g)) (div_ceil (length x) (block_len g))) no.TooBig ∷ no_room g free held n)
+        listed = no_dir_there ∙ ap (λ b. first_of (when b no.DirFull ∷ too_big kind.Inode g (length x) ∷ no_room g free held n)) f
+
+        pub put_big : nat_lt (data_room (block_len g)) (div_ceil (length x) (block_len g)) ≡ true → refusal kind.Inode g t free held n (ask.Put p x) ≡ Some no.TooBig
+        put_big big = listed ∙ ap (λ b. first_of (when b no.TooBig ∷ no_room g free held n)) big
+
+        pub put_room : nat_lt (data_room (block_len g)) (div_ceil (length x) (block_len g)) ≡ false → refusal kind.Inode g t free held n (ask.Put p x) ≡ first_of (no_room g free held n)
+        put_room fits = listed ∙ ap (λ b. first_of (when b no.TooBig ∷ no_room g free held n)) fits
+
+-- ---- at the place that was found
+
+entry_count : (es : List Entry) → length (map (λ e. e.block) es) ≡ length (entry_names es)
+entry_count [] = refl
+entry_count (e ∷ es) = let rest = entry_count es in omega (arith, rest)
+
+module _ (c : Client) (v : View) (path : Path) (place : Place) (dir : is_directory (inode_of place.directory.inode) ≡ true) (now : IsValidNow v) (s : PutsFile c v path place) (x : List ℕ) where
+  abbrev t : Tree
+  t = tree_of c v
+
+  abbrev g : Geometry
+  g = v.world.geometry
+
+  root : is_dir (tree_of c v) ≡ true
+  root = root_is_dir v.world c.root s.there
+
+  pub grounds : entering.HasRoom place.directory.inode place.name.now → Grounds c.root v.world path place
+  grounds room = record { valid = now.valid; primary = s.primary; there = s.there; path_is = s.path_is; entry = entry_of c v path place dir s.found; room = room }
+
+  names_are : length (names_in (at t (directory_of path))) ≡ length (entry_names (entries_said (inode_of place.directory.inode)))
+  names_are = ap length (names_there c v (directory_of path) place.directory s.found.above dir)
+
+  blocks_are : length (blocks_said (inode_of place.directory.inode)) ≡ length (entry_names (entries_said (inode_of place.directory.inode)))
+  blocks_are = ap (λ i. length (blocks_said i)) (dir_said (inode_of place.directory.inode) dir) ∙ entry_count (entries_said (inode_of place.directory.inode))
+
+  full_is : nat_le (entries_room (block_len_of place.directory.inode)) (length (blocks_said (inode_of place.directory.inode))) ≡ nat_le (entries_room (block_len g)) (length (names_in (at t (directory_of path))))
+  full_is = ap (λ k. nat_le (entries_room k) (length (blocks_said (inode_of place.directory.inode)))) s.found.above.stands.whole ∙ ap (nat_le (entries_room (block_len g))) (blocks_are ∙ sym names_are)
+
+  pub full_refuses : ◌≡◌ {A = Option ℕ} (entry_said place.name.now (inode_of place.directory.inode)) None → nat_le (entries_room (block_len_of place.directory.inode)) (length (blocks_said (inode_of place.directory.inode))) ≡ true → refused_on (mounted_by c) v (ask.Put path x) ≡ Some no.DirFull
+  full_refuses none full =
+      let absent = none_at c v path place dir s.found (s.found.old ∙ (sym (entry_by place.name.now (inode_of place.directory.inode)) ∙ none)) in
+      put_full g t (free_count v.world) (length v.world.pairs) (need (1 + div_ceil (length x) (block_len g)) (1 + div_ceil (length x) (block_len g))) root x path s.way s.no_dir
+      (ap (λ b. not b && nat_le (entries_room (block_len g)) (length (names_in (at t (directory_of path))))) absent ∙ (sym full_is ∙ full))
+
+  -- an entry has room there
+  roomy : entering.HasRoom place.directory.inode place.name.now → (not (is_there (at t path)) && nat_le (entries_room (block_len g)) (length (names_in (at t (directory_of path))))) ≡ false
+  roomy room = by_old place.old refl
+    where
+      by_old : (o : Option ℕ) → place.old ≡ o → (not (is_there (at t path)) && nat_le (entries_room (block_len g)) (length (names_in (at t (directory_of path))))) ≡ false
+      by_old None e =
+          let absent = none_at c v path place dir s.found e in
+          let less = room (sym s.found.old ∙ e) in
+          let len = s.found.above.stands.whole in
+          ap (λ b. not b && nat_le (entries_room (block_len g)) (length (names_in (at t (directory_of path))))) absent
+          ∙ (ap (nat_le (entries_room (block_len g))) names_are ∙ fewer (entries_room (block_len g)) (subst (λ k. length (entries_said (inode_of place.directory.inode)) < entries_room k) len less))
+        where
+          names_count : (es : List Entry) → length (entry_names es) ≡ length es
+          names_count [] = refl
+          names_count (e ∷ es) = let rest = names_count es in omega (arith, rest)
+
+          fewer : (k : ℕ) → length (entries_said (inode_of place.directory.inode)) < k → nat_le k (length (entry_names (entries_said (inode_of place.directory.inode)))) ≡ false
+          fewer k h = let count = names_count (entries_said (inode_of place.directory.inode)) in above k (length (entries_said (inode_of place.directory.inode))) (length (entry_names (entries_said (inode_of place.directory.inode)))) h count
+            where
+              above : (k n m : ℕ) → n < k → m ≡ n → nat_le k m ≡ false
+              above k n m h e = let less : m < k = omega (arith, h, e) in grind (arith, nat_tests)
+      by_old (Some b) e = ap (λ r. not r && nat_le (entries_room (block_len g)) (length (names_in (at t (directory_of path)))))
+          (there_at c v path place dir s.found b e (child_there c v s.found.above.more place.directory s.found.above.stands place.name.now b (said_place c v path place dir s.found b e)))
+
+  module _ (room : entering.HasRoom place.directory.inode place.name.now) where
+    big_is : nat_lt (data_room (block_len_of place.directory.inode)) (div_ceil (length x) (block_len_of place.directory.inode)) ≡ nat_lt (data_room (block_len g)) (div_ceil (length x) (block_len g))
+    big_is = ap (λ n. nat_lt (data_room n) (div_ceil (length x) n)) s.found.above.stands.whole
+
+    pub big_refuses : nat_lt (data_room (block_len_of place.directory.inode)) (div_ceil (length x) (block_len_of place.directory.inode)) ≡ true → refused_on (mounted_by c) v (ask.Put path x) ≡ Some no.TooBig
+    big_refuses big = put_big g t (free_count v.world) (length v.world.pairs) (need (1 + div_ceil (length x) (block_len g)) (1 + div_ceil (length x) (block_len g))) root x path s.way s.no_dir (roomy room) (sym big_is ∙ big)
+
+    pub room_refuses : nat_lt (data_room (block_len_of place.directory.inode)) (div_ceil (length x) (block_len_of place.directory.inode)) ≡ false
+        → refused_on (mounted_by c) v (ask.Put path x) ≡ no_room_in v.world (1 + div_ceil (length x) (block_len_of place.directory.inode)) (1 + div_ceil (length x) (block_len_of place.directory.inode))
+    room_refuses small = put_room g t (free_count v.world) (length v.world.pairs) (need (1 + div_ceil (length x) (block_len g)) (1 + div_ceil (length x) (block_len g))) root x path s.way s.no_dir (roomy room) (sym big_is ∙ small)
+        ∙ ap (λ n. no_room_in v.world (1 + div_ceil (length x) n) (1 + div_ceil (length x) n)) (sym s.found.above.stands.whole)
+
+-- ---- what the file is made of
+
+module _ (x : List ℕ) (len : ℕ) (content : Content) (of : IsOf x len content) where
+  shares_none : shared_count content ≡ 0
+  shares_none = ap (λ xs. length xs / 4) of.shared
+
+  shared_none : shared_of content ≡ []
+  shared_none = ap (λ k. numbers k content.shared.now) shares_none
+
+  bytes_new : new_bytes content ≡ x
+  bytes_new = ap (λ xs. xs ++ content.bytes.now) of.front ∙ of.bytes
+
+  pub new_is : new_count content ≡ div_ceil (length x) len
+  new_is = ap (λ xs. div_ceil (length xs) content.block_len) bytes_new ∙ ap (div_ceil (length x)) of.len
+
+  pub all_is : all_count content ≡ div_ceil (length x) len
+  all_is = let none = shares_none in let new = new_is in omega (arith, none, new)
+
+  pub has_room : 16 ≤ len → len ≤ 4096 → length x ≤ 4096 → nat_lt (data_room len) (div_ceil (length x) len) ≡ false → HasRoom content
+  has_room some most few small = record {
+    whole = ap length of.shared ∙ sym (ap (λ k. 4 * k) shares_none);
+    front = subst (λ n. length content.front.now < n) (sym of.len) (subst (λ xs. length xs < len) (sym of.front) (omega (arith, some)));
+    few = subst (λ xs. length xs ≤ 4096) (sym of.bytes) few;
+    most = subst (λ n. n ≤ 4096) (sym of.len) most;
+    room = subst (λ n. all_count content ≤ data_room n) (sym of.len) (subst (λ k. k ≤ data_room len) (sym all_is) (not_less (data_room len) (div_ceil (length x) len) small));
+  }
+    where
+      not_less : (a b : ℕ) → nat_lt a b ≡ false → b ≤ a
+      not_less a b h = grind (arith, nat_tests)
+
+  pub is_for : (c : Client) (v : View) → len ≡ block_len v.world.geometry → IsFor c v content
+  is_for c v same = record {
+    len = of.len ∙ same;
+    count = all_is ∙ (ap (λ n. div_ceil n len) (sym of.size) ∙ ap (div_ceil content.size) (sym of.len));
+    size = let size = of.size in let new = ap length bytes_new in more (content.block_len * shared_count content) size new;
+    apart = ap are_apart shared_none;
+    may = λ b h. absurd (nothing_shared b h);
+  }
+    where
+      more : (k : ℕ) → content.size ≡ length x → length (new_bytes content) ≡ length x → content.size ≤ k + length (new_bytes content)
+      more k p q = omega (arith, p, q)
+
+      nothing_shared : (b : ℕ) → has_number (shared_of content) b ≡ true → ⊥
+      nothing_shared b h = let none : has_number [] b ≡ true = ap (λ bs. has_number bs b) (sym shared_none) ∙ h in cc
+
+  pub of_files : (root : ℕ) (w : World) → AreOfFiles root w (shared_of content)
+  of_files root w b h = let none : has_number [] b ≡ true = ap (λ bs. has_number bs b) (sym shared_none) ∙ h in absurd (cc)
+
+  pub made_bytes : (w : World) → bytes_of w content ≡ x
+  made_bytes w =
+      ap (λ n. take n (joined w (shared_of content) (new_bytes content))) of.size
+      ∙ (ap (λ bs. take (length x) (joined w bs (new_bytes content))) shared_none
+      ∙ (ap (take (length x)) bytes_new ∙ take_all (length x) x (omega arith)))
+
+-- ---- what stands there already
+
+pub nothing_no_dir : (x : Tree) → is_there x ≡ false → is_dir x ≡ false
+nothing_no_dir nothing h = refl
+nothing_no_dir (a_file x) h = refl
+nothing_no_dir (a_dir d es) h = absurd (cc)
+
+module _ (c : Client) (v : View) (path : Path) (place : Place) (dir : is_directory (inode_of place.directory.inode) ≡ true) (i : IsPlace c v path place) (b : ℕ) (some : place.old ≡ Some b) where
+  old_is_there : is_there (node_at v.world i.above.more b) ≡ true
+  old_is_there = child_there c v i.above.more place.directory i.above.stands place.name.now b (said_place c v path place dir i b some)
+
+  -- its inode tells whether it is a directory
+  pub kind_at : (k : Inode) → inode_at v.world b ≡ Some k → is_dir (at (tree_of c v) path) ≡ is_directory k
+  kind_at k is =
+      let level = a_level v.world i.above.more b old_is_there in
+      ap is_dir (old_at c v path place dir i b some ∙ ap (λ m. inodes.tree_of v.world (node_at v.world m b)) level.1)
+      ∙ by_kind k (ap (λ m. is_there (node_at v.world m b)) (sym level.1) ∙ old_is_there) is
+    where
+      by_kind : (k : Inode) → is_there (node_at v.world (suc (a_level v.world i.above.more b old_is_there).0) b) ≡ true → inode_at v.world b ≡ Some k
+          → is_dir (inodes.tree_of v.world (node_at v.world (suc (a_level v.world i.above.more b old_is_there).0) b)) ≡ is_directory k
+      by_kind (directory fs) h e = ap (λ x. is_dir (inodes.tree_of v.world x)) (dir_node v.world (a_level v.world i.above.more b old_is_there).0 b h fs e).2
+      by_kind (regular size blocks) h e = ap (λ x. is_dir (inodes.tree_of v.world x)) (file_node v.world (a_level v.world i.above.more b old_is_there).0 b h size blocks e)
+
+-- what was found stands there after a look
+pub place_still : (c : Client) (old new : View) (path : Path) (place : Place) → Looked old new → Stays old new → IsValidNow old → IsPlace c old path place → IsPlace c new path place
+place_still c old new path place seen stays now i = record {
+  above = record {
+    more = i.above.more;
+    levels = i.above.levels;
+    stands = stands_still c old new i.above.more place.directory seen stays now i.above.stands;
+    node = subst (λ w. at (inodes_under w c.root) (directory_of path) ≡ node_at w (suc i.above.more) place.directory.block) (sym seen.world) i.above.node;
+  };
+  name = i.name;
+  old = i.old;
+}
+
+-- nothing is changed yet, and no directory stands there
+pub puts_now : (c : Client) (first mid now : View) (path : Path) (place : Place) → c.root < first.world.geometry.primaries → is_there (tree_of c first) ≡ true → is_path path ≡ true
+    → ◌≡◌ {A = Option FsRefusal} (no_place_found (tree_of c first) path no.IsDir) None → Looked first mid → IsPlace c mid path place → Looked mid now → Stays mid now → is_dir (at (tree_of c mid) path) ≡ false → PutsFile c now path place
+puts_now c first mid now path place primary there path_is way one found two stays no_dir =
+    let same : now.world ≡ first.world = two.world ∙ one.world in
+    record {
+      primary = subst (λ w. c.root < w.geometry.primaries) (sym same) primary;
+      there = ap (λ w. is_there (inode_tree w c.root)) same ∙ there;
+      path_is = path_is;
+      found = place_still c mid now path place two stays one.valid found;
+      way = ap (λ w. no_place_found (inode_tree w c.root) path no.IsDir) same ∙ way;
+      no_dir = ap (λ w. is_dir (at (inode_tree w c.root) path)) two.world ∙ no_dir;
+    }

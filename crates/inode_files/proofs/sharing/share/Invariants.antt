@@ -1,7 +1,0 @@
-use Rattle.inode_files.specs.Content.{shared_of}
-use Rattle.inode_files.proofs.ShareLaws.{Sharing}
-use Rattle.inode_files.proofs.sharing.share.Given as goal
-
--- the first of them are shared
-abbrev pub invariant-loop-place : goal.invariant-loop-place
-invariant-loop-place g l = Sharing g.K.Blocks.told l.client (g.K.Blocks.view l.fn.disk) (g.K.Blocks.view l.disk) l.inode (shared_of l.content) l.place

@@ -1,0 +1,13 @@
+use Rattle.fs_trees.specs.declared.ask.ShellAsk.TheVariants as ask
+use Rattle.fs_trees.specs.declared.refusal.FsRefusal.TheVariants as no
+use Rattle.fs_client.proofs.FilesLaws.{unasked_changes, mounted_changes}
+use Rattle.inode_walks.specs.Asking.{mounted_by}
+use Rattle.inode_fs.specs.View.{inode_view}
+use Rattle.fs_client.proofs.MountLaws.{other_fault}
+use Rattle.inode_fs.proofs.file_system.InodeFsFiles.append.Goals as goal
+
+pub returns-then-self-clause-changes : goal.returns-then-self-clause-changes
+returns-then-self-clause-changes g c = mounted_changes (mounted_by c.args.self.now.client) c.args.self.now.mounted (g.K.Blocks.view c.args.disk.now) (g.K.Blocks.view c.append.new.disk) g.K.Blocks.told c.append.result (ask.Append c.args.path.now c.args.bytes.now) c.if-self.true c.append.ensures.changes
+
+pub returns-else-self-clause-changes : goal.returns-else-self-clause-changes
+returns-else-self-clause-changes g c = unasked_changes g.K.Blocks.told (g.K.Blocks.view c.args.disk.now) no.NotThisFs other_fault c.requires.ready.unspent (λ t. g.met.K.Blocks.sound c.args.disk.now t c.requires.ready.unspent) c.requires.valid (inode_view c.args.self.now) (ask.Append c.args.path.now c.args.bytes.now)

@@ -1,0 +1,10 @@
+use Rattle.fs_trees.specs.declared.refusal.FsRefusal.TheVariants as no
+use Rattle.fs_client.proofs.FilesLaws.{looks_at, unasked_looks}
+use Rattle.fs_client.proofs.MountLaws.{other_fault}
+use Rattle.inode_fs.proofs.file_system.InodeFsFiles.name_after.Goals as goal
+
+pub returns-then-self-clause-looks : goal.returns-then-self-clause-looks
+returns-then-self-clause-looks g c = looks_at g.K.Blocks.told (g.K.Blocks.view c.args.disk.now) (g.K.Blocks.view c.name_after.new.disk) c.name_after.result c.name_after.ensures.looks
+
+pub returns-else-self-clause-looks : goal.returns-else-self-clause-looks
+returns-else-self-clause-looks g c = unasked_looks g.K.Blocks.told (g.K.Blocks.view c.args.disk.now) no.NotThisFs other_fault c.requires.ready.unspent (λ t. g.met.K.Blocks.sound c.args.disk.now t c.requires.ready.unspent) c.requires.valid

@@ -1,0 +1,15 @@
+use Rattle.std.proofs.Common.{◌-◌}
+use Rattle.inode_layout.specs.Block.{inode_of}
+use Rattle.inode_layout.specs.Said.{blocks_said}
+use Rattle.inode_fs.specs.Looking.{come_each, come_from}
+use Rattle.inode_fs.proofs.LoopLaws.{Looping}
+use Rattle.inode_fs.proofs.looking.+is_right.Given as goal
+
+abbrev pub decreases-is_right : goal.decreases-is_right
+decreases-is_right g l = l.levels
+
+-- the entries so far are right
+abbrev pub invariant-loop-place : goal.invariant-loop-place
+invariant-loop-place g l =
+    Looping g.K.Blocks.told l.client (g.K.Blocks.view l.fn.disk) (g.K.Blocks.view l.disk) (blocks_said (inode_of l.seen.found.inode))
+    (come_each (come_from (g.K.Blocks.view l.fn.disk).world (l.levels - 1))) l.place l.initial.marks l.marks

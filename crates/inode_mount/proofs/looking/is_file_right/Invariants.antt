@@ -1,9 +1,0 @@
-use Rattle.inode_layout.specs.Block.{inode_of}
-use Rattle.inode_layout.specs.Said.{blocks_said}
-use Rattle.inode_mount.specs.Looking.{come_data}
-use Rattle.inode_mount.proofs.LoopLaws.{Looping}
-use Rattle.inode_mount.proofs.looking.is_file_right.Given as goal
-
--- the blocks so far are marked
-abbrev pub invariant-loop-place : goal.invariant-loop-place
-invariant-loop-place g l = Looping g.K.Blocks.told l.client (g.K.Blocks.view l.fn.disk) (g.K.Blocks.view l.disk) (blocks_said (inode_of l.file.inode)) come_data l.place l.fn.marks l.marks

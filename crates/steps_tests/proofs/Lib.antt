@@ -1,2 +1,0 @@
-pub mod DiskLaws
-pub mod CarryLaws
