@@ -1,0 +1,63 @@
+"""The tour of README, pasted into a shell as it stands, in a fresh folder with a `tsd` that runs the program."""
+
+from __future__ import annotations
+
+import re
+import shutil
+import subprocess
+from typing import Iterator, List, NamedTuple
+
+from parts import Context, Result, compared, failed, skipped
+
+NAME = "tour"
+MOST_SECONDS = 120
+# What the tour's blocks use beside the program.
+TOOLS = ("bash", "timeout", "yes", "tail", "od")
+# A block of the tour and the one below it, which has what it prints.
+BLOCKS = re.compile(r"^```sh\n(?P<text>.*?)^```\n\s*^```\n(?P<printed>.*?)^```$", re.MULTILINE | re.DOTALL)
+
+
+class Block(NamedTuple):
+    """What is pasted, and what README says that it prints."""
+
+    line: int
+    text: str
+    printed: str
+
+
+def blocks_of(page: str) -> List[Block]:
+    """The blocks of the tour, in order."""
+    start = page.index("\n## A tour\n")
+    end = page.find("\n## ", start + 1)
+    return [Block(page.count("\n", 0, start + found.start()) + 1, found["text"], found["printed"])
+            for found in BLOCKS.finditer(page[start:end])]
+
+
+def pasted(blocks: List[Block]) -> str:
+    """One script of all blocks, with a mark after what each prints; they share their variables and their files."""
+    return "".join(f"{block.text}printf '\\n%s\\n' '{mark(block)}'\n" for block in blocks)
+
+
+def mark(block: Block) -> str:
+    """The line that is printed after a block."""
+    return f"-- end of the block in line {block.line} of README.md --"
+
+
+def run(context: Context) -> Iterator[Result]:
+    """A result for each block."""
+    missing = [tool for tool in TOOLS if shutil.which(tool) is None]
+    if missing:
+        yield skipped("README", f"there is no {', no '.join(missing)}")
+        return
+    blocks = blocks_of((context.top / "README.md").read_text())
+    if not blocks:
+        yield failed("README", "no block of its tour was found")
+        return
+    (context.folder / "tsd").symlink_to(context.program)
+    done = subprocess.run(["bash", "-c", pasted(blocks)], cwd=context.folder, stdin=subprocess.DEVNULL,
+                          stdout=subprocess.PIPE, stderr=subprocess.PIPE, timeout=MOST_SECONDS)
+    rest = done.stdout.decode(errors="replace")
+    for block in blocks:
+        printed, _, rest = rest.partition(f"\n{mark(block)}\n")
+        first = block.text.strip().splitlines()[-1]
+        yield compared(f"line {block.line}: {first}", block.printed, printed)
