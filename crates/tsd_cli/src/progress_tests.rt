@@ -3,6 +3,7 @@
 use crate::progress::Progress;
 use std::cell::Cell;
 use std::io;
+use std::test::Fail;
 use std::time::{Clock, Duration};
 
 /// A clock that goes on by so many milliseconds at each look, or fails from one look on.
@@ -127,8 +128,9 @@ fn a_clock_that_fails(rt: HostRuntime) {
 
 /// A reply wipes the line, and what comes behind it is counted anew.
 #[test]
-fn a_reply_wipes_the_line(rt: HostRuntime) {
-    let mut progress = Progress::new(Steps::of(2_000, NEVER), Some(Vec::new(rt.alloc())));
+fn a_reply_wipes_the_line(rt: HostRuntime) -> Result<(), Fail> {
+    let alloc = rt.alloc();
+    let mut progress = Progress::new(Steps::of(2_000, NEVER), Some(Vec::new(alloc)));
     progress.wipe();
     assert!(rt; text(&progress).is_empty());
     progress.count_write();
@@ -137,19 +139,16 @@ fn a_reply_wipes_the_line(rt: HostRuntime) {
     }
     progress.wipe();
     progress.wipe();
-    let line = b"\rtsd: 0 sectors read, 1 written, 0 a second      ".as_slice();
-    assert!(rt; text(&progress).starts_with(line));
-    let rest = &text(&progress)[line.len()..];
-    assert_eq!(rt; rest, WIPE.as_bytes());
-    let before = text(&progress).len();
+    let line = "\rtsd: 0 sectors read, 1 written, 0 a second      ";
+    let wiped = format!(in alloc; "{line}{WIPE}")?;
+    assert_eq!(rt; text(&progress), wiped.as_bytes());
     for _ in 0..64 {
         progress.count_read();
     }
-    assert_eq!(rt; text(&progress).len(), before);
+    assert_eq!(rt; text(&progress), wiped.as_bytes());
     progress.count_read();
-    let again = &text(&progress)[before..];
-    assert_eq!(rt;
-        again,
-        b"\rtsd: 65 sectors read, 0 written, 32 a second      ".as_slice()
-    );
+    let again = "\rtsd: 65 sectors read, 0 written, 32 a second      ";
+    let told = format!(in alloc; "{wiped}{again}")?;
+    assert_eq!(rt; text(&progress), told.as_bytes());
+    Ok(())
 }
