@@ -29,7 +29,7 @@ use Rattle.fs_client.specs.Trimming.{IsTrim}
 use Rattle.fs_client.proofs.AskLaws.{ask_done, after_is}
 use Rattle.fs_client.proofs.RunLaws.{runs_more}
 use Rattle.fs_client.proofs.DropLaws.{other_pair}
-use Rattle.fs_client.proofs.TrimLaws.{trimmed_by_step, trims_by_step}
+use Rattle.fs_client.proofs.TrimLaws.{freed, trimmed_by_step, trims_by_step}
 use Rattle.fs_client.proofs.TidyLaws.{is_tidy}
 use Rattle.fs_client.proofs.TargetLaws.{target_named, chain_targets}
 use Rattle.chain_reading.specs.Asking.{mounted_by}
@@ -150,7 +150,7 @@ module _ (c : Client) (first : View) (a : ShellAsk) (wr : View) (d b : ℕ) (now
         chains = still.0;
         under = still.1;
         tree = same.tree ∙ x.tree;
-        taken = λ k free live. ap (λ n. has_number n.blocks k) still.2 ∙ x.taken k free (trimmed.freed k live);
+        taken = λ k free live. ap (λ n. has_number n.blocks k) still.2 ∙ x.taken k free (freed c names wr fin trimmed k live);
         clean = λ tidy k y named h. not_this k y h (x.clean tidy k y (ap (λ n. has_number n.blocks k) (sym still.2) ∙ named) (trimmed.fewer k y h)) (ap (λ n. holds n.pairs k y) still.2);
       }
     where

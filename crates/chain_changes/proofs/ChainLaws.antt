@@ -74,6 +74,7 @@ one_chosen v a valid room =
 pub runs_despite : {X : Type 0} (told : Type 0) (old new : View) (P : World → Type 0) (e : FsRefusal) → e ≢ no.Device → Runs {X = X} told old new P (Err e) → Runs {X = Unit {0}} told old new P (Ok tt)
 runs_despite told old new P e ne h = record {
   valid = λ t. ((h.valid t).1 ne, tt);
+  led = λ t. ((h.led t).1 ne, tt);
   crash = h.crash;
   stays = (h.stays.1 ne, tt);
   counts = h.counts;

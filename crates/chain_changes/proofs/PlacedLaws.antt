@@ -121,7 +121,7 @@ module _ (c : Client) (old : View) (n : Name) (page : Page) (valid : IsValidNow 
   over_entry known place first at =
       let same : known.chains ≡ at.chains = some_same (sym known.under ∙ at.under) in
       let taken = subst (λ cs. IsTaken c old n cs.directory page place first) (sym same) (the_taken place first at) in
-      let seen : Looked old old = record { world = refl; valid = valid; ways = λ s a h. h } in
+      let seen : Looked old old = record { world = refl; valid = valid; ways = λ s a h. h; led = ([], refl) } in
       (chain_bytes (entry_file c old old known seen n page place first taken).0.chain, ap (λ cs. entry n (tree_of_files cs.files)) (sym same) ∙ taken_name c old old known seen n page place first taken)
     where
       some_same : {x y : Chains} → Some x ≡ Some y → x ≡ y

@@ -1,6 +1,6 @@
 //! Files that get longer.
 
-ghost use Rattle.std.specs.Prelude.{◌≡◌, ◌≢◌, ◌≤◌, ◌<◌, ◌-◌, min, take, drop, ℕ, List};
+ghost use Rattle.std.specs.Prelude.{◌≡◌, ◌≢◌, ◌≤◌, ◌<◌, ◌-◌, min, take, drop, ℕ, List, []};
 ghost use Rattle.std.specs.Prelude.{length, false, None, Some, IfOk, IfErr, OnOk};
 ghost use Rattle.tsd_model.specs.Geometry.{block_len};
 ghost use Rattle.fs_trees.specs.Answer.{done};
@@ -160,7 +160,7 @@ fn grow<K: Blocks>(
     }
 }
 
-/// Adds these bytes at the end of a file.
+/// Adds these bytes at the end of a file. Where there are none it only looks.
 #[tactic(none)]
 pub fn append<K: Blocks>(
     client: &Client,
@@ -173,6 +173,7 @@ pub fn append<K: Blocks>(
         (ask.Append path.now bytes.now) result (λ _ answer. answer ≡ done) }
     ensures changes { Changes K.told (mounted_by client.now) (K.view disk.old) (K.view disk.new)
         (ask.Append path.now bytes.now) result }
+    ensures idle { bytes.now ≡ [] → OnlyLooks K.told (K.view disk.old) (K.view disk.new) result }
 {
     let first = match find_file(client, disk, path) {
         Ok(first) => first,

@@ -86,6 +86,16 @@ impl Files for ChainFs {
         Err(FsRefusal::NotThisFs)
     }
 
+    /// Chains have no directory but the root, and no two share a block: nothing is copied, and nothing is changed.
+    fn copy<K: Blocks>(&mut self, disk: &mut K, path: &Path, new: &Path) -> Result<(), FsRefusal>
+        ensures refused { IfErr result (λ e. e ≡ no.NotThisFs) }
+        ensures never { OnOk result ⊥ }
+        ensures same { self.new ≡ self.old }
+        ensures unasked { disk.new ≡ disk.old }
+    {
+        Err(FsRefusal::NotThisFs)
+    }
+
     fn append<K: Blocks>(
         &mut self,
         disk: &mut K,
@@ -125,6 +135,7 @@ impl Files for ChainFs {
         if self.mounted {
             chain_reading::read_file(&self.client, disk, path, start, into)
         } else {
+            *into = Data::new();
             Err(FsRefusal::NotThisFs)
         }
     }

@@ -71,7 +71,7 @@ fn add_part(into: &mut Data, bytes: &[u8], before: u64, start: u64)
     let _ = into.extend_from_slice(&rest[..count]);
 }
 
-/// The bytes of a chain from a place on: all that are left, or the first 4,096.
+/// The bytes of a chain from a place on: all that are left, or the first 4,096; none after an `Err`.
 fn read_chain<K: Blocks>(
     client: &Client,
     disk: &mut K,
@@ -85,6 +85,7 @@ fn read_chain<K: Blocks>(
     requires empty { into.old ≡ [] }
     ensures bytes { K.told → (ls : List Link) → IsFileAhead client.now (K.view disk.old) first ls
         → OnOk result (into.new ≡ take 4096 (drop start (chain_bytes ls))) }
+    ensures nothing { IfErr result (λ _. into.new ≡ []) }
     ensures only { K.told → IfErr result (λ e. e ≡ no.Device) }
     ensures looks { OnlyLooks K.told (K.view disk.old) (K.view disk.new) result }
 {
@@ -93,7 +94,10 @@ fn read_chain<K: Blocks>(
     for place in 0..disk.geometry().blocks {
         let part = match read_part(client, disk, block) {
             Ok(part) => part,
-            Err(refusal) => return Err(refusal),
+            Err(refusal) => {
+                *into = Data::new();
+                return Err(refusal);
+            }
         };
         add_part(into, part.cluster.bytes(), before, start);
         before += part.cluster.bytes().len() as u64;
@@ -105,10 +109,11 @@ fn read_chain<K: Blocks>(
             None => return Ok(()),
         }
     }
+    *into = Data::new();
     Err(FsRefusal::NotThisFs)
 }
 
-/// The bytes of a file from a place on: all that are left, or the first 4,096.
+/// The bytes of a file from a place on: all that are left, or the first 4,096; none after an `Err`.
 pub fn read_file<K: Blocks>(
     client: &Client,
     disk: &mut K,
@@ -119,6 +124,7 @@ pub fn read_file<K: Blocks>(
     requires { MayAsk K.told client.now (K.view disk.old) }
     ensures answer { K.told → Answers (mounted_by client.now) (K.view disk.old) (K.view disk.new) (ask.Cat path.now)
         result (λ _. TellsPart start into.new) }
+    ensures nothing { IfErr result (λ _. into.new ≡ []) }
     ensures looks { OnlyLooks K.told (K.view disk.old) (K.view disk.new) result }
 {
     *into = Data::new();

@@ -26,5 +26,6 @@ untold_view g faults spent = record {
   left = λ t x f. Unit {0};
   faults = faults;
   put_faults = 0;
+  lenders = (0, 0);
   spent = spent;
 }

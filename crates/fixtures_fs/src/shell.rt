@@ -78,7 +78,7 @@ fn change<F: Tested, A: Answering>(site: &mut Site<F, A>, ask: ShellAsk) -> Resu
         ShellAsk::Append { path, bytes } => site.append(&Named { path }, &bytes),
         ShellAsk::MakeDir { path } => site.make_dir(&Named { path }),
         ShellAsk::Rm { path } => site.remove(&Named { path }),
-        ShellAsk::Copy { path, new } => F::copy_in(site, &Named { path }, &Named { path: new }),
+        ShellAsk::Copy { path, new } => site.copy(&Named { path }, &Named { path: new }),
         _ => Err(FsRefusal::Device),
     }
 }

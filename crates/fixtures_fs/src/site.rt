@@ -39,13 +39,6 @@ pub trait Tested: Files + Drop {
     /// A file system for session 1 at block 0, of which nothing is mounted.
     fn unmounted(alloc: Global) -> Result<Self, NoMemory>
         ensures { IfOk result (λ f. IsOurs (Self.view f)) };
-
-    /// A new file with the bytes of another; NotThisFs where the layout has no copies.
-    fn copy_in<A: Answering>(
-        site: &mut Site<Self, A>,
-        path: &Named,
-        new: &Named,
-    ) -> Result<(), FsRefusal>;
 }
 
 impl Tested for InodeFs {
@@ -56,14 +49,6 @@ impl Tested for InodeFs {
     fn unmounted(alloc: Global) -> Result<InodeFs, NoMemory> {
         InodeFs::new(alloc, 0, &WRITE, 1)
     }
-
-    fn copy_in<A: Answering>(
-        site: &mut Site<InodeFs, A>,
-        path: &Named,
-        new: &Named,
-    ) -> Result<(), FsRefusal> {
-        site.copy(path, new)
-    }
 }
 
 impl Tested for ChainFs {
@@ -73,14 +58,6 @@ impl Tested for ChainFs {
 
     fn unmounted(alloc: Global) -> Result<ChainFs, NoMemory> {
         ChainFs::new(alloc, 0, &WRITE, 1)
-    }
-
-    fn copy_in<A: Answering>(
-        _site: &mut Site<ChainFs, A>,
-        _path: &Named,
-        _new: &Named,
-    ) -> Result<(), FsRefusal> {
-        Err(FsRefusal::NotThisFs)
     }
 }
 
@@ -164,6 +141,17 @@ impl<F: Files + Drop, A: Answering> Site<F, A> {
         self.files.make_dir(&mut self.disk, &path.path)
     }
 
+    /// A new file with the bytes of another; NotThisFs where the layout has no copies.
+    pub fn copy(&mut self, path: &Named, new: &Named) -> Result<(), FsRefusal> {
+        if !self.is_ready() {
+            return Err(FsRefusal::Device);
+        }
+        if !self.files.has_dirs() {
+            return Err(FsRefusal::NotThisFs);
+        }
+        self.files.copy(&mut self.disk, &path.path, &new.path)
+    }
+
     /// The end of a file or of an empty directory.
     pub fn remove(&mut self, path: &Named) -> Result<(), FsRefusal> {
         if !self.is_ready() {
@@ -225,15 +213,5 @@ impl<F: Files + Drop, A: Answering> Site<F, A> {
             }
         }
         Err(FsRefusal::Device)
-    }
-}
-
-impl<A: Answering> Site<InodeFs, A> {
-    /// A new file with the bytes of another.
-    pub fn copy(&mut self, path: &Named, new: &Named) -> Result<(), FsRefusal> {
-        if !self.is_ready() {
-            return Err(FsRefusal::Device);
-        }
-        self.files.copy(&mut self.disk, &path.path, &new.path)
     }
 }

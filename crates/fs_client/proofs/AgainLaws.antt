@@ -13,8 +13,8 @@ use Rattle.fs_port.specs.View.{View}
 use Rattle.fs_port.specs.Files.{FilesView, Answers, IsEitherTree, LeavesTidyWorld, step_on, unless_refused}
 use Rattle.fs_client.specs.May.{OnlyLooks}
 use Rattle.fs_port.specs.Runs.{Changes, Runs}
-use Rattle.fs_port.proofs.RunLaws.{on_answer}
-use Rattle.fs_client.proofs.RunLaws.{runs_look, runs_more, then_runs, changes_of, as_before}
+use Rattle.fs_port.proofs.RunLaws.{both_leave, leaves_more, on_answer}
+use Rattle.fs_client.proofs.RunLaws.{runs_look, runs_more, then_runs, changes_so, as_before}
 
 module _ (f : FilesView) (first rd : View) (a : ShellAsk) (same : rd.world ≡ first.world) where
   -- the step there, by the world
@@ -47,10 +47,11 @@ module _ (f : FilesView) (first rd : View) (a : ShellAsk) (same : rd.world ≡ f
 
 pub changes_again : {X Y : Type 0} (told : Type 0) (f : FilesView) (first rd fin : View) (a : ShellAsk) (x : X) (result : Result Y FsRefusal) → (told → IsValid first.world) → OnlyLooks told first rd (Ok x) → Changes told f rd fin a result → Changes told f first fin a result
 changes_again {X} {Y} told f first rd fin a x result valid looks h =
-    changes_of told f first fin a result (λ t. on_answer (LeavesTidyWorld f rd fin) (LeavesTidyWorld f first fin) result (leaves_again f first rd a (looks.looked t).0.world fin) (h.world t))
+    changes_so told f first fin a result (λ t. on_answer (LeavesTidyWorld f rd fin) (LeavesTidyWorld f first fin) result (leaves_again f first rd a (looks.looked t).0.world fin) (h.world t))
+    (λ t off. both_leave first rd fin (λ w. w ≡ first.world) (looks.crash t) (leaves_more rd fin (λ w. w ≡ rd.world) (λ w. w ≡ first.world) (λ w e. e ∙ (looks.looked t).0.world) (h.unmounted t off)))
     (then_runs told first rd fin (IsEitherTree f first a) x result
     (runs_look told first rd (IsEitherTree f first a) (Ok x) (λ t w is. as_before f first a w (valid t) is) looks)
     (runs_more told rd fin (IsEitherTree f rd a) (IsEitherTree f first a) result (λ t w either. either_again f first rd a (looks.looked t).0.world w either) ran))
   where
     ran : Runs told rd fin (IsEitherTree f rd a) result
-    ran = record { valid = h.valid; crash = h.crash; stays = h.stays; counts = h.counts; unspent = h.unspent; faultless = h.faultless; cause = h.cause; spent = h.spent }
+    ran = record { valid = h.valid; led = h.led; crash = h.crash; stays = h.stays; counts = h.counts; unspent = h.unspent; faultless = h.faultless; cause = h.cause; spent = h.spent }

@@ -1,11 +1,12 @@
 -- The world after a deletion: which pairs are held, and which blocks live.
-use Rattle.std.proofs.Common.{◌≡◌, ℕ, true, false, Bool, not, ◌&&◌, ◌==◌, refl, sym, ◌∙◌, ap}
+use Rattle.std.proofs.Common.{◌≡◌, ℕ, true, false, Bool, not, cond, ◌&&◌, ◌==◌, refl, sym, ◌∙◌, ap, None}
 use Rattle.std.proofs.lemmas.Bool.{and_parts, and_from, eq-eqb, eqb-true}
-use Rattle.tsd_model.specs.World.{World, is_live, has_number}
+use Rattle.tsd_model.specs.World.{World, contents, is_live, has_number}
 use Rattle.tsd_model.specs.Pairs.{holds, is_pair}
 use Rattle.tsd_model.specs.Doomed.{doomed}
 use Rattle.tsd_model.specs.Step.{without_pointer}
 use Rattle.tsd_model.proofs.PairLaws.{holds-filter}
+use Rattle.tsd_model.proofs.SizeLaws.{contents-restricted}
 use Rattle.disk_laws.proofs.DoomLaws.{live-restricted, holds-restricted}
 use Rattle.fs_client.specs.Steps.{dropped}
 
@@ -30,6 +31,12 @@ module _ (w : World) (a b : ℕ) where
 
   pub fewer_live : (d : ℕ) → is_live (dropped w a b) d ≡ true → is_live w d ≡ true
   fewer_live d h = (and_parts (not (has_number (doomed (without_pointer w a b)) d)) (is_live w d) (sym (live_are d) ∙ h)).1
+
+  -- with the same bytes
+  pub same_bytes : (d : ℕ) → is_live (dropped w a b) d ≡ true → contents (dropped w a b) d ≡ contents w d
+  same_bytes d h =
+      let kept = (and_parts (not (has_number (doomed (without_pointer w a b)) d)) (is_live w d) (sym (live_are d) ∙ h)).0 in
+      contents-restricted (without_pointer w a b) (λ x. not (has_number (doomed (without_pointer w a b)) x)) d ∙ ap (λ t. cond t (contents w d) None) kept
 
   -- the pair is gone
   pub pair_gone : holds (dropped w a b).pairs a b ≡ false

@@ -7,11 +7,11 @@ use Rattle.fs_trees.specs.declared.refusal.FsRefusal.{FsRefusal}
 use Rattle.fs_trees.specs.declared.refusal.FsRefusal.TheVariants as no
 use Rattle.fs_port.specs.View.{View, IsSound}
 use Rattle.fs_port.specs.Calls.{IsValidNow}
-use Rattle.fs_port.specs.Files.{FilesView, IsEitherTree, IsTreeAlone, IsLeft, LeavesTidyWorld}
+use Rattle.fs_port.specs.Files.{FilesView, IsEitherTree, IsTreeAlone, IsLeft, LeavesTidyWorld, OnlyDeletes}
 use Rattle.fs_port.specs.Runs.{Changes, FindsTree, IsMade, Looks, Runs}
 use Rattle.fs_port.proofs.RunLaws.{on_answer, unasked}
 use Rattle.fs_client.specs.May.{Looked, OnlyLooks}
-use Rattle.fs_client.proofs.RunLaws.{as_before, changes_of, leaves_same, runs_look, runs_more}
+use Rattle.fs_client.proofs.RunLaws.{as_before, changes_so, leaves_same, on_ok, runs_look, runs_more}
 
 pub looks_at : {X : Type 0} (told : Type 0) (old new : View) (result : Result X FsRefusal) → OnlyLooks told old new result → Looks told old new result
 looks_at told old new result looks = record {
@@ -26,7 +26,7 @@ module _ {X : Type 0} (told : Type 0) (v : View) (e : FsRefusal) (ne : e ≢ no.
   unasked_looks = record { world = λ t. (tt, λ _. refl); runs = unasked told v (λ w. w ≡ v.world) e ne unspent sound valid (λ t. refl) }
 
   pub unasked_changes : (f : FilesView) (a : ShellAsk) → Changes {X = X} told f v v a (Err e)
-  unasked_changes f a = changes_of told f v v a (Err e) (λ t. (tt, λ _. leaves_same f v v refl unspent))
+  unasked_changes f a = changes_so told f v v a (Err e) (λ t. (tt, λ _. leaves_same f v v refl unspent)) (λ t off. unasked_looks.runs.crash t)
       (unasked told v (IsEitherTree f v a) e ne unspent sound valid (λ t. as_before f v a v.world (valid t).valid refl))
 
 -- ---- of the same file system, where a tree is mounted or where none is
@@ -38,6 +38,9 @@ module _ (f : FilesView) (m : Bool) (old new : View) where
   tidy_as : LeavesTidyWorld f old new → LeavesTidyWorld (record f { mounted = m }) old new
   tidy_as h = record { unspent = h.unspent; tidy = h.tidy; others = h.others; taken = h.taken }
 
+  deletes_as : (w : World) → OnlyDeletes f old.world w → OnlyDeletes (record f { mounted = m }) old.world w
+  deletes_as w h = record { pairs = h.pairs; bytes = h.bytes; named = h.named; none = h.none }
+
   pub made_as : IsMade f old new → IsMade (record f { mounted = m }) old new
   made_as h = record { tree = h.tree; tidy = h.tidy; left = tidy_as h.left }
 
@@ -46,12 +49,13 @@ module _ (f : FilesView) (m : Bool) (old new : View) where
     make_as = runs_more told old new (IsEitherTree f old ask.Make) (IsEitherTree (record f { mounted = m }) old ask.Make) result (λ t w e. (e.0, left_as w e.1))
 
     pub mount_as : Runs told old new (IsTreeAlone f old) result → Runs told old new (IsTreeAlone (record f { mounted = m }) old) result
-    mount_as = runs_more told old new (IsTreeAlone f old) (IsTreeAlone (record f { mounted = m }) old) result (λ t w e. (e.0, left_as w e.1))
+    mount_as = runs_more told old new (IsTreeAlone f old) (IsTreeAlone (record f { mounted = m }) old) result (λ t w e. (e.0, left_as w e.1, deletes_as w e.2))
 
     pub finds_as : FindsTree f old new result → FindsTree (record f { mounted = m }) old new result
     finds_as h = record {
       tree = h.tree;
       tidy = h.tidy;
+      deletes = on_ok (OnlyDeletes f old.world new.world) (OnlyDeletes (record f { mounted = m }) old.world new.world) result (deletes_as new.world) h.deletes;
       there = h.there;
       only = h.only;
       not_there = h.not_there;

@@ -1,5 +1,5 @@
 -- The free blocks are counted, which changes nothing.
-use Rattle.std.proofs.Common.{◌≡◌, ◌≢◌, ℕ, Bool, true, false, refl, sym, ◌∙◌, ap, subst, Result, Ok, Err}
+use Rattle.std.proofs.Common.{◌≡◌, ℕ, Bool, true, false, refl, sym, ◌∙◌, ap, subst, Result, Ok, Err}
 use Rattle.std.specs.Prelude.{IfOk, IfErr}
 use Rattle.image_device.specs.Counts.{Rose}
 use Rattle.tsd_model.specs.World.{is_live}
@@ -14,6 +14,7 @@ use Rattle.fs_laws.proofs.WayLaws.{ways_stay}
 use Rattle.fs_port.specs.View.{View, state_of}
 use Rattle.fs_port.specs.Calls.{Counts, IsAskCarriedOut, IsValidNow, LeavesWorldsOnly, Stays}
 use Rattle.fs_port.specs.Files.{OnAnswer}
+use Rattle.fs_port.proofs.RunLaws.{led_by}
 use Rattle.fs_trees.specs.declared.refusal.FsRefusal.{FsRefusal}
 use Rattle.fs_trees.specs.declared.refusal.FsRefusal.TheVariants as no
 use Rattle.fs_client.specs.May.{Looked, OnlyLooks}
@@ -32,6 +33,7 @@ free_looked old new n now done = record {
   };
   ways = λ s a held. subst (λ st. HoldsWrite st s a) done.1
       (ways_stay old.kind (state_of old) ask.GetFree done.0 s a now.valid now.fits held refl (ap (λ w. is_live w a) (free_same old done.0) ∙ held_live old now s a held));
+  led = led_by old new ask.GetFree (reply.Free n) refl done;
 }
 
 -- counting only looks, whatever came of it

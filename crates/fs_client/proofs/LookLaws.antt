@@ -1,7 +1,7 @@
 -- A request that only looks, of a client that may write the block.
 use Rattle.std.proofs.Common.{◌≡◌, ◌≢◌, ℕ, zero, suc, ◌<◌, ◌≤◌, Bool, true, false, ◌&&◌, ◌||◌, ◌==◌, refl, sym, ◌∙◌, ap, subst, arith, inl, inr, Option, Some, None, List, [], Result, Ok, Err}
 use Rattle.std.proofs.lemmas.Bool.{and_from, eq-eqb, or_left}
-use Rattle.std.specs.Prelude.{is_none, is_some, unwrap_or, IfErr}
+use Rattle.std.specs.Prelude.{is_none, is_some, unwrap_or}
 use Rattle.image_device.specs.Counts.{Rose}
 use Rattle.tsd_model.specs.World.{World, contents, is_live}
 use Rattle.tsd_model.specs.Sessions.{Sessions, is_open, level_le, level_from, Fits}
@@ -26,16 +26,15 @@ use Rattle.fs_laws.specs.Ways.{HoldsWrite, is_steady, writes_through}
 use Rattle.fs_laws.proofs.WayLaws.{ways_stay, ways_are_gained}
 use Rattle.fs_laws.proofs.GrantedLaws.{read_is_granted, list_is_granted}
 use Rattle.fs_port.specs.View.{View, state_of, IsSound}
-use Rattle.fs_port.specs.Calls.{Counts, IsAskCarriedOut, IsEitherSide, IsValidNow, LeavesWorldsOnly, Stays}
-use Rattle.fs_port.specs.Files.{OnAnswer}
-use Rattle.fs_port.proofs.RunLaws.{both_leave, leaves_more, on_answer, if_fault, both_stay, both_count}
+use Rattle.fs_port.specs.Calls.{IsAskCarriedOut, IsEitherSide, IsValidNow, LeavesWorldsOnly, Stays}
+use Rattle.fs_port.proofs.RunLaws.{both_leave, leaves_more, on_answer, if_fault, both_stay, both_count, led_both, led_by}
 use Rattle.fs_trees.specs.declared.refusal.FsRefusal.{FsRefusal}
 use Rattle.fs_trees.specs.declared.refusal.FsRefusal.TheVariants as no
 use Rattle.fs_client.specs.declared.client.Client.{Client}
 use Rattle.fs_client.specs.Client.{shown_at, read_by, list_by}
 use Rattle.fs_client.specs.Asks.{AsksOnce}
 use Rattle.fs_client.specs.May.{MayWrite, Looked, OnlyLooks}
-use Rattle.fs_client.proofs.RefusedLaws.{same_answer}
+use Rattle.fs_client.proofs.RefusedLaws.{is_steady_too, same_answer}
 
 -- ---- what is no other refusal is a fault
 
@@ -146,6 +145,7 @@ module _ (c : Client) (old new : View) (q : Request) (b : ℕ) (r : Reply) (now 
       fits = subst (λ st. Fits st.world st.sessions) done.1 (answer_fits old.kind (state_of old) q done.0 now.valid now.fits);
     };
     ways = λ s a held. subst (λ st. HoldsWrite st s a) done.1 (ways_stay old.kind (state_of old) q done.0 s a now.valid now.fits held steady (live_after a (held_is_live old.world old.sessions s a now.fits held)));
+    led = led_by old new q r (is_steady_too q steady) done;
   }
 
   pub gained : verdict old.world old.sessions q ≡ None → is_of_session q c.session ≡ true → writes_through (state_of old) q c.session b ≡ true → HoldsWrite (state_of new) c.session b
@@ -201,7 +201,7 @@ module _ {X : Type 0} (told : Type 0) (old new : View) (q : Request) where
 -- nothing was asked
 pub no_look : (told : Type 0) (v : View) → v.spent ≡ false → (told → IsSound v) → (told → IsValidNow v) → OnlyLooks {X = Unit {0}} told v v (Ok tt)
 no_look told v unspent sound valid = record {
-  looked = λ t. (record { world = refl; valid = valid t; ways = λ s a held. held }, tt);
+  looked = λ t. (record { world = refl; valid = valid t; ways = λ s a held. held; led = ([], refl) }, tt);
   crash = λ t. record {
     later = omega arith;
     sent = refl;
@@ -210,23 +210,24 @@ no_look told v unspent sound valid = record {
     keeps = λ s x f le h. h;
   };
   stays = (record { records = refl; sessions = λ s. refl }, tt);
-  counts = record { geometry = refl; version = refl; kind = refl; clock = omega arith; faults = omega arith; put_faults = refl };
+  counts = record { geometry = refl; version = refl; kind = refl; clock = omega arith; faults = omega arith; put_faults = refl; lenders = refl };
   unspent = (unspent, tt);
   faultless = (refl, tt);
   cause = tt;
   spent = tt;
 }
 
-also : (old mid new : View) → Looked old mid → Looked mid new → Looked old new
-also old mid new first second = record {
+also : (old mid new : View) → mid.kind ≡ old.kind → Looked old mid → Looked mid new → Looked old new
+also old mid new same first second = record {
   world = second.world ∙ first.world;
   valid = second.valid;
   ways = λ s a held. second.ways s a (first.ways s a held);
+  led = led_both old mid new same first.led second.led;
 }
 
 pub then_looks : {X Y : Type 0} (told : Type 0) (old mid new : View) (x : X) (result : Result Y FsRefusal) → OnlyLooks told old mid (Ok x) → OnlyLooks told mid new result → OnlyLooks told old new result
 then_looks told old mid new x result first second = record {
-  looked = λ t. on_answer (Looked mid new) (Looked old new) result (also old mid new (first.looked t).0) (second.looked t);
+  looked = λ t. on_answer (Looked mid new) (Looked old new) result (also old mid new first.counts.kind (first.looked t).0) (second.looked t);
   crash = λ t. both_leave old mid new (λ w. w ≡ old.world) (first.crash t)
       (leaves_more mid new (λ w. w ≡ mid.world) (λ w. w ≡ old.world) (λ w e. e ∙ (first.looked t).0.world) (second.crash t));
   stays = on_answer (Stays mid new) (Stays old new) result (both_stay old mid new first.stays.0) second.stays;

@@ -26,6 +26,7 @@ use Rattle.fs_client.specs.Changing.{files_by, IsEmptied}
 use Rattle.fs_client.specs.Trimming.{root_alone, MayTrim, Trimmed, IsTrim, OnlyNamed}
 use Rattle.fs_client.proofs.RunLaws.{as_before}
 use Rattle.fs_client.proofs.TidyLaws.{is_tidy}
+use Rattle.fs_client.proofs.TrimLaws.{freed}
 use Rattle.fs_client.proofs.WriteLaws.{written_free}
 
 module _ (kind : ShellKind) (c : Client) (first : View) (bytes : List ℕ) (now : IsValidNow first) (primary : c.root < first.world.geometry.primaries) (empty : IsEmptied kind (written first.world c.root bytes) c.root) where
@@ -93,7 +94,7 @@ module _ (kind : ShellKind) (c : Client) (first : View) (bytes : List ℕ) (now 
           unspent = unspent;
           tidy = λ _. tidy_fin;
           others = outside_twice c.root first.world wr.world fin.world others_wr l.others;
-          taken = λ b free live. absurd (written_free w c.root bytes (now.valid.raw.primaries c.root primary) b free (ap (λ v. is_live v b) (sym went.world) ∙ l.freed b live));
+          taken = λ b free live. absurd (written_free w c.root bytes (now.valid.raw.primaries c.root primary) b free (ap (λ v. is_live v b) (sym went.world) ∙ freed c (root_alone c.root) wr fin l b live));
         };
       }
         where

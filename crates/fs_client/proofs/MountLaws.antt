@@ -13,14 +13,14 @@ use Rattle.fs_laws.specs.Stays.{IsUnder}
 use Rattle.fs_laws.proofs.TreeLaws.{named_is_under}
 use Rattle.fs_port.specs.View.{View}
 use Rattle.fs_port.specs.Calls.{IsValidNow}
-use Rattle.fs_port.specs.Files.{FilesView, IsTreeAlone, LeavesTidyWorld, OnAnswer}
+use Rattle.fs_port.specs.Files.{FilesView, IsTreeAlone, LeavesTidyWorld, OnAnswer, OnlyDeletes}
 use Rattle.fs_client.specs.declared.client.Client.{Client}
 use Rattle.fs_client.specs.May.{OnlyLooks}
 use Rattle.fs_client.specs.Changing.{files_by}
 use Rattle.fs_port.specs.Runs.{Runs}
 use Rattle.fs_client.specs.Trimming.{Trimmed, IsTrim, Trims, IsClean}
 use Rattle.fs_client.proofs.RunLaws.{on_ok, on_both, answer_ok, ok_of, alone_same, runs_look, runs_more, looks_change}
-use Rattle.fs_client.proofs.TidyLaws.{is_tidy, same_tree, tree_alone, trimmed_left}
+use Rattle.fs_client.proofs.TidyLaws.{is_tidy, same_tree, tree_alone, only_deletes, trimmed_left}
 use Rattle.fs_client.proofs.TrimLaws.{trims_by_looks, then_trims, under_still}
 
 pub not_refused : {X : Type 0} (P : Type 0) (result : Result X FsRefusal) → IfErr result (λ e. e ≡ no.Device) → IfErr result (λ e. e ≡ no.NotThisFs → P)
@@ -54,6 +54,9 @@ module _ (kind : ShellKind) (told : Type 0) (c : Client) (old mid : View) (x : B
 
     pub tree_stays : told → OnOk result (tree_at kind new.world c.root ≡ tree_at kind old.world c.root)
     tree_stays t = on_ok (Trimmed c n old new) (tree_at kind new.world c.root ≡ tree_at kind old.world c.root) result (λ h. (same_tree kind c old (there t) new (as_named t h)).tree) (all.trimmed t)
+
+    pub only_deleted : told → OnOk result (OnlyDeletes (files_by kind c) old.world new.world)
+    only_deleted t = on_ok (Trimmed c n old new) (OnlyDeletes (files_by kind c) old.world new.world) result (λ h. only_deletes kind c old (there t) new (as_named t h)) (all.trimmed t)
 
     now_tidy : (t : told) → Trimmed c n old new → ((a : ℕ) → IsClean n new.world a) → IsTidy kind new.world c.root
     now_tidy t h cleaned =

@@ -10,7 +10,8 @@ use Rattle.tsd_model.specs.declared.replies.Reply.{Reply}
 use Rattle.tsd_model.specs.declared.replies.Reply.TheVariants as reply
 use Rattle.disk_laws.proofs.AnswerLaws.{refused_answer}
 use Rattle.fs_port.specs.View.{View, state_of}
-use Rattle.fs_port.specs.Calls.{IsAskCarriedOut}
+use Rattle.fs_laws.specs.Ways.{is_steady as steady_there}
+use Rattle.fs_port.specs.Calls.{IsAskCarriedOut, is_steady}
 use Rattle.fs_client.specs.Asks.{refusal_in, has_wanted_form, IsRefused}
 
 -- it is one of the six requests that a file system asks
@@ -22,6 +23,13 @@ is_of_files (ask.Delete s a shown b) = true
 is_of_files (ask.Alloc s a shown h count) = true
 is_of_files (ask.List s a shown start) = true
 is_of_files q = false
+
+-- both words for a request that neither opens nor closes a session, nor sets a capability
+pub is_steady_too : (q : Request) → steady_there q ≡ true → is_steady q ≡ true
+is_steady_too (ask.Begin s) h = absurd (cc)
+is_steady_too (ask.End s) h = absurd (cc)
+is_steady_too (ask.SetCap s b shown caps) h = absurd (cc)
+is_steady_too q h = refl
 
 -- granted, its reply has the form
 judged_form : (kind : PlaceKind) (s : State) (q : Request) → is_of_files q ≡ true → has_wanted_form q (judged kind s q None).reply ≡ true

@@ -1,5 +1,5 @@
 -- Calls one after the other, whatever they answer.
-use Rattle.std.proofs.Common.{◌≡◌, ◌≢◌, ℕ, Bool, true, false, ◌&&◌, nat_lt, refl, sym, ◌∙◌, ap, subst, arith, inl, inr, ◌⊎◌, ◌<◌, length, List, Option, Some, None, Result, Ok, Err}
+use Rattle.std.proofs.Common.{◌≡◌, ◌≢◌, ℕ, Bool, true, false, ◌&&◌, nat_lt, refl, sym, ◌∙◌, ap, subst, inl, inr, ◌⊎◌, ◌<◌, length, List, [], Option, Some, None, Result, Ok, Err}
 use Rattle.std.specs.Prelude.{IfErr, OnOk, is_some, is_none, slice_get}
 use Rattle.image_device.specs.Counts.{Rose}
 use Rattle.tsd_model.specs.World.{World, contents, is_live, is_free}
@@ -14,9 +14,9 @@ use Rattle.fs_trees.specs.declared.ask.ShellAsk.{ShellAsk}
 use Rattle.fs_trees.specs.declared.refusal.FsRefusal.{FsRefusal}
 use Rattle.fs_trees.specs.declared.refusal.FsRefusal.TheVariants as no
 use Rattle.fs_port.specs.View.{View, state_of}
-use Rattle.fs_port.specs.Calls.{Counts, IsValidNow, Stays}
+use Rattle.fs_port.specs.Calls.{Counts, IsLedTo, IsValidNow, LeavesWorldsOnly, Stays}
 use Rattle.fs_port.specs.Files.{FilesView, IsClientReady, IsEitherTree, IsTreeAlone, IsLeft, LeavesTidyWorld, OnAnswer}
-use Rattle.fs_port.proofs.RunLaws.{both_leave, leaves_more, on_answer, if_fault, both_stay, both_count}
+use Rattle.fs_port.proofs.RunLaws.{both_leave, leaves_more, on_answer, if_fault, both_stay, both_count, led_both}
 use Rattle.fs_client.specs.declared.client.Client.{Client}
 use Rattle.fs_client.specs.May.{Looked, OnlyLooks}
 use Rattle.fs_client.specs.Steps.{Leads, Went, Steps}
@@ -55,6 +55,7 @@ device_alone (Err e) h = inr h
 pub runs_look : {X : Type 0} (told : Type 0) (old new : View) (P : World → Type 0) (result : Result X FsRefusal) → (told → (w : World) → w ≡ old.world → P w) → OnlyLooks told old new result → Runs told old new P result
 runs_look told old new P result on looks = record {
   valid = λ t. on_answer (Looked old new) (IsValidNow new) result (λ l. l.valid) (looks.looked t);
+  led = λ t. on_answer (Looked old new) (IsLedTo old new) result (λ l. l.led) (looks.looked t);
   crash = λ t. leaves_more old new (λ w. w ≡ old.world) P (on t) (looks.crash t);
   stays = looks.stays;
   counts = looks.counts;
@@ -68,6 +69,7 @@ pub runs_step : {X : Type 0} (told : Type 0) (c : Client) (old new : View) (q : 
     → (told → (w : World) → (w ≡ old.world) ⊎ ((w ≡ after) × Leads old.world q after) → P w) → Steps told c old new q a after result → Runs told old new P result
 runs_step {X} told c old new q a after P result now on steps = record {
   valid = λ t. stays_valid result (steps.went t) (steps.same t) (now t);
+  led = λ t. leads result (steps.went t) (steps.same t);
   crash = λ t. leaves_more old new (λ w. (w ≡ old.world) ⊎ ((w ≡ after) × Leads old.world q after)) P (on t) (steps.crash t);
   stays = steps.stays;
   counts = steps.counts;
@@ -77,6 +79,10 @@ runs_step {X} told c old new q a after P result now on steps = record {
   spent = steps.spent;
 }
   where
+    leads : (r : Result X FsRefusal) → OnOk r (Went c old new q a after) → IfErr r (λ e. e ≢ no.Device → state_of new ≡ state_of old) → OnAnswer r (IsLedTo old new)
+    leads (Ok x) went same = (went.led, tt)
+    leads (Err e) went same = (tt, λ ne. ([], same ne))
+
     stays_valid : (r : Result X FsRefusal) → OnOk r (Went c old new q a after) → IfErr r (λ e. e ≢ no.Device → state_of new ≡ state_of old) → IsValidNow old → OnAnswer r (IsValidNow new)
     stays_valid (Ok x) went same now = (went.valid, tt)
     stays_valid (Err e) went same now = (
@@ -90,6 +96,7 @@ runs_step {X} told c old new q a after P result now on steps = record {
 pub then_runs : {X Y : Type 0} (told : Type 0) (old mid new : View) (P : World → Type 0) (x : X) (result : Result Y FsRefusal) → Runs told old mid P (Ok x) → Runs told mid new P result → Runs told old new P result
 then_runs told old mid new P x result first second = record {
   valid = second.valid;
+  led = λ t. on_answer (IsLedTo mid new) (IsLedTo old new) result (led_both old mid new first.counts.kind (first.led t).0) (second.led t);
   crash = λ t. both_leave old mid new P (first.crash t) (second.crash t);
   stays = on_answer (Stays mid new) (Stays old new) result (both_stay old mid new first.stays.0) second.stays;
   counts = both_count old mid new first.counts second.counts;
@@ -100,15 +107,16 @@ then_runs told old mid new P x result first second = record {
 }
 
 pub runs_as : {X Y : Type 0} (told : Type 0) (old new : View) (P : World → Type 0) (x : X) (y : Y) → Runs told old new P (Ok x) → Runs told old new P (Ok y)
-runs_as told old new P x y h = record { valid = h.valid; crash = h.crash; stays = h.stays; counts = h.counts; unspent = h.unspent; faultless = h.faultless; cause = tt; spent = tt }
+runs_as told old new P x y h = record { valid = h.valid; led = h.led; crash = h.crash; stays = h.stays; counts = h.counts; unspent = h.unspent; faultless = h.faultless; cause = tt; spent = tt }
 
 pub runs_refused : {X Y : Type 0} (told : Type 0) (old new : View) (P : World → Type 0) (e : FsRefusal) → Runs {X = X} told old new P (Err e) → Runs {X = Y} told old new P (Err e)
-runs_refused told old new P e h = record { valid = h.valid; crash = h.crash; stays = h.stays; counts = h.counts; unspent = h.unspent; faultless = h.faultless; cause = h.cause; spent = h.spent }
+runs_refused told old new P e h = record { valid = h.valid; led = h.led; crash = h.crash; stays = h.stays; counts = h.counts; unspent = h.unspent; faultless = h.faultless; cause = h.cause; spent = h.spent }
 
 -- a refusal of its own, not the disk's
 pub runs_but_refuses : {X Y : Type 0} (told : Type 0) (old new : View) (P : World → Type 0) (x : X) (e : FsRefusal) → e ≢ no.Device → Runs told old new P (Ok x) → Runs {X = Y} told old new P (Err e)
 runs_but_refuses told old new P x e ne h = record {
   valid = λ t. (tt, λ _. (h.valid t).0);
+  led = λ t. (tt, λ _. (h.led t).0);
   crash = h.crash;
   stays = (tt, λ _. h.stays.0);
   counts = h.counts;
@@ -122,6 +130,7 @@ runs_but_refuses told old new P x e ne h = record {
 pub runs_more : {X : Type 0} (told : Type 0) (old new : View) (P Q : World → Type 0) (result : Result X FsRefusal) → (told → (w : World) → P w → Q w) → Runs told old new P result → Runs told old new Q result
 runs_more told old new P Q result on h = record {
   valid = h.valid;
+  led = h.led;
   crash = λ t. leaves_more old new P Q (on t) (h.crash t);
   stays = h.stays;
   counts = h.counts;
@@ -134,11 +143,14 @@ runs_more told old new P Q result on h = record {
 -- ---- what a file system's calls leave
 
 -- a call that ran so, and left the world so, changes no more than its ask does
-pub changes_of : {X : Type 0} (told : Type 0) (f : FilesView) (old new : View) (a : ShellAsk) (result : Result X FsRefusal) → (told → OnAnswer result (LeavesTidyWorld f old new)) → Runs told old new (IsEitherTree f old a) result → Changes told f old new a result
-changes_of told f old new a result world h = record {
+pub changes_so : {X : Type 0} (told : Type 0) (f : FilesView) (old new : View) (a : ShellAsk) (result : Result X FsRefusal) → (told → OnAnswer result (LeavesTidyWorld f old new))
+    → (told → f.mounted ≡ false → LeavesWorldsOnly old new (λ w. w ≡ old.world)) → Runs told old new (IsEitherTree f old a) result → Changes told f old new a result
+changes_so told f old new a result world unmounted h = record {
   world = world;
   crash = h.crash;
+  unmounted = unmounted;
   valid = h.valid;
+  led = h.led;
   stays = h.stays;
   counts = h.counts;
   unspent = h.unspent;
@@ -146,6 +158,13 @@ changes_of told f old new a result world h = record {
   cause = h.cause;
   spent = h.spent;
 }
+
+-- where a tree is mounted
+pub changes_of : {X : Type 0} (told : Type 0) (f : FilesView) → f.mounted ≡ true → (old new : View) (a : ShellAsk) (result : Result X FsRefusal) → (told → OnAnswer result (LeavesTidyWorld f old new)) → Runs told old new (IsEitherTree f old a) result → Changes told f old new a result
+changes_of told f is old new a result world h = changes_so told f old new a result world (λ t off. absurd (clash f.mounted is off)) h
+  where
+    clash : (m : Bool) → m ≡ true → m ≡ false → ⊥
+    clash m p q = cc
 
 -- the client stays ready
 pub ready_still : (f : FilesView) (old new : View) → Stays old new → Counts old new → new.spent ≡ false → IsClientReady f old → IsClientReady f new
@@ -169,7 +188,7 @@ pub as_before : (f : FilesView) (old : View) (a : ShellAsk) (w : World) → IsVa
 as_before f old a w valid e = subst (IsEitherTree f old a) (sym e) (inl refl, left_same f old valid)
 
 pub alone_same : (f : FilesView) (v : View) (w : World) → IsValid v.world → w ≡ v.world → IsTreeAlone f v w
-alone_same f v w valid e = subst (IsTreeAlone f v) (sym e) (refl, left_same f v valid)
+alone_same f v w valid e = subst (IsTreeAlone f v) (sym e) (refl, left_same f v valid, record { pairs = λ a b h. h; bytes = λ b h. refl; named = refl; none = λ off. refl })
 
 clash_by : (t : Bool) (o : Option (List ℕ)) → (t && is_none o) ≡ true → is_some o ≡ true → ⊥
 clash_by true None h k = cc
@@ -190,7 +209,7 @@ leaves_same f old new e unspent = record {
 
 -- a call that only looked
 pub looks_change : {X : Type 0} (told : Type 0) (f : FilesView) (old new : View) (a : ShellAsk) (result : Result X FsRefusal) → (told → IsValid old.world) → OnlyLooks told old new result → Changes told f old new a result
-looks_change {X} told f old new a result valid looks = changes_of told f old new a result (λ t. left result (looks.looked t) looks.unspent)
+looks_change {X} told f old new a result valid looks = changes_so told f old new a result (λ t. left result (looks.looked t) looks.unspent) (λ t off. looks.crash t)
     (runs_look told old new (IsEitherTree f old a) result (λ t w e. as_before f old a w (valid t) e) looks)
   where
     left : (r : Result X FsRefusal) → OnAnswer r (Looked old new) → OnAnswer r (new.spent ≡ false) → OnAnswer r (LeavesTidyWorld f old new)

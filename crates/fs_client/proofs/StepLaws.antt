@@ -24,14 +24,14 @@ use Rattle.fs_laws.specs.Ways.{HoldsWrite, is_steady, writes_through}
 use Rattle.fs_laws.proofs.WayLaws.{ways_stay, ways_are_gained}
 use Rattle.fs_port.specs.View.{View, state_of}
 use Rattle.fs_port.specs.Calls.{IsAskCarriedOut, IsEitherSide, IsValidNow, LeavesWorldsOnly}
-use Rattle.fs_port.proofs.RunLaws.{leaves_more}
+use Rattle.fs_port.proofs.RunLaws.{leaves_more, led_by}
 use Rattle.fs_trees.specs.declared.refusal.FsRefusal.{FsRefusal}
 use Rattle.fs_client.specs.declared.client.Client.{Client}
 use Rattle.tsd_model.specs.Placing.{chosen}
 use Rattle.tsd_model.specs.declared.requests.Hint.TheVariants.{At}
 use Rattle.fs_client.specs.Client.{alloc_by}
 use Rattle.fs_client.specs.Asks.{AsksOnce, has_wanted_form}
-use Rattle.fs_client.proofs.RefusedLaws.{is_of_files, same_answer}
+use Rattle.fs_client.proofs.RefusedLaws.{is_of_files, is_steady_too, same_answer}
 use Rattle.fs_client.specs.Steps.{Leads, Went, Steps}
 
 unformed : (q : Request) (k : Rule) → has_wanted_form q (reply.Refused k) ≡ true → ⊥
@@ -96,6 +96,7 @@ module _ (c : Client) (old new : View) (q : Request) (a : ℕ) (after : World) (
         };
         ways = λ s b held live. subst (λ st. HoldsWrite st s b) done.1 (ways_stay old.kind (state_of old) q done.0 s b now.valid now.fits held steady (ap (λ w. is_live w b) world_is ∙ live));
         held = λ live. subst (λ st. HoldsWrite st c.session a) done.1 (ways_are_gained old.kind (state_of old) q done.0 c.session a now.valid now.fits (ap is_none granted) mine through steady (ap (λ w. is_live w a) world_is ∙ live));
+        led = led_by old new q r (is_steady_too q steady) done;
       }
 
   -- ---- whatever came of it

@@ -14,11 +14,12 @@ use Rattle.fs_laws.proofs.NamedLaws.{each_named}
 use Rattle.fs_laws.proofs.TreeLaws.{read_from_named}
 use Rattle.fs_laws.proofs.UnderLaws.{each_under, root_under, target_under}
 use Rattle.fs_port.specs.View.{View}
-use Rattle.fs_port.specs.Files.{LeavesTidyWorld, IsTreeAlone}
+use Rattle.fs_port.specs.Files.{LeavesTidyWorld, IsTreeAlone, OnlyDeletes}
 use Rattle.fs_client.specs.declared.client.Client.{Client}
 use Rattle.fs_client.specs.Changing.{files_by}
 use Rattle.fs_client.specs.Trimming.{Trimmed, IsTrim, IsClean}
 use Rattle.fs_client.proofs.RunLaws.{clash_free_live}
+use Rattle.fs_client.proofs.TrimLaws.{freed}
 
 -- ---- when a world is tidy
 
@@ -55,12 +56,12 @@ is_tidy kind w root valid under targets clean =
 pub still_clean : (n : Named) (w next : World) (a : ℕ) → ((x y : ℕ) → holds next.pairs x y ≡ true → holds w.pairs x y ≡ true) → IsClean n w a → IsClean n next a
 still_clean n w next a fewer clean named b held = clean named b (fewer a b held)
 
+clash_of : (t : Bool) → t ≡ true → t ≡ false → ⊥
+clash_of t p q = cc
+
 -- a block that isn't named is clean
 pub clean_unnamed : (n : Named) (w : World) (a : ℕ) → has_number n.blocks a ≡ false → IsClean n w a
-clean_unnamed n w a off named b held = absurd (clash (has_number n.blocks a) named off)
-  where
-    clash : (t : Bool) → t ≡ true → t ≡ false → ⊥
-    clash t p q = cc
+clean_unnamed n w a off named b held = absurd (clash_of (has_number n.blocks a) named off)
 
 -- ---- what is left
 
@@ -69,12 +70,20 @@ module _ (kind : ShellKind) (c : Client) (old : View) (there : is_there (tree_at
   same_tree new h = read_from_named kind old.world new.world c.root there h.keeps
 
   pub tree_alone : (w : World) → IsTrim c (named_at kind old.world c.root) old w → IsTreeAlone (files_by kind c) old w
-  tree_alone w h = ((read_from_named kind old.world w c.root there h.keeps).tree, record { valid = h.valid; geometry = h.keeps.geometry; others = h.others })
+  tree_alone w h =
+      let same = read_from_named kind old.world w c.root there h.keeps in (
+        same.tree,
+        record { valid = h.valid; geometry = h.keeps.geometry; others = h.others },
+        record { pairs = h.fewer; bytes = h.bytes; named = same.named; none = λ off. absurd (clash_of (is_there (tree_at kind old.world c.root)) there off) },
+      )
+
+  pub only_deletes : (new : View) → Trimmed c (named_at kind old.world c.root) old new → OnlyDeletes (files_by kind c) old.world new.world
+  only_deletes new h = record { pairs = h.fewer; bytes = h.bytes; named = (same_tree new h).named; none = λ off. absurd (clash_of (is_there (tree_at kind old.world c.root)) there off) }
 
 pub trimmed_left : (kind : ShellKind) (c : Client) (n : Named) (old new : View) → new.spent ≡ false → IsTidy kind new.world c.root → Trimmed c n old new → LeavesTidyWorld (files_by kind c) old new
 trimmed_left kind c n old new unspent tidy trimmed = record {
   unspent = unspent;
   tidy = λ _. tidy;
   others = trimmed.others;
-  taken = λ b free live. absurd (clash_free_live old.world b free (trimmed.freed b live));
+  taken = λ b free live. absurd (clash_free_live old.world b free (freed c n old new trimmed b live));
 }

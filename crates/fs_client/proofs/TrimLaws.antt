@@ -1,8 +1,8 @@
 -- Pairs that aren't named are deleted, one after the other.
 use Rattle.std.proofs.Common.{◌≡◌, ℕ, ◌<◌, true, false, not, ◌⊎◌, List, refl, sym, ◌∙◌, ap, subst, arith, inl, inr, Result, Ok, Err}
 use Rattle.std.proofs.lemmas.Bool.{and_from}
-use Rattle.std.specs.Prelude.{IfErr, slice_get}
-use Rattle.tsd_model.specs.World.{World, is_live, has_number}
+use Rattle.std.specs.Prelude.{IfErr, is_some, slice_get}
+use Rattle.tsd_model.specs.World.{World, contents, is_live, has_number}
 use Rattle.tsd_model.specs.Pairs.{holds}
 use Rattle.tsd_model.specs.Records.{kept_of}
 use Rattle.tsd_model.specs.Sessions.{level_le}
@@ -31,7 +31,7 @@ use Rattle.fs_client.proofs.LookLaws.{no_look}
 use Rattle.fs_client.specs.Steps.{dropped, Leads, Went, Steps}
 use Rattle.fs_client.specs.Trimming.{IsWay, MayTrim, MayDelete, Trimmed, IsTrim, Trims}
 use Rattle.fs_client.proofs.RunLaws.{on_ok, ok_of, others_same, runs_look, runs_step, then_runs, runs_as, runs_refused, runs_more}
-use Rattle.fs_client.proofs.DropLaws.{fewer_pairs, fewer_live}
+use Rattle.fs_client.proofs.DropLaws.{fewer_pairs, same_bytes}
 
 -- ---- nothing is deleted
 
@@ -42,7 +42,7 @@ pub keeps_all : (w : World) (root : ℕ) (n : Named) → IsValid w → IsUnder w
 keeps_all w root n valid under = record { geometry = refl; live = named_live w root n valid under; bytes = λ b m. refl; pairs = under.held }
 
 pub is_trim : (c : Client) (n : Named) (v : View) (w : World) → IsValid v.world → IsUnder v.world c.root n → w ≡ v.world → IsTrim c n v w
-is_trim c n v w valid under same = subst (IsTrim c n v) (sym same) (record { valid = valid; keeps = keeps_all v.world c.root n valid under; others = others_same c.root v.world })
+is_trim c n v w valid under same = subst (IsTrim c n v) (sym same) (record { valid = valid; keeps = keeps_all v.world c.root n valid under; others = others_same c.root v.world; fewer = λ a b h. h; bytes = λ b h. refl })
 
 pub trimmed_by_looks : (c : Client) (n : Named) (old new : View) → IsValidNow old → IsUnder old.world c.root n → Looked old new → Trimmed c n old new
 trimmed_by_looks c n old new valid under seen =
@@ -52,8 +52,8 @@ trimmed_by_looks c n old new valid under seen =
       version = ap (λ w. w.version) seen.world;
       keeps = as_trim.keeps;
       others = as_trim.others;
-      fewer = λ a b h. ap (λ w. holds w.pairs a b) (sym seen.world) ∙ h;
-      freed = λ b h. ap (λ w. is_live w b) (sym seen.world) ∙ h;
+      fewer = as_trim.fewer;
+      bytes = as_trim.bytes;
       ways = λ s b held live. seen.ways s b held;
     }
 
@@ -88,6 +88,10 @@ under_still w mid root n under keeps = record {
   from = under.from;
 }
 
+-- what is live was
+pub freed : (c : Client) (n : Named) (old new : View) → Trimmed c n old new → (b : ℕ) → is_live new.world b ≡ true → is_live old.world b ≡ true
+freed c n old new h b live = ap is_some (sym (h.bytes b live)) ∙ live
+
 pub trimmed_both : (c : Client) (n : Named) (old mid new : View) → Trimmed c n old mid → Trimmed c n mid new → Trimmed c n old new
 trimmed_both c n old mid new first second = record {
   valid = second.valid;
@@ -95,8 +99,8 @@ trimmed_both c n old mid new first second = record {
   keeps = keeps_both old.world mid.world new.world n first.keeps second.keeps;
   others = outside_twice c.root old.world mid.world new.world first.others second.others;
   fewer = λ a b h. first.fewer a b (second.fewer a b h);
-  freed = λ b h. first.freed b (second.freed b h);
-  ways = λ s b held live. second.ways s b (first.ways s b held (second.freed b live)) live;
+  bytes = λ b h. second.bytes b h ∙ first.bytes b (freed c n mid new second b h);
+  ways = λ s b held live. second.ways s b (first.ways s b held (freed c n mid new second b live)) live;
 }
 
 later_trim : (c : Client) (n : Named) (old mid : View) (w : World) → Trimmed c n old mid → IsTrim c n mid w → IsTrim c n old w
@@ -104,6 +108,8 @@ later_trim c n old mid w first h = record {
   valid = h.valid;
   keeps = keeps_both old.world mid.world w n first.keeps h.keeps;
   others = outside_twice c.root old.world mid.world w first.others h.others;
+  fewer = λ a b held. first.fewer a b (h.fewer a b held);
+  bytes = λ b live. h.bytes b live ∙ first.bytes b (ap is_some (sym (h.bytes b live)) ∙ live);
 }
 
 pub then_trims : {X Y : Type 0} (told : Type 0) (c : Client) (n : Named) (old mid new : View) (x : X) (result : Result Y FsRefusal) → Trims told c n old mid (Ok x) → Trims told c n mid new result → Trims told c n old new result
@@ -130,8 +136,14 @@ module _ (c : Client) (n : Named) (old : View) (a b : ℕ) (valid : IsValidNow o
   spares_it : spares n (unlink_by c a b) ≡ true
   spares_it = ap not spared
 
-  led : (w : World) → Leads old.world (unlink_by c a b) w → IsTrim c n old w
-  led w leads = record { valid = leads.valid; keeps = leads.keeps c.root n under spares_it; others = leads.others c.root under.primary inside }
+  led : Leads old.world (unlink_by c a b) (dropped old.world a b) → IsTrim c n old (dropped old.world a b)
+  led leads = record {
+    valid = leads.valid;
+    keeps = leads.keeps c.root n under spares_it;
+    others = leads.others c.root under.primary inside;
+    fewer = fewer_pairs old.world a b;
+    bytes = same_bytes old.world a b;
+  }
 
   pub trimmed_by_step : (new : View) → Went c old new (unlink_by c a b) a (dropped old.world a b) → Trimmed c n old new
   trimmed_by_step new went = record {
@@ -140,14 +152,14 @@ module _ (c : Client) (n : Named) (old : View) (a b : ℕ) (valid : IsValidNow o
     keeps = subst (λ w. Keeps old.world w n) (sym went.world) (went.leads.keeps c.root n under spares_it);
     others = subst (OthersStay c.root old.world) (sym went.world) (went.leads.others c.root under.primary inside);
     fewer = λ x y h. fewer_pairs old.world a b x y (ap (λ w. holds w.pairs x y) (sym went.world) ∙ h);
-    freed = λ d h. fewer_live old.world a b d (ap (λ w. is_live w d) (sym went.world) ∙ h);
+    bytes = λ d h. ap (λ w. contents w d) went.world ∙ same_bytes old.world a b d (ap (λ w. is_live w d) (sym went.world) ∙ h);
     ways = λ s d way live. went.ways s d way (ap (λ w. is_live w d) (sym went.world) ∙ live);
   }
 
   pub crash_by_step : (w : World) → (w ≡ old.world) ⊎ ((w ≡ dropped old.world a b) × Leads old.world (unlink_by c a b) (dropped old.world a b)) → IsTrim c n old w
   crash_by_step w h = elim h [
     | inl before ↦ is_trim c n old w valid.valid under before
-    | inr after ↦ subst (IsTrim c n old) (sym after.0) (led (dropped old.world a b) after.1)
+    | inr after ↦ subst (IsTrim c n old) (sym after.0) (led after.1)
   ]
 
 pub trims_by_step : {X : Type 0} (told : Type 0) (c : Client) (n : Named) (old new : View) (a b : ℕ) (result : Result X FsRefusal)

@@ -8,7 +8,7 @@ use Rattle.fs_trees.specs.declared.refusal.FsRefusal.{FsRefusal}
 use Rattle.fs_trees.specs.declared.refusal.FsRefusal.TheVariants as no
 use Rattle.fs_laws.specs.Ways.{HoldsWrite, attains_write}
 use Rattle.fs_port.specs.View.{View, state_of}
-use Rattle.fs_port.specs.Calls.{Counts, IsValidNow, LeavesWorldsOnly, Stays}
+use Rattle.fs_port.specs.Calls.{Counts, IsLedTo, IsValidNow, LeavesWorldsOnly, Stays}
 use Rattle.fs_port.specs.Files.{OnAnswer}
 use Rattle.fs_client.specs.Client.{shown_at}
 use Rattle.fs_client.specs.declared.client.Client.{Client}
@@ -29,6 +29,7 @@ pub record Looked (old new : View) : Type 0 where
   pub world : new.world ≡ old.world
   pub valid : IsValidNow new
   pub ways : KeepsWays (state_of old) (state_of new)
+  pub led : IsLedTo old new
 
 -- A call that only looks at a disk that may tell its world: what holds whatever it answers.
 pub record OnlyLooks {X : Type 0} (told : Type 0) (old new : View) (result : Result X FsRefusal) : Type 0 where

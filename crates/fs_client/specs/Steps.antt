@@ -19,7 +19,7 @@ use Rattle.fs_laws.specs.Outside.{is_inside}
 use Rattle.fs_laws.specs.Stays.{IsUnder, Keeps, spares}
 use Rattle.fs_laws.specs.Ways.{HoldsWrite}
 use Rattle.fs_port.specs.View.{View, state_of}
-use Rattle.fs_port.specs.Calls.{Counts, IsValidNow, LeavesWorldsOnly, Stays}
+use Rattle.fs_port.specs.Calls.{Counts, IsLedTo, IsValidNow, LeavesWorldsOnly, Stays}
 use Rattle.fs_port.specs.Files.{OnAnswer}
 use Rattle.fs_client.specs.declared.client.Client.{Client}
 
@@ -61,6 +61,7 @@ pub record Went (c : Client) (old new : View) (q : Request) (a : ℕ) (after : W
   pub valid : IsValidNow new
   pub ways : (s b : ℕ) → HoldsWrite (state_of old) s b → IsTrue (is_live after b) → HoldsWrite (state_of new) s b
   pub held : IsTrue (is_live after a) → HoldsWrite (state_of new) c.session a
+  pub led : IsLedTo old new
 
 -- A request at block a that was asked once, of a disk that may tell its world: what holds whatever came of it.
 pub record Steps {X : Type 0} (told : Type 0) (c : Client) (old new : View) (q : Request) (a : ℕ) (after : World) (result : Result X FsRefusal) : Type 0 where

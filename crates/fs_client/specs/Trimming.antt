@@ -1,6 +1,6 @@
 -- Pairs that contents don't name are deleted.
 use Rattle.std.specs.Prelude.{◌≡◌, ℕ, ◌⊎◌, ◌==◌, false, List, [], ◌∷◌, Result, IfErr, OnOk, IsTrue}
-use Rattle.tsd_model.specs.World.{World, is_live, has_number}
+use Rattle.tsd_model.specs.World.{World, contents, is_live, has_number}
 use Rattle.tsd_model.specs.Pairs.{holds}
 use Rattle.tsd_model.specs.Valid.{IsValid}
 use Rattle.fs_trees.specs.Layouts.{Named}
@@ -44,7 +44,7 @@ pub record Trimmed (c : Client) (n : Named) (old new : View) : Type 0 where
   pub keeps : Keeps old.world new.world n
   pub others : OthersStay c.root old.world new.world
   pub fewer : (a b : ℕ) → IsTrue (holds new.world.pairs a b) → IsTrue (holds old.world.pairs a b)
-  pub freed : (b : ℕ) → IsTrue (is_live new.world b) → IsTrue (is_live old.world b)
+  pub bytes : (b : ℕ) → IsTrue (is_live new.world b) → contents new.world b ≡ contents old.world b
   pub ways : (s b : ℕ) → HoldsWrite (state_of old) s b → IsTrue (is_live new.world b) → HoldsWrite (state_of new) s b
 
 -- what a crash meanwhile leaves
@@ -52,6 +52,8 @@ pub record IsTrim (c : Client) (n : Named) (old : View) (w : World) : Type 0 whe
   pub valid : IsValid w
   pub keeps : Keeps old.world w n
   pub others : OthersStay c.root old.world w
+  pub fewer : (a b : ℕ) → IsTrue (holds w.pairs a b) → IsTrue (holds old.world.pairs a b)
+  pub bytes : (b : ℕ) → IsTrue (is_live w b) → contents w b ≡ contents old.world b
 
 -- Deletions on a disk that may tell its world: what holds whatever came of them.
 pub record Trims {X : Type 0} (told : Type 0) (c : Client) (n : Named) (old new : View) (result : Result X FsRefusal) : Type 0 where

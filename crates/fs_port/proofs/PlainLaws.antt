@@ -38,20 +38,20 @@ pub gone_on : (old new : PlainBlocks) (w : World) (v : Sessions) (P : World → 
 gone_on old new w v P on before after = record {
   later = let long : length new.earlier.items ≡ length old.earlier.items + 1 = ap length on.earlier ∙ length-append old.earlier.items (old.world ∷ []) in omega arith;
   sent = refl;
-  each = λ x f h. ⊎_elim (λ k. ⊎_elim (λ g. absurd (none_behind old.earlier.items x g)) (λ e. (old.world, e, before, h.1)) (split_last (length old.earlier.items) old.earlier.items old.world x (omega arith) (subst (λ ws. IsOneOf (drop (length old.earlier.items) ws) x) on.earlier k)))
+  each = λ x f h. ⊎_elim (λ k. ⊎_elim (λ g. absurd (none_behind old.earlier.items x.world g)) (λ e. (old.world, e, before, h.1)) (split_last (length old.earlier.items) old.earlier.items old.world x.world (omega arith) (subst (λ ws. IsOneOf (drop (length old.earlier.items) ws) x.world) on.earlier k)))
       (λ e. (w, e ∙ ap (λ u. Some u) on.world, after, h.1)) h.0;
-  before = λ t x f le h. ⊎_elim (λ k. inl (split_last t old.earlier.items old.world x le (subst (λ ws. IsOneOf (drop t ws) x) on.earlier k), h.1))
+  before = λ t x f le h. ⊎_elim (λ k. inl (split_last t old.earlier.items old.world x.world le (subst (λ ws. IsOneOf (drop t ws) x.world) on.earlier k), h.1))
       (λ e. inr (w, e ∙ ap (λ u. Some u) on.world, after, h.1)) h.0;
-  keeps = λ t x f le h. (inl (subst (λ ws. IsOneOf (drop t ws) x) (sym on.earlier) (join_last t old.earlier.items old.world x le h.0)), h.1);
+  keeps = λ t x f le h. (inl (subst (λ ws. IsOneOf (drop t ws) x.world) (sym on.earlier) (join_last t old.earlier.items old.world x.world le h.0)), h.1);
 }
 
 pub failed_leaves : (old new : PlainBlocks) (P : World → Type 0) → new.world ≡ old.world → new.earlier.items ≡ old.earlier.items → P old.world → LeavesWorldsOnly (plain_view old) (plain_view new) P
 failed_leaves old new P same earlier before = record {
   later = let long = ap length earlier in omega (arith, long);
   sent = refl;
-  each = λ x f h. ⊎_elim (λ k. absurd (none_behind old.earlier.items x (subst (λ ws. IsOneOf (drop (length old.earlier.items) ws) x) earlier k))) (λ e. (old.world, e ∙ ap (λ u. Some u) same, before, h.1)) h.0;
-  before = λ t x f le h. inl (back t x h.0, h.1);
-  keeps = λ t x f le h. (forth t x h.0, h.1);
+  each = λ x f h. ⊎_elim (λ k. absurd (none_behind old.earlier.items x.world (subst (λ ws. IsOneOf (drop (length old.earlier.items) ws) x.world) earlier k))) (λ e. (old.world, e ∙ ap (λ u. Some u) same, before, h.1)) h.0;
+  before = λ t x f le h. inl (back t x.world h.0, h.1);
+  keeps = λ t x f le h. (forth t x.world h.0, h.1);
 }
   where
     back : (t : ℕ) (x : Option World) → HadSince t new.earlier.items new.world x → HadSince t old.earlier.items old.world x

@@ -1,6 +1,7 @@
 -- What a call of a file system does.
 use Rattle.std.specs.Prelude.{◌≡◌, ◌≢◌, ℕ, ◌<◌, ◌≤◌, ◌⊎◌, Bool, true, false, cond, List, length, take, drop, find, slice_get, Option, Result, IfOk, IfErr, OnOk, IsTrue}
-use Rattle.tsd_model.specs.World.{World, is_live, is_free, has_number}
+use Rattle.tsd_model.specs.World.{World, contents, is_live, is_free, has_number}
+use Rattle.tsd_model.specs.Pairs.{holds}
 use Rattle.tsd_model.specs.Records.{kept_of}
 use Rattle.tsd_model.specs.Sessions.{sessions_max, is_open}
 use Rattle.tsd_model.specs.Attained.{record_level}
@@ -98,9 +99,18 @@ IsEitherTree f old a w =
     ((tree_at f.kind w f.root ≡ tree_at f.kind old.world f.root) ⊎ (tree_at f.kind w f.root ≡ tree_after f old a))
     × IsLeft f old w
 
--- what a crash within mounting leaves: the tree as it was
+-- Only pairs are deleted, with what they held: what is live was live with the same bytes, and what the tree names is at
+-- the same blocks. Nothing is deleted where no tree is there.
+pub record OnlyDeletes (f : FilesView) (old new : World) : Type 0 where
+  pub pairs : (a b : ℕ) → IsTrue (holds new.pairs a b) → IsTrue (holds old.pairs a b)
+  pub bytes : (b : ℕ) → IsTrue (is_live new b) → contents new b ≡ contents old b
+  pub named : named_at f.kind new f.root ≡ named_at f.kind old f.root
+  pub none : is_there (tree_at f.kind old f.root) ≡ false → new ≡ old
+
+-- what a crash within mounting leaves: the tree as it was, and no more than was there
 abbrev pub IsTreeAlone : FilesView → View → World → Type 0
-IsTreeAlone f old w = (tree_at f.kind w f.root ≡ tree_at f.kind old.world f.root) × IsLeft f old w
+IsTreeAlone f old w =
+    (tree_at f.kind w f.root ≡ tree_at f.kind old.world f.root) × IsLeft f old w × OnlyDeletes f old.world w
 
 -- ---- making and mounting
 

@@ -9,14 +9,15 @@ use Rattle.fs_trees.specs.declared.ask.ShellAsk.{ShellAsk}
 use Rattle.fs_trees.specs.declared.refusal.FsRefusal.{FsRefusal}
 use Rattle.fs_trees.specs.declared.refusal.FsRefusal.TheVariants as no
 use Rattle.fs_port.specs.View.{View}
-use Rattle.fs_port.specs.Calls.{Counts, IsValidNow, LeavesWorldsOnly, Stays}
-use Rattle.fs_port.specs.Files.{FilesView, IsEitherTree, LeavesTidyWorld, OnAnswer}
+use Rattle.fs_port.specs.Calls.{Counts, IsLedTo, IsValidNow, LeavesWorldsOnly, Stays}
+use Rattle.fs_port.specs.Files.{FilesView, IsEitherTree, LeavesTidyWorld, OnAnswer, OnlyDeletes}
 
 -- Asks one after the other, of a disk that may tell its world, where a stop leaves P. An answer other than Device leaves
 -- the count of faults as it was; Device comes only where that count rose, and then the disk is spent.
 pub record Runs {X : Type 0} (told : Type 0) (old new : View) (P : World → Type 0) (result : Result X FsRefusal) : Type 0 where
   pub valid : told → OnAnswer result (IsValidNow new)
   pub crash : told → LeavesWorldsOnly old new P
+  pub led : told → OnAnswer result (IsLedTo old new)
   pub stays : OnAnswer result (Stays old new)
   pub counts : Counts old new
   pub unspent : OnAnswer result (new.spent ≡ false)
@@ -33,7 +34,10 @@ pub record Looks {X : Type 0} (told : Type 0) (old new : View) (result : Result 
 pub record Changes {X : Type 0} (told : Type 0) (f : FilesView) (old new : View) (a : ShellAsk) (result : Result X FsRefusal) : Type 0 where
   pub world : told → OnAnswer result (LeavesTidyWorld f old new)
   pub crash : told → LeavesWorldsOnly old new (IsEitherTree f old a)
+  -- where nothing is mounted, a stop leaves the world as it was
+  pub unmounted : told → f.mounted ≡ false → LeavesWorldsOnly old new (λ w. w ≡ old.world)
   pub valid : told → OnAnswer result (IsValidNow new)
+  pub led : told → OnAnswer result (IsLedTo old new)
   pub stays : OnAnswer result (Stays old new)
   pub counts : Counts old new
   pub unspent : OnAnswer result (new.spent ≡ false)
@@ -49,10 +53,12 @@ pub record IsMade (f : FilesView) (old new : View) : Type 0 where
   pub tidy : IsTidy f.kind new.world f.root
   pub left : LeavesTidyWorld f old new
 
--- The tree that is there is mounted, as it was, and the world is tidy; or none is there, and nothing has changed.
+-- The tree that is there is mounted, as it was, and the world is tidy: pairs are deleted alone, with what they held. Or
+-- none is there, and nothing has changed.
 pub record FindsTree {X : Type 0} (f : FilesView) (old new : View) (result : Result X FsRefusal) : Type 0 where
   pub tree : OnOk result (tree_at f.kind new.world f.root ≡ tree_at f.kind old.world f.root)
   pub tidy : OnOk result (IsTidy f.kind new.world f.root)
+  pub deletes : OnOk result (OnlyDeletes f old.world new.world)
   pub there : OnOk result (IsTrue (is_there (tree_at f.kind old.world f.root)))
   pub only : IfErr result (λ e. (e ≡ no.NotThisFs) ⊎ (e ≡ no.Device))
   pub not_there : IfErr result (λ e. e ≡ no.NotThisFs

@@ -1,6 +1,6 @@
 //! What every file system promises.
 
-ghost use Rattle.std.specs.Prelude.{◌≡◌, true, IsTrue, MatchResult};
+ghost use Rattle.std.specs.Prelude.{◌≡◌, true, [], IfErr, IsTrue, MatchResult};
 ghost use Rattle.fs_trees.specs.Names.{is_path};
 ghost use Rattle.fs_trees.specs.Answer.{done};
 ghost use Rattle.fs_trees.specs.declared.ask.ShellAsk.TheVariants as ask;
@@ -70,7 +70,7 @@ pub trait Files {
             result }
         ensures same { view self.new ≡ view self.old };
 
-    /// Adds these bytes at the end of a file.
+    /// Adds these bytes at the end of a file. Where there are none it only looks.
     fn append<K: Blocks>(
         &mut self,
         disk: &mut K,
@@ -85,6 +85,21 @@ pub trait Files {
             (ask.Append path.now bytes.now) result (λ _ answer. answer ≡ done) }
         ensures changes { Changes K.told (view self.old) (K.view disk.old) (K.view disk.new)
             (ask.Append path.now bytes.now) result }
+        ensures idle { bytes.now ≡ [] → Looks K.told (K.view disk.old) (K.view disk.new) result }
+        ensures same { view self.new ≡ view self.old };
+
+    /// Makes a new file of the bytes of another, at a path where nothing stands. The two change apart afterwards.
+    fn copy<K: Blocks>(&mut self, disk: &mut K, path: &Path, new: &Path) -> Result<(), FsRefusal>
+        requires dirs { has_dirs (view self.old).kind ≡ true }
+        requires ready { IsClientReady (view self.old) (K.view disk.old) }
+        requires valid { K.told → IsValidNow (K.view disk.old) }
+        requires named { IsTrue (is_path path.now) }
+        requires new_named { IsTrue (is_path new.now) }
+        requires tree { K.told → HasTree (view self.old) (K.view disk.old) }
+        ensures answer { K.told → Answers (view self.old) (K.view disk.old) (K.view disk.new)
+            (ask.Copy path.now new.now) result (λ _ answer. answer ≡ done) }
+        ensures changes { Changes K.told (view self.old) (K.view disk.old) (K.view disk.new)
+            (ask.Copy path.now new.now) result }
         ensures same { view self.new ≡ view self.old };
 
     /// Takes away a file, or a directory without entries.
@@ -109,7 +124,7 @@ pub trait Files {
         ensures looks { Looks K.told (K.view disk.old) (K.view disk.new) result }
         ensures same { view self.new ≡ view self.old };
 
-    /// The bytes of a file from a place on: all that are left, or the first 4,096.
+    /// The bytes of a file from a place on: all that are left, or the first 4,096; none after an `Err`.
     fn read_part<K: Blocks>(
         &mut self,
         disk: &mut K,
@@ -123,6 +138,7 @@ pub trait Files {
         requires tree { K.told → HasTree (view self.old) (K.view disk.old) }
         ensures answer { K.told → Answers (view self.old) (K.view disk.old) (K.view disk.new) (ask.Cat path.now)
             result (λ _. TellsPart start into.new) }
+        ensures nothing { IfErr result (λ _. into.new ≡ []) }
         ensures looks { Looks K.told (K.view disk.old) (K.view disk.new) result }
         ensures same { view self.new ≡ view self.old };
 

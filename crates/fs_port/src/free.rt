@@ -6,7 +6,7 @@ ghost use Rattle.tsd_model.specs.World.{free_count};
 ghost use Rattle.tsd_model.specs.declared.requests.Request.TheVariants as ask;
 ghost use Rattle.tsd_model.specs.declared.replies.Reply.TheVariants as reply;
 ghost use Rattle.fs_trees.specs.declared.refusal.FsRefusal.TheVariants as no;
-ghost use Rattle.fs_port.specs.Calls.{Counts, IsAskCarriedOut, LeavesWorldsOnly, Stays};
+ghost use Rattle.fs_port.specs.Calls.{Counts, IsAskCarriedOut, IsValidNow, LeavesWorldsOnly, Stays};
 ghost use Rattle.fs_port.specs.Files.{OnAnswer};
 
 use crate::blocks::Blocks;
@@ -23,6 +23,7 @@ pub fn free_blocks<K: Blocks>(disk: &mut K) -> Result<u32, FsRefusal>
     ensures only { K.told → IfErr result (λ e. e ≡ no.Device) }
     ensures looks { K.told → OnAnswer result ((K.view disk.new).world ≡ (K.view disk.old).world) }
     ensures crash { K.told → LeavesWorldsOnly (K.view disk.old) (K.view disk.new) (λ w. w ≡ (K.view disk.old).world) }
+    ensures valid { K.told → IsValidNow (K.view disk.old) → OnAnswer result (IsValidNow (K.view disk.new)) }
     ensures stays { OnAnswer result (Stays (K.view disk.old) (K.view disk.new)) }
     ensures counts { Counts (K.view disk.old) (K.view disk.new) }
     ensures unspent { OnAnswer result ((K.view disk.new).spent ≡ false) }

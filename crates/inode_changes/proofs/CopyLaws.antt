@@ -1,10 +1,9 @@
 -- What a copy answers, by the refusal that applies first, and what the new file is made of.
 use Rattle.std.proofs.Common.{◌≡◌, ℕ, suc, ◌+◌, ◌*◌, ◌/◌, ◌<◌, ◌≤◌, true, false, nat_le, List, [], ◌∷◌, ◌++◌, length, refl, sym, ◌∙◌, ap, subst, arith, Option, Some, None, Ok}
-use Rattle.std.proofs.lemmas.Bool.Decides.{nat_tests}
 use Rattle.std.proofs.lemmas.List.{length-take-le, take_all}
 use Rattle.std.proofs.lemmas.Grind.{div_ceil_times}
 use Rattle.std.proofs.Math.Nat.{mul-div_cancel_left, mul_comm}
-use Rattle.std.specs.Prelude.{take, map, flat_map, slice_get}
+use Rattle.std.specs.Prelude.{take, flat_map, slice_get}
 use Rattle.std.specs.Int.{div_ceil}
 use Rattle.tsd_model.specs.Geometry.{block_len}
 use Rattle.tsd_model.specs.World.{free_count, has_number}
@@ -13,12 +12,12 @@ use Rattle.tsd_model.specs.Records.{kept_of}
 use Rattle.tsd_model.specs.Attained.{record_level}
 use Rattle.fs_trees.specs.Names.{Path, is_path}
 use Rattle.fs_trees.specs.InodeTree.{node_at, inodes_under, inode_tree}
-use Rattle.fs_trees.specs.Tree.{Tree, a_file, at, is_there, names_in, bytes_in, with_at}
-use Rattle.fs_trees.specs.Fields.{Entry, entry_names, numbers}
+use Rattle.fs_trees.specs.Tree.{Tree, a_file, at, is_there, bytes_in, with_at}
+use Rattle.fs_trees.specs.Fields.{numbers}
 use Rattle.fs_trees.specs.Inode as tree
 use Rattle.fs_trees.specs.Inode.{entries_room, data_room, are_apart}
 use Rattle.fs_trees.specs.Needs.{need_of}
-use Rattle.fs_trees.specs.Refusals.{Need, first_of, directory_of, lost_on_the_way, missing, no_file, taken, dir_full, no_room, refusal}
+use Rattle.fs_trees.specs.Refusals.{Need, first_of, lost_on_the_way, missing, no_file, taken, dir_full, no_room, refusal}
 use Rattle.fs_trees.specs.Step.{change}
 use Rattle.fs_trees.specs.declared.ask.ShellAsk.TheVariants as ask
 use Rattle.fs_trees.specs.declared.ask.ShellKind.TheVariants as kind
@@ -31,10 +30,9 @@ use Rattle.fs_client.specs.May.{Looked, OnlyLooks}
 use Rattle.fs_client.specs.Steps.{no_room_in}
 use Rattle.fs_client.specs.Changing.{refused_on, no_place_found}
 use Rattle.fs_client.proofs.AskLaws.{is_mounted}
-use Rattle.inode_changes.proofs.PlaceLaws.{none_at}
 use Rattle.inode_layout.specs.declared.inode.Inode as layout
 use Rattle.inode_layout.specs.Block.{inode_of, block_len_of, body_of}
-use Rattle.inode_layout.specs.Said.{is_directory, amount_said, blocks_said, entries_said}
+use Rattle.inode_layout.specs.Said.{is_directory, amount_said, blocks_said}
 use Rattle.inode_walks.specs.declared.finding.Found.{Found}
 use Rattle.inode_walks.specs.declared.finding.Place.{Place}
 use Rattle.inode_walks.specs.Asking.{tree_of, MayAsk, mounted_by}
@@ -42,7 +40,6 @@ use Rattle.inode_walks.specs.Finding.{StandsAtPath, IsPlace, not_found, no_file_
 use Rattle.inode_walks.specs.Reading.{bytes_at, bytes_said}
 use Rattle.inode_walks.proofs.RefusalLaws.{refused_by, passes_by}
 use Rattle.inode_walks.proofs.FileLaws.{file_said, file_count, named_held, may_look, said_is_row, row_is_long, found_long, node_is, file_is, tree_there, stands_still}
-use Rattle.inode_walks.proofs.FoundLaws.{dir_said, names_there}
 use Rattle.inode_changes.proofs.MakeLaws as making
 use Rattle.inode_changes.proofs.MakeLaws.{dir_lost, dir_taken}
 use Rattle.inode_changes.specs.Directories.{IsVacant}
@@ -52,7 +49,6 @@ use Rattle.inode_changes.specs.Content.{shared_count, shared_of, new_bytes, new_
 use Rattle.inode_changes.specs.Entering as entering
 use Rattle.inode_changes.specs.Entering.{Grounds, AreOfFiles}
 use Rattle.inode_changes.specs.NewFile.{bytes_of}
-use Rattle.inode_changes.proofs.EntryLaws.{entry_of}
 use Rattle.inode_changes.specs.Copying.{Copies, IsCopied}
 use Rattle.inode_changes.proofs.NeedLaws.{copy_need}
 use Rattle.inode_changes.proofs.GrowLaws.{blocks_behind}

@@ -1,5 +1,5 @@
 -- The inode of a new directory is written, which no directory names yet.
-use Rattle.std.proofs.Common.{◌≡◌, ℕ, ◌-◌, ◌≤◌, true, ◌==◌, List, [], ◌∷◌, length, refl, sym, ◌∙◌, ap, subst, arith, ◌⊎◌, Some}
+use Rattle.std.proofs.Common.{◌≡◌, ℕ, ◌-◌, ◌≤◌, true, ◌==◌, [], ◌∷◌, length, refl, sym, ◌∙◌, ap, subst, arith, ◌⊎◌, Some}
 use Rattle.std.proofs.lemmas.Bool.{or_left, eq-eqb}
 use Rattle.std.specs.Prelude.{replicate}
 use Rattle.std.specs.Option.{option_and_then}

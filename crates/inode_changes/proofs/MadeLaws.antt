@@ -34,6 +34,7 @@ use Rattle.inode_changes.proofs.EntryLaws.{file_data}
 pub runs_on : {X Y : Type 0} (told : Type 0) (old new : View) (P : World → Type 0) (e : FsRefusal) (y : Y) → e ≢ no.Device → Runs {X = X} told old new P (Err e) → Runs {X = Y} told old new P (Ok y)
 runs_on told old new P e y ne h = record {
   valid = λ t. ((h.valid t).1 ne, tt);
+  led = λ t. ((h.led t).1 ne, tt);
   crash = h.crash;
   stays = (h.stays.1 ne, tt);
   counts = h.counts;

@@ -107,6 +107,7 @@ before_fault e n h = ap (λ r. refusal_before r n) h
 pub runs_before : {X : Type 0} (told : Type 0) (old new : View) (P : World → Type 0) (e : FsRefusal) (n : ℕ) → Runs {X = X} told old new P (Err e) → Runs {X = X} told old new P (Err (refusal_before e n))
 runs_before told old new P e n h = record {
   valid = λ t. (tt, λ ne. (h.valid t).1 (λ k. ne (before_fault e n k)));
+  led = λ t. (tt, λ ne. (h.led t).1 (λ k. ne (before_fault e n k)));
   crash = h.crash;
   stays = (tt, λ ne. h.stays.1 (λ k. ne (before_fault e n k)));
   counts = h.counts;

@@ -1,6 +1,6 @@
 //! Bytes added to files.
 
-ghost use Rattle.std.specs.Prelude.{◌≡◌, ◌<◌, ◌≤◌, ◌%◌, ◌/◌, ◌*◌, ◌+◌, length, false};
+ghost use Rattle.std.specs.Prelude.{◌≡◌, ◌<◌, ◌≤◌, ◌%◌, ◌/◌, ◌*◌, ◌+◌, [], length, false};
 ghost use Rattle.std.specs.Prelude.{IfOk, IfErr, IsTrue};
 ghost use Rattle.fs_trees.specs.Names.{Path, name_max, is_path};
 ghost use Rattle.fs_trees.specs.Answer.{done};
@@ -132,7 +132,7 @@ fn grow<K: Blocks>(
     }
 }
 
-/// Adds these bytes at the end of a file.
+/// Adds these bytes at the end of a file. Where there are none it only looks.
 #[tactic(none)]
 pub fn append<K: Blocks>(
     client: &Client,
@@ -146,6 +146,7 @@ pub fn append<K: Blocks>(
         (ask.Append path.now bytes.now) result (λ _ answer. answer ≡ done) }
     ensures changes { Changes K.told (mounted_by client.now) (K.view disk.old) (K.view disk.new)
         (ask.Append path.now bytes.now) result }
+    ensures idle { bytes.now ≡ [] → OnlyLooks K.told (K.view disk.old) (K.view disk.new) result }
 {
     let place = match find_place(client, disk, path, FsRefusal::IsDir) {
         Ok(place) => place,

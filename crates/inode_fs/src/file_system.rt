@@ -1,12 +1,6 @@
 //! The file system as one value.
 
-ghost use Rattle.std.specs.Prelude.{◌≡◌, IfOk, IsTrue};
-ghost use Rattle.fs_trees.specs.Names.{is_path};
-ghost use Rattle.fs_trees.specs.Answer.{done};
-ghost use Rattle.fs_trees.specs.declared.ask.ShellAsk.TheVariants as ask;
-ghost use Rattle.fs_port.specs.Calls.{IsValidNow};
-ghost use Rattle.fs_port.specs.Files.{Answers, HasTree, IsClientReady};
-ghost use Rattle.fs_port.specs.Runs.{Changes};
+ghost use Rattle.std.specs.Prelude.{◌≡◌, IfOk};
 
 use crate::marks::Marks;
 use fs_client::Client;
@@ -41,31 +35,6 @@ impl InodeFs {
             mounted: false,
             marks,
         })
-    }
-
-    /// Makes a new file of the bytes of another, at a path where nothing stands. The two change apart afterwards.
-    pub fn copy<K: Blocks>(
-        &mut self,
-        disk: &mut K,
-        path: &Path,
-        new: &Path,
-    ) -> Result<(), FsRefusal>
-        requires ready { IsClientReady (inode_view self.old) (K.view disk.old) }
-        requires valid { K.told → IsValidNow (K.view disk.old) }
-        requires named { IsTrue (is_path path.now) }
-        requires new_named { IsTrue (is_path new.now) }
-        requires tree { K.told → HasTree (inode_view self.old) (K.view disk.old) }
-        ensures answer { K.told → Answers (inode_view self.old) (K.view disk.old) (K.view disk.new)
-            (ask.Copy path.now new.now) result (λ _ answer. answer ≡ done) }
-        ensures changes { Changes K.told (inode_view self.old) (K.view disk.old) (K.view disk.new)
-            (ask.Copy path.now new.now) result }
-        ensures same { inode_view self.new ≡ inode_view self.old }
-    {
-        if self.mounted {
-            inode_changes::copy(&self.client, disk, path, new)
-        } else {
-            Err(FsRefusal::NotThisFs)
-        }
     }
 }
 
@@ -115,6 +84,14 @@ impl Files for InodeFs {
         }
     }
 
+    fn copy<K: Blocks>(&mut self, disk: &mut K, path: &Path, new: &Path) -> Result<(), FsRefusal> {
+        if self.mounted {
+            inode_changes::copy(&self.client, disk, path, new)
+        } else {
+            Err(FsRefusal::NotThisFs)
+        }
+    }
+
     fn append<K: Blocks>(
         &mut self,
         disk: &mut K,
@@ -154,6 +131,7 @@ impl Files for InodeFs {
         if self.mounted {
             inode_walks::read_part(&self.client, disk, path, start, into)
         } else {
+            *into = Data::new();
             Err(FsRefusal::NotThisFs)
         }
     }

@@ -14,7 +14,7 @@
 //! for once. What is named is marked, and so is what has pairs that its contents don't name. Where all is right, these
 //! pairs are deleted. Of a disk that is no tree nothing is deleted.
 //!
-//! What it promises: `InodeFs` keeps the clauses of `Files`, and `copy` has those of `put`. Only `new` takes memory.
+//! What it promises: `InodeFs` keeps the clauses of `Files`. Only `new` takes memory.
 #![tactic(auto)]
 
 mod file_system;

@@ -7,7 +7,7 @@ use Rattle.fs_trees.specs.Names.{Name, Path, path_max}
 use Rattle.fs_trees.specs.Tree.{Tree, nothing, a_file, a_dir, entry, child, at, is_there}
 use Rattle.fs_trees.specs.Inode.{Inode, directory, regular, block_named}
 use Rattle.fs_trees.specs.InodeTree.{InodeNode, inode_at, node_at, inodes_under, named_pairs, tree_of}
-use Rattle.fs_trees.specs.Refusals.{first_of, directory_of, lost_on_the_way, no_file, no_dir}
+use Rattle.fs_trees.specs.Refusals.{first_of, directory_of, no_file, no_dir}
 use Rattle.fs_trees.specs.declared.refusal.FsRefusal.{FsRefusal}
 use Rattle.fs_trees.specs.declared.refusal.FsRefusal.TheVariants as no
 use Rattle.inode_layout.specs.Block.{inode_of, block_len_of}

@@ -81,7 +81,7 @@ fn read_block<K: Blocks>(
     }
 }
 
-/// Reads the bytes of a file from one place to another, block by block.
+/// Reads the bytes of a file from one place to another, block by block; none are left after an `Err`.
 fn read_bytes<K: Blocks>(
     client: &Client,
     disk: &mut K,
@@ -101,6 +101,7 @@ fn read_bytes<K: Blocks>(
     requires empty { into.old ≡ [] }
     ensures bytes { K.told
         → OnOk result (into.new ≡ part (bytes_said (K.view disk.old).world (inode_of file.now.inode)) start end) }
+    ensures nothing { IfErr result (λ _. into.new ≡ []) }
     ensures only { K.told → IfErr result (λ e. e ≡ no.Device) }
     ensures looks { OnlyLooks K.told (K.view disk.old) (K.view disk.new) result }
 {
@@ -108,13 +109,16 @@ fn read_bytes<K: Blocks>(
     while at < end {
         at = match read_block(client, disk, file, at, end, into) {
             Ok(next) => next,
-            Err(refusal) => return Err(refusal),
+            Err(refusal) => {
+                *into = Data::new();
+                return Err(refusal);
+            }
         };
     }
     Ok(())
 }
 
-/// The bytes of a file from a place on: all that are left, or the first 4,096.
+/// The bytes of a file from a place on: all that are left, or the first 4,096; none after an `Err`.
 pub fn read_part<K: Blocks>(
     client: &Client,
     disk: &mut K,
@@ -126,6 +130,7 @@ pub fn read_part<K: Blocks>(
     requires named { IsTrue (is_path path.now) }
     ensures answer { K.told → Answers (mounted_by client.now) (K.view disk.old) (K.view disk.new) (ask.Cat path.now)
         result (λ _. TellsPart start into.new) }
+    ensures nothing { IfErr result (λ _. into.new ≡ []) }
     ensures looks { OnlyLooks K.told (K.view disk.old) (K.view disk.new) result }
 {
     *into = Data::new();

@@ -1,9 +1,11 @@
 //! Tests of mounting over a plain disk, of the file system of inodes and of the one of chains: worlds laid by hand,
 //! which are a tree or none, and what is left of their pointers, also where mounting is stopped and begun again.
 //!
-//! They use public calls alone and show what no clause says. Nothing stands on this crate, and it promises nothing.
+//! They use public calls alone and show what no clause says. Two callers over a disk that tells its world are proved: what
+//! is put is read back, and whatever a crash leaves is mounted. Nothing stands on this crate.
 #![tactic(auto)]
 
+mod calling;
 #[cfg(test)]
 mod chain_blocks;
 #[cfg(test)]
@@ -18,3 +20,5 @@ mod inode_trees;
 mod laying;
 #[cfg(test)]
 mod mounting;
+
+pub use calling::{mount_what_is_left, put_and_read_back};

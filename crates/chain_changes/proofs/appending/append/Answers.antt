@@ -37,6 +37,7 @@ returns-in-Err g c =
           (λ ne. append_lost first.world.geometry t0 (free_count first.world) (length first.world.pairs) (need_of kind.Chain first.world me.root t0 a) path x r (c.requires.may.tree t) (e.refused t ne))
           (λ ne. ((e.looks.looked t).1 ne).world);
       changes = looks_change told (mounted_by me) first mid a (Err r) (λ t. (c.requires.may.valid t).valid) (looks_refused told first mid r e.looks);
+      idle = λ none. (looks_refused told first mid r e.looks);
     }
 
 pub returns-then-is_empty : goal.returns-then-is_empty
@@ -58,6 +59,7 @@ returns-then-is_empty g c =
           (ask_done {X = Unit {0}} (mounted_by me) first mid (ask.Append path []) tt (nothing_needed me first mid path c.in-Ok.first valid there same (e.found t) (e.none t)) refl
           (nothing_added me first mid path c.in-Ok.first valid there same (e.found t)));
       changes = looks_change told (mounted_by me) first mid (ask.Append path x) (Ok tt) (λ t. (c.requires.may.valid t).valid) (looks_as told first mid c.in-Ok.first tt e.looks);
+      idle = λ none. (looks_as told first mid c.in-Ok.first tt e.looks);
     }
 
 pub last_part-requires : goal.last_part-requires
@@ -83,7 +85,11 @@ returns-in-Err-last_part g c =
     record {
       answer = λ t. ask_refuses (mounted_by me) first rd a (λ _ answer. answer ≡ done) r (λ ne. absurd (ne (h.only t))) (λ ne. absurd (ne (h.only t)));
       changes = looks_change told (mounted_by me) first rd a (Err r) (λ t. (c.requires.may.valid t).valid) (then_looks told first mid rd c.in-Ok.first (Err r) e.looks (looks_refused told mid rd r h.looks));
+      idle = λ none. (then_looks told first mid rd c.in-Ok.first (Err r) e.looks (looks_refused told mid rd r h.looks));
     }
+
+not_both : (b : Bool) → b ≡ true → b ≡ false → ⊥
+not_both b p q = cc
 
 pub grow-requires : goal.grow-requires
 grow-requires g c =
@@ -104,9 +110,6 @@ grow-requires g c =
       some = subst (λ y. 0 < length y) (sym c.as_slice.ensures.value) (some_bytes x (λ none. not_both c.is_empty.result (c.is_empty.ensures.1 none) c.if-is_empty.false));
       small = subst (λ y. length y ≤ 4096) (sym c.as_slice.ensures.value) c.as_slice.ensures.fits;
     }
-  where
-    not_both : (b : Bool) → b ≡ true → b ≡ false → ⊥
-    not_both b p q = cc
 
 pub returns : goal.returns
 returns g c =
@@ -129,4 +132,5 @@ returns g c =
           (subst (λ y. Answers {X = Unit {0}} (mounted_by me) rd fin (ask.Append path y) c.grow.result (λ _ answer. answer ≡ done)) c.as_slice.ensures.value (c.grow.ensures.answer t path (last t)));
       changes = changes_again told (mounted_by me) first rd fin a part c.grow.result (λ t. (c.requires.may.valid t).valid) looks
           (subst (λ y. Changes {X = Unit {0}} told (mounted_by me) rd fin (ask.Append path y) c.grow.result) c.as_slice.ensures.value (c.grow.ensures.changes path last));
+      idle = λ none. absurd (not_both c.is_empty.result (c.is_empty.ensures.1 none) c.if-is_empty.false);
     }

@@ -1,4 +1,4 @@
-use Rattle.std.proofs.Common.{◌≡◌, ◌≢◌, ℕ, ◌-◌, ◌^◌, ◌<◌, ◌≤◌, min, ◌++◌, length, sym, ◌∙◌, ap, subst, arith, Ok, Err}
+use Rattle.std.proofs.Common.{◌≡◌, ◌≢◌, ℕ, ◌-◌, ◌^◌, ◌<◌, ◌≤◌, min, ◌++◌, length, refl, sym, ◌∙◌, ap, subst, arith, Ok, Err}
 use Rattle.std.specs.Prelude.{take, drop}
 use Rattle.tsd_model.specs.Geometry.{block_len}
 use Rattle.fs_trees.specs.Cluster.{bytes_room, link_field, part_bytes}
@@ -91,7 +91,7 @@ returns-in-Err g c =
       changes = λ path last.
           let a = ask.Append path x in
           let P = IsEitherTree (mounted_by me) first a in
-          changes_of told (mounted_by me) first mid a (Err r) (λ t. (tt, λ ne. leaves_same (mounted_by me) first mid (e.same t ne) (e.runs.unspent.1 ne)))
+          changes_of told (mounted_by me) refl first mid a (Err r) (λ t. (tt, λ ne. leaves_same (mounted_by me) first mid (e.same t ne) (e.runs.unspent.1 ne)))
           (runs_refused told first mid P r (runs_more told first mid (IsAside me.root first.world) P (Err r) (λ t w aside. aside_either me first a w aside) e.runs));
     }
 
@@ -177,7 +177,7 @@ returns-in-Ok-write_block g c =
       changes = λ path last.
           let a = ask.Append path x in
           let P = IsEitherTree (mounted_by me) first a in
-          changes_of told (mounted_by me) first fin a (Ok tt) (λ t. (decided_leaves me first a fin (decided t path (last t)) steps.unspent.0, tt))
+          changes_of told (mounted_by me) refl first fin a (Ok tt) (λ t. (decided_leaves me first a fin (decided t path (last t)) steps.unspent.0, tt))
           (then_runs told first mid fin P blocks (Ok tt) (runs_more told first mid (IsAside me.root first.world) P (Ok blocks) (λ t w aside. aside_either me first a w aside) e.runs)
           (runs_step told me mid fin (write_by me d bytes) d (written mid.world d bytes) P (Ok tt) (λ t. (e.runs.valid t).0)
           (λ t. grow_stop me first path x part (last t) (valid t) (primary t) taken (is path (last t)) c.requires.some mid blocks e.linkable (tail t) (roomy t path (last t))) steps));
@@ -216,7 +216,7 @@ returns-in-Err-write_block g c =
       changes = λ path last.
           let a = ask.Append path x in
           let P = IsEitherTree (mounted_by me) first a in
-          changes_of told (mounted_by me) first fin a (Err r) (λ t. (tt, λ ne. absurd (ne (h.only t))))
+          changes_of told (mounted_by me) refl first fin a (Err r) (λ t. (tt, λ ne. absurd (ne (h.only t))))
           (then_runs told first mid fin P blocks (Err r) (runs_more told first mid (IsAside me.root first.world) P (Ok blocks) (λ t w aside. aside_either me first a w aside) e.runs)
           (runs_step told me mid fin (write_by me d bytes) d (written mid.world d bytes) P (Err r) (λ t. (e.runs.valid t).0)
           (λ t. grow_stop me first path x part (last t) (valid t) (primary t) taken (is path (last t)) c.requires.some mid blocks e.linkable (tail t) (roomy t path (last t))) steps));

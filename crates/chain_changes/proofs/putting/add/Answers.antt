@@ -1,4 +1,4 @@
-use Rattle.std.proofs.Common.{◌≡◌, ◌+◌, ◌<◌, ◌≤◌, ℕ, true, not, cond, ◌&&◌, [], ◌∷◌, ◌++◌, length, sym, ◌∙◌, ap, subst, arith, ◌⊎◌, Option, None, Ok, Err}
+use Rattle.std.proofs.Common.{◌≡◌, ◌+◌, ◌<◌, ◌≤◌, ℕ, true, not, cond, ◌&&◌, [], ◌∷◌, ◌++◌, length, refl, sym, ◌∙◌, ap, subst, arith, ◌⊎◌, Option, None, Ok, Err}
 use Rattle.std.specs.Prelude.{slice_index_or}
 use Rattle.tsd_model.specs.Geometry.{block_len}
 use Rattle.tsd_model.specs.World.{World}
@@ -84,7 +84,7 @@ returns-in-Err g c =
     let r = c.in-Err.refusal in
     record {
       answer = λ t. ask_refuses (mounted_by me) old new a (λ _ answer. answer ≡ done) r (λ ne. refused t ∙ e.full t ne) (e.same t);
-      changes = changes_of told (mounted_by me) old new a (Err r) (λ t. (tt, λ ne. leaves_same (mounted_by me) old new (e.same t ne) (e.runs.unspent.1 ne)))
+      changes = changes_of told (mounted_by me) refl old new a (Err r) (λ t. (tt, λ ne. leaves_same (mounted_by me) old new (e.same t ne) (e.runs.unspent.1 ne)))
           (runs_refused told old new P r (runs_more told old new (IsAside me.root old.world) P (Err r) (λ t w aside. aside_either me old n page (x t) body w aside) e.runs));
     }
 
@@ -188,7 +188,7 @@ returns-in-Err-write_block g c =
     let steps = subst (λ bs. Steps {X = Unit {0}} told me mid wr (write_by me d bs) d (written mid.world d bs) (Err r)) is h.steps in
     record {
       answer = λ t. ask_refuses (mounted_by me) old wr a (λ _ answer. answer ≡ done) r (λ ne. absurd (ne (h.only t))) (λ ne. absurd (ne (h.only t)));
-      changes = changes_of told (mounted_by me) old wr a (Err r) (λ t. (tt, λ ne. absurd (ne (h.only t)))) (then_runs told old mid wr P blocks (Err r) before (runs_step told me mid wr (write_by me d bytes) d (written mid.world d bytes) P (Err r) now stop steps));
+      changes = changes_of told (mounted_by me) refl old wr a (Err r) (λ t. (tt, λ ne. absurd (ne (h.only t)))) (then_runs told old mid wr P blocks (Err r) before (runs_step told me mid wr (write_by me d bytes) d (written mid.world d bytes) P (Err r) now stop steps));
     }
 
 pub returns-in-Ok-write_block : goal.returns-in-Ok-write_block
@@ -234,6 +234,6 @@ returns-in-Ok-write_block g c =
     let done_now : told → Decided me old a wr.world None_loose = λ t. subst (λ v. Decided me old a v None_loose) (sym (steps.went t).world) (decide t (steps.went t).leads) in
     record {
       answer = λ t. decided_answers me old a wr None_loose (done_now t);
-      changes = changes_of told (mounted_by me) old wr a (Ok tt) (λ t. (decided_leaves me old a wr (done_now t) steps.unspent.0, tt))
+      changes = changes_of told (mounted_by me) refl old wr a (Ok tt) (λ t. (decided_leaves me old a wr (done_now t) steps.unspent.0, tt))
           (then_runs told old mid wr P blocks (Ok tt) before (runs_step told me mid wr (write_by me d bytes) d (written mid.world d bytes) P (Ok tt) now stop steps));
     }

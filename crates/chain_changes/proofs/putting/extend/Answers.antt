@@ -86,7 +86,7 @@ returns-in-Err g c =
     let r = c.in-Err.refusal in
     record {
       answer = λ t. ask_refuses (mounted_by me) old new a (λ _ answer. answer ≡ done) r (λ ne. refused t ∙ e.full t ne) (e.same t);
-      changes = changes_of told (mounted_by me) old new a (Err r) (λ t. (tt, λ ne. leaves_same (mounted_by me) old new (e.same t ne) (e.runs.unspent.1 ne)))
+      changes = changes_of told (mounted_by me) refl old new a (Err r) (λ t. (tt, λ ne. leaves_same (mounted_by me) old new (e.same t ne) (e.runs.unspent.1 ne)))
           (runs_refused told old new P r (runs_more told old new (IsAside me.root old.world) P (Err r) (λ t w aside. aside_either me old n page (x t) body w aside) e.runs));
     }
 
@@ -197,7 +197,7 @@ returns-in-Err-write_block g c =
     (subst (λ bs. Steps {X = Unit {0}} told me mid wr (write_by me (slice_index_or c.as_slice.result.now 0 0) bs) (slice_index_or c.as_slice.result.now 0 0) (written mid.world (slice_index_or c.as_slice.result.now 0 0) bs) (Err r)) one_is h.steps) in
     record {
       answer = λ t. ask_refuses (mounted_by me) old wr a (λ _ answer. answer ≡ done) r (λ ne. absurd (ne (h.only t))) (λ ne. absurd (ne (h.only t)));
-      changes = changes_of told (mounted_by me) old wr a (Err r) (λ t. (tt, λ ne. absurd (ne (h.only t)))) (then_runs told old mid wr P blocks (Err r) before (runs_step told me mid wr (write_by me p one) p (written mid.world p one) P (Err r) now stop_one steps));
+      changes = changes_of told (mounted_by me) refl old wr a (Err r) (λ t. (tt, λ ne. absurd (ne (h.only t)))) (then_runs told old mid wr P blocks (Err r) before (runs_step told me mid wr (write_by me p one) p (written mid.world p one) P (Err r) now stop_one steps));
     }
 
 pub directory_linked-requires : goal.directory_linked-requires
@@ -314,7 +314,7 @@ returns-in-Ok-write_block-2 g c =
     let done_now : told → Decided me old a fin.world None_loose = λ t. subst (λ v. Decided me old a v None_loose) (sym (later.went t).world) (decide t (later.went t).leads) in
     record {
       answer = λ t. decided_answers me old a fin None_loose (done_now t);
-      changes = changes_of told (mounted_by me) old fin a (Ok tt) (λ t. (decided_leaves me old a fin (done_now t) later.unspent.0, tt))
+      changes = changes_of told (mounted_by me) refl old fin a (Ok tt) (λ t. (decided_leaves me old a fin (done_now t) later.unspent.0, tt))
           (then_runs told old wr fin P tt (Ok tt) so_far (runs_step told me wr fin (write_by me d bytes) d (written wr.world d bytes) P (Ok tt) (λ t. (steps.went t).valid) stop later));
     }
 
@@ -374,5 +374,5 @@ returns-in-Err-write_block-2 g c =
     let later : Steps {X = Unit {0}} told me wr fin (write_by me d bytes) d (written wr.world d bytes) (Err r) = subst (λ bs. Steps {X = Unit {0}} told me wr fin (write_by me d bs) d (written wr.world d bs) (Err r)) two_is h.steps in
     record {
       answer = λ t. ask_refuses (mounted_by me) old fin a (λ _ answer. answer ≡ done) r (λ ne. absurd (ne (h.only t))) (λ ne. absurd (ne (h.only t)));
-      changes = changes_of told (mounted_by me) old fin a (Err r) (λ t. (tt, λ ne. absurd (ne (h.only t)))) (then_runs told old wr fin P tt (Err r) so_far (runs_step told me wr fin (write_by me d bytes) d (written wr.world d bytes) P (Err r) (λ t. (steps.went t).valid) stop later));
+      changes = changes_of told (mounted_by me) refl old fin a (Err r) (λ t. (tt, λ ne. absurd (ne (h.only t)))) (then_runs told old wr fin P tt (Err r) so_far (runs_step told me wr fin (write_by me d bytes) d (written wr.world d bytes) P (Err r) (λ t. (steps.went t).valid) stop later));
     }

@@ -85,7 +85,7 @@ returns-in-Err g c =
     let r = c.in-Err.refusal in
     record {
       answer = λ t. ask_refuses (mounted_by me) old new a (λ _ answer. answer ≡ done) r (λ ne. refused t ∙ e.full t ne) (e.same t);
-      changes = changes_of told (mounted_by me) old new a (Err r) (λ t. (tt, λ ne. leaves_same (mounted_by me) old new (e.same t ne) (e.runs.unspent.1 ne)))
+      changes = changes_of told (mounted_by me) refl old new a (Err r) (λ t. (tt, λ ne. leaves_same (mounted_by me) old new (e.same t ne) (e.runs.unspent.1 ne)))
           (runs_refused told old new P r (runs_more told old new (IsAside me.root old.world) P (Err r) (λ t w aside. aside_either me old n page (x t) body w aside) e.runs));
     }
 
@@ -194,7 +194,7 @@ returns-in-Err-write_block g c =
     let r = c.in-Err-write_block.refusal in
     record {
       answer = λ t. ask_refuses (mounted_by me) old wr a (λ _ answer. answer ≡ done) r (λ ne. absurd (ne (h.only t))) (λ ne. absurd (ne (h.only t)));
-      changes = changes_of told (mounted_by me) old wr a (Err r) (λ t. (tt, λ ne. absurd (ne (h.only t)))) (then_runs told old mid wr P blocks (Err r) before (runs_step told me mid wr (write_by me d wr_bytes) d (written mid.world d wr_bytes) P (Err r) now stop h.steps));
+      changes = changes_of told (mounted_by me) refl old wr a (Err r) (λ t. (tt, λ ne. absurd (ne (h.only t)))) (then_runs told old mid wr P blocks (Err r) before (runs_step told me mid wr (write_by me d wr_bytes) d (written mid.world d wr_bytes) P (Err r) now stop h.steps));
     }
 
 pub drop_pointer-requires : goal.drop_pointer-requires
@@ -297,7 +297,7 @@ returns-in-Ok-drop_pointer g c =
     let gone = c.in-Ok-drop_pointer._gone in
     record {
       answer = λ t. decided_answers me old a fin None_loose (loose_gone me old a wr d first (went t).valid (lets t) fin (j.steps.went t));
-      changes = changes_of told (mounted_by me) old fin a (Ok tt)
+      changes = changes_of told (mounted_by me) refl old fin a (Ok tt)
           (λ t. (decided_leaves me old a fin (loose_gone me old a wr d first (went t).valid (lets t) fin (j.steps.went t)) j.steps.unspent.0, tt))
           (then_runs told old wr fin P tt (Ok tt) so_far (runs_as told wr fin P gone tt (loose_runs told me old a wr fin d first (Ok gone) (λ t. (went t).valid) lets j.only j.steps)));
     }
@@ -353,6 +353,6 @@ returns-in-Err-drop_pointer g c =
     let r = c.in-Err-drop_pointer.refusal in
     record {
       answer = λ t. ask_refuses (mounted_by me) old fin a (λ _ answer. answer ≡ done) r (λ ne. absurd (ne (j.only t))) (λ ne. absurd (ne (j.only t)));
-      changes = changes_of told (mounted_by me) old fin a (Err r) (λ t. (tt, λ ne. absurd (ne (j.only t))))
+      changes = changes_of told (mounted_by me) refl old fin a (Err r) (λ t. (tt, λ ne. absurd (ne (j.only t))))
           (then_runs told old wr fin P tt (Err r) so_far (runs_refused told wr fin P r (loose_runs told me old a wr fin d first (Err r) (λ t. (went t).valid) lets j.only j.steps)));
     }

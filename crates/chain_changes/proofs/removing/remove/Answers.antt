@@ -1,4 +1,4 @@
-use Rattle.std.proofs.Common.{◌≡◌, ◌<◌, ◌≤◌, length, sym, ap, subst, Ok, Err}
+use Rattle.std.proofs.Common.{◌≡◌, ◌<◌, ◌≤◌, length, refl, sym, ap, subst, Ok, Err}
 use Rattle.tsd_model.specs.Geometry.{block_len}
 use Rattle.tsd_model.specs.World.{free_count}
 use Rattle.fs_trees.specs.Cluster.{directory_bytes}
@@ -130,7 +130,7 @@ returns-in-Err-write_block g c =
     let steps = subst (λ x. Steps {X = Unit {0}} told me mid wr (write_by me d x) d (written mid.world d x) (Err r)) c.directory_without-bytes.ensures h.steps in
     record {
       answer = λ t. ask_refuses (mounted_by me) first wr a (λ _ answer. answer ≡ done) r (λ ne. absurd (ne (h.only t))) (λ ne. absurd (ne (h.only t)));
-      changes = changes_of told (mounted_by me) first wr a (Err r) (λ t. (tt, λ ne. absurd (ne (h.only t))))
+      changes = changes_of told (mounted_by me) refl first wr a (Err r) (λ t. (tt, λ ne. absurd (ne (h.only t))))
           (then_runs told first mid wr P c.in-Ok.found (Err r) before
           (runs_step told me mid wr (write_by me d bytes) d (written mid.world d bytes) P (Err r) (λ t. (e.looks.looked t).0.valid) (λ t. stop_at_write me first mid path n page place b (taking t)) steps));
     }
@@ -204,7 +204,7 @@ returns-in-Ok-drop_pointer g c =
     let lets = λ (t : told). lets_go_now me first mid path n page place b (taking t) wr (steps.went t) steps.stays.0 in
     record {
       answer = λ t. decided_answers me first a fin None_loose (loose_gone me first a wr d b (steps.went t).valid (lets t) fin (j.steps.went t));
-      changes = changes_of told (mounted_by me) first fin a (Ok tt)
+      changes = changes_of told (mounted_by me) refl first fin a (Ok tt)
           (λ t. (decided_leaves me first a fin (loose_gone me first a wr d b (steps.went t).valid (lets t) fin (j.steps.went t)) j.steps.unspent.0, tt))
           (then_runs told first wr fin P tt (Ok tt) so_far
           (runs_as told wr fin P gone tt (loose_runs told me first a wr fin d b (Ok gone) (λ t. (steps.went t).valid) lets j.only j.steps)));
@@ -247,7 +247,7 @@ returns-in-Err-drop_pointer g c =
     let lets = λ (t : told). lets_go_now me first mid path n page place b (taking t) wr (steps.went t) steps.stays.0 in
     record {
       answer = λ t. ask_refuses (mounted_by me) first fin a (λ _ answer. answer ≡ done) r (λ ne. absurd (ne (j.only t))) (λ ne. absurd (ne (j.only t)));
-      changes = changes_of told (mounted_by me) first fin a (Err r) (λ t. (tt, λ ne. absurd (ne (j.only t))))
+      changes = changes_of told (mounted_by me) refl first fin a (Err r) (λ t. (tt, λ ne. absurd (ne (j.only t))))
           (then_runs told first wr fin P tt (Err r) so_far
           (runs_refused told wr fin P r (loose_runs told me first a wr fin d b (Err r) (λ t. (steps.went t).valid) lets j.only j.steps)));
     }

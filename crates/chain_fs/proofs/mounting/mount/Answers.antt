@@ -7,7 +7,7 @@ use Rattle.fs_port.specs.View.{IsSound}
 use Rattle.fs_client.specs.May.{OnlyLooks}
 use Rattle.fs_client.proofs.LookLaws.{looks_refused, looks_but_refuses}
 use Rattle.fs_client.proofs.RunLaws.{on_any, device_alone}
-use Rattle.fs_client.proofs.MountLaws.{not_refused, other_fault, no_tree_is, tree_stays, tidy_now, world_left, mount_runs, looked_left, looked_runs}
+use Rattle.fs_client.proofs.MountLaws.{not_refused, other_fault, no_tree_is, tree_stays, tidy_now, only_deleted, world_left, mount_runs, looked_left, looked_runs}
 use Rattle.fs_client.proofs.TargetLaws.{chain_targets}
 use Rattle.chain_reading.specs.Asking.{mounted_by}
 use Rattle.chain_fs.specs.Tidying.{named_of, chains_of}
@@ -51,6 +51,7 @@ returns-in-Ok-true g c =
       finds = λ t. record {
         tree = tree_stays kind.Chain told me old mid x n c.requires.valid primary there named targets looks new result trims clean t;
         tidy = tidy_now kind.Chain told me old mid x n c.requires.valid primary there named targets looks new result trims clean t;
+        deletes = only_deleted kind.Chain told me old mid x n c.requires.valid primary there named targets looks new result trims clean t;
         there = on_any (is_there (chain_tree old.world me.root) ≡ true) result (there t);
         only = device_alone result (trims.only t);
         not_there = not_refused _ result (trims.only t);
@@ -72,6 +73,7 @@ returns-in-Ok-false g c =
       finds = λ t. record {
         tree = tt;
         tidy = tt;
+        deletes = tt;
         there = tt;
         only = inl refl;
         not_there = λ same. (no_tree_is (chain_tree old.world me.root) (sym (e.tells t) ∙ c.in-Ok-false.field-0-test), (e.looks.looked t).0.world);
@@ -94,6 +96,7 @@ returns-in-Err g c =
       finds = λ t. record {
         tree = tt;
         tidy = tt;
+        deletes = tt;
         there = tt;
         only = device_alone {X = Unit {0}} (Err r) (e.only t);
         not_there = not_refused {X = Unit {0}} _ (Err r) (e.only t);

@@ -44,6 +44,7 @@ returns-in-Err g c =
           (λ ne. append_lost first.world.geometry t0 (free_count first.world) (length first.world.pairs) (need_of kind.Inode first.world me.root t0 a) (root_is_dir first.world me.root (c.requires.may.tree t)) y path r (e.refused t ne))
           (λ ne. ((e.looks.looked t).1 ne).world);
       changes = looks_change told (mounted_by me) first mid a (Err r) (λ t. (c.requires.may.valid t).valid) (looks_refused told first mid r e.looks);
+      idle = λ none. (looks_refused told first mid r e.looks);
     }
 
 pub returns-in-None : goal.returns-in-None
@@ -66,6 +67,7 @@ returns-in-None g c =
           (ap (λ w. is_there (at (inode_tree w me.root) path)) (sym same) ∙ none_at me mid path place e.dir (e.found t) (old_is me mid path place e.dir (e.found t) None (sym c.in-None.ensures))))
           (λ ne. same);
       changes = looks_change told (mounted_by me) first mid a (Err no.NoEntry) (λ t. (c.requires.may.valid t).valid) (looks_but_refuses told first mid place no.NoEntry (λ d. cc) e.looks);
+      idle = λ none. (looks_but_refuses told first mid place no.NoEntry (λ d. cc) e.looks);
     }
 
 pub read_inode-requires : goal.read_inode-requires
@@ -101,6 +103,7 @@ returns-in-Err-read_inode g c =
     record {
       answer = λ t. ask_refuses (mounted_by me) first rd a (λ _ answer. answer ≡ done) r (λ ne. absurd (ne (e.only t))) (λ ne. absurd (ne (e.only t)));
       changes = looks_change told (mounted_by me) first rd a (Err r) (λ t. (c.requires.may.valid t).valid) (then_looks told first mid rd c.in-Ok.place (Err r) c.in-Ok.ensures.looks (looks_refused told mid rd r e.looks));
+      idle = λ none. (then_looks told first mid rd c.in-Ok.place (Err r) c.in-Ok.ensures.looks (looks_refused told mid rd r e.looks));
     }
 
 pub returns-then-is_directory : goal.returns-then-is_directory
@@ -129,6 +132,7 @@ returns-then-is_directory g c =
           (ap (λ w. is_dir (at (inode_tree w me.root) path)) (sym (same t)) ∙ (a_dir_there me rd path file found (sym c.is_directory.ensures ∙ c.if-is_directory.true)).0))
           (λ ne. same t);
       changes = looks_change told (mounted_by me) first rd a (Err no.IsDir) (λ t. (c.requires.may.valid t).valid) (looks_but_refuses told first rd tt no.IsDir (λ d. cc) looks);
+      idle = λ none. (looks_but_refuses told first rd tt no.IsDir (λ d. cc) looks);
     }
 
 pub returns-then-is_empty : goal.returns-then-is_empty
@@ -162,7 +166,11 @@ returns-then-is_empty g c =
           (ask_done (mounted_by me) rd rd (ask.Append path []) tt (nothing_refuses me rd path place file (grows t) no_dir (f.looks.looked t).0.valid) refl
           (sym (file_same path (tree_of me rd) (bytes_in (at (tree_of me rd) path)) (file_is (at (tree_of me rd) path) there)))));
       changes = looks_change told (mounted_by me) first rd a (Ok tt) (λ t. (c.requires.may.valid t).valid) looks;
+      idle = λ none. looks;
     }
+
+not_both : (b : Bool) → b ≡ true → b ≡ false → ⊥
+not_both b p q = cc
 
 some_bytes : (y : List ℕ) (r : Bool) → (y ≡ [] → r ≡ true) → r ≡ false → 1 ≤ length y
 some_bytes [] r h e = let never : true ≡ false = sym (h refl) ∙ e in absurd (cc)
@@ -225,4 +233,5 @@ returns g c =
     record {
       answer = λ t. answers_again (mounted_by me) first rd a (same t) gw c.grow.result (λ _ answer. answer ≡ done) (c.grow.ensures.answer t path (grows t));
       changes = changes_again told (mounted_by me) first rd gw a tt c.grow.result (λ t. (c.requires.may.valid t).valid) looks (c.grow.ensures.changes path grows);
+      idle = λ none. absurd (not_both c.is_empty.result (c.is_empty.ensures.1 none) c.if-is_empty.false);
     }

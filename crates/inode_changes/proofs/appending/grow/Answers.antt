@@ -148,7 +148,7 @@ returns-in-Err-make_file g c =
           (λ ne. room_is me lb path place file (still t path x) no_dir (now t) front y content h (front_is t) c.requires.some (big ∙ c.if-is_too_big.false) ∙ m.full t ne)
           (λ ne. m.same t ne));
       changes = λ path x. changes_again told (mounted_by me) old lb mk (ask.Append path y) front (Err r) (λ t. (c.requires.valid t).valid) e.looks
-          (changes_of told (mounted_by me) lb mk (ask.Append path y) (Err r) (λ t. (tt, λ ne. leaves_same (mounted_by me) lb mk (m.same t ne) (m.runs.unspent.1 ne)))
+          (changes_of told (mounted_by me) refl lb mk (ask.Append path y) (Err r) (λ t. (tt, λ ne. leaves_same (mounted_by me) lb mk (m.same t ne) (m.runs.unspent.1 ne)))
           (runs_refused told lb mk (IsEitherTree (mounted_by me) lb (ask.Append path y)) r
           (runs_more told lb mk (IsAside me.root lb.world) (IsEitherTree (mounted_by me) lb (ask.Append path y)) (Err r) (λ t w k. either_aside me lb (ask.Append path y) w k) m.runs)));
     }
@@ -226,7 +226,7 @@ returns-in-Ok-enter g c =
           (answers_entered me lb (ask.Append path y) path (none t path x) refl fin (a_file (bytes_in (at (tree_of me lb) path) ++ y)) refl
           (n.entered t lb.world path (a_file (bytes_in (at (tree_of me lb) path) ++ y)) (still t path x).grounds (made t path x)));
       changes = λ path x. changes_again told (mounted_by me) old lb fin (ask.Append path y) front (Ok tt) (λ t. (c.requires.valid t).valid) e.looks
-          (changes_of told (mounted_by me) lb fin (ask.Append path y) (Ok tt) (λ t. (
+          (changes_of told (mounted_by me) refl lb fin (ask.Append path y) (Ok tt) (λ t. (
             left_entered me lb fin path (a_file (bytes_in (at (tree_of me lb) path) ++ y))
                 (n.entered t lb.world path (a_file (bytes_in (at (tree_of me lb) path) ++ y)) (still t path (x t)).grounds (made t path (x t))) n.runs.unspent.0,
             tt,
@@ -270,7 +270,7 @@ returns-in-Err-enter g c =
     record {
       answer = λ t path x. ask_refuses (mounted_by me) old fin (ask.Append path y) (λ _ answer. answer ≡ done) r (λ ne. absurd (ne (n.only t))) (λ ne. absurd (ne (n.only t)));
       changes = λ path x. changes_again told (mounted_by me) old lb fin (ask.Append path y) front (Err r) (λ t. (c.requires.valid t).valid) e.looks
-          (changes_of told (mounted_by me) lb fin (ask.Append path y) (Err r) (λ t. (tt, λ ne. absurd (ne (n.only t))))
+          (changes_of told (mounted_by me) refl lb fin (ask.Append path y) (Err r) (λ t. (tt, λ ne. absurd (ne (n.only t))))
           (then_runs told lb mk fin (IsEitherTree (mounted_by me) lb (ask.Append path y)) new (Err r)
           (runs_more told lb mk (IsAside me.root lb.world) (IsEitherTree (mounted_by me) lb (ask.Append path y)) (Ok new) (λ t w k. either_aside me lb (ask.Append path y) w k) m.runs)
           (runs_more told mk fin (EntersOrNot me.root place new mk.world) (IsEitherTree (mounted_by me) lb (ask.Append path y)) (Err r)

@@ -64,7 +64,7 @@ returns-in-Err g c =
     let e = c.in-Err.ensures in
     record {
       answer = λ t path new x. ask_refuses (mounted_by me) v m (ask.Copy path new) (λ _ answer. answer ≡ done) r (λ ne. room_refuses me v path file new place x no_dir dir (now t) content k room ∙ e.full t ne) (e.same t);
-      changes = λ path new x. changes_of told (mounted_by me) v m (ask.Copy path new) (Err r) (λ t. (tt, λ ne. leaves_same (mounted_by me) v m (e.same t ne) (e.runs.unspent.1 ne)))
+      changes = λ path new x. changes_of told (mounted_by me) refl v m (ask.Copy path new) (Err r) (λ t. (tt, λ ne. leaves_same (mounted_by me) v m (e.same t ne) (e.runs.unspent.1 ne)))
           (runs_refused told v m (IsEitherTree (mounted_by me) v (ask.Copy path new)) r (runs_more told v m (IsAside me.root v.world) (IsEitherTree (mounted_by me) v (ask.Copy path new)) (Err r) (λ t w h. either_aside me v (ask.Copy path new) w h) e.runs));
     }
 
@@ -116,7 +116,7 @@ returns-in-Ok-enter g c =
     record {
       answer = λ t path new x. answers_entered me v (ask.Copy path new) new (none t path new x) refl n (a_file (bytes_of v.world content)) (changed me v path file new place x no_dir dir (now t) content k)
           (h.entered t v.world new (a_file (bytes_of v.world content)) (grounds me v path file new place x dir (now t) room) (made.made t));
-      changes = λ path new x. changes_of told (mounted_by me) v n (ask.Copy path new) (Ok tt)
+      changes = λ path new x. changes_of told (mounted_by me) refl v n (ask.Copy path new) (Ok tt)
           (λ t. (left_entered me v n new (a_file (bytes_of v.world content)) (h.entered t v.world new (a_file (bytes_of v.world content)) (grounds me v path file new place (x t) dir (now t) room) (made.made t)) h.runs.unspent.0, tt))
           (then_runs told v m n (IsEitherTree (mounted_by me) v (ask.Copy path new)) tt (Ok tt) (aside path new)
           (runs_more told m n (EntersOrNot me.root place i m.world) (IsEitherTree (mounted_by me) v (ask.Copy path new)) (Ok tt)
@@ -148,7 +148,7 @@ returns-in-Err-enter g c =
     let r = c.in-Err-enter.refusal in
     record {
       answer = λ t path new x. ask_refuses (mounted_by me) v n (ask.Copy path new) (λ _ answer. answer ≡ done) r (λ ne. absurd (ne (h.only t))) (λ ne. absurd (ne (h.only t)));
-      changes = λ path new x. changes_of told (mounted_by me) v n (ask.Copy path new) (Err r) (λ t. (tt, λ ne. absurd (ne (h.only t))))
+      changes = λ path new x. changes_of told (mounted_by me) refl v n (ask.Copy path new) (Err r) (λ t. (tt, λ ne. absurd (ne (h.only t))))
           (then_runs told v m n (IsEitherTree (mounted_by me) v (ask.Copy path new)) tt (Err r) (aside path new)
           (runs_more told m n (EntersOrNot me.root place i m.world) (IsEitherTree (mounted_by me) v (ask.Copy path new)) (Err r)
           (λ t w j. either_entered me v (ask.Copy path new) new (none t path new (x t)) refl w (a_file (bytes_of v.world content)) (changed me v path file new place (x t) no_dir dir (now t) content k)

@@ -112,7 +112,7 @@ returns-in-Err-make_file g c =
           (λ ne. room_refuses me old path place c.requires.dir (c.requires.valid t) s x c.in-Ok.ensures.room (is_big ∙ c.if-is_too_big.false)
           ∙ subst (λ n. no_room_in old.world (1 + div_ceil (length x) inner) (1 + n) ≡ Some r) all (subst (λ n. no_room_in old.world (1 + n) (1 + all_count content) ≡ Some r) new (e.full t ne)))
           (λ ne. e.same t ne);
-      changes = λ path s. changes_of told (mounted_by me) old mk (ask.Put path x) (Err r) (λ t. (tt, λ ne. leaves_same (mounted_by me) old mk (e.same t ne) (e.runs.unspent.1 ne)))
+      changes = λ path s. changes_of told (mounted_by me) refl old mk (ask.Put path x) (Err r) (λ t. (tt, λ ne. leaves_same (mounted_by me) old mk (e.same t ne) (e.runs.unspent.1 ne)))
           (runs_refused told old mk (IsEitherTree (mounted_by me) old (ask.Put path x)) r
           (runs_more told old mk (IsAside me.root old.world) (IsEitherTree (mounted_by me) old (ask.Put path x)) (Err r) (λ t w k. either_aside me old (ask.Put path x) w k) e.runs));
     }
@@ -166,7 +166,7 @@ returns-in-Ok-enter g c =
       answer = λ t path s. answers_entered me old (ask.Put path x) path (none t path s) refl fin (a_file all_bytes) (is path) (h.entered t old.world path (a_file all_bytes) (ground t path s) (e.made t));
       changes = λ path s.
           let P = IsEitherTree (mounted_by me) old (ask.Put path x) in
-          changes_of told (mounted_by me) old fin (ask.Put path x) (Ok tt) (λ t. (left_entered me old fin path (a_file all_bytes) (h.entered t old.world path (a_file all_bytes) (ground t path (s t)) (e.made t)) h.runs.unspent.0, tt))
+          changes_of told (mounted_by me) refl old fin (ask.Put path x) (Ok tt) (λ t. (left_entered me old fin path (a_file all_bytes) (h.entered t old.world path (a_file all_bytes) (ground t path (s t)) (e.made t)) h.runs.unspent.0, tt))
           (then_runs told old mk fin P i (Ok tt) (runs_more told old mk (IsAside me.root old.world) P (Ok i) (λ t w k. either_aside me old (ask.Put path x) w k) e.runs)
           (runs_more told mk fin (EntersOrNot me.root place i mk.world) P (Ok tt)
           (λ t w k. either_entered me old (ask.Put path x) path (none t path (s t)) refl w (a_file all_bytes) (is path) (k old.world path (a_file all_bytes) (ground t path (s t)) (e.made t))) h.runs));
@@ -203,7 +203,7 @@ returns-in-Err-enter g c =
       answer = λ t path s. ask_refuses (mounted_by me) old fin (ask.Put path x) (λ _ answer. answer ≡ done) r (λ ne. absurd (ne (h.only t))) (λ ne. absurd (ne (h.only t)));
       changes = λ path s.
           let P = IsEitherTree (mounted_by me) old (ask.Put path x) in
-          changes_of told (mounted_by me) old fin (ask.Put path x) (Err r) (λ t. (tt, λ ne. absurd (ne (h.only t))))
+          changes_of told (mounted_by me) refl old fin (ask.Put path x) (Err r) (λ t. (tt, λ ne. absurd (ne (h.only t))))
           (then_runs told old mk fin P i (Err r) (runs_more told old mk (IsAside me.root old.world) P (Ok i) (λ t w k. either_aside me old (ask.Put path x) w k) e.runs)
           (runs_more told mk fin (EntersOrNot me.root place i mk.world) P (Err r)
           (λ t w k. either_entered me old (ask.Put path x) path (none t path (s t)) refl w (a_file all_bytes) (is path) (k old.world path (a_file all_bytes) (ground t path (s t)) (e.made t))) h.runs));

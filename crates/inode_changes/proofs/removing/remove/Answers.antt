@@ -203,7 +203,7 @@ returns-in-Err-write_block g c =
     let steps = subst (λ x. Steps {X = Unit {0}} told me rd wr (write_by me d x) d (written rd.world d x) (Err r)) c.directory_without-bytes.ensures h.steps in
     record {
       answer = λ t. ask_refuses (mounted_by me) first wr a (λ _ answer. answer ≡ done) r (λ ne. absurd (ne (h.only t))) (λ ne. absurd (ne (h.only t)));
-      changes = changes_of told (mounted_by me) first wr a (Err r) (λ t. (tt, λ ne. absurd (ne (h.only t))))
+      changes = changes_of told (mounted_by me) refl first wr a (Err r) (λ t. (tt, λ ne. absurd (ne (h.only t))))
           (then_runs told first rd wr P tt (Err r) before
           (runs_step told me rd wr (write_by me d bytes) d (written rd.world d bytes) P (Err r) (λ t. (f.looks.looked t).0.valid) (λ t.
           let there = child_there me mid (e.found t).above.more place.directory (e.found t).above.stands place.name.now b (said_place me mid path place e.dir (e.found t) b c.in-Some.is) in
@@ -303,7 +303,7 @@ returns-in-Ok-drop_pointer g c =
           let there = child_there me mid (e.found t).above.more place.directory (e.found t).above.stands place.name.now b (said_place me mid path place e.dir (e.found t) b c.in-Some.is) in
           ask_done (mounted_by me) first fin a tt (none_refuses me first mid rd path place b (taking t) there k (f.says t) empty) refl
           (tree_fin me first mid rd path place b (taking t) there k (f.says t) empty wr (steps.went t) steps.stays.0 fin (j.steps.went t) j.steps.unspent.0);
-      changes = changes_of told (mounted_by me) first fin a (Ok tt) (λ t.
+      changes = changes_of told (mounted_by me) refl first fin a (Ok tt) (λ t.
           let there = child_there me mid (e.found t).above.more place.directory (e.found t).above.stands place.name.now b (said_place me mid path place e.dir (e.found t) b c.in-Some.is) in
           (left_fin me first mid rd path place b (taking t) there k (f.says t) empty wr (steps.went t) steps.stays.0 fin (j.steps.went t) j.steps.unspent.0, tt))
           (then_runs told first wr fin P tt (Ok tt) so_far
@@ -356,7 +356,7 @@ returns-in-Err-drop_pointer g c =
     let r = c.in-Err-drop_pointer.refusal in
     record {
       answer = λ t. ask_refuses (mounted_by me) first fin a (λ _ answer. answer ≡ done) r (λ ne. absurd (ne (j.only t))) (λ ne. absurd (ne (j.only t)));
-      changes = changes_of told (mounted_by me) first fin a (Err r) (λ t. (tt, λ ne. absurd (ne (j.only t))))
+      changes = changes_of told (mounted_by me) refl first fin a (Err r) (λ t. (tt, λ ne. absurd (ne (j.only t))))
           (then_runs told first wr fin P tt (Err r) so_far
           (runs_refused told wr fin P r (runs_step told me wr fin (unlink_by me d b) d (dropped wr.world d b) P (Err r) (λ t. (steps.went t).valid) (λ t.
           let there = child_there me mid (e.found t).above.more place.directory (e.found t).above.stands place.name.now b (said_place me mid path place e.dir (e.found t) b c.in-Some.is) in

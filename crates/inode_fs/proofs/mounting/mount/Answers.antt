@@ -7,7 +7,7 @@ use Rattle.fs_trees.specs.declared.refusal.FsRefusal.TheVariants as no
 use Rattle.fs_client.specs.May.{OnlyLooks}
 use Rattle.fs_client.proofs.LookLaws.{looks_refused, looks_but_refuses}
 use Rattle.fs_client.proofs.RunLaws.{on_any, device_alone, ready_still}
-use Rattle.fs_client.proofs.MountLaws.{not_refused, other_fault, no_tree_is, tree_stays, tidy_now, world_left, mount_runs, looked_left, looked_runs}
+use Rattle.fs_client.proofs.MountLaws.{not_refused, other_fault, no_tree_is, tree_stays, tidy_now, only_deleted, world_left, mount_runs, looked_left, looked_runs}
 use Rattle.inode_walks.specs.Asking.{mounted_by}
 use Rattle.inode_fs.specs.Looking.{MarksTree, TellsTree}
 use Rattle.inode_fs.proofs.mounting.mount.Goals as goal
@@ -58,6 +58,7 @@ returns-in-Ok-true g c =
       finds = λ t. record {
         tree = tree_stays kind.Inode told me old mid x n c.requires.valid primary there named targets looks new result trims clean t;
         tidy = tidy_now kind.Inode told me old mid x n c.requires.valid primary there named targets looks new result trims clean t;
+        deletes = only_deleted kind.Inode told me old mid x n c.requires.valid primary there named targets looks new result trims clean t;
         there = on_any (is_there (inode_tree old.world me.root) ≡ true) result (there t);
         only = device_alone result (trims.only t);
         not_there = not_refused _ result (trims.only t);
@@ -79,6 +80,7 @@ returns-in-Ok-false g c =
       finds = λ t. record {
         tree = tt;
         tidy = tt;
+        deletes = tt;
         there = tt;
         only = inl refl;
         not_there = λ same. (no_tree_is (inode_tree old.world me.root) (subst (TellsTree old.world me.root c.is_tree.new.marks) c.in-Ok-false.field-0-test (e.tells t)), (e.looks.looked t).0.world);
@@ -101,6 +103,7 @@ returns-in-Err g c =
       finds = λ t. record {
         tree = tt;
         tidy = tt;
+        deletes = tt;
         there = tt;
         only = device_alone {X = Unit {0}} (Err r) (e.only t);
         not_there = not_refused {X = Unit {0}} _ (Err r) (e.only t);

@@ -68,6 +68,7 @@ returns-in-Err g c =
     let new = g.K.Blocks.view c.read_block.new.disk in
     record {
       bytes = λ t. tt;
+      nothing = c.new.ensures;
       only = c.in-Err.ensures.only;
       looks = then_looks told first cur new tt (Err c.in-Err.refusal) c.loop-at.invariant.looks (looks_refused told cur new c.in-Err.refusal c.in-Err.ensures.looks);
     }
@@ -81,6 +82,7 @@ returns g c =
     let last : c.loop-at.at ≡ c.args.end = omega (arith, inv.high, c.loop-at-test.false) in
     record {
       bytes = λ t. inv.came t ∙ ap (part (bytes_said first.world (inode_of c.args.file.now.inode)) c.args.start) last;
+      nothing = tt;
       only = λ t. tt;
       looks = looks_as told first cur tt tt inv.looks;
     }

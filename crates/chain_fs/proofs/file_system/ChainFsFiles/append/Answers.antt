@@ -1,6 +1,6 @@
 use Rattle.fs_trees.specs.declared.ask.ShellAsk.TheVariants as ask
 use Rattle.fs_trees.specs.declared.refusal.FsRefusal.TheVariants as no
-use Rattle.fs_client.proofs.FilesLaws.{unasked_changes, mounted_changes}
+use Rattle.fs_client.proofs.FilesLaws.{looks_at, unasked_changes, unasked_looks, mounted_changes}
 use Rattle.chain_reading.specs.Asking.{mounted_by}
 use Rattle.chain_fs.specs.View.{chain_view}
 use Rattle.fs_client.proofs.MountLaws.{other_fault}
@@ -11,3 +11,9 @@ returns-then-self-clause-changes g c = mounted_changes (mounted_by c.args.self.n
 
 pub returns-else-self-clause-changes : goal.returns-else-self-clause-changes
 returns-else-self-clause-changes g c = unasked_changes g.K.Blocks.told (g.K.Blocks.view c.args.disk.now) no.NotThisFs other_fault c.requires.ready.unspent (λ t. g.met.K.Blocks.sound c.args.disk.now t c.requires.ready.unspent) c.requires.valid (chain_view c.args.self.now) (ask.Append c.args.path.now c.args.bytes.now)
+
+pub returns-then-self-clause-idle : goal.returns-then-self-clause-idle
+returns-then-self-clause-idle g c = λ none. looks_at g.K.Blocks.told (g.K.Blocks.view c.args.disk.now) (g.K.Blocks.view c.append.new.disk) c.append.result (c.append.ensures.idle none)
+
+pub returns-else-self-clause-idle : goal.returns-else-self-clause-idle
+returns-else-self-clause-idle g c = λ none. unasked_looks g.K.Blocks.told (g.K.Blocks.view c.args.disk.now) no.NotThisFs other_fault c.requires.ready.unspent (λ t. g.met.K.Blocks.sound c.args.disk.now t c.requires.ready.unspent) c.requires.valid

@@ -4,7 +4,7 @@ use Rattle.fs_client.proofs.FilesLaws.{unasked_changes, mounted_changes}
 use Rattle.inode_walks.specs.Asking.{mounted_by}
 use Rattle.inode_fs.specs.View.{inode_view}
 use Rattle.fs_client.proofs.MountLaws.{other_fault}
-use Rattle.inode_fs.proofs.file_system.InodeFs.copy.Goals as goal
+use Rattle.inode_fs.proofs.file_system.InodeFsFiles.copy.Goals as goal
 
 pub returns-then-self-clause-changes : goal.returns-then-self-clause-changes
 returns-then-self-clause-changes g c = mounted_changes (mounted_by c.args.self.now.client) c.args.self.now.mounted (g.K.Blocks.view c.args.disk.now) (g.K.Blocks.view c.copy.new.disk) g.K.Blocks.told c.copy.result (ask.Copy c.args.path.now c.args.new.now) c.if-self.true c.copy.ensures.changes
