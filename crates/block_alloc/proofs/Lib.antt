@@ -7,3 +7,4 @@ pub mod FreeLaws
 pub mod WorldLaws
 pub mod ChosenLaws
 pub mod FreshLaws
+pub mod GroupLaws

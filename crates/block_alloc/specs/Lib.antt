@@ -5,3 +5,4 @@ pub mod Stored
 pub mod Least
 pub mod Worlds
 pub mod Fresh
+pub mod Groups

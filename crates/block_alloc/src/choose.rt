@@ -1,16 +1,21 @@
 //! Which free blocks are taken.
 
-ghost use Rattle.std.specs.Prelude.{◌≡◌, ◌+◌, ◌≤◌, ◌<◌, Some, not, length, IfOk, IfErr, OnOk};
+ghost use Rattle.std.specs.Prelude.{◌≡◌, ℕ, ◌+◌, ◌*◌, ◌^◌, ◌≤◌, ◌<◌, Some, not, length, filter};
+ghost use Rattle.std.specs.Prelude.{IfOk, IfErr, OnOk};
 ghost use Rattle.tsd_model.specs.Rank.{rank_of};
 ghost use Rattle.tsd_model.specs.Verdict.{is_empty};
 ghost use Rattle.block_alloc.specs.LiveMap.{IsTable, free_count};
 ghost use Rattle.block_alloc.specs.Least.{least_of};
-ghost use Rattle.block_alloc.specs.Choosing.{free_blocks, chosen, runs, chosen_run, IsRow, IsShort, IsRunRefusal};
+ghost use Rattle.block_alloc.specs.Choosing.{all_blocks, free_blocks, chosen, is_free_run, runs, chosen_run};
+ghost use Rattle.block_alloc.specs.Choosing.{IsRow, IsShort, IsRunRefusal};
+ghost use Rattle.block_alloc.specs.Groups.{is_run_within, IsKeptFrom};
 
+use crate::groups::{GROUP_BLOCKS, best_of, group_at, is_within, turns};
 use crate::least::{Least, Ranked};
 use crate::map::LiveMap;
 use place_policy::Placement;
-use tsd_model::BlockList;
+use tsd_model::ranks::rank;
+use tsd_model::{BlockList, PlaceKind};
 
 /// Fewer blocks are free than are wanted.
 #[derive(Clone, Copy, Debug, PartialEq, Eq)]
@@ -44,6 +49,16 @@ pub enum RunRefusal {
     },
 }
 
+/// What a search for blocks found so far.
+#[derive(Drop)]
+struct Found {
+    /// How many are still to be found.
+    left: u32,
+
+    /// The greatest rank of those that were found.
+    ceiling: u64,
+}
+
 impl LiveMap {
     /// Whether so many free blocks stand in a row somewhere.
     pub fn has_run(&self, count: u32) -> bool
@@ -62,7 +77,8 @@ impl LiveMap {
     }
 
     /// So many free blocks, those of least rank, in the order of their ranks. The placement is asked for the rank of
-    /// every free block (tested). `Short` comes exactly where fewer are free.
+    /// every free block in a group of 256 that may hold one of them (tested). `Short` comes exactly where fewer are
+    /// free.
     pub fn choose(&self, place: &Placement, hint: u32, count: u32) -> Result<BlockList, Short>
         requires { (1 ≤ count) × (count ≤ 32) }
         ensures chosen { IfOk result (λ blocks. blocks ≡ chosen place.now.kind self.now.unhidden hint count) }
@@ -81,8 +97,8 @@ impl LiveMap {
     }
 
     /// The first block of a run of so many free blocks: of all such runs, the one whose first block has the least rank.
-    /// The placement is asked for the rank of each one's first block (tested). `Short` comes exactly where fewer blocks
-    /// are free, `NoRun` exactly where enough are and no run is that long.
+    /// The placement is asked for the rank of each one's first block in a group that may hold it (tested). `Short`
+    /// comes exactly where fewer blocks are free, `NoRun` exactly where enough are and no run is that long.
     pub fn choose_run(&self, place: &Placement, hint: u32, count: u32) -> Result<u32, RunRefusal>
         requires { (1 ≤ count) × (count ≤ 32) }
         ensures chosen { IfOk result (λ first. chosen_run place.now.kind self.now.unhidden hint count ≡ Some first) }
@@ -110,36 +126,164 @@ impl LiveMap {
         requires { count ≤ 32 }
         ensures { result.kept.items ≡ least_of (rank_of place.now.kind hint) count (free_blocks self.now.unhidden) }
     {
-        let blocks = self.geometry().blocks;
-        let mut least = Least::new(count as usize);
-        for block in (0..blocks).rev() {
-            if !self.is_live(block) {
-                least.offer(Ranked {
-                    rank: place.rank(hint, block),
-                    block,
-                });
+        self.least_starts(place, hint, 1, count)
+    }
+
+    /// Where the run of so many free blocks begins whose first block has the least rank.
+    fn least_run(&self, place: &Placement, hint: u32, count: u32) -> Least
+        requires { (1 ≤ count) × (count ≤ 32) }
+        ensures { result.kept.items ≡ least_of (rank_of place.now.kind hint) 1 (runs self.now.unhidden count) }
+    {
+        self.least_starts(place, hint, count, 1)
+    }
+
+    /// Of the blocks where a run of so many free ones begins, so many of least rank, or all where there are fewer. A
+    /// ceiling is guessed first, and where enough stand below it, groups whose least rank is above it are passed by.
+    fn least_starts(&self, place: &Placement, hint: u32, run: u32, wanted: u32) -> Least
+        requires run { (1 ≤ run) × (run ≤ 32) }
+        requires wanted { wanted ≤ 32 }
+        ensures { result.kept.items ≡ least_of (rank_of place.now.kind hint) wanted (runs self.now.unhidden run) }
+    {
+        let Some(ceiling) = self.ceiling(place.kind(), hint, run, wanted) else {
+            return self.least_within(place, hint, run, wanted, None);
+        };
+        let least = self.least_within(place, hint, run, wanted, Some(ceiling));
+        if least.is_full() {
+            least
+        } else {
+            self.least_within(place, hint, run, wanted, None)
+        }
+    }
+
+    /// The same of those blocks alone whose rank is at most a ceiling.
+    fn least_within(
+        &self,
+        place: &Placement,
+        hint: u32,
+        run: u32,
+        wanted: u32,
+        ceiling: Option<u64>,
+    ) -> Least
+        requires run { (1 ≤ run) × (run ≤ 32) }
+        requires wanted { wanted ≤ 32 }
+        ensures wanted { result.wanted ≡ wanted }
+        ensures kept { let rank = rank_of place.now.kind hint in result.kept.items ≡ least_of rank wanted
+            (filter (is_run_within rank self.now.unhidden run ceiling) (all_blocks self.now.unhidden)) }
+    {
+        let groups = self.groups();
+        let mut least = Least::new(wanted as usize);
+        for group in (0..groups).rev() {
+            let best = best_of(place.kind(), hint, group);
+            if is_within(ceiling, rank(place.kind(), hint, best)) {
+                self.offer_group(place, hint, run, ceiling, group, &mut least);
             }
         }
         least
     }
 
-    /// Where the run of so many free blocks begins whose first block has the least rank.
-    fn least_run(&self, place: &Placement, hint: u32, count: u32) -> Least
-        ensures { result.kept.items ≡ least_of (rank_of place.now.kind hint) 1 (runs self.now.unhidden count) }
+    /// Offers the blocks of a group where a run of so many free ones begins, if their rank is at most a ceiling.
+    fn offer_group(
+        &self,
+        place: &Placement,
+        hint: u32,
+        run: u32,
+        ceiling: Option<u64>,
+        group: u32,
+        least: &mut Least,
+    )
+        requires run { (1 ≤ run) × (run ≤ 32) }
+        requires group { 256 * group < self.now.geometry.blocks }
+        ensures wanted { least.new.wanted ≡ least.old.wanted }
+        ensures kept { let rank = rank_of place.now.kind hint in
+            IsKeptFrom rank self.now.unhidden run ceiling least.old.wanted (256 * (group + 1)) least.old.kept.items
+            → IsKeptFrom rank self.now.unhidden run ceiling least.old.wanted (256 * group) least.new.kept.items }
     {
         let blocks = self.geometry().blocks;
-        let mut least = Least::new(1);
-        let mut row = 0;
-        for block in (0..blocks).rev() {
-            row = self.row_from(block, row);
-            if count <= row {
-                least.offer(Ranked {
-                    rank: place.rank(hint, block),
-                    block,
-                });
+        if self.is_full(group) {
+            return;
+        }
+        let first = GROUP_BLOCKS * group;
+        let end = blocks.min(first + GROUP_BLOCKS);
+        for block in (first..end).rev() {
+            if self.is_run(block, run) {
+                let rank = place.rank(hint, block);
+                if is_within(ceiling, rank) {
+                    least.offer(Ranked { rank, block });
+                }
             }
         }
-        least
+    }
+
+    /// Whether so many blocks from a block on are free.
+    fn is_run(&self, block: u32, run: u32) -> bool
+        requires block { block < self.now.geometry.blocks }
+        requires run { run ≤ 32 }
+        ensures { result ≡ is_free_run self.now.unhidden run block }
+    {
+        let blocks = self.geometry().blocks;
+        let end = block + run;
+        if end > blocks {
+            return false;
+        }
+        for next in (block..end).rev() {
+            if self.is_live(next) {
+                return false;
+            }
+        }
+        true
+    }
+
+    /// How many groups the disk has, the last of them perhaps with fewer blocks.
+    fn groups(&self) -> u32
+        ensures few { result < 2 ^ 24 }
+        ensures table { IsTable self.now }
+        ensures last { self.now.geometry.blocks ≤ 256 * result }
+        ensures within { (g : ℕ) → g < result → 256 * g < self.now.geometry.blocks }
+    {
+        self.geometry().blocks.div_ceil(GROUP_BLOCKS)
+    }
+}
+
+impl LiveMap {
+    /// A rank up to which so many blocks stand where a run of so many free ones begins: a guess, so a wrong one costs
+    /// time alone. None where there are fewer.
+    fn ceiling(&self, kind: PlaceKind, hint: u32, run: u32, wanted: u32) -> Option<u64>
+        requires { run ≤ 32 }
+    {
+        let groups = self.groups();
+        let mut found = Found {
+            left: wanted,
+            ceiling: 0,
+        };
+        for turn in 0..turns(kind, groups) {
+            let group = group_at(kind, hint, groups, turn);
+            if group < groups && !self.is_full(group) {
+                self.find_in(kind, hint, run, group, &mut found);
+            }
+            if found.left == 0 {
+                return Some(found.ceiling);
+            }
+        }
+        None
+    }
+
+    /// Finds blocks of a group where a run of so many free ones begins, as many as are left to be found.
+    fn find_in(&self, kind: PlaceKind, hint: u32, run: u32, group: u32, found: &mut Found)
+        requires run { run ≤ 32 }
+        requires group { 256 * group < self.now.geometry.blocks }
+    {
+        let blocks = self.geometry().blocks;
+        let first = GROUP_BLOCKS * group;
+        let end = blocks.min(first + GROUP_BLOCKS);
+        for block in first..end {
+            if found.left == 0 {
+                return;
+            }
+            if self.is_run(block, run) {
+                found.left -= 1;
+                found.ceiling = found.ceiling.max(rank(kind, hint, block));
+            }
+        }
     }
 
     /// How many free blocks stand in a row from a block on, of which so many stand behind it.

@@ -17,6 +17,7 @@ mod choose;
 mod fault;
 mod free;
 mod fresh;
+mod groups;
 mod least;
 mod map;
 mod patches;

@@ -1,16 +1,18 @@
 //! Which blocks are live, a bit a block.
 
-ghost use Rattle.std.specs.Prelude.{◌≡◌, ◌/◌, ◌<◌, ◌≤◌, true, false, slice_set};
+ghost use Rattle.std.specs.Prelude.{◌≡◌, ℕ, ◌+◌, ◌*◌, ◌/◌, ◌^◌, ◌<◌, ◌≤◌, true, false, slice_set};
 ghost use Rattle.std.specs.Prelude.{IfOk, IsTrue};
 ghost use Rattle.image_device.specs.Calls.{Rests, Uses};
 ghost use Rattle.image_device.specs.Counts.{CountsFaultOf};
 ghost use Rattle.image_layout.specs.Areas.{bitmap_start, slots_start};
 ghost use Rattle.tsd_model.specs.Geometry.{IsLawful};
-ghost use Rattle.block_alloc.specs.LiveMap.{IsTable, is_live, free_count};
+ghost use Rattle.block_alloc.specs.LiveMap.{IsTable, is_live, is_free, free_count};
 ghost use Rattle.block_alloc.specs.Bytes.{bitmap_sector_bytes};
 ghost use Rattle.block_alloc.specs.Stored.{IsStored, StoresSector, Completes, per_sector, sector_of};
 
-use crate::bits::{bit_in, copy_of, count_zeros, cut_to, put_bit, put_counted, sector_from};
+use crate::bits::{
+    are_full, bit_in, copy_of, count_zeros, cut_to, put_bit, put_counted, sector_from,
+};
 use crate::fault::LoadFault;
 use crate::sectors::read_sectors;
 use image_device::Device;
@@ -106,6 +108,16 @@ impl LiveMap {
         ensures { result ≡ is_live self.now.unhidden block }
     {
         bit_in(&self.unhidden, block)
+    }
+
+    /// Whether each block of a group of 256 is live and isn't hidden; of a group that the disk's last block cuts off it
+    /// needn't be told.
+    pub(crate) fn is_full(&self, group: u32) -> bool
+        requires { group < 2 ^ 24 }
+        ensures { IsTrue result → (b : ℕ) → 256 * group ≤ b → b < 256 * group + 256
+            → is_free self.now.unhidden b ≡ false }
+    {
+        are_full(&self.unhidden, 32 * group as usize)
     }
 
     /// Whether a block is live in the bitmap, hidden or not.

@@ -18,7 +18,7 @@ use crate::empties::link_empties;
 use crate::fault::TableFault;
 use crate::raw::RawSlot;
 use crate::threading::{by_bucket, by_ends};
-use crate::threads::{NO_LINK, Threads};
+use crate::threads::{NO_LINK, Threads, is_below};
 use crate::way::rank;
 use std::alloc::Global;
 use tsd_model::Geometry;
@@ -123,8 +123,57 @@ impl Index {
         }
     }
 
-    /// The least target of the pairs from a block that is not below `start`. The walk begins at the pair with the
-    /// target right below `start`, where that is held.
+    /// A slot from which the walk to a pair's place among those of its source is short: a guess, so a wrong one costs
+    /// time alone. Up from the head of the source and down from the target two searches take turns, and the first that
+    /// finds one ends both.
+    fn near_target(&self, slots: &[RawSlot], source: u32, target: u32) -> u32
+        requires { IsIndex (slot_at (slots_in slots.now)) self.now }
+    {
+        let limit = rank(source, target);
+        let end = self.by_source.end(source as usize);
+        if is_below(slots, end, limit) {
+            return end;
+        }
+        let mut near = NO_LINK;
+        let mut link = self.by_source.head(source as usize);
+        for step in 0..target {
+            if !is_below(slots, link, limit) {
+                break;
+            }
+            if let Some(place) = self.place_of(slots, source, target - step - 1) {
+                return place;
+            }
+            near = link;
+            link = self.by_source.link(link);
+        }
+        near
+    }
+
+    /// A slot from which the walk to a pair's place among those of its target is short, found as `near_target` does.
+    fn near_source(&self, slots: &[RawSlot], source: u32, target: u32) -> u32
+        requires { IsIndex (slot_at (slots_in slots.now)) self.now }
+    {
+        let limit = rank(source, target);
+        let end = self.by_target.end(target as usize);
+        if is_below(slots, end, limit) {
+            return end;
+        }
+        let mut near = NO_LINK;
+        let mut link = self.by_target.head(target as usize);
+        for step in 0..source {
+            if !is_below(slots, link, limit) {
+                break;
+            }
+            if let Some(place) = self.place_of(slots, source - step - 1, target) {
+                return place;
+            }
+            near = link;
+            link = self.by_target.link(link);
+        }
+        near
+    }
+
+    /// The least target of the pairs from a block that is not below `start`.
     pub(crate) fn next_target(&self, slots: &[RawSlot], source: u32, start: u32) -> Option<u32>
         requires { IsIndex (slot_at (slots_in slots.now)) self.now }
         ensures { IsNextTarget (pairs_in (slots_in slots.now)) source start result }
@@ -133,19 +182,14 @@ impl Index {
         if of >= self.by_source.groups() {
             return None;
         }
-        let near = if start == 0 {
-            NO_LINK
-        } else {
-            self.place_of(slots, source, start - 1).unwrap_or(NO_LINK)
-        };
+        let near = self.near_target(slots, source, start);
         let Some(place) = self.by_source.first(slots, of, rank(source, start), near) else {
             return None;
         };
         target_in(slots, place)
     }
 
-    /// The least source of the pairs to a block that is not below `start`. The walk begins at the pair with the source
-    /// right below `start`, where that is held.
+    /// The least source of the pairs to a block that is not below `start`.
     pub(crate) fn next_source(&self, slots: &[RawSlot], target: u32, start: u32) -> Option<u32>
         requires { IsIndex (slot_at (slots_in slots.now)) self.now }
         ensures { IsNextSource (pairs_in (slots_in slots.now)) target start result }
@@ -154,11 +198,7 @@ impl Index {
         if of >= self.by_target.groups() {
             return None;
         }
-        let near = if start == 0 {
-            NO_LINK
-        } else {
-            self.place_of(slots, start - 1, target).unwrap_or(NO_LINK)
-        };
+        let near = self.near_source(slots, start, target);
         let Some(place) = self.by_target.first(slots, of, rank(start, target), near) else {
             return None;
         };
@@ -184,9 +224,13 @@ impl Index {
         ensures empties { (k : ℕ) → slot_at (slots_in slots.now) k ≡ None → (k ≡ place → ⊥)
             → slice_index_or self.new.by_bucket.next.items k 0 ≡ slice_index_or self.old.by_bucket.next.items k 0 }
     {
-        self.by_source.add(slots, place, source, target);
-        self.by_target.add(slots, place, source, target);
-        self.by_bucket.add(slots, place, source, target);
+        let near_target = self.near_target(slots, source, target);
+        let near_source = self.near_source(slots, source, target);
+        self.by_source
+            .add(slots, place, source, target, near_target);
+        self.by_target
+            .add(slots, place, source, target, near_source);
+        self.by_bucket.add(slots, place, source, target, NO_LINK);
     }
 
     /// Takes a pair out of the threads, while its slot still holds it.
@@ -200,9 +244,13 @@ impl Index {
         ensures empties { (k : ℕ) → slot_at (slots_in slots.now) k ≡ None
             → slice_index_or self.new.by_bucket.next.items k 0 ≡ slice_index_or self.old.by_bucket.next.items k 0 }
     {
-        self.by_source.remove(slots, place, source, target);
-        self.by_target.remove(slots, place, source, target);
-        self.by_bucket.remove(slots, place, source, target);
+        let near_target = self.near_target(slots, source, target);
+        let near_source = self.near_source(slots, source, target);
+        self.by_source
+            .remove(slots, place, source, target, near_target);
+        self.by_target
+            .remove(slots, place, source, target, near_source);
+        self.by_bucket.remove(slots, place, source, target, NO_LINK);
     }
 
     /// Takes the first slot off the list of empty slots.

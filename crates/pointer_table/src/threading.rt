@@ -16,7 +16,7 @@ ghost use Rattle.pointer_table.specs.Threads.{group};
 use crate::fault::TableFault;
 use crate::order::{holders, least_repeated, pair_at, sort_by_pair};
 use crate::raw::RawSlot;
-use crate::threads::Threads;
+use crate::threads::{NO_LINK, Threads};
 use crate::way::Way;
 use std::alloc::Global;
 use tsd_model::Geometry;
@@ -94,7 +94,7 @@ pub(crate) fn by_bucket(
     let mut threads = Threads::none(alloc, Way::Bucket, slots.len() / 2 + 1, slots.len(), false)?;
     for place in 0..slots.len() {
         if let Some((source, target)) = pair_at(slots, place as u32) {
-            threads.add(&slots[..place], place as u32, source, target);
+            threads.add(&slots[..place], place as u32, source, target, NO_LINK);
         }
     }
     Ok(threads)

@@ -34,7 +34,7 @@ pub(crate) struct Threads {
 }
 
 /// Whether the pair of a slot is below a rank.
-fn is_below(slots: &[RawSlot], place: u32, limit: u64) -> bool
+pub(crate) fn is_below(slots: &[RawSlot], place: u32, limit: u64) -> bool
     ensures { result ≡ is_below limit (slot_at (slots_in slots.now) place) }
 {
     match slots.get(place as usize) {
@@ -51,6 +51,14 @@ fn linked(link: u32) -> Option<u32>
     ensures { result ≡ linked link }
 {
     if link == NO_LINK { None } else { Some(link) }
+}
+
+/// One of some links. Past the last of them none leads anywhere.
+fn link_at(links: &[u32], place: usize) -> u32 {
+    match links.get(place) {
+        Some(link) => *link,
+        None => NO_LINK,
+    }
 }
 
 /// So many links that lead nowhere.
@@ -78,6 +86,21 @@ impl Threads {
         ensures { result ≡ group self.now.way (length self.now.heads.items) (source, target) }
     {
         group(self.way, self.heads.len(), source, target)
+    }
+
+    /// The first slot of a group, where it has one.
+    pub(crate) fn head(&self, of: usize) -> u32 {
+        link_at(&self.heads, of)
+    }
+
+    /// The link behind a slot.
+    pub(crate) fn link(&self, place: u32) -> u32 {
+        link_at(&self.next, place as usize)
+    }
+
+    /// The end of a group, where that is kept.
+    pub(crate) fn end(&self, of: usize) -> u32 {
+        link_at(&self.ends, of)
     }
 
     /// The link behind a slot, or the head of a group.
@@ -192,8 +215,8 @@ impl Threads {
         link
     }
 
-    /// Threads the pair of a slot that was empty.
-    pub(crate) fn add(&mut self, slots: &[RawSlot], place: u32, source: u32, target: u32)
+    /// Threads the pair of a slot that was empty. The walk to its place begins as that of `before`.
+    pub(crate) fn add(&mut self, slots: &[RawSlot], place: u32, source: u32, target: u32, near: u32)
         requires some { 0 < length self.old.heads.items }
         requires threads { AreThreadsOf (slot_at (slots_in slots.now)) self.old }
         requires group { group self.old.way (length self.old.heads.items) (source, target)
@@ -212,13 +235,20 @@ impl Threads {
             → slice_index_or self.new.next.items k 0 ≡ slice_index_or self.old.next.items k 0 }
     {
         let of = self.group(source, target);
-        let before = self.before(slots, of, rank(source, target), self.end(of));
+        let before = self.before(slots, of, rank(source, target), near);
         let link = self.put(of, before, place);
         self.keep_end(of, link, place);
     }
 
-    /// Takes a pair out of the threads, while its slot still holds it.
-    pub(crate) fn remove(&mut self, slots: &[RawSlot], place: u32, source: u32, target: u32)
+    /// Takes a pair out of the threads, while its slot still holds it. The walk to it begins as that of `before`.
+    pub(crate) fn remove(
+        &mut self,
+        slots: &[RawSlot],
+        place: u32,
+        source: u32,
+        target: u32,
+        near: u32,
+    )
         requires some { 0 < length self.old.heads.items }
         requires threads { AreThreadsOf (slot_at (slots_in slots.now)) self.old }
         requires held { slot_at (slots_in slots.now) place ≡ Some (source, target) }
@@ -232,7 +262,7 @@ impl Threads {
             → slice_index_or self.new.next.items k 0 ≡ slice_index_or self.old.next.items k 0 }
     {
         let of = self.group(source, target);
-        let before = self.before(slots, of, rank(source, target), NO_LINK);
+        let before = self.before(slots, of, rank(source, target), near);
         let link = self.after(of, Some(place));
         self.set_after(of, before, link);
         self.keep_end(of, link, before.unwrap_or(NO_LINK));
@@ -264,14 +294,6 @@ impl Threads {
         ensures next { self.new.next.items ≡ slice_set self.old.next.items place behind }
     {
         self.next[place as usize] = behind;
-    }
-
-    /// The end of a group, where that is kept.
-    fn end(&self, of: usize) -> u32 {
-        match self.ends.get(of) {
-            Some(place) => *place,
-            None => NO_LINK,
-        }
     }
 
     /// Keeps a slot as the end of a group, where ends are kept and no link leads on from it.

@@ -2,4 +2,5 @@ pub mod Pieces
 pub mod Lines
 pub mod Grammar
 pub mod Reading
+pub mod Parsing
 pub mod Texts

@@ -56,6 +56,7 @@ impl LineCutter {
     }
 
     /// Takes the piece up to and including its first line feed, or all of it. After a whole line it begins a new one.
+    #[inline(never)]
     pub fn feed(&mut self, piece: &[u8]) -> Fed
         ensures within { result.used ≤ length piece.now }
         ensures some { result.whole ≡ true → 0 < result.used }

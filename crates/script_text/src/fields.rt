@@ -1,6 +1,6 @@
 //! What one word of a request line says.
 
-ghost use Rattle.std.specs.Prelude.{◌≡◌, ◌≤◌, length};
+ghost use Rattle.std.specs.Prelude.{◌≡◌, [], cond, Some, None};
 ghost use Rattle.std.specs.List.{list_all};
 ghost use Rattle.std.specs.Char.{is_ascii_digit};
 ghost use Rattle.script_text.specs.Reading.{num_of, new_of, shown_of, hint_of, data_of};
@@ -70,26 +70,30 @@ pub fn parse_hint(word: &[u8]) -> Option<Hint>
 pub fn parse_data(word: &[u8]) -> Option<Data>
     ensures { result ≡ data_of word.now }
 {
-    if word == b"-".as_slice() {
-        return Some(Data::new());
-    }
-    if word.len() < 2 || word.len() > DATA_DIGITS {
-        return None;
-    }
-    let mut room = [0u8; DATA_MAX];
-    let half = &mut room[..word.len() / 2];
-    match hex::decode_to_slice(word, half) {
-        Ok(()) => Some(data_of(half)),
-        Err(_) => None,
+    let mut data = Data::new();
+    if read_data(word, &mut data) {
+        Some(data)
+    } else {
+        None
     }
 }
 
-/// Bytes as a list.
-fn data_of(bytes: &[u8]) -> Data
-    requires { length bytes.now ≤ DATA_MAX }
-    ensures { result ≡ bytes.now }
+/// Puts the bytes that the word spells into `room`, which is empty, and answers whether it spells any: no bytes as a
+/// dash, or some as an even number of hexadecimal digits.
+pub(crate) fn read_data(word: &[u8], room: &mut Data) -> bool
+    requires { room.old ≡ [] }
+    ensures { data_of word.now ≡ cond result (Some room.new) None }
 {
-    let mut data = Data::new();
-    let _all_fit = data.extend_from_slice(bytes);
-    data
+    if word == b"-".as_slice() {
+        return true;
+    }
+    if word.len() < 2 || word.len() > DATA_DIGITS {
+        return false;
+    }
+    let mut bytes = [0u8; DATA_MAX];
+    let half = &mut bytes[..word.len() / 2];
+    match hex::decode_to_slice(word, half) {
+        Ok(()) => room.extend_from_slice(half).is_ok(),
+        Err(_) => false,
+    }
 }

@@ -24,6 +24,7 @@ pub mod cutter;
 pub mod fields;
 pub mod out_buf;
 pub mod parse;
+mod parsed;
 pub mod printing;
 mod replies;
 mod requests;

@@ -2,13 +2,16 @@
 //!
 //! A line has words that are parted by exactly one space. The first is a name, and the name says what the others are.
 
-ghost use Rattle.std.specs.Prelude.{◌≡◌, ◌⊎◌, ℕ, List, take};
+ghost use Rattle.std.specs.Prelude.{◌≡◌, ◌⊎◌, ℕ, List, take, unwrap_or};
 ghost use Rattle.tsd_model.specs.declared.requests.Request.{Request};
+ghost use Rattle.tsd_model.specs.declared.requests.Request.TheVariants as ask;
 ghost use Rattle.script_text.specs.Grammar.{IsLine};
 ghost use Rattle.script_text.specs.Reading.{begin_of, end_of, read_of, write_of, alloc_of, contig_of, free_of};
 ghost use Rattle.script_text.specs.Reading.{create_of, delete_of, set_cap_of, sweep_of, list_of, named, asked};
-ghost use Rattle.script_text.specs.Reading.{request_of, ends};
+ghost use Rattle.script_text.specs.Reading.{request_of};
+ghost use Rattle.script_text.specs.Parsing.{ended, request_parsed, request_said};
 
+use crate::parsed::{Parsed, request};
 use crate::words::Words;
 use tsd_model::{CapPair, Request};
 
@@ -26,34 +29,36 @@ pub fn parse_line(line: &[u8]) -> Request
     // As a function that computes.
     ensures value { result ≡ request_of line.now }
 {
-    read_line(line)
+    request(read_line(line))
 }
 
+/// What a line says. It stays a call, so that the room of the request is cleared once and beside no other.
+#[inline(never)]
 #[tactic(auto, unfolding(crate::specs::Reading::request_of))]
-fn read_line(line: &[u8]) -> Request
-    ensures { result ≡ request_of line.now }
+fn read_line(line: &[u8]) -> Parsed<'_>
+    ensures { unwrap_or (request_parsed result) ask.Bad ≡ request_of line.now }
 {
     if line.len() > LINE_MAX {
-        return Request::Bad;
+        return Parsed::Bad;
     }
     match asked(Words::of(line)) {
-        Some(request) => request,
-        None => Request::Bad,
+        Some(parsed) => parsed,
+        None => Parsed::Bad,
     }
 }
 
 #[tactic(auto, unfolding(crate::specs::Reading::asked))]
-fn asked(mut words: Words) -> Option<Request>
-    ensures { result ≡ asked words.entry }
+fn asked(mut words: Words<'_>) -> Option<Parsed<'_>>
+    ensures { request_said result ≡ asked words.entry }
 {
     let name = words.next()?;
     named(name, words)
 }
 
-/// The request by its first word.
+/// What the words say, by the first.
 #[tactic(auto, unfolding(crate::specs::Reading::named))]
-fn named(name: &[u8], words: Words) -> Option<Request>
-    ensures { result ≡ named name.now words.entry }
+fn named<'a>(name: &[u8], words: Words<'a>) -> Option<Parsed<'a>>
+    ensures { request_said result ≡ named name.now words.entry }
 {
     if name == b"open".as_slice() {
         begin(words)
@@ -84,183 +89,120 @@ fn named(name: &[u8], words: Words) -> Option<Request>
     }
 }
 
-/// The request, where no word is left.
-fn done(words: Words, request: Request) -> Option<Request>
-    ensures { result ≡ ends words.entry request }
+/// What was read, where no word is left.
+fn done<'a>(words: Words<'a>, parsed: Parsed<'a>) -> Option<Parsed<'a>>
+    ensures { request_said result ≡ ended words.entry (request_parsed parsed.entry) }
 {
-    if words.is_empty() {
-        Some(request)
-    } else {
-        None
-    }
+    if words.is_empty() { Some(parsed) } else { None }
 }
 
 #[tactic(auto, unfolding(crate::specs::Reading::begin_of))]
-fn begin(mut words: Words) -> Option<Request>
-    ensures { result ≡ begin_of words.entry }
+fn begin(mut words: Words<'_>) -> Option<Parsed<'_>>
+    ensures { request_said result ≡ begin_of words.entry }
 {
     let session = words.number()?;
-    done(words, Request::Begin { session })
+    done(words, Parsed::Begin { session })
 }
 
 #[tactic(auto, unfolding(crate::specs::Reading::end_of))]
-fn end(mut words: Words) -> Option<Request>
-    ensures { result ≡ end_of words.entry }
+fn end(mut words: Words<'_>) -> Option<Parsed<'_>>
+    ensures { request_said result ≡ end_of words.entry }
 {
     let session = words.number()?;
-    done(words, Request::End { session })
+    done(words, Parsed::End { session })
 }
 
 #[tactic(auto, unfolding(crate::specs::Reading::read_of))]
-fn read(mut words: Words) -> Option<Request>
-    ensures { result ≡ read_of words.entry }
+fn read(mut words: Words<'_>) -> Option<Parsed<'_>>
+    ensures { request_said result ≡ read_of words.entry }
 {
     let place = words.place()?;
-    done(
-        words,
-        Request::Read {
-            session: place.session,
-            block: place.block,
-            shown: place.shown,
-        },
-    )
+    done(words, Parsed::Read { place })
 }
 
 #[tactic(auto, unfolding(crate::specs::Reading::write_of))]
-fn write(mut words: Words) -> Option<Request>
-    ensures { result ≡ write_of words.entry }
+fn write(mut words: Words<'_>) -> Option<Parsed<'_>>
+    ensures { request_said result ≡ write_of words.entry }
 {
     let place = words.place()?;
-    let bytes = words.bytes()?;
-    done(
-        words,
-        Request::Write {
-            session: place.session,
-            block: place.block,
-            shown: place.shown,
-            bytes,
-        },
-    )
+    let word = words.next()?;
+    done(words, Parsed::Write { place, word })
 }
 
 #[tactic(auto, unfolding(crate::specs::Reading::alloc_of))]
-fn alloc(mut words: Words) -> Option<Request>
-    ensures { result ≡ alloc_of words.entry }
+fn alloc(mut words: Words<'_>) -> Option<Parsed<'_>>
+    ensures { request_said result ≡ alloc_of words.entry }
 {
     let place = words.place()?;
     let hint = words.hint()?;
     let count = words.number()?;
-    done(
-        words,
-        Request::Alloc {
-            session: place.session,
-            source: place.block,
-            shown: place.shown,
-            hint,
-            count,
-        },
-    )
+    done(words, Parsed::Alloc { place, hint, count })
 }
 
 #[tactic(auto, unfolding(crate::specs::Reading::contig_of))]
-fn contig(mut words: Words) -> Option<Request>
-    ensures { result ≡ contig_of words.entry }
+fn contig(mut words: Words<'_>) -> Option<Parsed<'_>>
+    ensures { request_said result ≡ contig_of words.entry }
 {
     let place = words.place()?;
     let hint = words.hint()?;
     let count = words.number()?;
-    done(
-        words,
-        Request::Contig {
-            session: place.session,
-            source: place.block,
-            shown: place.shown,
-            hint,
-            count,
-        },
-    )
+    done(words, Parsed::Contig { place, hint, count })
 }
 
-fn free(words: Words) -> Option<Request>
-    ensures { result ≡ free_of words.entry }
+fn free(words: Words<'_>) -> Option<Parsed<'_>>
+    ensures { request_said result ≡ free_of words.entry }
 {
-    done(words, Request::GetFree)
+    done(words, Parsed::GetFree)
 }
 
 #[tactic(auto, unfolding(crate::specs::Reading::create_of))]
-fn create(mut words: Words) -> Option<Request>
-    ensures { result ≡ create_of words.entry }
+fn create(mut words: Words<'_>) -> Option<Parsed<'_>>
+    ensures { request_said result ≡ create_of words.entry }
 {
     let place = words.place()?;
     let target = words.number()?;
-    done(
-        words,
-        Request::Create {
-            session: place.session,
-            source: place.block,
-            shown: place.shown,
-            target,
-        },
-    )
+    done(words, Parsed::Create { place, target })
 }
 
 #[tactic(auto, unfolding(crate::specs::Reading::delete_of))]
-fn delete(mut words: Words) -> Option<Request>
-    ensures { result ≡ delete_of words.entry }
+fn delete(mut words: Words<'_>) -> Option<Parsed<'_>>
+    ensures { request_said result ≡ delete_of words.entry }
 {
     let place = words.place()?;
     let target = words.number()?;
-    done(
-        words,
-        Request::Delete {
-            session: place.session,
-            source: place.block,
-            shown: place.shown,
-            target,
-        },
-    )
+    done(words, Parsed::Delete { place, target })
 }
 
 #[tactic(auto, unfolding(crate::specs::Reading::set_cap_of))]
-fn set_cap(mut words: Words) -> Option<Request>
-    ensures { result ≡ set_cap_of words.entry }
+fn set_cap(mut words: Words<'_>) -> Option<Parsed<'_>>
+    ensures { request_said result ≡ set_cap_of words.entry }
 {
     let place = words.place()?;
     let read = words.new_cap()?;
     let write = words.new_cap()?;
     done(
         words,
-        Request::SetCap {
-            session: place.session,
-            block: place.block,
-            shown: place.shown,
+        Parsed::SetCap {
+            place,
             caps: CapPair { read, write },
         },
     )
 }
 
 #[tactic(auto, unfolding(crate::specs::Reading::sweep_of))]
-fn sweep(mut words: Words) -> Option<Request>
-    ensures { result ≡ sweep_of words.entry }
+fn sweep(mut words: Words<'_>) -> Option<Parsed<'_>>
+    ensures { request_said result ≡ sweep_of words.entry }
 {
     let session = words.number()?;
     let shown = words.shown()?;
-    done(words, Request::Sweep { session, shown })
+    done(words, Parsed::Sweep { session, shown })
 }
 
 #[tactic(auto, unfolding(crate::specs::Reading::list_of))]
-fn list(mut words: Words) -> Option<Request>
-    ensures { result ≡ list_of words.entry }
+fn list(mut words: Words<'_>) -> Option<Parsed<'_>>
+    ensures { request_said result ≡ list_of words.entry }
 {
     let place = words.place()?;
     let start = words.number()?;
-    done(
-        words,
-        Request::List {
-            session: place.session,
-            source: place.block,
-            shown: place.shown,
-            start,
-        },
-    )
+    done(words, Parsed::List { place, start })
 }

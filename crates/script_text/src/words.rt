@@ -2,11 +2,11 @@
 
 ghost use Rattle.std.specs.Prelude.{◌≡◌, ◌↔◌, [], ◌∷◌, IsTrue, MatchOption, position, ◌==◌};
 ghost use Rattle.script_text.specs.Pieces.{pieces, words_left};
-ghost use Rattle.script_text.specs.Reading.{reads, num_of, new_of, shown_of, hint_of, data_of, place_of};
+ghost use Rattle.script_text.specs.Reading.{reads, num_of, new_of, shown_of, hint_of, place_of};
 
-use crate::fields::{parse_cap, parse_data, parse_hint, parse_number, parse_shown};
+use crate::fields::{parse_cap, parse_hint, parse_number, parse_shown};
 use std::marker::Model;
-use tsd_model::{Cap, Data, Hint, Shown};
+use tsd_model::{Cap, Hint, Shown};
 
 /// What most requests begin with.
 #[derive(Clone, Copy, Debug)]
@@ -100,15 +100,6 @@ impl<'a> Words<'a> {
     {
         let word = self.next()?;
         parse_hint(word)
-    }
-
-    /// The next word as bytes.
-    pub fn bytes(&mut self) -> Option<Data>
-        ensures { MatchOption result (reads data_of self.old ≡ None) (λ d. reads data_of self.old
-            ≡ Some (d, self.new)) }
-    {
-        let word = self.next()?;
-        parse_data(word)
     }
 
     /// The next three words as session, block and what is shown.

@@ -14,6 +14,7 @@ ghost use Rattle.tsd_core.specs.Work.{made_in, cost_in, write_limit, LeavesDebt,
 ghost use Rattle.tsd_core.specs.Applying.{IsToldAnswer, told_verdict, is_refusal, asks_nothing, next_world, IsApplied};
 
 use crate::disk::Core;
+use crate::outcome::refused;
 use crate::told::Told;
 use image_device::{Device, Failed};
 use place_policy::Placement;
@@ -88,7 +89,7 @@ impl Core {
     {
         self.check();
         match self.grants.verdict(&Told::of(&self.volume), request) {
-            Err(rule) => Ok(Reply::Refused(rule)),
+            Err(rule) => refused(rule),
             Ok(granted) => {
                 self.raise(request, &granted);
                 self.carry_out(dev, place, request)

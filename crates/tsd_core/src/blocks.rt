@@ -18,6 +18,7 @@ use tsd_model::{CapPair, Data, Reply};
 
 impl Core {
     /// Reads a block.
+    #[inline(never)]
     pub(crate) fn read<D: Device>(&mut self, dev: &mut D, block: u32) -> Result<Reply, Failed>
         requires live { is_live (told_world self.old) block ≡ true }
         requires known { IsKnown self.old.volume }
@@ -33,6 +34,7 @@ impl Core {
     }
 
     /// Gives a block these bytes, and zeros behind them.
+    #[inline(never)]
     pub(crate) fn write<D: Device>(
         &mut self,
         dev: &mut D,
@@ -52,6 +54,7 @@ impl Core {
     }
 
     /// Gives a primary block these capabilities, and ends what was held from it.
+    #[inline(never)]
     pub(crate) fn set_caps<D: Device>(
         &mut self,
         dev: &mut D,

@@ -8,6 +8,7 @@ ghost use Rattle.tsd_core.specs.Carrying.{IsKnown, IsCarriedOut};
 ghost use Rattle.tsd_core.specs.Granted.{IsRaised};
 
 use crate::disk::Core;
+use crate::outcome::done;
 use image_device::{Device, Failed};
 use place_policy::Placement;
 use tsd_model::{Reply, Request};
@@ -31,11 +32,11 @@ impl Core {
     {
         self.check();
         match request {
-            Request::Bad => Ok(Reply::Done),
-            Request::GetFree => Ok(self.free()),
-            Request::Begin { session } => Ok(self.begin(*session)),
-            Request::End { session } => Ok(self.end(*session)),
-            Request::List { source, start, .. } => Ok(self.list(*source, *start)),
+            Request::Bad => done(Ok(())),
+            Request::GetFree => self.free(),
+            Request::Begin { session } => self.begin(*session),
+            Request::End { session } => self.end(*session),
+            Request::List { source, start, .. } => self.list(*source, *start),
             Request::Read { block, .. } => self.read(dev, *block),
             Request::Write { block, bytes, .. } => self.write(dev, *block, bytes),
             Request::SetCap { block, caps, .. } => self.set_caps(dev, *block, caps),

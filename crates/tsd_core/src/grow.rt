@@ -32,6 +32,7 @@ use tsd_model::{BlockList, Hint, Reply, Rule};
 
 impl Core {
     /// Takes free blocks and points to them.
+    #[inline(never)]
     pub(crate) fn alloc<D: Device>(
         &mut self,
         dev: &mut D,
@@ -61,6 +62,7 @@ impl Core {
     }
 
     /// The same with blocks in a row.
+    #[inline(never)]
     pub(crate) fn contig<D: Device>(
         &mut self,
         dev: &mut D,

@@ -1,11 +1,18 @@
 //! Outcomes of calls as outcomes of requests.
 
-ghost use Rattle.std.specs.Prelude.{◌≡◌};
+ghost use Rattle.std.specs.Prelude.{◌≡◌, Ok};
 ghost use Rattle.tsd_model.specs.declared.replies.Reply.TheVariants as reply;
 ghost use Rattle.tsd_core.specs.Carrying.{replied};
 
 use image_device::Failed;
-use tsd_model::{BlockList, Data, Reply};
+use tsd_model::{BlockList, Data, Reply, Rule};
+
+/// A rule refuses it.
+pub(crate) fn refused(rule: Rule) -> Result<Reply, Failed>
+    ensures { result ≡ Ok (reply.Refused rule) }
+{
+    Ok(Reply::Refused(rule))
+}
 
 /// The request is done.
 pub(crate) fn done(outcome: Result<(), Failed>) -> Result<Reply, Failed>

@@ -18,6 +18,7 @@ use tsd_model::Reply;
 
 impl Core {
     /// Adds a pointer.
+    #[inline(never)]
     pub(crate) fn create<D: Device>(
         &mut self,
         dev: &mut D,
@@ -40,6 +41,7 @@ impl Core {
     }
 
     /// Deletes a pointer. The blocks that nothing leads to any more are free from now on.
+    #[inline(never)]
     pub(crate) fn delete<D: Device>(
         &mut self,
         dev: &mut D,
@@ -58,6 +60,7 @@ impl Core {
     }
 
     /// Reclaims all blocks that no primary block leads to.
+    #[inline(never)]
     pub(crate) fn sweep<D: Device>(&mut self, dev: &mut D) -> Result<Reply, Failed>
         requires known { IsKnown self.old.volume }
         requires ready { IsCoreReady self.old }

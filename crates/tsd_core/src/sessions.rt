@@ -19,57 +19,63 @@ ghost use Rattle.grant_table.specs.Table.{with_sessions, begin_verdict, end_verd
 ghost use Rattle.std.specs.Prelude.{◌⊎◌};
 
 use crate::disk::Core;
+use crate::outcome::{done, refused};
 use grant_table::{BeginRefusal, EndRefusal};
+use image_device::Failed;
 use tsd_model::{Reply, Rule};
 
 impl Core {
     /// Opens a session. It alone may find no memory; nothing changes then.
-    pub(crate) fn begin(&mut self, session: u32) -> Reply
+    #[inline(never)]
+    pub(crate) fn begin(&mut self, session: u32) -> Result<Reply, Failed>
         requires granted { begin_verdict self.old.grants.sessions session ≡ None }
         requires known { IsKnown self.old.volume }
         requires ready { IsCoreReady self.old }
         ensures volume { self.new.volume ≡ self.old.volume }
-        ensures answer { ((result ≡ reply.Done)
+        ensures answer { ((result ≡ Ok reply.Done)
             × (self.new.grants ≡ with_sessions self.old.grants (begun (told_world self.old) self.old.grants.sessions
-            session))) ⊎ ((result ≡ reply.NoMemory) × (self.new.grants ≡ self.old.grants)) }
+            session))) ⊎ ((result ≡ Ok reply.NoMemory) × (self.new.grants ≡ self.old.grants)) }
     {
         match self.grants.begin(session) {
-            Ok(()) => Reply::Done,
-            Err(BeginRefusal::NoMemory) => Reply::NoMemory,
-            Err(BeginRefusal::BadSession) => Reply::Refused(Rule::BadSession),
-            Err(BeginRefusal::AlreadyOpen) => Reply::Refused(Rule::AlreadyOpen),
+            Ok(()) => done(Ok(())),
+            Err(BeginRefusal::NoMemory) => Ok(Reply::NoMemory),
+            Err(BeginRefusal::BadSession) => refused(Rule::BadSession),
+            Err(BeginRefusal::AlreadyOpen) => refused(Rule::AlreadyOpen),
         }
     }
 
     /// Closes a session.
-    pub(crate) fn end(&mut self, session: u32) -> Reply
+    #[inline(never)]
+    pub(crate) fn end(&mut self, session: u32) -> Result<Reply, Failed>
         requires granted { end_verdict self.old.grants.sessions session ≡ None }
         ensures volume { self.new.volume ≡ self.old.volume }
-        ensures answer { (result ≡ reply.Done)
+        ensures answer { (result ≡ Ok reply.Done)
             × (self.new.grants ≡ with_sessions self.old.grants (ended self.old.grants.sessions session)) }
     {
         match self.grants.end(session) {
-            Ok(()) => Reply::Done,
-            Err(EndRefusal::BadSession) => Reply::Refused(Rule::BadSession),
-            Err(EndRefusal::NotOpen) => Reply::Refused(Rule::NotOpen),
+            Ok(()) => done(Ok(())),
+            Err(EndRefusal::BadSession) => refused(Rule::BadSession),
+            Err(EndRefusal::NotOpen) => refused(Rule::NotOpen),
         }
     }
 
     /// The targets of a block from a number on, at most 64.
-    pub(crate) fn list(&self, source: u32, start: u32) -> Reply
+    #[inline(never)]
+    pub(crate) fn list(&self, source: u32, start: u32) -> Result<Reply, Failed>
         requires live { is_live (told_world self.now) source ≡ true }
         requires known { IsKnown self.now.volume }
         requires ready { IsCoreReady self.now }
-        ensures { result ≡ reply.Targets (targets_from (told_world self.now).pairs source start) }
+        ensures { result ≡ Ok (reply.Targets (targets_from (told_world self.now).pairs source start)) }
     {
-        Reply::Targets(self.volume.targets_from(source, start))
+        Ok(Reply::Targets(self.volume.targets_from(source, start)))
     }
 
     /// How many blocks are free.
-    pub(crate) fn free(&self) -> Reply
+    #[inline(never)]
+    pub(crate) fn free(&self) -> Result<Reply, Failed>
         requires { IsCoreReady self.now }
-        ensures { result ≡ reply.Free (free_count (told_world self.now)) }
+        ensures { result ≡ Ok (reply.Free (free_count (told_world self.now))) }
     {
-        Reply::Free(self.volume.free_count())
+        Ok(Reply::Free(self.volume.free_count()))
     }
 }

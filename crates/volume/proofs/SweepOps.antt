@@ -6,9 +6,6 @@ use Rattle.std.proofs.lemmas.List.Sums.{count_by-le-length}
 use Rattle.tsd_model.specs.Doomed.{doomed, settle}
 use Rattle.tsd_model.specs.Reach.{reach, swept}
 use Rattle.tsd_model.specs.World.{World, free_count, has_number}
-use Rattle.image_device.specs.Calls.{Uses}
-use Rattle.image_device.specs.View.{View}
-use Rattle.image_device.proofs.Moments.{joined, weakened}
 use Rattle.image_layout.specs.Areas.{sweep_flag}
 use Rattle.image_layout.specs.Image.{gate_bytes}
 use Rattle.image_layout.specs.declared.place.Patch.{Patch}
@@ -22,15 +19,12 @@ use Rattle.graph_laws.proofs.SettleLaws.{settle_none}
 use Rattle.graph_laws.proofs.SweepLaws.{reach_follows, swept_has_none}
 use Rattle.image_world.specs.Raw.{world_with, left_of}
 use Rattle.image_world.specs.Sound.{AreSound}
-use Rattle.image_world.specs.Stands.{Stands}
 use Rattle.image_world.specs.Tables.{Tables}
 use Rattle.image_world.proofs.TurnLaws.{flag_turns}
 use Rattle.image_world.specs.Debt.{graph_in, owed}
-use Rattle.volume_laws.specs.Moments.{LeavesEither, LeavesWorld, StandsForEither}
 use Rattle.volume_laws.specs.Steps.{IsAllowed, IsPut, IsStepped}
 use Rattle.image_world.specs.Turns.{Turns}
-use Rattle.volume_laws.specs.Volume.{Volume, world_on}
-use Rattle.volume_laws.specs.Writes.{Works}
+use Rattle.volume_laws.specs.Volume.{Volume}
 use Rattle.volume_laws.proofs.BlockLaws.{put_ok}
 use Rattle.volume_laws.proofs.Ops.{any_bytes, IsOp}
 use Rattle.volume_laws.proofs.StepOps.{still_left}
@@ -63,7 +57,7 @@ sweep_step_left t now s c sweeping kept is =
     ∙ ((kept (world_with t c) (graph_of_same (world_with t c) (graph_in t) (world_graph t c))).same.swept
     ∙ sym (sweeping_left t (world_with t c) sweeping)))
 
-graph_itself : (w : World) → HasGraphOf w w
+pub graph_itself : (w : World) → HasGraphOf w w
 graph_itself w = record { geometry = refl; each_block = refl; live = λ b. refl; pairs = refl }
 
 free_most : (t : Tables) → free_count (graph_in t) ≤ t.geometry.blocks

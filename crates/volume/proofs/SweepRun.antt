@@ -1,11 +1,34 @@
 -- In the middle of a sweep: the world is as at the start.
-use Rattle.std.proofs.Common.{◌≡◌, true, false, refl, ◌∙◌, Result, Ok}
+use Rattle.std.proofs.Common.{◌≡◌, ℕ, Bool, true, false, List, length, refl, sym, ◌∙◌, ◌<◌, ap, subst, Result, Ok, Err}
+use Rattle.std.specs.Prelude.{OnOk, IsErrAnd}
+use Rattle.tsd_model.specs.Reach.{reach}
+use Rattle.tsd_model.specs.World.{World, has_number}
 use Rattle.image_device.specs.View.{View, IsSound}
 use Rattle.image_device.specs.declared.device.Failed.{Failed}
+use Rattle.image_layout.specs.declared.header.Header.{Header}
+use Rattle.image_layout.specs.declared.place.Patch.{Patch}
+use Rattle.pointer_table.specs.Table.{Table as Pointers}
+use Rattle.pointer_table.specs.declared.out_step.OutStep.{OutStep}
+use Rattle.ref_counts.specs.Table.{Table as Counts}
+use Rattle.block_alloc.specs.LiveMap.{LiveMap}
+use Rattle.cap_store.specs.Store.{Store}
+use Rattle.reclaim.specs.Ahead.{Kept, is_gone}
+use Rattle.reclaim.specs.Tables.{graph_of}
+use Rattle.cycle_sweep.specs.Marked.{is_marked}
+use Rattle.cycle_sweep.specs.Sweep.{MaySweep, AreSweptBy}
+use Rattle.image_world.specs.Debt.{graph_in, owed}
+use Rattle.image_world.specs.Tables.{Tables}
 use Rattle.volume_laws.specs.Operations.{IsOperation}
-use Rattle.volume_laws.specs.Volume.{Volume, IsVolumeAt, told_by}
-use Rattle.volume_laws.proofs.OperationLaws.{no_op, kept_then, op_answers}
+use Rattle.volume_laws.specs.Steps.{MayPut, IsPut, live_after}
+use Rattle.volume_laws.specs.Volume.{Volume, IsVolumeAt, AreParts, told_by, tables_in}
+use Rattle.volume_laws.proofs.AheadKept.{hides_stepped}
+use Rattle.volume_laws.proofs.NextLaws.{same_graph}
+use Rattle.volume_laws.proofs.OperationLaws.{no_op, kept_then, op_answers, op_fails}
+use Rattle.volume_laws.proofs.Ops.{any_bytes, IsOp}
 use Rattle.volume_laws.proofs.SettlingLaws.{done}
+use Rattle.volume_laws.proofs.StepWorlds.{graph_stepped}
+use Rattle.volume.specs.Sweeping.{sweep_left}
+use Rattle.volume.proofs.SweepOps.{sweep_allowed, sweep_lowers, sweep_op, graph_itself}
 
 pub record IsSweepRun (told : Type 0) (first : Volume) (start : View) (vol : Volume) (v : View) : Type 0 where
   pub operation : IsOperation told (λ w. w) first vol start v done
@@ -13,6 +36,10 @@ pub record IsSweepRun (told : Type 0) (first : Volume) (start : View) (vol : Vol
   pub version : vol.tables.version ≡ first.tables.version
   pub sweeping : vol.tables.is_sweeping ≡ true
   pub unready : vol.is_ready ≡ false
+
+-- exactly the reached blocks are marked
+abbrev pub AreMarksOf : List Bool → Pointers → LiveMap → Type 0
+AreMarksOf marks pointers live = (b : ℕ) → is_marked marks b ≡ has_number (reach (graph_of pointers live)) b
 
 pub run_none : (told : Type 0) (first : Volume) (start : View) → (told → IsSound start) → first.tables.is_sweeping ≡ true → first.is_ready ≡ false → first.is_spent ≡ false → (told → IsVolumeAt first start) → IsSweepRun told first start first start
 run_none told first start sound sweeping unready unspent at = record {
@@ -36,3 +63,73 @@ module _ (told : Type 0) (first : Volume) (start : View) (vol : Volume) (v : Vie
     sweeping = sweeping;
     unready = unready;
   }
+
+  -- a step that was committed, and one that failed
+  pub run_made : (r : Result (Unit {0}) Failed) (x : Unit {0}) → r ≡ Ok x → IsOperation told (λ w. w) vol now v new r → OnOk r (told_by now ≡ told_by vol) → now.tables.version ≡ vol.tables.version
+      → now.tables.is_sweeping ≡ true → now.is_ready ≡ false → IsSweepRun told first start now new
+  run_made r x is op tells version sweeping unready =
+      run_more x (subst (λ (o : Result (Unit {0}) Failed). IsOperation told (λ w. w) vol now v new o) is op) (subst (λ (o : Result (Unit {0}) Failed). OnOk o (told_by now ≡ told_by vol)) is tells) version sweeping unready
+
+  pub run_failed : (r : Result (Unit {0}) Failed) (e : Failed) (Q : Failed → Type 0) (s : Result (Unit {0}) Failed) → r ≡ Err e → IsErrAnd s Q → IsOperation told (λ w. w) vol now v new r → IsOperation told (λ w. w) first now start new s
+  run_failed r e Q s is err op = op_fails told (λ w. w) first now start new e Q s err (run_op (Err e) (subst (λ (o : Result (Unit {0}) Failed). IsOperation told (λ w. w) vol now v new o) is op))
+
+-- A step that may be made at the parts of a volume.
+module _ (h : Header) (p : Pointers) (k : Counts) (l : LiveMap) (c : Store) (is : Bool) (marks : List Bool) (a : Kept) (ready : Bool) (parts : AreParts h p k l c is (length marks) a ready)
+    (s : OutStep) (may : MaySweep (graph_of p l) s) where
+  same : graph_in (tables_in h p k l c is) ≡ graph_of p l
+  same = same_graph h p k l c is (length marks) a ready parts
+
+  may_in : MaySweep (graph_in (tables_in h p k l c is)) s
+  may_in = subst (λ (w : World). MaySweep w s) (sym same) may
+
+  pub may_put : MayPut (tables_in h p k l c is) p k l s
+  may_put = record {
+    parts = record { slots_size = parts.pointers; counts_size = parts.counts; slots = refl; counts = refl };
+    live_size = parts.live;
+    live = refl;
+    sound = parts.sound;
+    next = sweep_allowed (tables_in h p k l c is) s parts.sound may_in;
+  }
+
+  -- the parts once it is made: what is reached is marked as before
+  module _ (kept : AreSweptBy (graph_of p l) s) (q : Pointers) (j : Counts) (m : LiveMap) (batch : List Patch) (put : IsPut (tables_in h p k l c is) s (tables_in h q j m c is) batch)
+      (slots : q.geometry ≡ p.geometry) (counts : j.geometry ≡ k.geometry) (live : m.geometry ≡ l.geometry) (shown : m.unhidden ≡ live_after l.unhidden s.block s.freed) (unready : ready ≡ false) where
+    pub parts_then : AreParts h q j m c is (length marks) a ready
+    parts_then = record {
+      pointers = slots ∙ parts.pointers;
+      counts = counts ∙ parts.counts;
+      live = live ∙ parts.live;
+      kept_version = parts.kept_version;
+      kept = parts.kept;
+      marks_each = parts.marks_each;
+      sound = put.turns.sound;
+      counted = parts.counted;
+      hidden = hides_stepped l m s.block s.freed (is_gone a.gone) (is_gone a.gone) put.stepped.live shown parts.hidden (λ b out. refl);
+      ahead = λ is_ready. let not_yet = unready in absurd (cc);
+      begun = parts.begun;
+      still = parts.still;
+    }
+
+    kept_in : AreSweptBy (graph_in (tables_in h p k l c is)) s
+    kept_in = subst (λ (w : World). AreSweptBy w s) (sym same) kept
+
+    pub marks_stay : AreMarksOf marks p l → AreMarksOf marks q m
+    marks_stay are b =
+        let t = tables_in h p k l c is in
+        let reached = λ (w : World). has_number (reach w) b in
+        are b
+        ∙ (ap reached (sym same)
+        ∙ (sym ((kept_in (graph_in t) (graph_itself (graph_in t))).same.reached b)
+        ∙ (ap reached (sym (graph_stepped t (tables_in h q j m c is) s.block s.targets s.freed put.stepped))
+        ∙ ap reached (same_graph h q j m c is (length marks) a ready parts_then))))
+
+    pub lowers : sweep_left (tables_in h q j m c is) < sweep_left (tables_in h p k l c is)
+    lowers = sweep_lowers (tables_in h p k l c is) (tables_in h q j m c is) s may_in kept_in put.stepped
+
+    -- as an operation
+    pub step_op : (vol now : Volume) → is ≡ true → vol.tables ≡ tables_in h p k l c is → now.tables ≡ tables_in h q j m c is → IsOp any_bytes vol now.tables batch 33 (owed now.tables) (λ w. w)
+    step_op vol now sweeping was then =
+        subst (λ (t : Tables). IsOp any_bytes vol t batch 33 (owed t) (λ w. w)) (sym then)
+        (sweep_op vol (tables_in h q j m c is) s batch (ap (λ (t : Tables). t.is_sweeping) was ∙ sweeping)
+        (subst (λ (t : Tables). MaySweep (graph_in t) s) (sym was) may_in) (subst (λ (t : Tables). AreSweptBy (graph_in t) s) (sym was) kept_in)
+        (subst (λ (t : Tables). IsPut t s (tables_in h q j m c is) batch) (sym was) put))

@@ -78,7 +78,7 @@ impl Volume {
         ensures still { OnOk result (self.new.tables.is_sweeping ≡ false) }
         ensures unready { self.new.is_ready ≡ false }
     {
-        while self.sweep_step(dev)? {}
+        self.make_sweep_steps(dev)?;
         self.close_flag(dev)?;
         Ok(())
     }
@@ -104,8 +104,9 @@ impl Volume {
         outcome
     }
 
-    /// Makes a step of a sweep, if one is left. Answers whether there was one.
-    fn sweep_step<D: Device>(&mut self, dev: &mut D) -> Result<bool, Failed>
+    /// Makes all steps of a sweep that are left, each in one batch. What is reached stays the same through them, so it
+    /// is marked once.
+    fn make_sweep_steps<D: Device>(&mut self, dev: &mut D) -> Result<(), Failed>
         requires sweeping { self.old.tables.is_sweeping ≡ true }
         requires unready { self.old.is_ready ≡ false }
         requires unspent { self.old.is_spent ≡ false }
@@ -113,62 +114,30 @@ impl Volume {
         ensures operation { IsOperation D.told (λ w. w) self.old self.new (D.view dev.old) (D.view dev.new) result }
         ensures version { self.new.tables.version ≡ self.old.tables.version }
         ensures told { OnOk result (told_by self.new ≡ told_by self.old) }
-        ensures lowered { IfOk result (λ some. some ≡ true → sweep_left self.new.tables
-            < sweep_left self.old.tables) }
-        ensures whole { IfOk result (λ some. some ≡ false → (r : World) → HasGraphOf (graph_in self.new.tables) r
-            → swept r ≡ r) }
+        ensures whole { OnOk result ((r : World) → HasGraphOf (graph_in self.new.tables) r → swept r ≡ r) }
         ensures sweeping { OnOk result (self.new.tables.is_sweeping ≡ true) }
         ensures unready { self.new.is_ready ≡ false }
     {
-        match self.next_swept() {
-            Some(step) => {
-                self.make_sweep_step(dev, &step)?;
-                Ok(true)
-            }
-            None => Ok(false),
-        }
-    }
-
-    /// Makes a step of a sweep, in one batch.
-    fn make_sweep_step<D: Device>(&mut self, dev: &mut D, step: &OutStep) -> Result<(), Failed>
-        requires may { MaySweep (graph_in self.old.tables) step.now }
-        requires kept { AreSweptBy (graph_in self.old.tables) step.now }
-        requires sweeping { self.old.tables.is_sweeping ≡ true }
-        requires unready { self.old.is_ready ≡ false }
-        requires at { D.told → IsVolumeAt self.old (D.view dev.old) }
-        ensures operation { IsOperation D.told (λ w. w) self.old self.new (D.view dev.old) (D.view dev.new) result }
-        ensures version { self.new.tables.version ≡ self.old.tables.version }
-        ensures told { OnOk result (told_by self.new ≡ told_by self.old) }
-        ensures lowered { OnOk result (sweep_left self.new.tables < sweep_left self.old.tables) }
-        ensures sweeping { OnOk result (self.new.tables.is_sweeping ≡ true) }
-        ensures unready { self.new.is_ready ≡ false }
-    {
-        self.batch.clear();
-        put_step(
-            &mut self.batch,
-            &mut self.pointers,
-            &mut self.counts,
-            &mut self.live,
-            step,
-        );
-        let outcome = self.ring.commit(dev, &self.batch);
-        self.is_spent = outcome.is_err();
-        outcome
-    }
-
-    /// The next step of a sweep, if one is left. It marks again what is reached.
-    fn next_swept(&mut self) -> Option<OutStep>
-        ensures same { self.new ≡ self.old }
-        ensures step { IfSome result (λ s. MaySweep (graph_in self.old.tables) s) }
-        ensures kept { IfSome result (λ s. AreSweptBy (graph_in self.old.tables) s) }
-        ensures whole { IsNone result → (r : World) → HasGraphOf (graph_in self.old.tables) r → swept r ≡ r }
-    {
-        mark(
+        let primaries = self.header.geometry.primaries;
+        mark(&self.pointers, &self.live, primaries, &mut self.marks);
+        while let Some(step) = next_sweep_step(
             &self.pointers,
+            &self.counts,
             &self.live,
-            self.header.geometry.primaries,
             &mut self.marks,
-        );
-        next_sweep_step(&self.pointers, &self.counts, &self.live, &mut self.marks)
+        ) {
+            self.batch.clear();
+            put_step(
+                &mut self.batch,
+                &mut self.pointers,
+                &mut self.counts,
+                &mut self.live,
+                &step,
+            );
+            let outcome = self.ring.commit(dev, &self.batch);
+            self.is_spent = outcome.is_err();
+            outcome?;
+        }
+        Ok(())
     }
 }

@@ -1,6 +1,11 @@
 use Rattle.std.proofs.Common.{inl, inr, refl, sym, subst}
-use Rattle.std.specs.Prelude.{Ok}
+use Rattle.std.specs.Prelude.{Ok, Result}
 use Rattle.tsd_model.specs.ReplyForm.{HasForm}
+use Rattle.tsd_model.specs.World.{free_count}
+use Rattle.tsd_model.specs.Step.{targets_from}
+use Rattle.tsd_model.specs.declared.replies.Reply.{Reply}
+use Rattle.tsd_model.specs.declared.replies.Reply.TheVariants as reply
+use Rattle.image_device.specs.declared.device.Failed.{Failed}
 use Rattle.tsd_model.specs.declared.requests.Request.{Request}
 use Rattle.tsd_model.specs.declared.requests.Request.TheVariants as ask
 use Rattle.tsd_core.proofs.FormLaws.{free_fits, targets_fit}
@@ -12,39 +17,45 @@ use Rattle.tsd_core.proofs.disk.Core.carry_out.Goals as goal
 pub returns-in-GetFree-clause-carried_out : goal.returns-in-GetFree-clause-carried_out
 returns-in-GetFree-clause-carried_out g c =
     let v = g.D.Device.view c.args.dev.now in
-    subst (λ (q : Request). IsCarriedOut g.D.Device.told c.args.place.now.kind q c.args.self.now c.args.self.now v v (Ok c.free.result)) (sym c.in-GetFree.is)
-    (quiet g.D.Device.told c.args.place.now.kind (ask.GetFree) c.args.self.now c.args.self.now v c.free.result (λ w. refl) (g.met.D.Device.sound c.args.dev.now) c.requires.at c.requires.ready
-    refl (inl (record { table = refl; reply = λ e. c.free.ensures; read = λ e. absurd (cc) }))
+    subst (λ (q : Request). IsCarriedOut g.D.Device.told c.args.place.now.kind q c.args.self.now c.args.self.now v v c.free.result) (sym c.in-GetFree.is)
+    (subst (λ (r : Result Reply Failed). IsCarriedOut g.D.Device.told c.args.place.now.kind ask.GetFree c.args.self.now c.args.self.now v v r) (sym c.free.ensures)
+    (quiet g.D.Device.told c.args.place.now.kind ask.GetFree c.args.self.now c.args.self.now v (reply.Free (free_count (told_world c.args.self.now))) (λ w. refl) (g.met.D.Device.sound c.args.dev.now) c.requires.at c.requires.ready
+    refl (inl (record { table = refl; reply = λ e. refl; read = λ e. absurd (cc) }))
     refl
-    (subst HasForm (sym c.free.ensures) (record { body = tt; numbers = free_fits (told_world c.args.self.now) c.check.ensures.volume.sized })))
+    (record { body = tt; numbers = free_fits (told_world c.args.self.now) c.check.ensures.volume.sized })))
 
 pub returns-in-Begin-clause-carried_out : goal.returns-in-Begin-clause-carried_out
 returns-in-Begin-clause-carried_out g c =
     let v = g.D.Device.view c.args.dev.now in
-    subst (λ (q : Request). IsCarriedOut g.D.Device.told c.args.place.now.kind q c.args.self.now c.begin.new.self v v (Ok c.begin.result)) (sym c.in-Begin.is)
-    (quiet g.D.Device.told c.args.place.now.kind (ask.Begin c.in-Begin.session) c.args.self.now c.begin.new.self v c.begin.result (λ w. refl) (g.met.D.Device.sound c.args.dev.now) c.requires.at c.requires.ready
-    c.begin.ensures.volume
-    (elim c.begin.ensures.answer [ inl done ↦ inl (record { table = done.1; reply = λ e. done.0; read = λ e. absurd (cc) }) | inr none ↦ inr (record { begin = refl; reply = none.0; table = none.1 }) ])
-    refl
-    (elim c.begin.ensures.answer [ inl done ↦ subst HasForm (sym done.0) (record { body = tt; numbers = tt }) | inr none ↦ subst HasForm (sym none.0) (record { body = tt; numbers = tt }) ]))
+    subst (λ (q : Request). IsCarriedOut g.D.Device.told c.args.place.now.kind q c.args.self.now c.begin.new.self v v c.begin.result) (sym c.in-Begin.is)
+    (elim c.begin.ensures.answer [
+      | inl done ↦ subst (λ (r : Result Reply Failed). IsCarriedOut g.D.Device.told c.args.place.now.kind (ask.Begin c.in-Begin.session) c.args.self.now c.begin.new.self v v r) (sym done.0)
+          (quiet g.D.Device.told c.args.place.now.kind (ask.Begin c.in-Begin.session) c.args.self.now c.begin.new.self v reply.Done (λ w. refl) (g.met.D.Device.sound c.args.dev.now) c.requires.at c.requires.ready
+          c.begin.ensures.volume (inl (record { table = done.1; reply = λ e. refl; read = λ e. absurd (cc) })) refl (record { body = tt; numbers = tt }))
+      | inr none ↦ subst (λ (r : Result Reply Failed). IsCarriedOut g.D.Device.told c.args.place.now.kind (ask.Begin c.in-Begin.session) c.args.self.now c.begin.new.self v v r) (sym none.0)
+          (quiet g.D.Device.told c.args.place.now.kind (ask.Begin c.in-Begin.session) c.args.self.now c.begin.new.self v reply.NoMemory (λ w. refl) (g.met.D.Device.sound c.args.dev.now) c.requires.at c.requires.ready
+          c.begin.ensures.volume (inr (record { begin = refl; reply = refl; table = none.1 })) refl (record { body = tt; numbers = tt }))
+    ])
 
 pub returns-in-End-clause-carried_out : goal.returns-in-End-clause-carried_out
 returns-in-End-clause-carried_out g c =
     let v = g.D.Device.view c.args.dev.now in
-    subst (λ (q : Request). IsCarriedOut g.D.Device.told c.args.place.now.kind q c.args.self.now c.end.new.self v v (Ok c.end.result)) (sym c.in-End.is)
-    (quiet g.D.Device.told c.args.place.now.kind (ask.End c.in-End.session) c.args.self.now c.end.new.self v c.end.result (λ w. refl) (g.met.D.Device.sound c.args.dev.now) c.requires.at c.requires.ready
-    c.end.ensures.volume (inl (record { table = c.end.ensures.answer.1; reply = λ e. c.end.ensures.answer.0; read = λ e. absurd (cc) }))
+    subst (λ (q : Request). IsCarriedOut g.D.Device.told c.args.place.now.kind q c.args.self.now c.end.new.self v v c.end.result) (sym c.in-End.is)
+    (subst (λ (r : Result Reply Failed). IsCarriedOut g.D.Device.told c.args.place.now.kind (ask.End c.in-End.session) c.args.self.now c.end.new.self v v r) (sym c.end.ensures.answer.0)
+    (quiet g.D.Device.told c.args.place.now.kind (ask.End c.in-End.session) c.args.self.now c.end.new.self v reply.Done (λ w. refl) (g.met.D.Device.sound c.args.dev.now) c.requires.at c.requires.ready
+    c.end.ensures.volume (inl (record { table = c.end.ensures.answer.1; reply = λ e. refl; read = λ e. absurd (cc) }))
     refl
-    (subst HasForm (sym c.end.ensures.answer.0) (record { body = tt; numbers = tt })))
+    (record { body = tt; numbers = tt })))
 
 pub returns-in-List-clause-carried_out : goal.returns-in-List-clause-carried_out
 returns-in-List-clause-carried_out g c =
     let v = g.D.Device.view c.args.dev.now in
-    subst (λ (q : Request). IsCarriedOut g.D.Device.told c.args.place.now.kind q c.args.self.now c.args.self.now v v (Ok c.list.result)) (sym c.in-List.is)
-    (quiet g.D.Device.told c.args.place.now.kind (ask.List c.in-List.session c.in-List.source c.in-List.shown c.in-List.start) c.args.self.now c.args.self.now v c.list.result (λ w. refl) (g.met.D.Device.sound c.args.dev.now) c.requires.at c.requires.ready
-    refl (inl (record { table = refl; reply = λ e. c.list.ensures; read = λ e. absurd (cc) }))
+    subst (λ (q : Request). IsCarriedOut g.D.Device.told c.args.place.now.kind q c.args.self.now c.args.self.now v v c.list.result) (sym c.in-List.is)
+    (subst (λ (r : Result Reply Failed). IsCarriedOut g.D.Device.told c.args.place.now.kind (ask.List c.in-List.session c.in-List.source c.in-List.shown c.in-List.start) c.args.self.now c.args.self.now v v r) (sym c.list.ensures)
+    (quiet g.D.Device.told c.args.place.now.kind (ask.List c.in-List.session c.in-List.source c.in-List.shown c.in-List.start) c.args.self.now c.args.self.now v (reply.Targets (targets_from (told_world c.args.self.now).pairs c.in-List.source c.in-List.start)) (λ w. refl) (g.met.D.Device.sound c.args.dev.now) c.requires.at c.requires.ready
+    refl (inl (record { table = refl; reply = λ e. refl; read = λ e. absurd (cc) }))
     refl
-    (subst HasForm (sym c.list.ensures) (targets_fit (told_world c.args.self.now) c.in-List.source c.in-List.start c.check.ensures.volume.sized (λ a b held. (c.check.ensures.volume.ends a b held).1))))
+    (targets_fit (told_world c.args.self.now) c.in-List.source c.in-List.start c.check.ensures.volume.sized (λ a b held. (c.check.ensures.volume.ends a b held).1))))
 
 pub returns-in-Read-clause-carried_out : goal.returns-in-Read-clause-carried_out
 returns-in-Read-clause-carried_out g c =

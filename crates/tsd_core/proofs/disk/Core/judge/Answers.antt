@@ -1,17 +1,23 @@
-use Rattle.std.proofs.Common.{◌≡◌, Some, None, Option, subst}
+use Rattle.std.proofs.Common.{◌≡◌, Some, None, Option, subst, sym}
+use Rattle.std.specs.Prelude.{Result}
 use Rattle.tsd_model.specs.Verdict.{verdict}
+use Rattle.tsd_model.specs.declared.replies.Reply.{Reply}
 use Rattle.tsd_model.specs.declared.replies.Rule.{Rule}
+use Rattle.image_device.specs.declared.device.Failed.{Failed}
 use Rattle.volume_laws.specs.Volume.{Volume, told_by}
+use Rattle.tsd_core.specs.Applying.{IsApplied}
 use Rattle.tsd_core.specs.Core.{Core, told_world}
 use Rattle.tsd_core.proofs.Applied.{refused_applied, granted_applied}
 use Rattle.tsd_core.proofs.disk.Core.judge.Goals as goal
 
 pub returns-in-Err-clause-applied : goal.returns-in-Err-clause-applied
 returns-in-Err-clause-applied g c =
-    refused_applied g.D.Device.told c.args.place.now.kind c.args.request.now c.args.self.now (g.D.Device.view c.args.dev.now) c.in-Err.rule
+    let v = g.D.Device.view c.args.dev.now in
+    subst (λ (r : Result Reply Failed). IsApplied g.D.Device.told c.args.place.now.kind c.args.request.now c.args.self.now c.args.self.now v v r) (sym c.refused.ensures)
+    (refused_applied g.D.Device.told c.args.place.now.kind c.args.request.now c.args.self.now v c.in-Err.rule
     c.requires.ready c.check.ensures.volume c.check.ensures.table (g.met.D.Device.sound c.args.dev.now) c.requires.at
     (subst (λ (x : Core). verdict (told_world x) x.grants.sessions c.args.request.now ≡ Some c.in-Err.rule) c.self.view_is
-    (subst (λ (x : Volume). verdict (told_by x) c.self.inside.grants.sessions c.args.request.now ≡ Some c.in-Err.rule) c.of.ensures c.in-Err.ensures.err))
+    (subst (λ (x : Volume). verdict (told_by x) c.self.inside.grants.sessions c.args.request.now ≡ Some c.in-Err.rule) c.of.ensures c.in-Err.ensures.err)))
 
 pub returns-in-Ok-clause-applied : goal.returns-in-Ok-clause-applied
 returns-in-Ok-clause-applied g c =

@@ -17,13 +17,12 @@ use Rattle.image_world.specs.Tables.{Tables}
 use Rattle.image_world.specs.Raw.{left_of, world_with}
 use Rattle.volume_laws.specs.Volume.{Volume, tables_in, told_by}
 use Rattle.image_world.specs.Debt.{owed, graph_in}
-use Rattle.volume_laws.proofs.Ops.{any_bytes, IsOp, op_at, op_done, op_told, op_moments, op_paid}
+use Rattle.volume_laws.proofs.Ops.{any_bytes, IsOp, op_told}
 use Rattle.volume_laws.proofs.Pointed.{IsOpenTo, IsAdded, raw_absent, ends_within, count_room, left_pointer, owed_pointer, added}
 use Rattle.std.proofs.lemmas.Bool.{both_ways}
 use Rattle.tsd_model.specs.World.{World}
 use Rattle.reclaim.specs.Ahead.{IsAheadOf, is_gone}
 use Rattle.volume_laws.proofs.AheadKept.{adding, graph_added, gone_added, hides_same}
-use Rattle.volume_laws.proofs.StepOps.{op_owed}
 use Rattle.volume_laws.proofs.Outcomes.{ok_here, if_here}
 use Rattle.volume_laws.proofs.BlockLaws.{two_patches}
 use Rattle.volume.proofs.volume.Volume.add_pair.Given

@@ -5,7 +5,7 @@ use Rattle.image_world.specs.Tables.{pairs_of}
 use Rattle.tsd_model.specs.Step.{with_new_blocks}
 use Rattle.volume_laws.specs.Growing.{AreFree}
 use Rattle.image_world.specs.Debt.{owed}
-use Rattle.volume_laws.specs.Operations.{IsOperation, IsWithin}
+use Rattle.volume_laws.specs.Operations.{IsOperation}
 use Rattle.volume_laws.specs.Writes.{due, zeroed_cost}
 use Rattle.volume_laws.proofs.Allocated.{told_free, told_room}
 use Rattle.volume.proofs.volume.Volume.allocate.Goals as goal

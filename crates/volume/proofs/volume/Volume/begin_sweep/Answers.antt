@@ -2,14 +2,13 @@ use Rattle.volume_laws.proofs.OperationLaws.{committed_op}
 use Rattle.std.proofs.Common.{◌≡◌, ℕ, List, [], ◌∷◌, true, false, inl, inr, sym, ◌∙◌, ap, subst}
 use Rattle.std.proofs.lemmas.Bool.{cases_Bool}
 use Rattle.tsd_model.specs.Reach.{swept}
-use Rattle.intent_journal.specs.Ring.{commit_writes}
 use Rattle.image_layout.specs.Areas.{sweep_flag}
 use Rattle.image_world.specs.Sound.{AreSound}
 use Rattle.image_world.specs.Tables.{Tables}
 use Rattle.image_world.specs.Debt.{owed}
 use Rattle.volume_laws.specs.Volume.{Volume, tables_in}
 use Rattle.volume_laws.proofs.AheadKept.{none_gone}
-use Rattle.volume_laws.proofs.Ops.{any_bytes, IsOp, op_at, op_done, op_told, op_moments}
+use Rattle.volume_laws.proofs.Ops.{any_bytes, IsOp, op_told}
 use Rattle.volume.proofs.SweepOps.{flag_patch, flag_alone, open_op}
 use Rattle.volume.proofs.volume.Volume.begin_sweep.Given
 use Rattle.volume.proofs.volume.Volume.begin_sweep.Goals as goal

@@ -2,14 +2,12 @@ use Rattle.volume_laws.proofs.OperationLaws.{committed_op}
 use Rattle.std.proofs.Common.{◌≡◌, ℕ, List, [], ◌∷◌, false, refl, sym, ◌∙◌, ap, subst}
 use Rattle.image_device.proofs.Outcomes.{on_ok}
 use Rattle.tsd_model.specs.Doomed.{doomed}
-use Rattle.intent_journal.specs.Ring.{commit_writes}
 use Rattle.image_layout.specs.Areas.{sweep_flag}
 use Rattle.image_world.specs.Sound.{AreSound}
 use Rattle.image_world.specs.Tables.{Tables}
 use Rattle.image_world.specs.Debt.{graph_in}
 use Rattle.volume_laws.specs.Volume.{Volume, tables_in}
-use Rattle.volume_laws.proofs.Ops.{any_bytes, IsOp, op_at, op_done, op_told, op_moments}
-use Rattle.volume_laws.proofs.StepOps.{either_same}
+use Rattle.volume_laws.proofs.Ops.{any_bytes, IsOp, op_told}
 use Rattle.volume_laws.proofs.TableWorlds.{none_owed}
 use Rattle.volume.proofs.SweepOps.{flag_patch, flag_alone, close_op, whole_has_none}
 use Rattle.volume.proofs.volume.Volume.close_flag.Given

@@ -1,5 +1,4 @@
 use Rattle.std.proofs.Common.{◌≡◌, ◌+◌, ◌*◌, ◌≤◌, length, ◌∙◌, ap, arith, Err}
-use Rattle.image_device.specs.declared.device.Failed.{Failed}
 use Rattle.tsd_model.specs.Step.{with_new_blocks}
 use Rattle.tsd_model.specs.World.{World}
 use Rattle.tsd_model.specs.declared.geometry.Geometry.{Geometry}

@@ -11,8 +11,8 @@ use Rattle.volume_laws.proofs.Freed.{next_allowed}
 use Rattle.volume_laws.proofs.TableWorlds.{graph_laid_out}
 use Rattle.volume_laws.specs.Steps.{MayPut, IsPut, IsStepped, with_all}
 use Rattle.volume_laws.specs.Volume.{Volume, tables_in}
-use Rattle.volume_laws.proofs.Ops.{any_bytes, op_at, op_done, op_told, op_moments}
-use Rattle.volume_laws.proofs.StepOps.{IsStepOf, step_of, step_paid, step_used, step_uses, step_most, either_same, owed_moments}
+use Rattle.volume_laws.proofs.Ops.{any_bytes, op_told}
+use Rattle.volume_laws.proofs.StepOps.{IsStepOf, step_of, step_paid, step_used, step_uses, step_most, owed_moments}
 use Rattle.volume.proofs.volume.Volume.make_step.Given
 use Rattle.volume.proofs.volume.Volume.make_step.Goals as goal
 

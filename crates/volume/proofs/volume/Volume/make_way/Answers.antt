@@ -1,11 +1,9 @@
 use Rattle.intent_journal.specs.Ring.{checkpoint_writes}
 use Rattle.volume_laws.proofs.OperationLaws.{no_op, none_within}
-use Rattle.std.proofs.Common.{◌<◌, false, ◌∙◌, ap, sym, subst}
+use Rattle.std.proofs.Common.{◌<◌, ◌∙◌, ap, sym, subst}
 use Rattle.tsd_model.specs.declared.geometry.Geometry.{Geometry}
-use Rattle.intent_journal.specs.Home.{home}
-use Rattle.image_world.specs.Tables.{header_on}
 use Rattle.volume_laws.specs.Volume.{Volume}
-use Rattle.volume_laws.proofs.ZeroedLaws.{free_inside, none_unused}
+use Rattle.volume_laws.proofs.ZeroedLaws.{free_inside}
 use Rattle.volume.proofs.volume.Volume.make_way.Goals as goal
 
 pub holds_data-requires : goal.holds_data-requires

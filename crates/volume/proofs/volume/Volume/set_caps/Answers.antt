@@ -19,10 +19,9 @@ use Rattle.volume_laws.specs.Volume.{Volume, tables_in}
 use Rattle.image_world.specs.Debt.{owed}
 use Rattle.volume_laws.proofs.BlockLaws.{put_ok}
 use Rattle.image_world.specs.Turns.{Turns}
-use Rattle.volume_laws.proofs.Ops.{any_bytes, IsOp, op_at, op_done, op_told, op_moments, op_paid}
+use Rattle.volume_laws.proofs.Ops.{any_bytes, IsOp, op_told}
 use Rattle.volume_laws.proofs.Kept.{caps_set, left_with_caps, owed_kept}
 use Rattle.image_world.specs.Sound.{AreSound}
-use Rattle.volume_laws.proofs.StepOps.{op_owed}
 use Rattle.volume.proofs.volume.Volume.set_caps.Given
 use Rattle.volume.proofs.volume.Volume.set_caps.Goals as goal
 

@@ -1,4 +1,4 @@
-use Rattle.std.proofs.Common.{arith, Ok}
+use Rattle.std.proofs.Common.{arith}
 use Rattle.volume_laws.proofs.OperationLaws.{op_answers, op_fails, within_answers, within_fails}
 use Rattle.volume_laws.proofs.SettlingLaws.{settling_none, settling_more, settling_op, settling_cost}
 use Rattle.volume.proofs.volume.Volume.settle_doomed.Goals as goal

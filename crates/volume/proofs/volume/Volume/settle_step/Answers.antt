@@ -1,5 +1,4 @@
-use Rattle.std.proofs.Common.{arith, sym, subst, Ok, true, false, Bool, Result}
-use Rattle.image_device.specs.declared.device.Failed.{Failed}
+use Rattle.std.proofs.Common.{arith, sym, subst, Ok, true, false, Bool}
 use Rattle.image_world.specs.Debt.{owed}
 use Rattle.volume_laws.specs.Operations.{IsOperation, IsWithin}
 use Rattle.volume_laws.specs.Volume.{Volume}

@@ -1,10 +1,10 @@
 use Rattle.image_world.specs.Debt.{owed}
 use Rattle.volume_laws.proofs.OperationLaws.{kept_then, then_kept, kept_fails, op_answers, op_fails, op_ready}
-use Rattle.std.proofs.Common.{◌≡◌, true, refl, sym, ◌∙◌, ap, subst, arith}
+use Rattle.std.proofs.Common.{◌≡◌, true, refl, sym, ◌∙◌, ap, arith}
 use Rattle.tsd_model.specs.Reach.{swept, reach}
 use Rattle.tsd_model.specs.World.{World, free_count, has_number}
 use Rattle.image_world.specs.Raw.{world_with, zeros_of}
-use Rattle.volume_laws.specs.Volume.{Volume, IsVolumeAt, told_by, world_on}
+use Rattle.volume_laws.specs.Volume.{Volume, told_by}
 use Rattle.volume.proofs.FinishLaws.{free_restricted, free_then}
 use Rattle.volume.proofs.volume.Volume.sweep.Given
 use Rattle.volume.proofs.volume.Volume.sweep.Goals as goal

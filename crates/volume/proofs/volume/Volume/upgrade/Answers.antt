@@ -2,9 +2,8 @@ use Rattle.std.proofs.Common.{◌≡◌, ◌+◌, [], ap, arith}
 use Rattle.tsd_model.specs.Records.{upgraded}
 use Rattle.intent_journal.specs.Ring.{checkpoint_writes}
 use Rattle.image_world.specs.Debt.{owed}
-use Rattle.volume_laws.specs.Operations.{IsWithin}
 use Rattle.volume_laws.specs.Volume.{Volume}
-use Rattle.volume_laws.specs.Writes.{batch_cost, due}
+use Rattle.volume_laws.specs.Writes.{batch_cost}
 use Rattle.volume_laws.proofs.OperationLaws.{then_kept, op_fails, within_then, within_fails}
 use Rattle.volume.proofs.volume.Volume.upgrade.Goals as goal
 
