@@ -2,4 +2,5 @@ pub mod AreaLaws
 pub mod Formatted
 pub mod AreaRuns
 pub mod OpenRuns
+mod SparedLaws
 pub mod FreshQuiet

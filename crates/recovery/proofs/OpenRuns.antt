@@ -209,6 +209,10 @@ pub owed_load : (v0 v3 v4 : View) → HasHeader (home v0.reads) → LeavesOnly v
 owed_load v0 v3 v4 right so_far done rests = after_read v0 v3 v4 (OwesNoMore v0) so_far rests
     (λ x f left. agree_owes v0 x right (subst (ReadAlike v0.reads) (sym (firm_image v3 done.firm x f left)) done.agree))
 
+-- a call that writes at most 0 times writes never
+pub unwritten : (old new : View) → Uses 0 old new → new.writes ≡ old.writes
+unwritten old new uses = omega (arith, uses.writes, uses.most)
+
 pub right_head : (v0 v2 : View) (h : Header) → IsStill v0 v2 → HasHead v2.reads h → HasHeader (home v0.reads)
 right_head v0 v2 h still head = subst (λ (r : Image). HasHeader (home r)) still.reads (head_right (home v2.reads) h head.header)
 

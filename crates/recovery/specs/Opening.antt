@@ -1,11 +1,15 @@
 -- What opening answers, and what a crash leaves of it.
-use Rattle.std.specs.Prelude.{◌↔◌, Result, Ok, Err, ⊤}
+use Rattle.std.specs.Prelude.{◌≡◌, ◌↔◌, ◌+◌, ◌≤◌, Result, Ok, Err, ⊤}
 use Rattle.tsd_model.specs.World.{World}
+use Rattle.image_device.specs.View.{View}
+use Rattle.image_device.specs.Runs.{IsFirm, LeavesOnly}
 use Rattle.image_layout.specs.declared.header.Header.{Header}
 use Rattle.image_layout.specs.Areas.{header_sector}
 use Rattle.image_layout.specs.Header.{IsReading}
 use Rattle.image_layout.specs.Image.{Image}
+use Rattle.intent_journal.specs.Crash.{IsTheSame}
 use Rattle.intent_journal.specs.Home.{home}
+use Rattle.intent_journal.specs.Ring.{replay_writes}
 use Rattle.image_world.specs.Faults.{IsFormatGateOpen, HasJournal, IsGood, IsFirstFault}
 use Rattle.image_world.specs.Stands.{Stands}
 use Rattle.volume_laws.specs.Volume.{Volume}
@@ -17,6 +21,28 @@ pub record HasHead (image : Image) (h : Header) : Type 0 where
   pub formatted : IsFormatGateOpen image
   pub journal : HasJournal image
   pub header : IsReading (home image header_sector) (Ok h)
+
+-- One of the first three tests fails: it is no disk of this format, and may be somebody else's.
+abbrev pub IsForeign : Image → Type 0
+IsForeign image = (h : Header) → ¬ HasHead image h
+
+-- nothing was written, and the disk reads as before
+pub record IsUntouched (old new : View) : Type 0 where
+  pub writes : new.writes ≡ old.writes
+  pub reads : new.reads ≡ old.reads
+
+-- a test failed
+abbrev pub IsImageFault : OpenFault → Type 0
+IsImageFault (fault.Image why) = ⊤
+IsImageFault fault.Device = ⊥
+IsImageFault fault.NoMemory = ⊥
+
+-- All that a repair could use is still there: what each sector outside the journal is to hold is as it was, in the end and in each image
+-- that a crash leaves. No more was written than the replay writes.
+pub record IsSpared (old new : View) : Type 0 where
+  pub reads : IsTheSame old.reads new.reads
+  pub writes : new.writes ≤ old.writes + replay_writes old.reads
+  pub left : IsFirm old → LeavesOnly old new (λ x f. IsTheSame old.reads x)
 
 -- what the first three tests answer
 abbrev pub IsHead : Image → Result Header OpenFault → Type 0

@@ -1,7 +1,6 @@
 //! Opening.
 
-ghost use Rattle.std.specs.Prelude.{◌≡◌, ◌+◌, ◌≤◌, false, IfOk, OnOk};
-ghost use Rattle.image_layout.specs.declared.header.Header.{Header};
+ghost use Rattle.std.specs.Prelude.{◌≡◌, ◌+◌, ◌≤◌, false, IfOk, IfErr, OnOk};
 ghost use Rattle.image_device.specs.Calls.{Uses};
 ghost use Rattle.image_device.specs.Counts.{CountsFaultOf};
 ghost use Rattle.image_device.specs.Runs.{IsFirm, LeavesOnly};
@@ -15,7 +14,8 @@ ghost use Rattle.image_world.specs.Debt.{owed};
 ghost use Rattle.volume_laws.specs.Quiet.{IsQuiet};
 ghost use Rattle.volume_laws.specs.Volume.{IsVolumeAt, IsVolumeReady, world_on};
 ghost use Rattle.volume_laws.specs.Writes.{due, Works};
-ghost use Rattle.recovery.specs.Opening.{HasHead, IsOpening, StandAlike};
+ghost use Rattle.recovery.specs.Opening.{IsForeign, IsImageFault, IsOpening, IsSpared, IsUntouched};
+ghost use Rattle.recovery.specs.Opening.{StandAlike};
 
 use crate::fault::OpenFault;
 use crate::head::read_head;
@@ -42,9 +42,11 @@ pub fn open_image<D: Device>(alloc: Global, dev: &mut D) -> Result<Volume, OpenF
     ensures any_moment { D.told → IsFirm (D.view dev.old) → LeavesOnly (D.view dev.old) (D.view dev.new)
         (λ x f. StandAlike (D.view dev.old).reads x × (f ≡ (D.view dev.old).sent)) }
 
-    // Where one of the tests fails that need no write, nothing is written.
-    ensures untouched { D.told → ((h : Header) → ¬ HasHead (D.view dev.old).reads h)
-        → Uses 0 (D.view dev.old) (D.view dev.new) }
+    // Where one of the tests fails that need no write, nothing is written, and the disk reads as before.
+    ensures untouched { D.told → IsForeign (D.view dev.old).reads → IsUntouched (D.view dev.old) (D.view dev.new) }
+
+    // Where any test fails, nothing is lost that a repair could use.
+    ensures spared { D.told → IfErr result (λ why. IsImageFault why → IsSpared (D.view dev.old) (D.view dev.new)) }
 
     ensures unwritten { D.told → IsQuiet (D.view dev.old).reads → Uses 0 (D.view dev.old) (D.view dev.new) }
     ensures paid { D.told → IsQuiet (D.view dev.old).reads → IfOk result (λ v. (D.view dev.new).writes + due v

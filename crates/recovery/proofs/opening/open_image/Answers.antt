@@ -1,7 +1,10 @@
-use Rattle.std.proofs.Common.{◌∙◌, ap, sym, subst, arith, rules}
+use Rattle.std.proofs.Common.{refl, ◌∙◌, ap, sym, subst, arith, rules}
+use Rattle.std.specs.Prelude.{Err}
 use Rattle.image_device.proofs.Moments.{uses_and}
 use Rattle.image_layout.specs.Image.{Image, is_open}
-use Rattle.recovery.proofs.OpenRuns.{synced, read_still, opened_start, opened_sync, opened_head, opened_replay, replayed, loaded, opened_load, stood, opened_finish, opened_err, opened_device, is_device, quiet_uses, quiet_finish, quiet_paid, owed_start, owed_sync, owed_head, owed_replay, owed_load, owed_finish, right_head}
+use Rattle.recovery.proofs.OpenRuns.{synced, read_still, opened_start, opened_sync, opened_head, opened_replay, replayed, loaded, opened_load, stood, opened_finish, opened_err, opened_device, is_device, quiet_uses, quiet_finish, quiet_paid, unwritten, owed_start, owed_sync, owed_head, owed_replay, owed_load, owed_finish, right_head}
+use Rattle.recovery.proofs.SparedLaws.{by_image, by_other, by_replay, spared_head, spared_bad, spared_load}
+use Rattle.recovery.specs.declared.fault.OpenFault.TheVariants as fault
 use Rattle.volume_laws.proofs.StepOps.{either_same}
 use Rattle.recovery.specs.Opening.{HasHead}
 use Rattle.recovery.proofs.opening.open_image.Goals as goal
@@ -152,6 +155,19 @@ returns-clause-paid g c told quiet =
 pub returns-in_err-finish-clause-faults : goal.returns-in_err-finish-clause-faults
 returns-in_err-finish-clause-faults g c = (λ device. search rules, λ other. absurd (other (is_device c.from_residual-in_err-finish.result c.from_residual-in_err-finish.ensures.1)))
 
+pub returns-in_err-ring-clause-untouched : goal.returns-in_err-ring-clause-untouched
+returns-in_err-ring-clause-untouched g c told none = record { writes = refl; reads = refl }
+
+pub returns-in_err-sync-clause-untouched : goal.returns-in_err-sync-clause-untouched
+returns-in_err-sync-clause-untouched g c told none =
+    record { writes = unwritten _ _ c.sync.ensures.uses; reads = (c.sync.ensures.settles told).reads }
+
+pub returns-in_err-header-clause-untouched : goal.returns-in_err-header-clause-untouched
+returns-in_err-header-clause-untouched g c told none = record {
+  writes = unwritten _ _ (uses_and 0 0 0 _ _ _ (omega arith) c.sync.ensures.uses c.read_head.ensures.uses);
+  reads = (c.read_head.ensures.rests told).reads ∙ (c.sync.ensures.settles told).reads;
+}
+
 pub returns-in_err-replay-clause-untouched : goal.returns-in_err-replay-clause-untouched
 returns-in_err-replay-clause-untouched g c told none =
     absurd (none c.in_ok-header.header (subst (λ (r : Image). HasHead r c.in_ok-header.header) (c.sync.ensures.settles told).reads (c.in_ok-header.ensures.head told)))
@@ -167,3 +183,31 @@ returns-in_err-finish-clause-untouched g c told none =
 pub returns-clause-untouched : goal.returns-clause-untouched
 returns-clause-untouched g c told none =
     absurd (none c.in_ok-header.header (subst (λ (r : Image). HasHead r c.in_ok-header.header) (c.sync.ensures.settles told).reads (c.in_ok-header.ensures.head told)))
+
+pub returns-in_err-ring-clause-spared : goal.returns-in_err-ring-clause-spared
+returns-in_err-ring-clause-spared g c told = by_other c.from_residual.result fault.NoMemory _ c.from_residual.ensures.1 (λ h. h)
+
+pub returns-in_err-sync-clause-spared : goal.returns-in_err-sync-clause-spared
+returns-in_err-sync-clause-spared g c told = by_other c.from_residual-in_err-sync.result fault.Device _ c.from_residual-in_err-sync.ensures.1 (λ h. h)
+
+pub returns-in_err-header-clause-spared : goal.returns-in_err-header-clause-spared
+returns-in_err-header-clause-spared g c told =
+    by_image c.from_residual-in_err-header.result _
+    (spared_head _ _ _ (g.met.D.Device.sound c.args.dev.now told) (c.in_ok-sync.ensures.firm told) (c.sync.ensures.settles told) (c.read_head.ensures.rests told) (uses_and 0 0 0 _ _ _ (omega arith) c.sync.ensures.uses c.read_head.ensures.uses))
+
+pub returns-in_err-replay-clause-spared : goal.returns-in_err-replay-clause-spared
+returns-in_err-replay-clause-spared g c told =
+    by_replay c.from_residual-in_err-replay.result _ _ c.from_residual-in_err-replay.ensures.1
+    (λ bad. let rests = (c.in_err-replay.ensures.bad told (λ i. Err (bad i))).1 in
+    spared_bad _ _ _ _ (g.met.D.Device.sound c.args.dev.now told) (c.in_ok-sync.ensures.firm told) (c.sync.ensures.settles told) (c.read_head.ensures.rests told) rests
+    (uses_and 0 0 0 _ _ _ (omega arith) (uses_and 0 0 0 _ _ _ (omega arith) c.sync.ensures.uses c.read_head.ensures.uses) (c.in_err-replay.ensures.unwritten (λ i. Err (bad i)))))
+
+pub returns-in_err-volume-clause-spared : goal.returns-in_err-volume-clause-spared
+returns-in_err-volume-clause-spared g c told =
+    by_image c.from_residual-in_err-volume.result _
+    (spared_load _ _ _ _ _ (g.met.D.Device.sound c.args.dev.now told) (c.in_ok-sync.ensures.firm told) (c.sync.ensures.settles told) (c.read_head.ensures.rests told) (c.replay.ensures.any_moment told)
+    (c.in_ok-replay.ensures.at told) (c.in_ok-replay.ensures.done told) (c.in_ok-replay.ensures.valid told) (c.in_ok-replay.ensures.firm told) (c.load.ensures.rests told)
+    (uses_and 0 0 0 _ _ _ (omega arith) c.sync.ensures.uses c.read_head.ensures.uses) (c.replay.ensures.needed told) c.load.ensures.uses)
+
+pub returns-in_err-finish-clause-spared : goal.returns-in_err-finish-clause-spared
+returns-in_err-finish-clause-spared g c told = by_other c.from_residual-in_err-finish.result fault.Device _ c.from_residual-in_err-finish.ensures.1 (λ h. h)
