@@ -3,7 +3,7 @@ use Rattle.std.specs.Global.{Box, Vec}
 use Rattle.std.proofs.Common.{◌≡◌, ◌≢◌, inl, inr, ⊎_elim, ℕ, ◌≤◌, true, false, cond, ◌==◌, ◌||◌, List, [], ◌∷◌, ◌++◌, refl, sym, ◌∙◌, ap, subst, arith, length-append}
 use Rattle.std.proofs.lemmas.Bool.Decides.{nat_tests}
 use Rattle.std.proofs.lemmas.List.{append-nil}
-use Rattle.image_device.specs.Counts.{Rose}
+use Rattle.image_device.specs.Counts.{raised}
 use Rattle.image_device.specs.History.{firmed}
 use Rattle.image_device.specs.Image.{put_at}
 use Rattle.image_device.proofs.Sets.{or_false_right}
@@ -168,9 +168,9 @@ module _ (es : List Entry) (p : ℕ) where
     time = elapses_push es p p (Sync Second) (IsItemNow (history_view es p)) (λ i now. now) is_now;
   }
 
-  rose_at : (side : Side) → Rose (side_of side (history_view es p)).syncs (side_of side (history_view (es ++ Sync side ∷ []) p)).syncs
-  rose_at First = omega (arith, ap (λ z. z.first.syncs) (after_push es begun (Sync First)))
-  rose_at Second = omega (arith, ap (λ z. z.second.syncs) (after_push es begun (Sync Second)))
+  counted_at : (side : Side) → (side_of side (history_view (es ++ Sync side ∷ []) p)).syncs ≡ raised (side_of side (history_view es p)).syncs
+  counted_at First = ap (λ z. z.first.syncs) (after_push es begun (Sync First))
+  counted_at Second = ap (λ z. z.second.syncs) (after_push es begun (Sync Second))
 
   syncs_at : (side : Side) → SideSyncs side (history_view es p) (history_view (es ++ Sync side ∷ []) p)
   syncs_at First = let e = after_push es begun (Sync First) in record {
@@ -207,8 +207,8 @@ module _ (es : List Entry) (p : ℕ) where
     pub sync_uses : SideSyncs side (history_view es p) (history_view new p')
     sync_uses = synced_to (λ v. SideSyncs side (history_view es p) v) (syncs_at side)
 
-    pub sync_rose : Rose (side_of side (history_view es p)).syncs (side_of side (history_view new p')).syncs
-    sync_rose = synced_to (λ v. Rose (side_of side (history_view es p)).syncs (side_of side v).syncs) (rose_at side)
+    pub sync_counts : (side_of side (history_view new p')).syncs ≡ raised (side_of side (history_view es p)).syncs
+    sync_counts = synced_to (λ v. (side_of side v).syncs ≡ raised (side_of side (history_view es p)).syncs) (counted_at side)
 
     pub sync_fine : (side_of side (history_view new p')).faults ≡ (side_of side (history_view es p)).faults
     sync_fine = synced_to (λ v. (side_of side v).faults ≡ (side_of side (history_view es p)).faults) (sync_fine_at side)

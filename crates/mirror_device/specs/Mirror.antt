@@ -3,7 +3,8 @@
 -- A side is sound in an item where it has failed no call since the mirror began and, the second one, where the copying was done.
 -- A side that is left never serves stale bytes: a side that failed once is never read again, so each write that is read was made
 -- on every side that counts.
-use Rattle.std.specs.Prelude.{ℕ, ◌-◌, ◌^◌, ◌<◌, ◌≤◌, ◌≡◌, ◌≢◌, ◌⊎◌, ◌||◌, Bool, List}
+use Rattle.std.specs.Prelude.{ℕ, ◌-◌, ◌^◌, ◌<◌, ◌≤◌, ◌≡◌, ◌≢◌, ◌⊎◌, ◌||◌, Bool, List, Result, OnErr}
+use Rattle.image_device.specs.Counts.{Rose}
 use Rattle.image_device.specs.Image.{Image}
 use Rattle.image_device.specs.View.{View}
 use Rattle.mirror_device.specs.declared.side.Side.{Side}
@@ -88,6 +89,7 @@ pub record CountsAgree (v : SidesView) (s : Start) (c : Serving) : Type 0 where
   pub second_later : s.second_faults ≤ v.second.faults
   pub first_fits : s.first_faults < 2 ^ 64 - 1
   pub second_fits : c ≢ First → s.second_faults < 2 ^ 64 - 1
+  pub syncs_fit : c ≢ First → s.second_syncs < 2 ^ 64 - 1
   -- the copying was done
   pub copied : c ≢ First → s.second_syncs < v.second.syncs
   -- both count: neither has failed a call
@@ -96,6 +98,8 @@ pub record CountsAgree (v : SidesView) (s : Start) (c : Serving) : Type 0 where
   -- one is left: the other isn't sound now
   pub second_out : c ≡ First → IsSecondOut s v.second
   pub first_out : c ≡ Second → s.first_faults < v.first.faults
+  -- the second one alone isn't lost but by a call of it that failed, where its counts could rise
+  pub second_failed : c ≡ First → s.second_faults < 2 ^ 64 - 1 → s.second_syncs < 2 ^ 64 - 1 → s.second_faults < v.second.faults
 
 -- sides that both count read alike, and the same sectors are loose
 pub record AreAlike (v : SidesView) (c : Serving) : Type 0 where
@@ -111,6 +115,28 @@ pub record NoneIsSound (v : SidesView) (s : Start) : Type 0 where
 pub record LeftIsSound (v : SidesView) (s : Start) (c : Serving) : Type 0 where
   pub first : c ≡ First → v.first.faults ≤ s.first_faults
   pub second : c ≡ Second → v.second.faults ≤ s.second_faults
+
+-- both counts of a side stay
+pub record StayCounts (old new : SideView) : Type 0 where
+  pub faults : new.faults ≡ old.faults
+  pub syncs : new.syncs ≡ old.syncs
+
+-- a call failed on the side that is left
+abbrev pub LeftFailed : Serving → SidesView → SidesView → Type 0
+LeftFailed Both old new = ⊥
+LeftFailed First old new = Rose old.first.faults new.first.faults
+LeftFailed Second old new = Rose old.second.faults new.second.faults
+
+-- One call of a mirror, which sides counted before it and count after it.
+pub record OneCall {T E : Type 0} (result : Result T E) (c c' : Serving) (old new : SidesView) : Type 0 where
+  -- no call is made on a side that is lost, and it stays lost
+  pub first_lost : c ≡ Second → StayCounts old.first new.first × (c' ≡ Second)
+  pub second_lost : c ≡ First → StayCounts old.second new.second × (c' ≡ First)
+  -- a side is lost by a call of it that failed in this one
+  pub first_failed : c ≢ Second → c' ≡ Second → Rose old.first.faults new.first.faults
+  pub second_failed : c ≢ First → c' ≡ First → Rose old.second.faults new.second.faults
+  -- it fails only where the side that is left failed in this call
+  pub failed : OnErr result (LeftFailed c' old new)
 
 -- a side is lost: a call on it failed while the other one was left
 abbrev pub IsSideLost : Side → Serving → Type 0

@@ -138,7 +138,7 @@ impl MemSides {
 impl Sides for MemSides {
     ghost use Rattle.std.specs.Prelude.{◌<◌, ◌≤◌, ◌^◌, ◌++◌, ℕ, true, false, length, take, IfOk};
     ghost use Rattle.std.specs.Prelude.{IsOk, OnOk, OnErr};
-    ghost use Rattle.image_device.specs.Counts.{Rose, CountsFault};
+    ghost use Rattle.image_device.specs.Counts.{raised, CountsFault};
     ghost use Rattle.image_device.specs.Image.{zeros};
     ghost use Rattle.mirror_device.specs.SidesView.{other, side_of};
     ghost use Rattle.mirror_device.specs.SideCalls.{IncludesPut, IsSideFirm, SideRests, SideSettles, SideSyncs};
@@ -203,8 +203,8 @@ impl Sides for MemSides {
             ≡ (side_of side (mem_view self.old)).loose) }
         ensures settles { SideSettles side (mem_view self.old) (mem_view self.new) }
         ensures uses { SideSyncs side (mem_view self.old) (mem_view self.new) }
-        ensures synced { OnOk result (Rose (side_of side (mem_view self.old)).syncs
-            (side_of side (mem_view self.new)).syncs) }
+        ensures synced { OnOk result ((side_of side (mem_view self.new)).syncs
+            ≡ raised (side_of side (mem_view self.old)).syncs) }
         ensures not_synced { OnErr result ((side_of side (mem_view self.new)).syncs
             ≡ (side_of side (mem_view self.old)).syncs) }
         ensures faults { CountsFault result (side_of side (mem_view self.old)).faults

@@ -28,10 +28,9 @@ pub struct Mirror<P: Sides, K: Began> {
 impl<P: Sides, K: Began> Mirror<P, K> {
     ghost use Rattle.mirror_device.specs.Mirror.{start_at, AreAlike, IsSideLost, LeftIsSound, NoneIsSound, CountsAgree};
     ghost use Rattle.mirror_device.specs.Sending.{SendsLate};
-    ghost use Rattle.mirror_device.specs.Copying.{CopyCounts, Copying, IsLeftOfFirst};
+    ghost use Rattle.mirror_device.specs.Copying.{CopyCounts, Copying, IsBrokenOff, IsLeftOfFirst};
     ghost use Rattle.image_device.specs.Image.{Image};
     ghost use Rattle.image_device.specs.Runs.{IsFirm};
-    ghost use Rattle.image_device.specs.Counts.{Rose};
     ghost use Rattle.std.specs.Prelude.{◌≤◌, ◌↔◌, ℕ, List, IsTrue, IfOk, IfErr};
 
     /// Copies the first side to the second, and serves both as one. A fault of the second side before
@@ -56,10 +55,11 @@ impl<P: Sides, K: Began> Mirror<P, K> {
         ensures put_faults { IfOk result (λ m. (⟦<Mirror<P, K> as Device>⟧.view m).put_faults
             ≡ (P.view sides).put_faults) }
 
-        // Where it gives the sides back, the first one is as it was and nothing was sent.
+        // Where it gives the sides back, the first one failed and is as it was, no sync of the second one was answered
+        // Ok, and nothing was sent.
         ensures given_back { P.told → IfErr result (λ rest. Copying (P.view sides) (P.view rest)) }
         ensures counts { IfErr result (λ rest. CopyCounts (P.view sides) (P.view rest)) }
-        ensures cause { IfErr result (λ rest. Rose (P.view sides).first.faults (P.view rest).first.faults) }
+        ensures cause { IfErr result (λ rest. IsBrokenOff (P.view sides) (P.view rest)) }
     {
         let mut sides = sides;
         let first = sides.seen(Side::First);
@@ -134,7 +134,11 @@ impl<P: Sides, K: Began> Mirror<P, K> {
 }
 
 impl<P: Sides, K: Began> Device for Mirror<P, K> {
-    ghost use Rattle.mirror_device.specs.Mirror.{mirror_view};
+    ghost use Rattle.std.specs.Prelude.{true, OnErr, OnOk};
+    ghost use Rattle.image_device.specs.Calls.{Rests, Settles, Touches, Uses};
+    ghost use Rattle.image_device.specs.Counts.{CountsFault};
+    ghost use Rattle.image_device.specs.Runs.{IsFirm};
+    ghost use Rattle.mirror_device.specs.Mirror.{mirror_view, OneCall};
     ghost use Rattle.mirror_device.specs.MirrorLaws.{mirror_sound};
 
     ghost told = { P.told };
@@ -145,7 +149,15 @@ impl<P: Sides, K: Began> Device for Mirror<P, K> {
         mirror_sound (P.view m.sides.sides) K.start m.serving m.faults m.writes
         (P.sound m.sides.sides told) m.stands (m.alike told) };
 
-    fn read(&mut self, sector: u32, into: &mut [u8; 512]) -> Result<(), Failed> {
+    fn read(&mut self, sector: u32, into: &mut [u8; 512]) -> Result<(), Failed>
+        ensures bytes { P.told → OnOk result (into.new ≡ (⟦<Mirror<P, K> as Device>⟧.view self.old).reads sector) }
+        ensures kept { OnErr result (into.new ≡ into.old) }
+        ensures rests { P.told → Rests (⟦<Mirror<P, K> as Device>⟧.view self.old) (⟦<Mirror<P, K> as Device>⟧.view self.new) }
+        ensures uses { Uses 0 (⟦<Mirror<P, K> as Device>⟧.view self.old) (⟦<Mirror<P, K> as Device>⟧.view self.new) }
+        ensures faults { CountsFault result (⟦<Mirror<P, K> as Device>⟧.view self.old).faults (⟦<Mirror<P, K> as Device>⟧.view self.new).faults }
+        ensures one_call { OneCall result self.old.serving self.new.serving (P.view self.old.sides.sides)
+            (P.view self.new.sides.sides) }
+    {
         match self.serving {
             Serving::Both => {
                 if self.sides.read(Side::First, sector, into).is_ok() {
@@ -175,7 +187,15 @@ impl<P: Sides, K: Began> Device for Mirror<P, K> {
         }
     }
 
-    fn write(&mut self, sector: u32, from: &[u8; 512]) -> Result<(), Failed> {
+    fn write(&mut self, sector: u32, from: &[u8; 512]) -> Result<(), Failed>
+        ensures written { P.told → OnOk result ((⟦<Mirror<P, K> as Device>⟧.view self.new).reads sector ≡ from.now) }
+        ensures loose { P.told → OnOk result ((⟦<Mirror<P, K> as Device>⟧.view self.new).loose sector ≡ true) }
+        ensures touches { P.told → Touches sector (⟦<Mirror<P, K> as Device>⟧.view self.old) (⟦<Mirror<P, K> as Device>⟧.view self.new) }
+        ensures uses { Uses 1 (⟦<Mirror<P, K> as Device>⟧.view self.old) (⟦<Mirror<P, K> as Device>⟧.view self.new) }
+        ensures faults { CountsFault result (⟦<Mirror<P, K> as Device>⟧.view self.old).faults (⟦<Mirror<P, K> as Device>⟧.view self.new).faults }
+        ensures one_call { OneCall result self.old.serving self.new.serving (P.view self.old.sides.sides)
+            (P.view self.new.sides.sides) }
+    {
         self.writes = self.writes.saturating_add(1);
         match self.serving {
             Serving::Both => {
@@ -209,7 +229,15 @@ impl<P: Sides, K: Began> Device for Mirror<P, K> {
         }
     }
 
-    fn sync(&mut self) -> Result<(), Failed> {
+    fn sync(&mut self) -> Result<(), Failed>
+        ensures firm { P.told → OnOk result (IsFirm (⟦<Mirror<P, K> as Device>⟧.view self.new)) }
+        ensures loose { P.told → OnErr result ((⟦<Mirror<P, K> as Device>⟧.view self.new).loose ≡ (⟦<Mirror<P, K> as Device>⟧.view self.old).loose) }
+        ensures settles { P.told → Settles (⟦<Mirror<P, K> as Device>⟧.view self.old) (⟦<Mirror<P, K> as Device>⟧.view self.new) }
+        ensures uses { Uses 0 (⟦<Mirror<P, K> as Device>⟧.view self.old) (⟦<Mirror<P, K> as Device>⟧.view self.new) }
+        ensures faults { CountsFault result (⟦<Mirror<P, K> as Device>⟧.view self.old).faults (⟦<Mirror<P, K> as Device>⟧.view self.new).faults }
+        ensures one_call { OneCall result self.old.serving self.new.serving (P.view self.old.sides.sides)
+            (P.view self.new.sides.sides) }
+    {
         match self.serving {
             Serving::Both => {
                 if self.sides.sync(Side::First).is_err() {

@@ -1,7 +1,7 @@
 // What two images under one clock mean.
 ghost use Rattle.std.specs.Prelude.{◌≡◌, ◌<◌, ◌≤◌, ◌+◌, ◌^◌, ◌++◌, ℕ, true, length, take};
 ghost use Rattle.std.specs.Prelude.{OnOk, OnErr, IfOk};
-ghost use Rattle.image_device.specs.Counts.{Rose, CountsFault};
+ghost use Rattle.image_device.specs.Counts.{raised, CountsFault};
 ghost use Rattle.image_device.specs.Image.{zeros};
 ghost use Rattle.mirror_device.specs.SidesView.{side_of, AreSound, SidesView};
 ghost use Rattle.mirror_device.specs.SideCalls.{IncludesPut, IsSideFirm, SideRests, SideSettles, SideSyncs};
@@ -39,15 +39,16 @@ pub trait Sides {
         ensures faults { CountsFault result (side_of side (view self.old)).faults
             (side_of side (view self.new)).faults };
 
-    /// Waits until all that was written on a side is on its disk. Its `syncs` rise exactly where
-    /// this answers Ok. `Failed` comes only where the side's `faults` rose.
+    /// Waits until all that was written on a side is on its disk. Its `syncs` rise by one, and exactly
+    /// where this answers Ok. `Failed` comes only where the side's `faults` rose.
     fn sync(&mut self, side: Side) -> Result<(), Failed>
         ensures firm { told → OnOk result (IsSideFirm side (view self.new)) }
         ensures loose { told → OnErr result ((side_of side (view self.new)).loose
             ≡ (side_of side (view self.old)).loose) }
         ensures settles { told → SideSettles side (view self.old) (view self.new) }
         ensures uses { SideSyncs side (view self.old) (view self.new) }
-        ensures synced { OnOk result (Rose (side_of side (view self.old)).syncs (side_of side (view self.new)).syncs) }
+        ensures synced { OnOk result ((side_of side (view self.new)).syncs
+            ≡ raised (side_of side (view self.old)).syncs) }
         ensures not_synced { OnErr result ((side_of side (view self.new)).syncs
             ≡ (side_of side (view self.old)).syncs) }
         ensures faults { CountsFault result (side_of side (view self.old)).faults

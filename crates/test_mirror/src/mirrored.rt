@@ -77,19 +77,20 @@ fn left_on(sides: MemSides, side: Side, pick: Pick) -> (u8, u8, u8) {
     )
 }
 
-// A mirror begins with a sync, two ends, five reads and five writes in turn, and a sync, which are calls 0 to 13. Then
-// two writes are 14 and 15, two syncs 16 and 17, three reads 18 to 20, and a put 21.
+// A mirror begins with a sync and two ends, which are calls 0 to 2, and reads five sectors of both in turn. It writes the
+// two that differ, in calls 11 and 14, and ends with the sync 15. Then two writes are 16 and 17, two syncs 18 and 19, three
+// reads 20 to 22, and a put 23.
 #[test]
 fn each_call_fails_in_turn(rt: HostRuntime) -> Result<(), Fail> {
     let alloc = rt.alloc();
-    for number in 0..23 {
+    for number in 0..25 {
         let (got, _) = run_differing(alloc, [number].to_vec(alloc)?)?;
-        let never_begins = matches!(number, 0 | 1 | 3 | 5 | 7 | 9 | 11);
+        let never_begins = matches!(number, 0 | 1 | 3 | 5 | 7 | 9 | 12);
         let wanted = Run {
-            done: number != 21,
+            done: number != 23,
             reads: (7, 0, 1),
-            lost_first: matches!(number, 14 | 16 | 18 | 19 | 20),
-            lost_second: matches!(number, 2 | 4 | 6 | 8 | 10 | 12 | 13 | 15 | 17),
+            lost_first: matches!(number, 16 | 18 | 20 | 21 | 22),
+            lost_second: matches!(number, 2 | 4 | 6 | 8 | 10 | 11 | 13 | 14 | 15 | 17 | 19),
         };
         assert_eq!(rt;
             got,
@@ -104,7 +105,7 @@ fn each_call_fails_in_turn(rt: HostRuntime) -> Result<(), Fail> {
 #[test]
 fn sides_that_count_hold_what_was_synced(rt: HostRuntime) -> Result<(), Fail> {
     let alloc = rt.alloc();
-    for number in 12..23 {
+    for number in 14..25 {
         for pick in [Pick::Old, Pick::New, Pick::Torn(9)] {
             for side in [Side::First, Side::Second] {
                 let (got, sides) = run_differing(alloc, [number].to_vec(alloc)?)?;
@@ -129,14 +130,15 @@ fn a_lost_side_holds_what_it_held(rt: HostRuntime) -> Result<(), Fail> {
     let alloc = rt.alloc();
     for (number, side, pick, wanted) in [
         (2, Side::Second, Pick::New, (0, 9, 0)),
-        (12, Side::Second, Pick::New, (7, 9, 0)),
-        (12, Side::Second, Pick::Old, (0, 9, 0)),
-        (13, Side::Second, Pick::New, (7, 0, 0)),
-        (14, Side::First, Pick::New, (7, 0, 0)),
+        (11, Side::Second, Pick::New, (0, 9, 0)),
+        (14, Side::Second, Pick::New, (7, 9, 0)),
+        (14, Side::Second, Pick::Old, (0, 9, 0)),
         (15, Side::Second, Pick::New, (7, 0, 0)),
-        (16, Side::First, Pick::Old, (7, 0, 0)),
-        (16, Side::First, Pick::Torn(9), (7, 0, 9)),
-        (17, Side::Second, Pick::New, (7, 0, 1)),
+        (16, Side::First, Pick::New, (7, 0, 0)),
+        (17, Side::Second, Pick::New, (7, 0, 0)),
+        (18, Side::First, Pick::Old, (7, 0, 0)),
+        (18, Side::First, Pick::Torn(9), (7, 0, 9)),
+        (19, Side::Second, Pick::New, (7, 0, 1)),
     ] {
         let (_, sides) = run_differing(alloc, [number].to_vec(alloc)?)?;
         assert_eq!(rt; left_on(sides, side, pick), wanted, "at {number}");
@@ -149,11 +151,11 @@ fn a_lost_side_holds_what_it_held(rt: HostRuntime) -> Result<(), Fail> {
 fn the_side_that_is_left_is_never_lost(rt: HostRuntime) -> Result<(), Fail> {
     let alloc = rt.alloc();
     for (fail, done, reads, lost_first) in [
-        ([14, 15], false, (7, 0, 0), true),
-        ([14, 16], false, (7, 0, 1), true),
-        ([15, 16], false, (7, 0, 1), false),
-        ([14, 17], true, (255, 0, 1), true),
-        ([15, 17], true, (255, 0, 1), false),
+        ([16, 17], false, (7, 0, 0), true),
+        ([16, 18], false, (7, 0, 1), true),
+        ([17, 18], false, (7, 0, 1), false),
+        ([16, 19], true, (255, 0, 1), true),
+        ([17, 19], true, (255, 0, 1), false),
     ] {
         let (got, _) = run_differing(alloc, fail.to_vec(alloc)?)?;
         let wanted = Run {

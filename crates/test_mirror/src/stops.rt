@@ -30,19 +30,19 @@ fn left_on(sides: MemSides, side: Side, pick: Pick) -> Result<(u8, u8, u8), Fail
     Ok((three, four, bytes[0]))
 }
 
-// The mirror begins with 14 calls; the program writes twice, syncs twice and puts. A failed call changes no side, so
+// The mirror begins with 16 calls; the program writes twice, syncs twice and puts. A failed call changes no side, so
 // each side holds what a stop just before it left. The second one counts once it was synced.
 #[test]
 fn a_stop_at_each_call_leaves_what_was_promised(rt: HostRuntime) -> Result<(), Fail> {
     let alloc = rt.alloc();
-    for number in 0..20 {
+    for number in 0..22 {
         for pick in [Pick::Old, Pick::New, Pick::Torn(9)] {
             for side in [Side::First, Side::Second] {
                 let sides = stopped(alloc, number)?;
                 let said = sides.sent() == b"ok\n".as_slice();
-                assert_eq!(rt; said, number >= 19, "at {number}");
+                assert_eq!(rt; said, number >= 21, "at {number}");
                 if side == Side::Second && sides.seen(Side::Second).syncs == 0 {
-                    assert!(rt; number < 14, "at {number}");
+                    assert!(rt; number < 16, "at {number}");
                     continue;
                 }
                 let (three, four, five) = left_on(sides, side, pick)?;

@@ -1,6 +1,6 @@
 use Rattle.image_device.proofs.Outcomes.{unless_err}
 use Rattle.mirror_device.specs.Twins.{entries_of}
-use Rattle.mirror_device.proofs.Calls.{firm, settles, sync_fine, sync_rose, sync_uses}
+use Rattle.mirror_device.proofs.Calls.{firm, settles, sync_counts, sync_fine, sync_uses}
 use Rattle.mirror_device.proofs.mem_sides.MemSidesSides.sync.Goals as goal
 
 pub returns-clause-firm : goal.returns-clause-firm
@@ -25,7 +25,7 @@ pub returns-clause-synced : goal.returns-clause-synced
 returns-clause-synced c =
     let m = c.args.self.now.twins in
     let kept = unless_err c.sync.result c.is_err.result c.if-is_err.false c.is_err.ensures.value c.sync.ensures.kept in
-    sync_rose (entries_of m) m.put_faults c.args.side _ _ kept c.sync.ensures.put_faults
+    sync_counts (entries_of m) m.put_faults c.args.side _ _ kept c.sync.ensures.put_faults
 
 pub returns-clause-faults : goal.returns-clause-faults
 returns-clause-faults c =
