@@ -1,0 +1,18 @@
+use Rattle.std.proofs.Common.{◌≡◌, sym, ◌∙◌, ap, ℕ, List, Option, Some, None}
+use Rattle.std.specs.Prelude.{IfSome}
+use Rattle.script_text.specs.Pieces.{pieces}
+use Rattle.image_audit.specs.declared.listing.Listing.{Listing}
+use Rattle.image_audit.specs.Listing.{IsListing}
+use Rattle.image_audit.specs.ListingReading.{listing_in}
+use Rattle.image_audit.proofs.ListingLaws.{line_is, line_back}
+use Rattle.image_audit.proofs.listing.parse_listing.Goals as goal
+
+if_read : (line : List ℕ) (o : Option Listing) → o ≡ listing_in (pieces 32 line) → IfSome o (IsListing line)
+if_read line None h = tt
+if_read line (Some l) h = line_is line l (sym h)
+
+pub returns-clause-spelled : goal.returns-clause-spelled
+returns-clause-spelled c = if_read c.args.line.now c.read_listing.result (c.read_listing.ensures ∙ ap listing_in c.of.ensures)
+
+pub returns-clause-only : goal.returns-clause-only
+returns-clause-only c l h = c.read_listing.ensures ∙ (ap listing_in c.of.ensures ∙ line_back c.args.line.now l h)

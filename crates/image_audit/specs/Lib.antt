@@ -1,0 +1,9 @@
+pub mod Entries
+pub mod Depths
+pub mod Certificates
+pub mod Searching
+pub mod Paging
+pub mod Listing
+pub mod ListingReading
+pub mod Texts
+pub mod Laws

@@ -1,0 +1,43 @@
+//! A line of a certificate.
+
+ghost use Rattle.std.specs.Prelude.{◌≡◌, IfSome, Some};
+ghost use Rattle.image_audit.specs.Listing.{IsListing};
+ghost use Rattle.image_audit.specs.ListingReading.{listing_in};
+
+use crate::entry::Entry;
+use crate::words::Words;
+
+/// What a line of a certificate says: a block, and its entry.
+#[derive(Clone, Copy, Debug, PartialEq, Eq)]
+pub struct Listing {
+    pub block: u32,
+    pub entry: Entry,
+}
+
+/// What a line says, None exactly where it isn't of the form. It comes without its line feed.
+pub fn parse_listing(line: &[u8]) -> Option<Listing>
+    ensures spelled { IfSome result (IsListing line.now) }
+    ensures only { (l : Listing) → IsListing line.now l → result ≡ Some l }
+{
+    read_listing(Words::of(line))
+}
+
+/// What the words say.
+#[tactic(auto, unfolding(crate::specs::ListingReading::listing_in))]
+fn read_listing(mut words: Words) -> Option<Listing>
+    ensures { result ≡ listing_in words.entry }
+{
+    words.name(b"block".as_slice())?;
+    let block = words.number()?;
+    words.name(b"depth".as_slice())?;
+    let depth = words.number()?;
+    words.name(b"parent".as_slice())?;
+    let parent = words.parent()?;
+    if !words.is_empty() {
+        return None;
+    }
+    Some(Listing {
+        block,
+        entry: Entry { depth, parent },
+    })
+}
