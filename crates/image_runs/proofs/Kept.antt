@@ -62,5 +62,7 @@ ran_here r v p s kind state limit source due port ran = record {
     any_moment = (ran.ends told).any_moment;
     most = (ran.ends told).most;
     debt = (ran.ends told).debt;
+    seen = (ran.ends told).seen;
+    all_seen = (ran.ends told).all_seen;
   };
 }

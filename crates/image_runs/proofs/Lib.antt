@@ -2,7 +2,7 @@ pub mod StepForm
 pub mod Serving
 pub mod Kept
 pub mod RunCosts
-mod Opened
+pub mod Opened
 mod Started
 mod FreshRuns
 mod Saying

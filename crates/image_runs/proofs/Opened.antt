@@ -1,20 +1,28 @@
 -- Why an image wasn't opened, as a status, and the state of a disk that was.
-use Rattle.std.proofs.Common.{◌≡◌, ◌∙◌, ap, refl}
-use Rattle.std.specs.Prelude.{Result, Err}
+use Rattle.std.proofs.Common.{◌≡◌, ◌∙◌, ap, sym, subst, refl, arith}
+use Rattle.std.specs.Prelude.{ℕ, List, Result, Ok, Err, IfErr}
 use Rattle.tsd_model.specs.World.{World}
 use Rattle.tsd_model.specs.Sessions.{Sessions, no_sessions, fitted}
 use Rattle.tsd_model.specs.Step.{State}
 use Rattle.tsd_model.specs.Run.{at_rest}
 use Rattle.image_layout.specs.Areas.{sweep_flag}
 use Rattle.image_layout.specs.Image.{Image, is_open}
+use Rattle.image_device.specs.View.{View, IsSound}
+use Rattle.image_device.specs.Runs.{PutsAll}
+use Rattle.intent_journal.specs.Home.{home}
+use Rattle.image_world.specs.Faults.{IsGood}
 use Rattle.image_world.specs.Stands.{world_of}
-use Rattle.image_world.specs.Tables.{tables_of}
-use Rattle.recovery.specs.Opening.{IsOpening}
+use Rattle.image_world.specs.Tables.{header_on, tables_of}
+use Rattle.intent_journal.specs.Crash.{IsTheSame}
+use Rattle.recovery.specs.Opening.{IsForeign, IsImageFault, IsOpening, IsSpared, IsUntouched}
 use Rattle.recovery.specs.declared.fault.OpenFault.{OpenFault}
 use Rattle.recovery.specs.declared.fault.OpenFault.TheVariants as opening
+use Rattle.tsd_words.specs.declared.status.Status.{Status}
 use Rattle.tsd_words.specs.declared.status.Status.TheVariants as status
 use Rattle.tsd_core.specs.Core.{Core, state_on, told_world}
-use Rattle.image_runs.specs.Opened.{IsJudged, IsUnopened, status_of}
+use Rattle.image_runs.specs.Opened.{IsJudged, IsNotImage, IsUnopened, status_of}
+use Rattle.image_runs.specs.Sending.{IsStopped}
+use Rattle.image_runs.proofs.Saying.{put_behind}
 
 -- the flag of a sweep, in the tables and on the image
 pub flag_of : (x : Image) → (tables_of x).is_sweeping ≡ is_open (x sweep_flag)
@@ -48,3 +56,47 @@ pub device_only : {T : Type 0} (why : OpenFault) → ◌≡◌ {A = Result T Ope
 device_only (opening.Image reason) e = absurd (cc)
 device_only opening.Device e = refl
 device_only opening.NoMemory e = absurd (cc)
+
+-- ---- what isn't a disk of this format
+
+-- an image that stands for a world passes all tests
+pub not_foreign : (image : Image) → IsGood image → ¬ IsForeign image
+not_foreign image good foreign = foreign (header_on (home image)) (record { formatted = good.formatted; journal = good.journal; header = good.header })
+
+-- a text that is put writes nothing
+pub untouched_put : {T E : Type 0} (told : Type 0) (text : List ℕ) (old mid new : View) (result : Result T E) → told → PutsAll told text mid new result → IsUntouched old mid → IsUntouched old new
+untouched_put told text old mid new result tells puts before = record { writes = puts.puts.writes ∙ before.writes; reads = puts.reads tells ∙ before.reads }
+
+-- ---- an image that stands for no world
+
+pub image_fault_of : (why : OpenFault) → IsNotImage (status_of why) → IsImageFault why
+image_fault_of (opening.Image reason) h = tt
+image_fault_of opening.Device h = h
+image_fault_of opening.NoMemory h = h
+
+-- what stops a run that has begun isn't its image
+pub not_stopped : (why : Status) → IsStopped why → IsNotImage why → ⊥
+not_stopped (status.NotImage reason) stops h = stops
+not_stopped status.Done stops h = h
+not_stopped status.Usage stops h = h
+not_stopped status.DeviceFault stops h = h
+not_stopped status.SourceFault stops h = h
+not_stopped status.PutFault stops h = h
+not_stopped status.TooLong stops h = h
+not_stopped status.NoMemory stops h = h
+not_stopped status.Truncated stops h = h
+not_stopped (status.RootDenied level) stops h = h
+
+pub spared_on : {T : Type 0} (P : Type 0) (result : Result T Status) → IfErr result IsStopped → IfErr result (λ why. IsNotImage why → P)
+spared_on P (Ok x) stops = tt
+spared_on P (Err why) stops = λ h. absurd (not_stopped why stops h)
+
+-- a text that is put spares what was spared
+pub spared_put : {T E : Type 0} (told : Type 0) (text : List ℕ) (old mid new : View) (result : Result T E) → told → IsSound mid → PutsAll told text mid new result → IsSpared old mid → IsSpared old new
+spared_put told text old mid new result tells sound puts before = record {
+  reads = subst (IsTheSame old.reads) (sym (puts.reads tells)) before.reads;
+  writes = omega (arith, before.writes, puts.puts.writes);
+  left = λ firm.
+      put_behind old mid new text (λ x f. IsTheSame old.reads x) (λ x f. IsTheSame old.reads x) sound (before.left firm) (puts.any_moment tells) (λ x f left. left)
+      (λ x f left part. left);
+}

@@ -30,7 +30,7 @@ use Rattle.serving.specs.Work.{used}
 use Rattle.tsd_core.specs.Core.{Core, state_on}
 use Rattle.image_world.specs.Debt.{debt}
 use Rattle.image_runs.specs.Server.{disk_work, placed_on}
-use Rattle.image_runs.specs.Opened.{IsUnopened, IsJudged}
+use Rattle.image_runs.specs.Opened.{IsUnopened, IsJudged, IsNotImage}
 use Rattle.image_runs.specs.Served.{disk_service, start_of, IsAtEase, IsOwed, RunEnds}
 
 -- a disk beside a placement
@@ -159,6 +159,19 @@ judged_by image (status.NotImage reason) p limit bytes ended qs h good = absurd 
 judged_by image status.NoMemory p limit bytes ended qs h good = absurd h
 judged_by image status.Usage p limit bytes ended qs h good = absurd h
 judged_by image (status.RootDenied level) p limit bytes ended qs h good = absurd h
+
+-- a run that was asked had an image
+pub asked_image : (r : Status) (p : Spelling Request) (limit : ℕ) (bytes : List ℕ) (ended : Type 0) (qs : List Request) → AskedBy r p limit bytes ended qs → IsNotImage r → ⊥
+asked_image (status.NotImage reason) p limit bytes ended qs asked h = asked
+asked_image status.Done p limit bytes ended qs asked h = h
+asked_image status.SourceFault p limit bytes ended qs asked h = h
+asked_image status.PutFault p limit bytes ended qs asked h = h
+asked_image status.TooLong p limit bytes ended qs asked h = h
+asked_image status.Truncated p limit bytes ended qs asked h = h
+asked_image status.DeviceFault p limit bytes ended qs asked h = h
+asked_image status.NoMemory p limit bytes ended qs asked h = h
+asked_image status.Usage p limit bytes ended qs asked h = h
+asked_image (status.RootDenied level) p limit bytes ended qs asked h = h
 
 -- of a status with which nothing was opened
 pub not_of_source : (r : Status) → IsUnopened r → r ≡ status.SourceFault → ⊥

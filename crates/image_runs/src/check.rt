@@ -3,10 +3,11 @@
 ghost use Rattle.std.specs.Prelude.{◌≡◌, ◌≢◌, IfOk, IfErr, OnOk};
 ghost use Rattle.image_device.specs.Counts.{CountsFaultOf, Rose};
 ghost use Rattle.image_device.specs.Runs.{IsFirm, LeavesOnly};
-ghost use Rattle.recovery.specs.Opening.{StandAlike};
+ghost use Rattle.recovery.specs.Opening.{IsForeign, IsSpared, IsUntouched, StandAlike};
 ghost use Rattle.volume_laws.specs.Volume.{IsVolumeReady, told_by};
 ghost use Rattle.volume_laws.specs.Writes.{Works};
 ghost use Rattle.tsd_words.specs.Lines.{clean_line};
+ghost use Rattle.image_runs.specs.Opened.{IsNotImage};
 ghost use Rattle.image_runs.specs.Sending.{IsEnding, IsStopped};
 ghost use Rattle.image_runs.specs.Check.{HasChecked, IsFinding, IsCheckFound, IsSaying};
 
@@ -25,6 +26,11 @@ use volume::Volume;
 pub fn check_image<P: Port>(alloc: Global, port: &mut P) -> Status
     ensures ending { IsEnding result }
     ensures said { P.told → HasChecked result (P.view port.old).reads (P.view port.old).sent (P.view port.new).sent }
+    // Where the image fails one of the tests that need no write, nothing is written, and the disk reads as before;
+    // where it fails another, nothing is lost that a repair could use.
+    ensures untouched { P.told → IsForeign (P.view port.old).reads
+        → IsUntouched (P.view port.old) (P.view port.new) }
+    ensures spared { P.told → IsNotImage result → IsSpared (P.view port.old) (P.view port.new) }
     // A crash at any moment leaves an image of the same world, or of none where the image stood for none.
     ensures any_moment { P.told → IsFirm (P.view port.old) → LeavesOnly (P.view port.old) (P.view port.new)
         (λ x f. StandAlike (P.view port.old).reads x × IsSaying (P.view port.old).reads (P.view port.old).sent f) }
@@ -50,6 +56,10 @@ fn judge<D: Device>(alloc: Global, dev: &mut D, line: &mut OutBuf) -> Result<Sta
     ensures failing { IfErr result IsStopped }
     ensures found { D.told → IfOk result (λ s. IsCheckFound (D.view dev.old).reads s line.new) }
     ensures sent { D.told → (D.view dev.new).sent ≡ (D.view dev.old).sent }
+    // Where the image fails one of the tests that need no write, nothing is written, and the disk reads as before;
+    // where it fails another, nothing is lost that a repair could use.
+    ensures untouched { D.told → IsForeign (D.view dev.old).reads → IsUntouched (D.view dev.old) (D.view dev.new) }
+    ensures spared { D.told → IfOk result (λ found. IsNotImage found → IsSpared (D.view dev.old) (D.view dev.new)) }
     ensures any_moment { D.told → IsFirm (D.view dev.old) → LeavesOnly (D.view dev.old) (D.view dev.new)
         (λ x f. StandAlike (D.view dev.old).reads x × (f ≡ (D.view dev.old).sent)) }
     ensures works { Works (D.view dev.old) (D.view dev.new) }

@@ -2,8 +2,9 @@
 
 ghost use Rattle.std.specs.Prelude.{◌≡◌, ◌≢◌, ◌≤◌, []};
 ghost use Rattle.image_device.specs.Counts.{Rose};
+ghost use Rattle.recovery.specs.Opening.{IsForeign, IsSpared, IsUntouched};
 ghost use Rattle.serving.specs.Ran.{moments, taking};
-ghost use Rattle.image_runs.specs.Opened.{IsJudged};
+ghost use Rattle.image_runs.specs.Opened.{IsJudged, IsNotImage};
 ghost use Rattle.image_runs.specs.Served.{ImageRan};
 
 use crate::opening::open_core;
@@ -37,6 +38,11 @@ pub fn serve_image<S: Source, P: Port, R: Protocol<Request = Request> + Replies>
     // Done.
     ensures ran { ImageRan result R.voice R.spelling place.now.kind limit
         (taking S.told S.taken S.left_bytes S.ended source.old source.new) (moments P.told P.view port.old port.new) }
+    // Where the image fails one of the tests that need no write, nothing is written, and the disk reads as before;
+    // where it fails another, nothing is lost that a repair could use.
+    ensures untouched { P.told → IsForeign (P.view port.old).reads
+        → IsUntouched (P.view port.old) (P.view port.new) }
+    ensures spared { P.told → IsNotImage result → IsSpared (P.view port.old) (P.view port.new) }
     // A count of faults rose only where the status is that fault's.
     ensures source_fault { result ≡ Status.SourceFault → Rose (S.faults source.old) (S.faults source.new) }
     ensures device_fault { result ≡ Status.DeviceFault → Rose (P.view port.old).faults (P.view port.new).faults }

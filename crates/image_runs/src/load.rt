@@ -7,7 +7,7 @@ ghost use Rattle.image_device.specs.Runs.{IsFirm, LeavesOnly};
 ghost use Rattle.image_world.specs.Stands.{world_of};
 ghost use Rattle.tsd_model.specs.Run.{at_rest};
 ghost use Rattle.load_gen.specs.Load.{load_of};
-ghost use Rattle.recovery.specs.Opening.{StandAlike};
+ghost use Rattle.recovery.specs.Opening.{IsForeign, IsSpared, IsUntouched, StandAlike};
 ghost use Rattle.tsd_model.specs.Run.{IsAnswer};
 ghost use Rattle.volume_laws.specs.Moments.{LeavesEither};
 ghost use Rattle.volume_laws.specs.Writes.{Works};
@@ -17,7 +17,7 @@ ghost use Rattle.tsd_model.specs.declared.replies.Reply.TheVariants as replied;
 ghost use Rattle.image_runs.specs.Sending.{IsEnding, IsStopped};
 ghost use Rattle.image_runs.specs.Load.{HasLoaded, IsLeftOfLoad, IsLoaded, IsLoadedBy};
 ghost use Rattle.image_runs.specs.Applying.{HasApplied, IsNext, IsSummary, LeavesRun, more_granted, more_refused};
-ghost use Rattle.image_runs.specs.Opened.{IsJudged, IsUnopened};
+ghost use Rattle.image_runs.specs.Opened.{IsJudged, IsNotImage, IsUnopened};
 
 use crate::opening::open_volume;
 use image_device::{Device, Failed, Port, put_all};
@@ -65,6 +65,11 @@ pub fn load_image<P: Port>(alloc: Global, load: &Load, place: &Placement, port: 
     ensures ending { IsEnding result }
     ensures loaded { P.told → HasLoaded result place.now.kind load.now.seed load.now.count (P.view port.old)
         (P.view port.new) }
+    // Where the image fails one of the tests that need no write, nothing is written, and the disk reads as before;
+    // where it fails another, nothing is lost that a repair could use.
+    ensures untouched { P.told → IsForeign (P.view port.old).reads
+        → IsUntouched (P.view port.old) (P.view port.new) }
+    ensures spared { P.told → IsNotImage result → IsSpared (P.view port.old) (P.view port.new) }
     // A crash at any moment leaves a world of the run of the requests, and wherever a byte was sent the last one.
     ensures any_moment { P.told → IsFirm (P.view port.old) → LeavesOnly (P.view port.old) (P.view port.new)
         (IsLeftOfLoad place.now.kind load.now.seed load.now.count (P.view port.old)) }
@@ -103,6 +108,10 @@ fn carry_out<D: Device>(
     ensures judged { D.told → IfErr result (IsJudged (D.view dev.old).reads) }
     ensures stops { IfErr result IsUnopened }
     ensures sent { D.told → (D.view dev.new).sent ≡ (D.view dev.old).sent }
+    // Where the image fails one of the tests that need no write, nothing is written, and the disk reads as before;
+    // where it fails another, nothing is lost that a repair could use.
+    ensures untouched { D.told → IsForeign (D.view dev.old).reads → IsUntouched (D.view dev.old) (D.view dev.new) }
+    ensures spared { D.told → IfErr result (λ why. IsNotImage why → IsSpared (D.view dev.old) (D.view dev.new)) }
     ensures any_moment { D.told → IsFirm (D.view dev.old) → LeavesOnly (D.view dev.old) (D.view dev.new)
         (λ x f. (StandAlike (D.view dev.old).reads x ⊎ ((n : ℕ) × (n ≤ load.now.count)
         × IsLoadedBy place.now.kind load.now.seed (D.view dev.old).reads n x)) × (f ≡ (D.view dev.old).sent)) }

@@ -7,13 +7,14 @@ ghost use Rattle.image_world.specs.Stands.{world_of};
 ghost use Rattle.image_world.specs.Tables.{tables_of};
 ghost use Rattle.intent_journal.specs.Home.{home};
 ghost use Rattle.tsd_model.specs.Run.{at_rest};
-ghost use Rattle.recovery.specs.Opening.{StandAlike};
+ghost use Rattle.tsd_model.specs.Sessions.{no_sessions};
+ghost use Rattle.recovery.specs.Opening.{IsForeign, IsSpared, IsUntouched, StandAlike};
 ghost use Rattle.tsd_core.specs.Core.{IsCoreAt, IsCoreReady, state_on};
 ghost use Rattle.volume_laws.specs.Volume.{IsVolumeAt, IsVolumeReady, world_on};
 ghost use Rattle.image_world.specs.Debt.{debt};
 ghost use Rattle.volume_laws.specs.Quiet.{IsQuiet};
 ghost use Rattle.volume_laws.specs.Writes.{due, Works};
-ghost use Rattle.image_runs.specs.Opened.{IsOpened, IsUnopened, status_of};
+ghost use Rattle.image_runs.specs.Opened.{IsNotImage, IsOpened, IsUnopened, status_of};
 
 use image_device::Device;
 use recovery::{OpenFault, open_image};
@@ -37,6 +38,10 @@ pub fn open_volume<D: Device>(alloc: Global, dev: &mut D) -> Result<Volume, Stat
     ensures any_debt { D.told → IsFirm (D.view dev.old) → (tables_of (home (D.view dev.old).reads)).is_sweeping
         ≡ false → LeavesOnly (D.view dev.old) (D.view dev.new) (λ x f. debt x ≤ debt (D.view dev.old).reads) }
     ensures settled { D.told → OnOk result (debt (D.view dev.new).reads ≡ 0) }
+    // Where the image fails one of the tests that need no write, nothing is written, and the disk reads as before;
+    // where it fails another, nothing is lost that a repair could use.
+    ensures untouched { D.told → IsForeign (D.view dev.old).reads → IsUntouched (D.view dev.old) (D.view dev.new) }
+    ensures spared { D.told → IfErr result (λ why. IsNotImage why → IsSpared (D.view dev.old) (D.view dev.new)) }
     // Where nothing was left to be done, nothing is written, and nothing is owed.
     ensures unwritten { D.told → IsQuiet (D.view dev.old).reads → (D.view dev.new).writes
         ≤ (D.view dev.old).writes }
@@ -56,6 +61,8 @@ pub fn open_core<D: Device>(alloc: Global, dev: &mut D) -> Result<Core, Status>
     ensures read { D.told → IsOpened (D.view dev.old).reads result }
     ensures stops { IfErr result IsUnopened }
     ensures ready { IfOk result IsCoreReady }
+    // No session is open, told or not.
+    ensures none { IfOk result (λ c. c.grants.sessions ≡ no_sessions) }
     ensures at { D.told → IfOk result (λ c. IsCoreAt c (D.view dev.new)) }
     ensures state { D.told → IfOk result (λ c. state_on c (D.view dev.new).reads
         ≡ at_rest (world_of (D.view dev.old).reads)) }
@@ -66,6 +73,10 @@ pub fn open_core<D: Device>(alloc: Global, dev: &mut D) -> Result<Core, Status>
     ensures any_debt { D.told → IsFirm (D.view dev.old) → (tables_of (home (D.view dev.old).reads)).is_sweeping
         ≡ false → LeavesOnly (D.view dev.old) (D.view dev.new) (λ x f. debt x ≤ debt (D.view dev.old).reads) }
     ensures settled { D.told → OnOk result (debt (D.view dev.new).reads ≡ 0) }
+    // Where the image fails one of the tests that need no write, nothing is written, and the disk reads as before;
+    // where it fails another, nothing is lost that a repair could use.
+    ensures untouched { D.told → IsForeign (D.view dev.old).reads → IsUntouched (D.view dev.old) (D.view dev.new) }
+    ensures spared { D.told → IfErr result (λ why. IsNotImage why → IsSpared (D.view dev.old) (D.view dev.new)) }
     // Where nothing was left to be done, nothing is written, and nothing is owed.
     ensures unwritten { D.told → IsQuiet (D.view dev.old).reads → (D.view dev.new).writes
         ≤ (D.view dev.old).writes }

@@ -1,5 +1,6 @@
 -- A run that goes on by one request, or ends.
-use Rattle.std.proofs.Common.{◌≡◌, ◌⊎◌, inl, inr, ℕ, ◌+◌, ◌-◌, ◌≤◌, false, All, List, [], ◌∷◌, ◌++◌, length, refl, sym, ◌∙◌, ap, subst, arith, append-nil}
+use Rattle.std.proofs.Common.{◌≡◌, ◌≢◌, ◌⊎◌, inl, inr, ℕ, suc, ◌+◌, ◌-◌, ◌≤◌, false, All, List, [], ◌∷◌, ◌++◌, length, refl, sym, ◌∙◌, ap, subst, arith, append-nil, append_assoc}
+use Rattle.image_device.specs.Image.{Image}
 use Rattle.image_device.specs.View.{View, IsSound}
 use Rattle.image_device.specs.Runs.{LeavesOnly}
 use Rattle.image_device.proofs.Moments.{started, joined, weakened, leaves_both, firm_image}
@@ -9,10 +10,12 @@ use Rattle.serving.specs.Service.{Service, IsCounted, IsAnswering, IsInAnswer, L
 use Rattle.serving.specs.Work.{Work, used}
 use Rattle.serving.specs.Debts.{Debt, HasDebt, debt_of}
 use Rattle.serving.specs.Runs.{Run, Served, IsBroken, IsAcknowledged}
+use Rattle.serving.specs.Seen.{IsSeen, IsSeenRun, IsOfNext}
 use Rattle.serving.specs.Input.{Spelling}
 use Rattle.serving.specs.Ran.{AskedBy, ByStatus, Ends, Ran, Taking, Moments}
 use Rattle.serving.specs.Goes.{Goes}
-use Rattle.serving.proofs.Runs.{run_next, sent_next, broken, cut_off, served_next, at_rest, in_answer, longer, broken_longer, cut_off_longer, all_sent, some_or_none}
+use Rattle.serving.proofs.Seen.{are_seen_still, are_seen_next}
+use Rattle.serving.proofs.Runs.{run_next, sent_next, sent_front, broken, cut_off, served_next, at_rest, in_answer, longer, broken_longer, cut_off_longer, all_sent, some_or_none}
 use Rattle.serving.proofs.Costs.{front_all, next_all, costs_next, paid_longer}
 use Rattle.serving.proofs.Debts.{debt_next, owing_answer, owing_rest, owing_longer}
 
@@ -21,9 +24,38 @@ module _ {Q : Type 0} (k : Service Q) (w : Work Q k.States) (s : k.States) (due 
   pub served_of : (qs : List Q) (m : k.States) (due1 : ℕ) (v : View) → Goes k w s due v0 qs m due1 v → Served k s v0.sent qs m v.sent
   served_of qs m due1 v goes = record { answers = goes.answers; run = goes.run; sent = goes.sent }
 
+  -- the states of these requests were seen, and of one more a front was sent
+  seen_run : (t : ℕ) → t ≤ v0.clock → (qs more : List Q) (m : k.States) (due1 : ℕ) (v new : View) (goes : Goes k w s due v0 qs m due1 v) → ((x : Image) (f : List ℕ) → v.left t x f → new.left t x f)
+      → (front : List ℕ) → new.sent ≡ v.sent ++ front → k.acked front ≤ 1 → IsOfNext k m more front → (seen : IsSeenRun k (new.left t) s v0.sent (qs ++ more) new.sent) × (seen.front ≡ front)
+  seen_run t le qs more m due1 v new goes kept front is few of_next = (
+    record {
+      answered = qs;
+      rest = more;
+      parts = refl;
+      answers = goes.answers;
+      state = m;
+      run = goes.run;
+      seen = are_seen_still k (v.left t) (new.left t) kept v0.sent s m qs goes.answers goes.run (goes.seen t le);
+      front = front;
+      sent = sent_front v0.sent v.sent new.sent goes.answers front goes.sent is;
+      one_more = few;
+      of_next = of_next;
+    },
+    refl,
+  )
+
+  -- of all requests, with no more sent
+  seen_whole : (t : ℕ) → t ≤ v0.clock → IsCounted k → (qs : List Q) (m : k.States) (due1 : ℕ) (v new : View) (goes : Goes k w s due v0 qs m due1 v) → ((x : Image) (f : List ℕ) → v.left t x f → new.left t x f)
+      → new.sent ≡ v.sent → (seen : IsSeenRun k (new.left t) s v0.sent qs new.sent) × (k.acked seen.front ≡ 0)
+  seen_whole t le counted qs m due1 v new goes kept same =
+      let on = seen_run t le qs [] m due1 v new goes kept [] (same ∙ sym (append-nil v.sent)) (omega (arith, counted.nothing)) (inl refl) in
+      subst (λ l. (seen : IsSeenRun k (new.left t) s v0.sent l new.sent) × (k.acked seen.front ≡ 0)) (append-nil qs) (on.0, ap k.acked on.1 ∙ counted.nothing)
+
   -- a run that ends as it stands
-  pub ends_now : (r : Status) (qs : List Q) (m : k.States) (due1 : ℕ) (v : View) → Goes k w s due v0 qs m due1 v → ByStatus r k s v0.sent qs m v.sent → Ends r k w s m due v0 v qs
-  ends_now r qs m due1 v goes sent = record {
+  pub ends_now : IsCounted k → (r : Status) (qs : List Q) (m : k.States) (due1 : ℕ) (v : View) → Goes k w s due v0 qs m due1 v → ByStatus r k s v0.sent qs m v.sent → Ends r k w s m due v0 v qs
+  ends_now counted r qs m due1 v goes sent = record {
+    seen = λ t le. (seen_whole t le counted qs m due1 v v goes (λ x f left. left) refl).0;
+    all_seen = λ fine t le. (seen_whole t le counted qs m due1 v v goes (λ x f left. left) refl).1;
     sent = sent;
     any_moment = goes.any_moment;
     most = record { answered = qs; rest = []; parts = sym (append-nil qs); answers = goes.answers; state = m; run = goes.run; paid = λ all. omega (arith, goes.paid all) };
@@ -32,13 +64,14 @@ module _ {Q : Type 0} (k : Service Q) (w : Work Q k.States) (s : k.States) (due 
 
 module _ {Q : Type 0} (k : Service Q) (counted : IsCounted k) (w : Work Q k.States) (s : k.States) (due : ℕ) (v0 : View) where
   -- before the first request
-  pub goes_first : IsSound v0 → ((n : ℕ) → v0.loose n ≡ false) → k.stands s v0.reads → Goes k w s due v0 [] s due v0
-  goes_first sound firm stands =
+  pub goes_first : IsSound v0 → ((n : ℕ) → v0.loose n ≡ false) → k.stands s v0.reads → k.rests s v0.reads → Goes k w s due v0 [] s due v0
+  goes_first sound firm stands rests =
       let served : Served k s v0.sent [] s v0.sent = record { answers = []; run = refl; sent = sym (append-nil v0.sent) } in
       record {
         answers = [];
         run = refl;
         sent = sym (append-nil v0.sent);
+        seen = λ t le. record { image = v0.reads; was_left = sound.counts_now t v0.reads v0.sent le (sound.own, refl); rests = rests };
         any_moment = started v0 (IsAcknowledged k s v0.sent []) sound
             (λ x f left. at_rest k counted s v0.sent [] [] s v0.sent f x served (subst (λ y. k.stands s y) (sym (firm_image v0 firm x f left)) stands) left.1);
         paid = λ all. omega arith;
@@ -66,13 +99,20 @@ module _ {Q : Type 0} (k : Service Q) (counted : IsCounted k) (w : Work Q k.Stat
           (leaves_both v new (IsInAnswer k m q v.sent) (λ x f. w.debt x ≤ w.debt v.reads + w.made m q) any (debts (next_all w.bounded qs q all)))
           (λ x f left. owing_answer k counted w.made s v0.sent (w.debt v0.reads) qs m goes.answers goes.run v.sent goes.sent (w.debt v.reads) (goes.few (front_all w.bounded qs (q ∷ []) all)) q x f (w.debt x) left.0 left.1)
 
+      kept : (t : ℕ) → t ≤ v0.clock → (x : Image) (f : List ℕ) → v.left t x f → new.left t x f
+      kept t le x f left = any.keeps t x f (omega (arith, le, goes.any_moment.later)) left
+
       -- the request was answered
-      pub goes_next : (t : k.States) (due2 : ℕ) (a : List ℕ) → k.gives m q a t → new.sent ≡ v.sent ++ a → (w.bounded q → w.debt new.reads ≤ w.debt v.reads + w.made m q - 4) → (w.bounded q → used due2 new ≤ used due1 v + w.cost m q)
+      pub goes_next : IsSound new → (t : k.States) → k.rests t new.reads → (due2 : ℕ) (a : List ℕ) → k.gives m q a t → new.sent ≡ v.sent ++ a → (w.bounded q → w.debt new.reads ≤ w.debt v.reads + w.made m q - 4) → (w.bounded q → used due2 new ≤ used due1 v + w.cost m q)
           → Goes k w s due v0 (qs ++ q ∷ []) t due2 new
-      goes_next t due2 a given sent less paid = record {
+      goes_next sound t rests due2 a given sent less paid = record {
         answers = goes.answers ++ a ∷ [];
         run = run_next k s m t qs goes.answers q a goes.run given;
         sent = sent_next v0.sent v.sent new.sent goes.answers a goes.sent sent;
+        seen = λ n le.
+            let now : IsSeen k (new.left n) t new.sent = record { image = new.reads; was_left = sound.counts_now n new.reads new.sent (omega (arith, le, any_next.later)) (sound.own, refl); rests = rests } in
+            are_seen_next k (new.left n) m t q a given new.sent now v0.sent s qs goes.answers goes.run (sent_front v0.sent v.sent new.sent goes.answers a goes.sent sent)
+            (are_seen_still k (v.left n) (new.left n) (kept n le) v0.sent s m qs goes.answers goes.run (goes.seen n le));
         any_moment = any_next;
         paid = λ all. omega (arith, goes.paid (front_all w.bounded qs (q ∷ []) all), paid (next_all w.bounded qs q all), costs_next k w.cost s m t qs goes.answers q a goes.run given);
         few = λ all. omega (arith, goes.few (front_all w.bounded qs (q ∷ []) all), less (next_all w.bounded qs q all), ap (λ (d : Debt). d.left) (debt_next k w.made s m t qs goes.answers q a goes.run given (debt_of (w.debt v0.reads))));
@@ -105,9 +145,48 @@ module _ {Q : Type 0} (k : Service Q) (counted : IsCounted k) (w : Work Q k.Stat
             | inr some ↦ device_stopped final some.0 some.1
           ])
 
+      at_most_one : (a : IsAnswering k m q v.sent new.sent) → k.acked a.front ≤ 1
+      at_most_one a = elim (some_or_none a.back) [
+        | inl none ↦
+            let one : k.acked (a.answer ++ []) ≡ suc (k.acked []) = counted.whole m q a.answer a.next [] a.given in
+            let same : a.answer ++ [] ≡ a.front = append-nil a.answer ∙ a.whole ∙ ap (λ b. a.front ++ b) none ∙ append-nil a.front in
+            let counts : k.acked (a.answer ++ []) ≡ k.acked a.front = ap k.acked same in
+            omega (arith, one, counts, counted.nothing)
+        | inr some ↦
+            let none : k.acked a.front ≡ 0 = counted.part m q a.answer a.next a.front a.back a.given a.whole some in
+            omega (arith, none)
+      ]
+
+      of_answer : (a : IsAnswering k m q v.sent new.sent) → IsOfNext k m (q ∷ []) a.front
+      of_answer a = inr (q, [], refl, record { answer = a.answer; next = a.next; given = a.given; front = a.front; back = a.back; whole = a.whole; sent = refl })
+
+      -- what was sent of its answer: all of it only where the device failed
+      front_of : (why : Status) (final : k.States) → (why ≡ status.DeviceFault) ⊎ (why ≡ status.PutFault) → LeftBy why k m q final v.sent new.sent
+          → (front : List ℕ) × (new.sent ≡ v.sent ++ front) × (k.acked front ≤ 1) × (why ≢ status.DeviceFault → k.acked front ≡ 0) × IsOfNext k m (q ∷ []) front
+      front_of why final (inr e) left =
+          let l = subst (λ r. LeftBy r k m q final v.sent new.sent) e left in
+          let a = l.0 in
+          let none = counted.part m q a.answer a.next a.front a.back a.given a.whole l.1 in
+          (a.front, a.sent, omega (arith, none), λ fine. none, of_answer a)
+      front_of why final (inl e) left = elim (subst (λ r. LeftBy r k m q final v.sent new.sent) e left) [
+        | inl nothing ↦ ([], nothing ∙ sym (append-nil v.sent), omega (arith, counted.nothing), λ fine. counted.nothing, inl refl)
+        | inr some ↦
+            let a = some.0 in
+            (a.front, a.sent, at_most_one a, λ fine. absurd (fine e), of_answer a)
+      ]
+
+      seen_stopped : (t : ℕ) → t ≤ v0.clock → (why : Status) (final : k.States) → (why ≡ status.DeviceFault) ⊎ (why ≡ status.PutFault) → LeftBy why k m q final v.sent new.sent
+          → (seen : IsSeenRun k (new.left t) s v0.sent (qs ++ q ∷ []) new.sent) × (why ≢ status.DeviceFault → k.acked seen.front ≡ 0)
+      seen_stopped t le why final stops left =
+          let f = front_of why final stops left in
+          let on = seen_run k w s due v0 t le qs (q ∷ []) m due1 v new goes (kept t le) f.0 f.1 f.2 f.4 in
+          (on.0, λ fine. ap k.acked on.1 ∙ f.3 fine)
+
       -- the request stopped the run
       pub ends_stopped : (why : Status) (final : k.States) → (why ≡ status.DeviceFault) ⊎ (why ≡ status.PutFault) → LeftBy why k m q final v.sent new.sent → (w.bounded q → new.writes ≤ used due1 v + w.cost m q) → Ends why k w s final due v0 new (qs ++ q ∷ [])
       ends_stopped why final stops left most = record {
+        seen = λ t le. (seen_stopped t le why final stops left).0;
+        all_seen = λ fine t le. (seen_stopped t le why final stops left).1 fine;
         sent = sent_by why final stops left;
         any_moment = any_next;
         most = record {
@@ -126,6 +205,8 @@ module _ {Q : Type 0} (k : Service Q) (counted : IsCounted k) (w : Work Q k.Stat
     module _ (new : View) (any : LeavesOnly v new (λ x f. k.stands m x × (f ≡ v.sent))) (debts : LeavesOnly v new (λ x f. (w.debt x ≤ w.debt v.reads) × (f ≡ v.sent))) (sent : new.sent ≡ v.sent) (most : new.writes ≤ used due1 v) where
       ends_close : (r : Status) (final : k.States) → ByStatus r k s v0.sent qs final new.sent → Ends r k w s final due v0 new qs
       ends_close r final by = record {
+        seen = λ t le. (seen_whole k w s due v0 t le counted qs m due1 v new goes (λ x f left. any.keeps t x f (omega (arith, le, goes.any_moment.later)) left) sent).0;
+        all_seen = λ fine t le. (seen_whole k w s due v0 t le counted qs m due1 v new goes (λ x f left. any.keeps t x f (omega (arith, le, goes.any_moment.later)) left) sent).1;
         sent = by;
         any_moment = joined v0 v new (IsAcknowledged k s v0.sent qs) (λ x f. k.stands m x × (f ≡ v.sent)) goes.any_moment any
             (λ x f left. subst (λ l. IsAcknowledged k s v0.sent l x f) (append-nil qs) (at_rest k counted s v0.sent qs [] m v.sent f x (served_of k w s due v0 qs m due1 v goes) left.0 left.1));
@@ -156,8 +237,32 @@ module _ {Q : Type 0} (k : Service Q) (w : Work Q k.States) (s final : k.States)
         | inr c ↦ inr (cut_off_longer k s v0.sent qs more v.sent c.0, c.1)
       ])
 
+  next_longer : (m : k.States) (rest : List Q) (front : List ℕ) → IsOfNext k m rest front → IsOfNext k m (rest ++ more) front
+  next_longer m rest front (inl none) = inl none
+  next_longer m rest front (inr is) = inr (is.0, is.1 ++ more, ap (λ l. l ++ more) is.2, is.3)
+
+  seen_longer : (t : ℕ) (was : IsSeenRun k (v.left t) s v0.sent qs v.sent) → (seen : IsSeenRun k (v.left t) s v0.sent (qs ++ more) v.sent) × (seen.front ≡ was.front)
+  seen_longer t was = (
+    record {
+      answered = was.answered;
+      rest = was.rest ++ more;
+      parts = ap (λ l. l ++ more) was.parts ∙ append_assoc was.answered was.rest more;
+      answers = was.answers;
+      state = was.state;
+      run = was.run;
+      seen = was.seen;
+      front = was.front;
+      sent = was.sent;
+      one_more = was.one_more;
+      of_next = next_longer was.state was.rest was.front was.of_next;
+    },
+    refl,
+  )
+
   pub ends_longer : (why : Status) → (why ≡ status.DeviceFault) ⊎ (why ≡ status.PutFault) → Ends why k w s final due v0 v qs → Ends why k w s final due v0 v (qs ++ more)
   ends_longer why stops ends = record {
+    seen = λ t le. (seen_longer t (ends.seen t le)).0;
+    all_seen = λ fine t le. ap k.acked (seen_longer t (ends.seen t le)).1 ∙ ends.all_seen fine t le;
     sent = by_longer why stops ends.sent;
     any_moment = weakened v0 v (IsAcknowledged k s v0.sent qs) (IsAcknowledged k s v0.sent (qs ++ more)) ends.any_moment (longer k s v0.sent qs more);
     most = paid_longer k w s (used due v0) qs more v.writes ends.most;

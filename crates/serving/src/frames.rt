@@ -19,6 +19,7 @@ impl Protocol for FrameCutter {
 
     ghost lawful = { frames_lawful };
 
+    #[inline(never)]
     fn feed(&mut self, piece: &[u8]) -> Fed<Request> {
         let fed = FrameCutter::feed(self, piece);
         if fed.whole {
@@ -34,6 +35,7 @@ impl Protocol for FrameCutter {
         }
     }
 
+    #[inline(never)]
     fn ending(&self) -> Ending<Request> {
         if self.is_inside() {
             return Ending::CutOff;

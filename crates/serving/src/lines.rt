@@ -19,6 +19,7 @@ impl Protocol for LineCutter {
 
     ghost lawful = { lines_lawful };
 
+    #[inline(never)]
     fn feed(&mut self, piece: &[u8]) -> Fed<Request> {
         let fed = LineCutter::feed(self, piece);
         if fed.whole {
@@ -34,6 +35,7 @@ impl Protocol for LineCutter {
         }
     }
 
+    #[inline(never)]
     fn ending(&self) -> Ending<Request> {
         let rest = self.rest();
         if rest.is_empty() {

@@ -6,6 +6,7 @@ ghost use Rattle.image_device.specs.Counts.{Rose};
 ghost use Rattle.serving.specs.Goes.{SameCounts, held, left_in, IsNextAtEnd, Handed, Reads, Found};
 ghost use Rattle.serving.specs.Input.{asked};
 ghost use Rattle.serving.specs.Ran.{IsAtEnd, taking};
+ghost use Rattle.serving.specs.declared.protocol.Ending.{Ending as EndingOf};
 
 use crate::intake::{INPUT_MAX, Intake, Next, TAKE_MAX};
 use crate::protocol::{Ending, Protocol};
@@ -60,7 +61,7 @@ impl Intake {
             }
             match source.take(&mut self.room) {
                 Err(_) => return Next::Fault,
-                Ok(0) => return self.at_end(protocol.ending()),
+                Ok(0) => return self.last(protocol),
                 Ok(count) => self.fill(count),
             }
         }
@@ -81,6 +82,19 @@ impl Intake {
         let fed = protocol.feed(&self.room[self.from..self.to]);
         self.from += fed.used;
         fed.request
+    }
+
+    /// What comes last: what the end of the input makes of what the protocol holds.
+    fn last<R: Protocol>(&mut self, protocol: &R) -> Next<R::Request>
+        ensures counts { SameCounts self.old self.new }
+        ensures from { self.new.from ≡ self.old.from }
+        ensures to { self.new.to ≡ self.old.to }
+        ensures room { self.new.room ≡ self.old.room }
+        ensures next { (ending : EndingOf R.Request)
+            × ((x : List ℕ) → R.was_fed x protocol.now → ending ≡ R.spelling.ending x)
+            × IsNextAtEnd ending result self.new.over self.old.over }
+    {
+        self.at_end(protocol.ending())
     }
 
     /// What the end of the input makes of what stands there.

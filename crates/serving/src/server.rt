@@ -104,6 +104,9 @@ pub trait Server<R: Protocol> {
     /// A disk stands for the state that it is in.
     ghost stands_now: { (h : Self) (x : Image) → holds h x → service.stands (state h x) x };
 
+    /// The state that it is in rests there.
+    ghost rests_now: { (h : Self) (x : Image) → holds h x → service.rests (state h x) x };
+
     /// Answers part in one way.
     ghost counted: { IsCounted service };
 }

@@ -47,6 +47,11 @@ impl Saved {
         Ok(Saved { alloc, sectors })
     }
 
+    /// Those sectors, by number.
+    pub fn sectors(&self) -> &[(u32, [u8; 512])] {
+        self.sectors.as_slice()
+    }
+
     /// A disk with these sectors, which has sent nothing. The call of this number fails.
     pub fn disk(&self, call: u64) -> Result<MemStation, Fail> {
         let mut disk = MemStation::new(self.alloc, vec![in self.alloc; call]?);

@@ -20,6 +20,8 @@ mod loads;
 #[cfg(test)]
 mod loops;
 #[cfg(test)]
+mod mirrors;
+#[cfg(test)]
 mod placing;
 #[cfg(test)]
 mod running;

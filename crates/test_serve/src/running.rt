@@ -28,7 +28,7 @@ pub fn spelled(alloc: Global, text: &str) -> Result<Vec<u8>, AllocError> {
 }
 
 /// Words, as they are parted by spaces.
-fn words(alloc: Global, text: &[u8]) -> Result<Vec<String>, Fail> {
+pub fn words(alloc: Global, text: &[u8]) -> Result<Vec<String>, Fail> {
     let mut words = Vec::new(alloc);
     for word in text.split(|b| *b == b' ') {
         match std::str::from_utf8(word) {

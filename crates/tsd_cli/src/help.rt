@@ -4,10 +4,12 @@
 pub const VERSION: &str = "tsd 0.2.0\n";
 
 /// What a command line may be. The help has it as a line.
-pub const USAGE: &str = "usage: tsd IMAGE COMMAND | help [TOPIC] | --help | --version";
+pub const USAGE: &str =
+    "usage: tsd [mirror IMAGE] IMAGE COMMAND | help [TOPIC] | --help | --version";
 
 /// The topics of the help.
-pub const TOPICS: &str = "fresh, format, run, serve, check, load, upgrade, requests and replies";
+pub const TOPICS: &str =
+    "fresh, format, run, serve, shell, check, load, upgrade, mirror, requests and replies";
 
 /// The text of a topic of the help.
 pub fn text_of(topic: &str) -> Option<&'static str> {
@@ -16,9 +18,11 @@ pub fn text_of(topic: &str) -> Option<&'static str> {
         "format" => Some(FORMAT),
         "run" => Some(RUN),
         "serve" => Some(SERVE),
+        "shell" => Some(SHELL),
         "check" => Some(CHECK),
         "load" => Some(LOAD),
         "upgrade" => Some(UPGRADE),
+        "mirror" => Some(MIRROR),
         "requests" => Some(REQUESTS),
         "replies" => Some(REPLIES),
         _ => None,
@@ -31,13 +35,13 @@ pub const HELP: &str =
 reclaims a block when its last pointer goes, and admits a client to a block by
 a capability or along a pointer from a block already granted.
 
-usage: tsd IMAGE COMMAND | help [TOPIC] | --help | --version
+usage: tsd [mirror IMAGE] IMAGE COMMAND | help [TOPIC] | --help | --version
 
 IMAGE is a file or a block device, or `-` for a disk in memory that is gone when
 the program ends. It is open for one process at a time. A file that is named
-help is given as ./help. A word of COMMAND that begins with `@`, as @FILE,
-stands for the first word in that file: so a capability stays off the command
-line, which other users see.
+help is given as ./help, one named mirror as ./mirror. A word of COMMAND that
+begins with `@`, as @FILE, stands for the first word in that file: so a
+capability stays off the command line, which other users see.
 
 commands
 
@@ -45,9 +49,13 @@ commands
   format   makes a disk with the capabilities of a seed, and prints them
   run      opens the disk and answers lines
   serve    opens the disk and answers frames
+  shell    opens the disk and answers lines on a tree of files in it
   check    tells how full the disk is, or what is wrong with the image
   load     carries out requests drawn from a seed, and counts the answers
   upgrade  keeps digests in place of capabilities from then on
+
+mirror IMAGE IMAGE COMMAND does it on two images as one disk, and goes on with
+the other where one of them fails: `tsd help mirror`.
 
 exit status, told on standard error by a line and, where more is known of why,
 by those behind it
@@ -61,6 +69,8 @@ by those behind it
   7  input too long
   8  no memory
   9  input ends inside a frame
+  10 the capability doesn't open the root to write
+ 11  done, on one image of a mirror: the other one failed
 
 more
 
@@ -153,6 +163,58 @@ example
   printf '\\001\\000\\007' | tsd disk.img serve near | od -An -tu1
 ";
 
+/// The topic `shell`.
+pub const SHELL: &str = "tsd IMAGE shell KIND ROOT CAP PLACE
+
+Opens the disk, mounts the tree of files that hangs under a primary block, and
+answers the lines of standard input. Where no such tree is there, nothing is
+mounted, and nothing is changed, until `mkfs`. An answer is sent when the disk
+holds what it tells; after a crash the tree is the one after a prefix of the
+lines that has every line answered.
+
+  KIND   how the tree is kept: inode (directories in directories, files of up to
+         as many blocks as an inode names) or chain (one directory, files of any
+         size)
+  ROOT   the primary block
+  CAP    its capability to write: 32 hexadecimal digits
+  PLACE  which free block is taken first: low (the lowest), near (the nearest to
+         the hint), spread (from the hint on, round the disk) or zone (by zones
+         of 256 blocks, from the hint's on)
+
+lines
+
+  mkfs              an empty tree in place of what is there
+  put PATH DATA     a file with these bytes, in place of the old one
+  append PATH DATA  bytes at the end of a file
+  cat PATH          the bytes of a file
+  ls PATH           the names in a directory
+  mkdir PATH        a new directory (inode)
+  rm PATH           the end of a file, or of an empty directory
+  cp PATH PATH      a new file with the bytes of another (inode)
+  df                how many blocks are free
+
+PATH is `/`, or up to 16 times `/` and a name of 1 to 28 letters, digits, `.`,
+`_` or `-`. DATA is hexadecimal, at most 4096 bytes, or `-`. Each line is
+answered by one: `ok`, `data DATA`, `names NAME ..`, `free N`, or `no` and
+
+  bad-request              the line asks nothing
+  not-this-fs              no tree of this kind is mounted
+  not-dir, is-dir          a file where a directory is wanted; or the reverse
+  no-entry, exists         nothing of this name is there; something is
+  not-empty                the directory has entries
+  dir-full, too-big        the directory, or the file, can't have more
+  full FREE WANTED         fewer blocks are free than are wanted
+  pointers-full HELD MAX   there is no room for the pointers
+
+Other users see the words of a command line. @FILE stands for the first word in
+that file.
+
+example
+
+  printf 'mkfs\\nput /a 6869\\nls /\\ncat /a\\n' \\
+    | tsd disk.img shell inode 0 $(printf %032d 2) near
+";
+
 /// The topic `check`.
 pub const CHECK: &str = "tsd IMAGE check
 
@@ -195,6 +257,34 @@ image no longer tells them.
 example
 
   tsd disk.img upgrade
+";
+
+/// The topic `mirror`.
+pub const MIRROR: &str = "tsd mirror IMAGE IMAGE COMMAND
+
+Does what COMMAND says on two images as one disk. It first copies the first
+image to the second: it reads both, writes what differs, and syncs. Then it
+writes both, reads the first, and goes on with the other one where a call on one
+of them fails. That is told at once, with the image's path and the system's
+words.
+
+A missing second image is made, for its owner alone; a missing first one by
+`fresh` and `format` alone. What the second image held is lost. Two paths of one
+file, or of one device, are refused before anything is written.
+
+The status is 11 where all was done and one image failed, and its line says
+which: `tsd: side lost, first` or `tsd: side lost, second`. The other image has
+all that was answered. To have two again, replace what failed, and give the good
+image first in the next run: it is copied to the other one.
+
+Where both fail, the first one in the copying too, the status is 4. A command
+over one of the images alone leaves the other as it was: give the one that was
+written last first.
+
+example
+
+  tsd one.img fresh 8 1 $(printf %032d 1) $(printf %032d 2) near </dev/null
+  printf 'free\\n' | tsd mirror one.img two.img run near
 ";
 
 /// The topic `requests`.

@@ -1,6 +1,6 @@
 //! The file of an image.
 
-ghost use Rattle.std.specs.Prelude.{◌≡◌, ◌≤◌, ◌*◌, length, IfOk, pos, ◌<ℤ◌};
+ghost use Rattle.std.specs.Prelude.{◌≡◌, ◌≤◌, ◌*◌, ◌^◌, length, IfOk, pos, ◌<ℤ◌};
 ghost use Rattle.std.specs.Fd.{file_raw_fd};
 ghost use Rattle.tsd_model.specs.Geometry.{IsLawful};
 ghost use Rattle.image_layout.specs.Areas.{total};
@@ -12,7 +12,7 @@ use std::fmt::{self, Formatter};
 use std::fs::{self, File, Metadata, OpenOptions, Permissions, TryLockError};
 use std::io::{self, ErrorKind, Seek, SeekFrom};
 use std::os::fd::AsRawFd;
-use std::os::unix::fs::{FileExt, FileTypeExt, OpenOptionsExt, PermissionsExt};
+use std::os::unix::fs::{FileExt, FileTypeExt, MetadataExt, OpenOptionsExt, PermissionsExt};
 use std::path::Path;
 use tsd_model::Geometry;
 use tsd_serve::{Command, command};
@@ -40,6 +40,9 @@ pub enum Opening {
         /// The bytes of the disk.
         bytes: u64,
     },
+
+    /// To hold a copy of another image. Where the file is missing it is made.
+    Copied,
 }
 
 impl Opening {
@@ -143,7 +146,7 @@ impl ImageFile {
     {
         let file = match opening {
             Opening::Kept => open_there(rt, path)?,
-            Opening::Made { .. } => open_or_make(rt, path)?,
+            Opening::Made { .. } | Opening::Copied => open_or_make(rt, path)?,
         };
         if file.as_raw_fd() <= LAST_STANDARD {
             return Err(Trouble::Standard);
@@ -154,6 +157,7 @@ impl ImageFile {
         let readers = match opening {
             Opening::Kept => None,
             Opening::Made { bytes } => prepare(rt, path, &file, &metadata, bytes)?,
+            Opening::Copied => prepare(rt, path, &file, &metadata, 0)?,
         };
         Ok(ImageFile {
             file,
@@ -193,10 +197,49 @@ impl ImageFile {
         Ok(())
     }
 
+    /// The number of its sectors, at most 2^32. The last may be a part of one.
+    pub fn end(&self) -> Result<u64, Trouble>
+        ensures { IfOk result (λ end. end ≤ 2 ^ 32) }
+    {
+        let mut file = &self.file;
+        let bytes = file.seek(SeekFrom::End(0))?;
+        Ok(bytes.div_ceil(SECTOR as u64).min(1 << 32))
+    }
+
     /// Has all that was written on the medium.
     pub fn sync(&self) -> Result<(), Trouble> {
         self.file.sync_data()?;
         Ok(())
+    }
+}
+
+/// Whether two paths name one file or device, or would once a missing one is made.
+pub fn are_one(rt: &HostRuntime, first: &str, second: &str) -> bool {
+    match (fs::metadata(rt, first), fs::metadata(rt, second)) {
+        (Ok(first), Ok(second)) => is_one_file(&first, &second),
+        (Err(_), Err(_)) => is_one_place(rt, Path::new(first), Path::new(second)),
+        _ => false,
+    }
+}
+
+/// Whether these are of one file, or of two nodes of one device.
+fn is_one_file(first: &Metadata, second: &Metadata) -> bool {
+    let is_file = first.dev() == second.dev() && first.ino() == second.ino();
+    let are_devices = first.file_type().is_block_device() && second.file_type().is_block_device();
+    is_file || (are_devices && first.rdev() == second.rdev())
+}
+
+/// Whether two paths name one place in one folder.
+fn is_one_place(rt: &HostRuntime, first: Path<'_>, second: Path<'_>) -> bool {
+    if first.file_name() != second.file_name() {
+        return false;
+    }
+    match (
+        fs::metadata(rt, folder_of(first)),
+        fs::metadata(rt, folder_of(second)),
+    ) {
+        (Ok(first), Ok(second)) => is_one_file(&first, &second),
+        _ => false,
     }
 }
 
@@ -269,11 +312,15 @@ fn sync_folder(rt: &HostRuntime, path: &str) -> io::Result<()> {
 
 /// Syncs the folder that a path names something in.
 fn sync_parent(rt: &HostRuntime, path: Path<'_>) -> io::Result<()> {
-    let folder = match path.parent() {
+    File::open(rt, folder_of(path))?.sync_all()
+}
+
+/// The folder that a path names something in.
+fn folder_of<'a>(path: Path<'a>) -> &'a str {
+    match path.parent() {
         Some(folder) if folder.as_str() != "" => folder.as_str(),
         _ => ".",
-    };
-    File::open(rt, folder)?.sync_all()
+    }
 }
 
 /// Reads a file's bytes from a sector on, up to the room's end or the file's, and tells how many there are. A read that

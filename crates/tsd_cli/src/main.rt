@@ -9,12 +9,15 @@
 #![tactic(auto)]
 
 mod ahead;
+mod file_side;
+mod file_sides;
 mod file_station;
 mod help;
 mod image_file;
 mod input;
 #[cfg(test)]
 mod input_tests;
+mod outlet;
 mod progress;
 #[cfg(test)]
 mod progress_tests;
@@ -38,7 +41,7 @@ use standard::StandIns;
 use std::io::{self, Stderr, Write};
 use std::process::ExitCode;
 use trouble::Trouble;
-use tsd_serve::Status;
+use tsd_serve::{MirrorStatus, Status};
 use words::arguments;
 
 fn main(rt: HostRuntime) -> ExitCode {
@@ -47,19 +50,21 @@ fn main(rt: HostRuntime) -> ExitCode {
     let status = match StandIns::take(&rt) {
         Ok(_held) => answer(&rt, &mut errors),
         Err(error) => {
-            tell(&mut errors, &Status::DeviceFault);
+            let status = MirrorStatus::Ended(Status::DeviceFault);
+            tell(&mut errors, &status);
             tell_stream(&mut errors, "streams", &Trouble::from(error));
-            Status::DeviceFault
+            status
         }
     };
     ExitCode::from(status.code())
 }
 
 /// Does what the command line says, over the standard streams.
-fn answer(rt: &HostRuntime, errors: &mut Stderr) -> Status {
+fn answer(rt: &HostRuntime, errors: &mut Stderr) -> MirrorStatus {
     let words = match arguments(rt) {
         Ok(words) => words,
         Err(status) => {
+            let status = MirrorStatus::Ended(status);
             tell(errors, &status);
             return status;
         }

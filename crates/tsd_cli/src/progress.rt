@@ -12,6 +12,9 @@ const STANDS: u64 = 250;
 /// In so many sectors the clock is looked at once.
 const LOOK: u32 = 64;
 
+/// A sector that is read while an image is copied counts for so many bytes: each is read of both images.
+const BYTES_COPIED: u64 = 256;
+
 /// As many sectors as a sync counts for between two looks at the clock: it takes longer than one.
 const SYNC: u32 = 16;
 
@@ -37,6 +40,9 @@ pub struct Progress<C, E> {
 
     read: u64,
     written: u64,
+
+    /// While an image is copied, how many sectors are to be read of both.
+    copied: Option<u64>,
 }
 
 impl<'a> Progress<&'a HostRuntime, Stderr> {
@@ -62,6 +68,21 @@ impl<C: Clock, E: Write> Progress<C, E> {
             shown: None,
             read: 0,
             written: 0,
+            copied: None,
+        }
+    }
+
+    /// An image of so many sectors is copied from now on.
+    pub fn copy_begins(&mut self, sectors: u64) {
+        self.wipe();
+        self.copied = Some(sectors.saturating_mul(2));
+    }
+
+    /// The copying has ended.
+    pub fn copy_ends(&mut self) {
+        if self.copied.is_some() {
+            self.wipe();
+            self.copied = None;
         }
     }
 
@@ -137,13 +158,27 @@ impl<C: Clock, E: Write> Progress<C, E> {
     /// Writes the line over the one that stands there. A shorter number leaves nothing of a longer one.
     fn tell(&mut self, passed: u64) {
         let (read, written) = (self.read, self.written);
-        let rate = rate_of(read.saturating_add(written), passed);
-        if let Some(terminal) = &mut self.terminal {
-            let _told = write!(
-                terminal,
-                "\rtsd: {read} sectors read, {written} written, {rate} a second      "
-            );
-        }
+        let Some(terminal) = &mut self.terminal else {
+            return;
+        };
+        let _told = match self.copied {
+            Some(sectors) => {
+                let share = share_of(read, sectors);
+                let bytes = rate_of(read, passed).saturating_mul(BYTES_COPIED);
+                let left = left_of(read, sectors, passed);
+                write!(
+                    terminal,
+                    "\rtsd: {share} % copied, {bytes} bytes a second, {left} s left      "
+                )
+            }
+            None => {
+                let rate = rate_of(read.saturating_add(written), passed);
+                write!(
+                    terminal,
+                    "\rtsd: {read} sectors read, {written} written, {rate} a second      "
+                )
+            }
+        };
     }
 }
 
@@ -152,6 +187,26 @@ fn millis_of(time: Duration) -> u64 {
     time.as_secs()
         .saturating_mul(1_000)
         .saturating_add(u64::from(time.subsec_millis()))
+}
+
+/// The share of the whole, in percent.
+fn share_of(done: u64, all: u64) -> u64 {
+    match done.saturating_mul(100).checked_div(all) {
+        Some(share) => share.min(100),
+        None => 100,
+    }
+}
+
+/// The whole seconds that the rest takes, where what is done took so many milliseconds.
+fn left_of(done: u64, all: u64, millis: u64) -> u64 {
+    let rest = all.saturating_sub(done);
+    match rest
+        .saturating_mul(millis)
+        .checked_div(done.saturating_mul(1_000))
+    {
+        Some(left) => left,
+        None => 0,
+    }
 }
 
 /// How many a second that is, in so many milliseconds.

@@ -4,9 +4,10 @@ ghost use Rattle.std.specs.Prelude.{◌≡◌, ◌≢◌, ◌<◌, ◌+◌, ◌*
 ghost use Rattle.tsd_model.specs.Rank.{rank_of, zones_after};
 ghost use Rattle.tsd_model.specs.declared.requests.PlaceKind.TheVariants.{Low, Near, Spread};
 
+use crate::file_sides::{FileSides, Named};
 use crate::file_station::FileStation;
 use crate::help::{HELP, VERSION, text_of};
-use crate::image_file::{ImageFile, Kind, Opening};
+use crate::image_file::{ImageFile, Kind, Opening, are_one};
 use crate::progress::Progress;
 use crate::trouble::Trouble;
 use crate::usage::Misread;
@@ -16,11 +17,15 @@ use place_policy::{PlaceBook, Placement, ZONE_TURNS, low_rank, near_rank, spread
 use script_text::OutBuf;
 use std::alloc::{AllocError, Global};
 use std::io::{self, Write};
+use std::marker::Brand;
 use tsd_model::PlaceKind;
-use tsd_serve::{Status, status_line, tsd};
+use tsd_serve::{MirrorStatus, Status, mirror_status_line, tsd, tsd_mirror};
 
 /// The first word of a disk in memory.
 const MEMORY: &str = "-";
+
+/// The first word before two images that are one disk.
+const MIRROR: &str = "mirror";
 
 /// Does what the words say, and ends with a status. A status that isn't Done is told in a line of errors, and a second
 /// line says why, where the system or a word does.
@@ -30,7 +35,7 @@ pub fn run<S: Source, O: Write, E: Write>(
     input: &mut S,
     output: &mut O,
     errors: &mut E,
-) -> Status {
+) -> MirrorStatus {
     let ended = match first_of(&words) {
         "--help" => Ended::of_text(put_out(output, HELP.as_bytes())),
         "--version" => Ended::of_text(put_out(output, VERSION.as_bytes())),
@@ -48,7 +53,7 @@ pub fn run<S: Source, O: Write, E: Write>(
 /// How a run ended.
 #[derive(Drop)]
 struct Ended {
-    status: Status,
+    status: MirrorStatus,
     cause: Cause,
 }
 
@@ -73,38 +78,41 @@ enum Cause {
 
     /// The words aren't understood.
     Misread(Misread),
+
+    /// These two paths name one file.
+    OneFile(String, String),
 }
 
 impl Ended {
     /// With a status alone.
     fn alone(status: Status) -> Ended
-        ensures { result.status ≡ status }
+        ensures { result.status ≡ MirrorStatus.Ended status }
     {
         Ended {
-            status,
+            status: MirrorStatus::Ended(status),
             cause: Cause::Untold,
         }
     }
 
     /// With words that aren't understood.
     fn misread(words: Misread) -> Ended
-        ensures { result.status ≡ Status.Usage }
+        ensures { result.status ≡ MirrorStatus.Ended Status.Usage }
     {
         Ended {
-            status: Status::Usage,
+            status: MirrorStatus::Ended(Status::Usage),
             cause: Cause::Misread(words),
         }
     }
 
     /// After a text that was put out, or wasn't.
     fn of_text(put: Result<(), Trouble>) -> Ended
-        ensures done { IsOk put → result.status ≡ Status.Done }
-        ensures fault { IsErr put → result.status ≡ Status.PutFault }
+        ensures done { IsOk put → result.status ≡ MirrorStatus.Ended Status.Done }
+        ensures fault { IsErr put → result.status ≡ MirrorStatus.Ended Status.PutFault }
     {
         match put {
             Ok(()) => Ended::alone(Status::Done),
             Err(trouble) => Ended {
-                status: Status::PutFault,
+                status: MirrorStatus::Ended(Status::PutFault),
                 cause: Cause::Output(trouble),
             },
         }
@@ -118,6 +126,9 @@ fn tell_cause<E: Write>(errors: &mut E, cause: &Cause) {
         Cause::Output(trouble) => writeln!(errors, "tsd: standard output: {trouble}"),
         Cause::Word(fault) => writeln!(errors, "tsd: {}: {}", fault.word, fault.trouble),
         Cause::Misread(words) => writeln!(errors, "{words}"),
+        Cause::OneFile(first, second) => {
+            writeln!(errors, "tsd: {first} and {second} are one file")
+        }
         Cause::Image {
             path,
             trouble,
@@ -127,7 +138,7 @@ fn tell_cause<E: Write>(errors: &mut E, cause: &Cause) {
 }
 
 /// Writes why a call on an image failed, and where a write or a sync did, how to have the system forget what it shows.
-fn tell_image<E: Write>(
+pub fn tell_image<E: Write>(
     errors: &mut E,
     path: &str,
     trouble: &Trouble,
@@ -160,20 +171,46 @@ fn first_of(words: &Vec<String>) -> &str {
     }
 }
 
-/// The image's word, and those after it. Where there is none, neither is there a command.
-fn parted(alloc: Global, words: Vec<String>) -> Result<(String, Vec<String>), AllocError> {
-    let mut image = String::new(alloc);
+/// What is served.
+#[derive(Drop)]
+enum Target {
+    /// A disk in memory.
+    Memory,
+
+    /// The image at a path.
+    File(String),
+
+    /// The images at two paths, as one disk.
+    Sides(String, String),
+}
+
+/// What is served, by the words before a command. Where there are none, neither is there a command.
+fn target_of(alloc: Global, images: Vec<String>) -> Result<Target, AllocError> {
+    let mut images = images.into_iter();
+    let first = match images.next() {
+        Some(word) => word,
+        None => String::new(alloc),
+    };
+    Ok(match (images.next(), images.next()) {
+        (Some(first), Some(second)) => Target::Sides(first, second),
+        _ if first.as_str() == MEMORY => Target::Memory,
+        _ => Target::File(first),
+    })
+}
+
+/// The words before a command, one or behind `mirror` two more, and those of the command.
+fn parted(alloc: Global, words: Vec<String>) -> Result<(Vec<String>, Vec<String>), AllocError> {
+    let before = if first_of(&words) == MIRROR { 3 } else { 1 };
+    let mut images = Vec::new(alloc);
     let mut command = Vec::new(alloc);
-    let mut is_first = true;
     for word in words {
-        if is_first {
-            image = word;
-            is_first = false;
+        if images.len() < before {
+            images.push(word)?;
         } else {
             command.push(word)?;
         }
     }
-    Ok((image, command))
+    Ok((images, command))
 }
 
 /// Puts out the text of the topic behind `help`, or without one that of `--help`.
@@ -189,7 +226,7 @@ fn help<O: Write>(words: Vec<String>, output: &mut O) -> Ended {
     }
 }
 
-/// Serves the image that the first word names, as those behind it say.
+/// Serves the image that the first word names, or the two behind `mirror`, as those behind it say.
 fn serve<S: Source, O: Write, E: Write>(
     rt: &HostRuntime,
     words: Vec<String>,
@@ -198,20 +235,23 @@ fn serve<S: Source, O: Write, E: Write>(
     errors: &mut E,
 ) -> Result<Ended, AllocError> {
     let is_nothing = words.is_empty();
-    let (image, given) = parted(rt.alloc(), words)?;
+    let (images, given) = parted(rt.alloc(), words)?;
+    let target = target_of(rt.alloc(), images)?;
     let meant = match all_meant(rt, &given)? {
         Ok(meant) => meant,
         Err(fault) => {
             return Ok(Ended {
-                status: fault.status(),
+                status: MirrorStatus::Ended(fault.status()),
                 cause: Cause::Word(fault),
             });
         }
     };
-    let ended = place(rt, image, &meant, input, output, errors)?;
+    let ended = place(rt, target, &meant, input, output, errors)?;
+    let is_told = matches!(ended.cause, Cause::OneFile(..));
     Ok(match ended.status {
-        Status::Usage if is_nothing => Ended::misread(Misread::Nothing),
-        Status::Usage => Ended::misread(Misread::Command { given, meant }),
+        MirrorStatus::Ended(Status::Usage) if is_told => ended,
+        MirrorStatus::Ended(Status::Usage) if is_nothing => Ended::misread(Misread::Nothing),
+        MirrorStatus::Ended(Status::Usage) => Ended::misread(Misread::Command { given, meant }),
         _ => ended,
     })
 }
@@ -235,7 +275,7 @@ fn all_meant(
 /// Makes the placements and serves.
 fn place<S: Source, O: Write, E: Write>(
     rt: &HostRuntime,
-    image: String,
+    target: Target,
     command: &Vec<String>,
     input: &mut S,
     output: &mut O,
@@ -273,11 +313,13 @@ fn place<S: Source, O: Write, E: Write>(
         Placement::new(PlaceKind::Spread, spread),
         Placement::new(PlaceKind::Zone, zone),
     );
-    if image.as_str() == MEMORY {
-        Ok(serve_memory(alloc, command, &book, input, output))
-    } else {
-        Ok(serve_file(rt, image, command, &book, input, output, errors))
-    }
+    Ok(match target {
+        Target::Memory => serve_memory(alloc, command, &book, input, output),
+        Target::File(path) => serve_file(rt, path, command, &book, input, output, errors),
+        Target::Sides(first, second) => {
+            serve_sides(rt, (first, second), command, &book, input, output, errors)
+        }
+    })
 }
 
 /// Serves an image in a file. Each reply is written to the output as soon as it is made.
@@ -307,7 +349,68 @@ fn serve_file<S: Source, O: Write, E: Write>(
         (None, Some(trouble)) => Cause::Output(trouble),
         (None, None) => Cause::Untold,
     };
+    Ended {
+        status: MirrorStatus::Ended(status),
+        cause,
+    }
+}
+
+/// Serves two images in files as one disk. Each reply is written to the output as soon as it is made, and what fails of
+/// an image is told at once.
+fn serve_sides<S: Source, O: Write, E: Write>(
+    rt: &HostRuntime,
+    paths: (String, String),
+    command: &Vec<String>,
+    book: &PlaceBook,
+    input: &mut S,
+    output: &mut O,
+    errors: &mut E,
+) -> Ended {
+    let (first, second) = paths;
+    if are_one(rt, first.as_str(), second.as_str()) {
+        return Ended {
+            status: MirrorStatus::Ended(Status::Usage),
+            cause: Cause::OneFile(first, second),
+        };
+    }
+    let alloc = rt.alloc();
+    let (image, copy) = open_sides(rt, first.as_str(), second.as_str(), command);
+    tell_readers(errors, first.as_str(), &image);
+    tell_readers(errors, second.as_str(), &copy);
+    let first = Named { path: first, image };
+    let second = Named {
+        path: second,
+        image: copy,
+    };
+    let progress = Progress::of(rt);
+    let mut sides = FileSides::new(alloc, first, second, output, progress, errors);
+    let (status, _) = tsd_mirror::<_, _, Brand>(alloc, command, input, &mut sides, book);
+    sides.wipe();
+    let cause = match sides.output_trouble() {
+        Some(trouble) => Cause::Output(trouble),
+        None => Cause::Untold,
+    };
     Ended { status, cause }
+}
+
+/// Opens two images as a command opens one: the second to hold a copy, once the first is open.
+fn open_sides(
+    rt: &HostRuntime,
+    first: &str,
+    second: &str,
+    command: &Vec<String>,
+) -> (Result<ImageFile, Trouble>, Result<ImageFile, Trouble>) {
+    let Some(opening) = Opening::of(command) else {
+        return (Err(Trouble::NotOpen), Err(Trouble::NotOpen));
+    };
+    let copied = match opening {
+        Opening::Kept => Opening::Copied,
+        _ => opening,
+    };
+    match ImageFile::open(rt, first, opening) {
+        Ok(file) => (Ok(file), ImageFile::open(rt, second, copied)),
+        Err(trouble) => (Err(trouble), Err(Trouble::NotOpen)),
+    }
 }
 
 /// Tells who may read the capabilities of a disk that is made in a file, besides its owner.
@@ -358,11 +461,11 @@ fn put_out<O: Write>(output: &mut O, bytes: &[u8]) -> Result<(), Trouble> {
 }
 
 /// Writes a status's line, unless all was done. Where that fails there is nothing more to tell.
-pub fn tell<E: Write>(errors: &mut E, status: &Status) {
-    if *status == Status::Done {
+pub fn tell<E: Write>(errors: &mut E, status: &MirrorStatus) {
+    if *status == MirrorStatus::Ended(Status::Done) {
         return;
     }
     let mut line = OutBuf::new();
-    status_line(status, &mut line);
+    mirror_status_line(status, &mut line);
     let _told = errors.write_all(line.as_slice());
 }

@@ -9,7 +9,7 @@ use image_layout::ImageFault;
 use std::fs;
 use std::io::{self, Write};
 use std::test::Fail;
-use tsd_serve::Status;
+use tsd_serve::{MirrorStatus, Status};
 
 /// What a run gives.
 #[derive(Drop)]
@@ -30,12 +30,20 @@ fn ran(rt: &HostRuntime, text: &str, input: &str, failing: u64) -> Result<Ended,
     let mut source = MemSource::new(bytes, 7, vec![in alloc; failing]?);
     let mut output = Vec::new(alloc);
     let mut errors = Vec::new(alloc);
-    let status = run(rt, words, &mut source, &mut output, &mut errors);
+    let status = of_one(run(rt, words, &mut source, &mut output, &mut errors));
     Ok(Ended {
         status,
         output,
         errors,
     })
+}
+
+/// The status of a run over one image. One over two that lost a side counts as a device fault here.
+fn of_one(status: MirrorStatus) -> Status {
+    match status {
+        MirrorStatus::Ended(status) => status,
+        MirrorStatus::SideLost(_) => Status::DeviceFault,
+    }
 }
 
 /// The number of a take that never comes.
@@ -74,7 +82,7 @@ const RUNS: [(&str, &str, u64, Status, &str, &str); 13] = [
         NEVER,
         Status::Usage,
         "",
-        "tsd: usage\ntsd: behind IMAGE stands a command: fresh, format, run, serve, check, load or upgrade\n",
+        "tsd: usage\ntsd: behind IMAGE stands a command: fresh, format, run, serve, shell, check, load or upgrade\n",
     ),
     (
         "- fresh 8",
@@ -98,7 +106,7 @@ const RUNS: [(&str, &str, u64, Status, &str, &str); 13] = [
         NEVER,
         Status::Usage,
         "",
-        "tsd: usage\ntsd: no command is called ran; there are fresh, format, run, serve, check, load and upgrade\n",
+        "tsd: usage\ntsd: no command is called ran; there are fresh, format, run, serve, shell, check, load and upgrade\n",
     ),
     (
         "disk.img check near",
@@ -208,7 +216,7 @@ fn an_output_that_fails_says_why(rt: HostRuntime) -> Result<(), Fail> {
     let mut words = Vec::new(alloc);
     words.push(String::from_str(alloc, "--help")?)?;
     let mut source = MemSource::new(Vec::new(alloc), 7, Vec::new(alloc));
-    let status = run(&rt, words, &mut source, &mut Closed, &mut errors);
+    let status = of_one(run(&rt, words, &mut source, &mut Closed, &mut errors));
     assert_eq!(rt; status, Status::PutFault);
     let told = b"tsd: output fault\ntsd: standard output: broken pipe\n";
     assert_eq!(rt; errors.as_slice(), told.as_slice());
@@ -294,8 +302,8 @@ fn the_help_tells_all(rt: HostRuntime) {
 }
 
 /// The commands.
-const COMMANDS: [&str; 7] = [
-    "fresh", "format", "run", "serve", "check", "load", "upgrade",
+const COMMANDS: [&str; 8] = [
+    "fresh", "format", "run", "serve", "shell", "check", "load", "upgrade",
 ];
 
 #[test]

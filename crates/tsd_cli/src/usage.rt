@@ -99,6 +99,15 @@ enum Operand {
     /// How many requests are carried out.
     Count,
 
+    /// How a tree is kept in blocks.
+    Kind,
+
+    /// The block under which a tree hangs.
+    Root,
+
+    /// A capability.
+    Cap,
+
     /// The order in which free blocks are taken.
     Place,
 }
@@ -115,6 +124,9 @@ impl Operand {
             Operand::WriteCap => "WRITECAP",
             Operand::Seed => "SEED",
             Operand::Count => "COUNT",
+            Operand::Kind => "KIND",
+            Operand::Root => "ROOT",
+            Operand::Cap => "CAP",
             Operand::Place => "PLACE",
         }
     }
@@ -122,7 +134,7 @@ impl Operand {
     /// How many hexadecimal digits it has, where it is to be kept secret.
     fn digits(self) -> Option<usize> {
         match self {
-            Operand::ReadCap | Operand::WriteCap => Some(CAP_DIGITS),
+            Operand::ReadCap | Operand::WriteCap | Operand::Cap => Some(CAP_DIGITS),
             Operand::Seed => Some(SEED_DIGITS),
             _ => None,
         }
@@ -131,8 +143,9 @@ impl Operand {
     /// Whether a word may stand there, on a disk of so many blocks.
     fn takes(self, word: &str, blocks: u32) -> bool {
         match self {
+            Operand::Kind => matches!(word, "inode" | "chain"),
             Operand::Place => matches!(word, "low" | "near" | "spread" | "zone"),
-            Operand::ReadCap | Operand::WriteCap => has_digits(word, CAP_DIGITS),
+            Operand::ReadCap | Operand::WriteCap | Operand::Cap => has_digits(word, CAP_DIGITS),
             Operand::Seed => has_digits(word, SEED_DIGITS),
             _ => match parse_number(word.as_bytes()) {
                 Some(number) => self.takes_number(number, blocks),
@@ -149,6 +162,7 @@ impl Operand {
             Operand::Slots => (1..=MAX_SLOTS).contains(&number),
             Operand::Primaries => (1..=MAX_PRIMARIES).contains(&number) && number < blocks,
             Operand::Count => (1..=MAX_COUNT).contains(&number),
+            Operand::Root => true,
             _ => false,
         }
     }
@@ -162,9 +176,13 @@ impl fmt::Display for Operand {
             Operand::Sectors => f.write_str("1, 2, 4 or 8"),
             Operand::Slots => write!(f, "1 to {MAX_SLOTS}"),
             Operand::Primaries => write!(f, "1 to {MAX_PRIMARIES} and fewer than BLOCKS"),
-            Operand::ReadCap | Operand::WriteCap => write!(f, "{CAP_DIGITS} hexadecimal digits"),
+            Operand::ReadCap | Operand::WriteCap | Operand::Cap => {
+                write!(f, "{CAP_DIGITS} hexadecimal digits")
+            }
             Operand::Seed => write!(f, "{SEED_DIGITS} hexadecimal digits"),
             Operand::Count => write!(f, "1 to {MAX_COUNT}"),
+            Operand::Kind => f.write_str("inode or chain"),
+            Operand::Root => f.write_str("the number of a block"),
             Operand::Place => f.write_str("low, near, spread or zone"),
         }
     }
@@ -193,6 +211,7 @@ fn operands_of(command: &str) -> Option<&'static [Operand]> {
             Operand::Seed,
         ]),
         "run" | "serve" => Some(&[Operand::Place]),
+        "shell" => Some(&[Operand::Kind, Operand::Root, Operand::Cap, Operand::Place]),
         "load" => Some(&[Operand::Seed, Operand::Count, Operand::Place]),
         "check" | "upgrade" => Some(&[]),
         _ => None,
@@ -235,7 +254,7 @@ fn tell_command<W: fmt::Write>(
     let (Some((shown, given)), Some((name, meant))) = (given.split_first(), meant.split_first())
     else {
         return f.write_str(
-            "tsd: behind IMAGE stands a command: fresh, format, run, serve, check, load or upgrade",
+            "tsd: behind IMAGE stands a command: fresh, format, run, serve, shell, check, load or upgrade",
         );
     };
     match operands_of(name.as_str()) {
@@ -246,7 +265,7 @@ fn tell_command<W: fmt::Write>(
                 "tsd: no command is called {}; there are ",
                 Printable { word }
             )?;
-            f.write_str("fresh, format, run, serve, check, load and upgrade")
+            f.write_str("fresh, format, run, serve, shell, check, load and upgrade")
         }
         Some(operands) if operands.len() != meant.len() => {
             write!(f, "tsd: {name} takes")?;

@@ -23,7 +23,7 @@ fn told(rt: &HostRuntime, text: &str) -> Result<String, Fail> {
 const CAP: &str = "aaaaaaaaaaaaaaaaaaaaaaaaaaaaaaaa";
 
 /// Each word at its bounds and past them, with C for a capability and CC for a seed, and what is told behind `tsd: `.
-const BOUNDS: [(&str, &str); 26] = [
+const BOUNDS: [(&str, &str); 30] = [
     ("fresh 8 1 C C near", ""),
     ("fresh 1048576 8 C C low", ""),
     ("fresh 7 1 C C near", "BLOCKS is 8 to 1048576, not 7"),
@@ -89,6 +89,16 @@ const BOUNDS: [(&str, &str); 26] = [
     ),
     ("run near near", "run takes PLACE, and 2 words came"),
     ("check", ""),
+    ("shell inode 4294967295 C low", ""),
+    ("shell inodes 0 C low", "KIND is inode or chain, not inodes"),
+    (
+        "shell chain 4294967296 C low",
+        "ROOT is the number of a block, not 4294967296",
+    ),
+    (
+        "shell chain 0 - low",
+        "CAP is 32 hexadecimal digits, and this word has 1 character",
+    ),
 ];
 
 #[test]

@@ -1,3 +1,4 @@
 pub mod Statuses
 pub mod Prefixes
 pub mod Promises
+pub mod Mirrored

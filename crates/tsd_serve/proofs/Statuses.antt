@@ -12,6 +12,9 @@ use Rattle.serving.specs.Voice.{Voice}
 use Rattle.image_runs.specs.Sending.{IsEnding}
 use Rattle.image_runs.specs.Served.{ImageRan}
 use Rattle.image_runs.specs.Fresh.{FreshRan}
+use Rattle.fs_trees.specs.declared.ask.ShellKind.{ShellKind}
+use Rattle.tsd_model.specs.declared.caps.Cap.{Cap}
+use Rattle.image_shell.specs.Served.{ShellRan}
 
 -- The words of a run were a command.
 pub no_usage : (v : Voice) (p : Spelling Request) (kind : PlaceKind) (limit : ℕ) (source : Taking) (port : Moments) → ImageRan status.Usage v p kind limit source port → ⊥
@@ -20,6 +23,10 @@ no_usage v p kind limit source port ran = elim ran.these [ inl closed ↦ closed
 -- nor was it none where the disk was made first
 pub no_usage_fresh : (v : Voice) (p : Spelling Request) (kind : PlaceKind) (w : World) (limit : ℕ) (source : Taking) (port : Moments) → FreshRan status.Usage v p kind w limit source port → ⊥
 no_usage_fresh v p kind w limit source port ran = elim ran.these [ inl closed ↦ closed.why | inr asked ↦ asked ]
+
+-- nor of a shell
+pub no_usage_shell : (layout : ShellKind) (root : ℕ) (cap : Cap) (limit : ℕ) (source : Taking) (port : Moments) → ShellRan status.Usage layout root cap limit source port → ⊥
+no_usage_shell layout root cap limit source port ran = elim ran.these [ inl closed ↦ closed.why | inr asked ↦ asked.0 ]
 
 -- a command without input ends otherwise
 pub no_usage_ending : (r : Status) → IsEnding r → r ≡ status.Usage → ⊥

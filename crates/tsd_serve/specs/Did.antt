@@ -4,9 +4,10 @@ use Rattle.tsd_model.specs.declared.requests.PlaceKind.{PlaceKind}
 use Rattle.tsd_model.specs.declared.requests.Request.{Request}
 use Rattle.image_device.specs.Runs.{IsFirm, LeavesOnly}
 use Rattle.image_layout.specs.declared.fault.ImageFault.{ImageFault}
-use Rattle.recovery.specs.Opening.{StandAlike}
+use Rattle.recovery.specs.Opening.{IsForeign, IsSpared, IsUntouched, StandAlike}
 use Rattle.tsd_words.specs.declared.commands.Format.{Format}
 use Rattle.tsd_words.specs.declared.commands.Load.{Load}
+use Rattle.tsd_words.specs.declared.commands.Shell.{Shell}
 use Rattle.tsd_words.specs.declared.commands.Command.{Command}
 use Rattle.tsd_words.specs.declared.commands.Command.TheVariants as command
 use Rattle.tsd_words.specs.declared.status.Status.{Status}
@@ -22,19 +23,35 @@ use Rattle.image_runs.specs.Load.{HasLoaded, IsLeftOfLoad}
 use Rattle.image_runs.specs.Sending.{IsEnding}
 use Rattle.image_runs.specs.Upgrade.{HasUpgraded, IsLeftOfUpgrade}
 use Rattle.image_runs.specs.Fresh.{FreshRan, single_world}
-use Rattle.image_runs.specs.Opened.{IsJudged}
+use Rattle.image_runs.specs.Opened.{IsJudged, IsNotImage}
 use Rattle.image_runs.specs.Served.{ImageRan}
+use Rattle.image_shell.specs.Served.{IsShellJudged, ShellRan}
+
+-- What a command that opens an image leaves of one that stands for no world. Where it fails one of the first three tests, of the format
+-- gate, the journal and the header, nothing was written, and the disk reads as before. Where it fails another, all that a repair could use
+-- is still there, in the end and after a crash at any moment.
+pub record SparesImage (r : Status) (port : Moments) : Type 0 where
+  pub foreign : port.tells → IsForeign port.old.reads → IsUntouched port.old port.new
+  pub damaged : port.tells → IsNotImage r → IsSpared port.old port.new
 
 -- An image was opened and served, at most 2^40 bytes of it, and a refusal says what is wrong with it.
 pub record Opened (r : Status) (v : Voice) (p : Spelling Request) (kind : PlaceKind) (source : Taking) (port : Moments) : Type 0 where
   pub judged : port.tells → IsJudged port.old.reads r
   pub ran : ImageRan r v p kind (2 ^ 40) source port
+  pub spared : SparesImage r port
 
 -- There was no memory for a cutter of frames, and nothing was called.
 pub record HasNoCutter (r : Status) (source : Taking) (port : Moments) : Type 0 where
   pub memory : r ≡ status.NoMemory
   pub untaken : source.untouched
   pub unused : port.untouched
+
+-- An image was opened, the tree under a root mounted, and asks of it were served, at most 2^40 bytes of them. A refusal says what is wrong
+-- with the image, or with the capability.
+pub record Mounted (r : Status) (shell : Shell) (source : Taking) (port : Moments) : Type 0 where
+  pub judged : port.tells → IsShellJudged shell.root shell.cap port.old.reads r
+  pub ran : ShellRan r shell.layout shell.root shell.cap (2 ^ 40) source port
+  pub spared : SparesImage r port
 
 -- ---- commands that take no input
 
@@ -44,6 +61,7 @@ pub record Checked (r : Status) (port : Moments) : Type 0 where
   pub ending : IsEnding r
   pub said : port.tells → HasChecked r port.old.reads port.old.sent port.new.sent
   pub any_moment : port.tells → IsFirm port.old → LeavesOnly port.old port.new (λ x f. StandAlike port.old.reads x × IsSaying port.old.reads port.old.sent f)
+  pub spared : SparesImage r port
 
 -- a disk was made, which opens no image and takes no memory
 pub record Formatted (words : Format) (r : Status) (port : Moments) : Type 0 where
@@ -58,6 +76,7 @@ pub record Upgraded (r : Status) (port : Moments) : Type 0 where
   pub ending : IsEnding r
   pub upgraded : port.tells → HasUpgraded r port.old port.new
   pub any_moment : port.tells → IsFirm port.old → LeavesOnly port.old port.new (IsLeftOfUpgrade port.old)
+  pub spared : SparesImage r port
   pub no_memory : port.tells → r ≡ status.NoMemory → IsFirm port.old → LeavesOnly port.old port.new (λ x f. StandAlike port.old.reads x × (f ≡ port.old.sent))
 
 -- The requests of a seed were carried out. Without memory none was.
@@ -65,6 +84,7 @@ pub record Loaded (load : Load) (r : Status) (port : Moments) : Type 0 where
   pub ending : IsEnding r
   pub loaded : port.tells → HasLoaded r load.kind load.seed load.count port.old port.new
   pub any_moment : port.tells → IsFirm port.old → LeavesOnly port.old port.new (IsLeftOfLoad load.kind load.seed load.count port.old)
+  pub spared : SparesImage r port
   pub no_memory : port.tells → r ≡ status.NoMemory → IsFirm port.old → LeavesOnly port.old port.new (λ x f. StandAlike port.old.reads x × (f ≡ port.old.sent))
 
 -- What the command that the words spell did, with this status, to its source and to its port. A command that takes no input leaves
@@ -74,6 +94,7 @@ Did (Some (command.Fresh fresh)) r source port = FreshRan r line_voice line_spel
 Did (Some (command.Format words)) r source port = source.untouched × Formatted words r port
 Did (Some (command.Run kind)) r source port = Opened r line_voice line_spelling kind source port
 Did (Some (command.Serve kind)) r source port = HasNoCutter r source port ⊎ Opened r frame_voice frame_spelling kind source port
+Did (Some (command.Shell shell)) r source port = Mounted r shell source port
 Did (Some command.Check) r source port = source.untouched × Checked r port
 Did (Some (command.Load load)) r source port = source.untouched × Loaded load r port
 Did (Some command.Upgrade) r source port = source.untouched × Upgraded r port

@@ -1,2 +1,4 @@
 pub mod Did
 pub mod Headline
+pub mod MirrorStatus
+pub mod MirrorDid

@@ -5,22 +5,25 @@ ghost use Rattle.image_device.specs.Counts.{Rose};
 ghost use Rattle.serving.specs.Ran.{moments, taking};
 ghost use Rattle.tsd_model.specs.Geometry.{IsLawful};
 ghost use Rattle.tsd_serve.specs.Did.{Did};
-ghost use Rattle.tsd_words.specs.Words.{command_of};
+ghost use Rattle.tsd_words.specs.Words.{IsInLimits, command_of};
 ghost use Rattle.tsd_words.specs.declared.commands.Command.TheVariants as command;
 
+use fs_trees::ShellKind;
 use image_device::{Port, Source};
 use image_runs::{check_image, format_image, load_image, serve_fresh, serve_image, upgrade_image};
+use image_shell::{serve_chain_image, serve_inode_image};
 use place_policy::PlaceBook;
 use request_frames::FrameCutter;
 use script_text::LineCutter;
 use serving::INPUT_MAX;
 use std::alloc::Global;
 use tsd_model::PlaceKind;
-use tsd_words::{Command, Fresh, Status, command};
+use tsd_words::{Command, Fresh, Shell, Status, command};
 
 /// Does what the words say over the image beside the port: `fresh BLOCKS SECTORS READCAP WRITECAP PLACE` formats it and
 /// answers the lines of the input until it ends, `run PLACE` opens it and answers lines, `serve PLACE` opens it and
-/// answers frames. `format BLOCKS SECTORS SLOTS PRIMARIES SEED` makes a disk, `check` tells what an image is, `load
+/// answers frames. `shell KIND ROOT CAP PLACE` opens it, mounts the tree of files under a block, and answers lines on
+/// that. `format BLOCKS SECTORS SLOTS PRIMARIES SEED` makes a disk, `check` tells what an image is, `load
 /// SEED COUNT PLACE` carries out the requests of a seed, and `upgrade` has an image keep digests in place of
 /// capabilities.
 ///
@@ -50,14 +53,43 @@ pub fn tsd<S: Source, P: Port>(
     ensures no_put_fault { result ≢ Status.PutFault → (P.view port.new).put_faults ≡ (P.view port.old).put_faults }
 {
     match command(words) {
-        Some(Command::Fresh(fresh)) => fresh_lines(alloc, &fresh, source, port, places),
-        Some(Command::Format(words)) => format_image(port, &words),
-        Some(Command::Run(kind)) => run_lines(alloc, kind, source, port, places),
-        Some(Command::Serve(kind)) => run_frames(alloc, kind, source, port, places),
-        Some(Command::Check) => check_image(alloc, port),
-        Some(Command::Load(words)) => load_image(alloc, &words, places.pick(words.kind), port),
-        Some(Command::Upgrade) => upgrade_image(alloc, port),
+        Some(words) => obey(alloc, words, source, port, places),
         None => Status::Usage,
+    }
+}
+
+/// Does what a command says.
+#[tactic(auto, using(crate::proofs::Statuses::no_usage_ending, crate::proofs::Statuses::no_source_ending))]
+pub(crate) fn obey<S: Source, P: Port>(
+    alloc: Global,
+    words: Command,
+    source: &mut S,
+    port: &mut P,
+    places: &PlaceBook,
+) -> Status
+    requires { IsInLimits words }
+    ensures other { result ≢ Status.Usage }
+    // By command and status: what came in, what was sent, what a crash at any moment may have left, and what the disk
+    // is after Done.
+    ensures did { Did (Some words) result
+        (taking S.told S.taken S.left_bytes S.ended source.old source.new) (moments P.told P.view port.old port.new) }
+    // A count of faults rose only where the status is that fault's.
+    ensures source_fault { result ≡ Status.SourceFault → Rose (S.faults source.old) (S.faults source.new) }
+    ensures device_fault { result ≡ Status.DeviceFault → Rose (P.view port.old).faults (P.view port.new).faults }
+    ensures put_fault { result ≡ Status.PutFault → Rose (P.view port.old).put_faults (P.view port.new).put_faults }
+    ensures no_source_fault { result ≢ Status.SourceFault → S.faults source.new ≡ S.faults source.old }
+    ensures no_device_fault { result ≢ Status.DeviceFault → (P.view port.new).faults ≡ (P.view port.old).faults }
+    ensures no_put_fault { result ≢ Status.PutFault → (P.view port.new).put_faults ≡ (P.view port.old).put_faults }
+{
+    match words {
+        Command::Fresh(fresh) => fresh_lines(alloc, &fresh, source, port, places),
+        Command::Format(words) => format_image(port, &words),
+        Command::Run(kind) => run_lines(alloc, kind, source, port, places),
+        Command::Serve(kind) => run_frames(alloc, kind, source, port, places),
+        Command::Shell(shell) => shell_lines(alloc, &shell, source, port, places),
+        Command::Check => check_image(alloc, port),
+        Command::Load(words) => load_image(alloc, &words, places.pick(words.kind), port),
+        Command::Upgrade => upgrade_image(alloc, port),
     }
 }
 
@@ -154,5 +186,35 @@ fn run_frames<S: Source, P: Port>(
             INPUT_MAX,
         ),
         Err(_) => Status::NoMemory,
+    }
+}
+
+/// Opens an image and answers the lines of a shell over the tree in it.
+#[tactic(auto, using(crate::proofs::Statuses::no_usage_shell))]
+fn shell_lines<S: Source, P: Port>(
+    alloc: Global,
+    shell: &Shell,
+    source: &mut S,
+    port: &mut P,
+    places: &PlaceBook,
+) -> Status
+    ensures other { result ≢ Status.Usage }
+    ensures did { Did (Some (command.Shell shell.now)) result
+        (taking S.told S.taken S.left_bytes S.ended source.old source.new) (moments P.told P.view port.old port.new) }
+    ensures source_fault { result ≡ Status.SourceFault → Rose (S.faults source.old) (S.faults source.new) }
+    ensures device_fault { result ≡ Status.DeviceFault → Rose (P.view port.old).faults (P.view port.new).faults }
+    ensures put_fault { result ≡ Status.PutFault → Rose (P.view port.old).put_faults (P.view port.new).put_faults }
+    ensures no_source_fault { result ≢ Status.SourceFault → S.faults source.new ≡ S.faults source.old }
+    ensures no_device_fault { result ≢ Status.DeviceFault → (P.view port.new).faults ≡ (P.view port.old).faults }
+    ensures no_put_fault { result ≢ Status.PutFault → (P.view port.new).put_faults ≡ (P.view port.old).put_faults }
+{
+    let place = places.pick(shell.kind);
+    match shell.layout {
+        ShellKind::Inode => serve_inode_image(
+            alloc, shell.root, &shell.cap, place, source, port, INPUT_MAX,
+        ),
+        ShellKind::Chain => serve_chain_image(
+            alloc, shell.root, &shell.cap, place, source, port, INPUT_MAX,
+        ),
     }
 }

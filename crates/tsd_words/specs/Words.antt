@@ -6,10 +6,13 @@ use Rattle.tsd_model.specs.Geometry.{IsLawful}
 use Rattle.tsd_model.specs.declared.geometry.Geometry.{Geometry}
 use Rattle.tsd_model.specs.declared.requests.PlaceKind.{PlaceKind}
 use Rattle.tsd_model.specs.declared.requests.PlaceKind.TheVariants.{Low, Near, Spread, Zone}
+use Rattle.fs_trees.specs.declared.ask.ShellKind.{ShellKind}
+use Rattle.fs_trees.specs.declared.ask.ShellKind.TheVariants.{Inode, Chain}
 use Rattle.script_text.specs.Reading.{num_of, new_of, ◌>>=◌}
 use Rattle.tsd_words.specs.declared.commands.Fresh.{Fresh}
 use Rattle.tsd_words.specs.declared.commands.Format.{Format}
 use Rattle.tsd_words.specs.declared.commands.Load.{Load}
+use Rattle.tsd_words.specs.declared.commands.Shell.{Shell}
 use Rattle.tsd_words.specs.declared.commands.Command.{Command}
 use Rattle.tsd_words.specs.declared.commands.Command.TheVariants as command
 
@@ -23,6 +26,10 @@ named_kind (k ∷ ks) w = cond (bytes_eq w k.0) (Some k.1) (named_kind ks w)
 
 unfoldable pub kind_of : List ℕ → Option PlaceKind
 kind_of w = named_kind kinds w
+
+-- the two layouts of a tree by name
+unfoldable pub layout_of : List ℕ → Option ShellKind
+layout_of w = cond (bytes_eq w (codes "inode")) (Some Inode) (cond (bytes_eq w (codes "chain")) (Some Chain) None)
 
 -- 32 bytes, as 64 hexadecimal digits
 abbrev pub seed_of : List ℕ → Option (List ℕ)
@@ -79,6 +86,15 @@ load_of seed count place = do
   kind ← kind_of place
   cond (nat_le 1 n && nat_le n 200000) (Some (record { seed = s; count = n; kind = kind })) None
 
+-- what KIND ROOT CAP PLACE say
+unfoldable pub shell_of : List ℕ → List ℕ → List ℕ → List ℕ → Option Shell
+shell_of layout root cap place = do
+  l ← layout_of layout
+  a ← num_of root
+  c ← new_of cap
+  kind ← kind_of place
+  Some (record { layout = l; root = a; cap = c; kind = kind })
+
 -- check; upgrade
 unfoldable pub alone_of : List ℕ → Option Command
 alone_of name = cond (bytes_eq name (codes "check")) (Some command.Check) (cond (bytes_eq name (codes "upgrade")) (Some command.Upgrade) None)
@@ -99,11 +115,17 @@ made_of name a b c d e =
 unfoldable pub loaded_of : List ℕ → List ℕ → List ℕ → List ℕ → Option Command
 loaded_of name seed count place = cond (bytes_eq name (codes "load")) (option_map (λ load. command.Load load) (load_of seed count place)) None
 
+-- shell KIND ROOT CAP PLACE
+unfoldable pub shelled_of : List ℕ → List ℕ → List ℕ → List ℕ → List ℕ → Option Command
+shelled_of name layout root cap place =
+    cond (bytes_eq name (codes "shell")) (option_map (λ shell. command.Shell shell) (shell_of layout root cap place)) None
+
 -- the command that the words spell
 abbrev pub command_of : List (List ℕ) → Option Command
 command_of (name ∷ []) = alone_of name
 command_of (name ∷ place ∷ []) = served_of name place
 command_of (name ∷ seed ∷ count ∷ place ∷ []) = loaded_of name seed count place
+command_of (name ∷ layout ∷ root ∷ cap ∷ place ∷ []) = shelled_of name layout root cap place
 command_of (name ∷ a ∷ b ∷ c ∷ d ∷ e ∷ []) = made_of name a b c d e
 command_of ws = None
 

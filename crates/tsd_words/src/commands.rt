@@ -1,6 +1,7 @@
 //! What the program is asked to do.
 
-use tsd_model::{CapPair, Geometry, PlaceKind};
+use fs_trees::ShellKind;
+use tsd_model::{Cap, CapPair, Geometry, PlaceKind};
 
 /// The bytes of a seed.
 pub const SEED_BYTES: usize = 32;
@@ -44,6 +45,22 @@ pub struct Load {
     pub kind: PlaceKind,
 }
 
+/// A file system to be served.
+#[derive(Clone, Copy, Debug, PartialEq, Eq)]
+pub struct Shell {
+    /// How its tree is kept in blocks.
+    pub layout: ShellKind,
+
+    /// The block under which it hangs.
+    pub root: u32,
+
+    /// The capability that is shown for that block.
+    pub cap: Cap,
+
+    /// In which order free blocks are taken.
+    pub kind: PlaceKind,
+}
+
 /// A command, without the image's name.
 #[derive(Clone, Copy, Debug, PartialEq, Eq)]
 pub enum Command {
@@ -58,6 +75,9 @@ pub enum Command {
 
     /// Opens an image, and answers requests as frames.
     Serve(PlaceKind),
+
+    /// Opens an image, mounts the tree under a block, and answers the lines of the shell.
+    Shell(Shell),
 
     /// Opens an image, and tells how large its world is or what is wrong with it.
     Check,

@@ -3,9 +3,11 @@
 ghost use Rattle.std.specs.Prelude.{◌≡◌, ◌≤◌, map, string_bytes, IfSome};
 ghost use Rattle.tsd_model.specs.Geometry.{IsLawful};
 ghost use Rattle.tsd_words.specs.Words.{IsInLimits, alone_of, command_of, format_of, fresh_of, geometry_of, is_size};
-ghost use Rattle.tsd_words.specs.Words.{is_table, kind_of, load_of, loaded_of, made_of, seed_of, served_of, size_of};
+ghost use Rattle.tsd_words.specs.Words.{is_table, kind_of, layout_of, load_of, loaded_of, made_of, seed_of, served_of};
+ghost use Rattle.tsd_words.specs.Words.{shell_of, shelled_of, size_of};
 
-use crate::commands::{Command, Format, Fresh, LOAD_MAX, Load, SEED_BYTES};
+use crate::commands::{Command, Format, Fresh, LOAD_MAX, Load, SEED_BYTES, Shell};
+use fs_trees::ShellKind;
 use hex::FromHex;
 use script_text::fields::{parse_cap, parse_number};
 use tsd_model::geometry::{MAX_BLOCKS, MAX_PRIMARIES, MAX_SLOTS, MIN_BLOCKS};
@@ -20,6 +22,15 @@ pub fn command(words: &Vec<String>) -> Option<Command>
         [name] => alone(bytes(name)),
         [name, place] => served(bytes(name), bytes(place)),
         [name, seed, count, place] => loaded(bytes(name), bytes(seed), bytes(count), bytes(place)),
+        [name, layout, root, cap, place] => {
+            shelled(
+                bytes(name),
+                bytes(layout),
+                bytes(root),
+                bytes(cap),
+                bytes(place),
+            )
+        }
         [name, first, second, third, fourth, fifth] => made(
             bytes(name),
             bytes(first),
@@ -82,6 +93,19 @@ fn loaded(name: &[u8], seed: &[u8], count: &[u8], place: &[u8]) -> Option<Comman
     }
 }
 
+/// `shell KIND ROOT CAP PLACE`.
+#[tactic(auto, unfolding(crate::specs::Words::shelled_of))]
+fn shelled(name: &[u8], layout: &[u8], root: &[u8], cap: &[u8], place: &[u8]) -> Option<Command>
+    ensures value { result ≡ shelled_of name.now layout.now root.now cap.now place.now }
+    ensures limits { IfSome result IsInLimits }
+{
+    if name == b"shell".as_slice() {
+        Some(Command::Shell(shell(layout, root, cap, place)?))
+    } else {
+        None
+    }
+}
+
 /// `fresh BLOCKS SECTORS READCAP WRITECAP PLACE` and `format BLOCKS SECTORS SLOTS PRIMARIES SEED`.
 #[tactic(auto, unfolding(crate::specs::Words::made_of))]
 fn made(
@@ -118,6 +142,23 @@ fn load(seed: &[u8], count: &[u8], place: &[u8]) -> Option<Load>
     } else {
         None
     }
+}
+
+/// What follows `shell`.
+#[tactic(auto, unfolding(crate::specs::Words::shell_of))]
+fn shell(layout: &[u8], root: &[u8], cap: &[u8], place: &[u8]) -> Option<Shell>
+    ensures { result ≡ shell_of layout.now root.now cap.now place.now }
+{
+    let layout = parse_layout(layout)?;
+    let root = parse_number(root)?;
+    let cap = parse_cap(cap)?;
+    let kind = kind(place)?;
+    Some(Shell {
+        layout,
+        root,
+        cap,
+        kind,
+    })
 }
 
 /// What follows `fresh`.
@@ -224,6 +265,20 @@ fn kind(place: &[u8]) -> Option<PlaceKind>
         Some(PlaceKind::Spread)
     } else if place == b"zone".as_slice() {
         Some(PlaceKind::Zone)
+    } else {
+        None
+    }
+}
+
+/// The layout of a name.
+#[tactic(auto, unfolding(crate::specs::Words::layout_of))]
+fn parse_layout(name: &[u8]) -> Option<ShellKind>
+    ensures { result ≡ layout_of name.now }
+{
+    if name == b"inode".as_slice() {
+        Some(ShellKind::Inode)
+    } else if name == b"chain".as_slice() {
+        Some(ShellKind::Chain)
     } else {
         None
     }

@@ -3,6 +3,7 @@ use Rattle.image_device.specs.View.{IsLeftInPut}
 use Rattle.image_device.specs.Runs.{LeavesOnly}
 use Rattle.image_device.proofs.Moments.{weakened}
 use Rattle.image_runs.specs.Sending.{IsCut}
+use Rattle.image_runs.proofs.Opened.{not_stopped, spared_put, untouched_put}
 use Rattle.image_runs.proofs.Saying.{saying_moments, checked_whole, unchecked, cut_from}
 use Rattle.image_runs.proofs.check.check_image.Goals as goal
 
@@ -49,3 +50,19 @@ returns-in-Err-clause-said g c told =
 pub returns-in-Err-clause-any_moment : goal.returns-in-Err-clause-any_moment
 returns-in-Err-clause-any_moment g c told firm =
     weakened (g.P.Device.view c.args.port.now) (g.P.Device.view c.judge.new.dev) _ _ (c.judge.ensures.any_moment told firm) (λ x f left. (left.0, inl left.1))
+
+pub returns-in-Ok-put_all-clause-untouched : goal.returns-in-Ok-put_all-clause-untouched
+returns-in-Ok-put_all-clause-untouched g c told foreign =
+    untouched_put g.P.Device.told _ (g.P.Device.view c.args.port.now) (g.P.Device.view c.judge.new.dev) (g.P.Device.view c.put_all.new.port) c.put_all.result told c.put_all.ensures (c.judge.ensures.untouched told foreign)
+
+pub returns-in-Err-put_all-clause-untouched : goal.returns-in-Err-put_all-clause-untouched
+returns-in-Err-put_all-clause-untouched g c told foreign =
+    untouched_put g.P.Device.told _ (g.P.Device.view c.args.port.now) (g.P.Device.view c.judge.new.dev) (g.P.Device.view c.put_all.new.port) c.put_all.result told c.put_all.ensures (c.judge.ensures.untouched told foreign)
+
+pub returns-in-Ok-put_all-clause-spared : goal.returns-in-Ok-put_all-clause-spared
+returns-in-Ok-put_all-clause-spared g c told h =
+    spared_put g.P.Device.told _ (g.P.Device.view c.args.port.now) (g.P.Device.view c.judge.new.dev) (g.P.Device.view c.put_all.new.port) c.put_all.result told
+    (g.met.P.Device.sound c.judge.new.dev told) c.put_all.ensures (c.in-Ok.ensures.spared told h)
+
+pub returns-in-Err-clause-spared : goal.returns-in-Err-clause-spared
+returns-in-Err-clause-spared g c told h = absurd (not_stopped c.in-Err.why c.in-Err.ensures.failing h)

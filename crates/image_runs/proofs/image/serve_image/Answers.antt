@@ -5,7 +5,8 @@ use Rattle.tsd_words.specs.declared.status.Status.{Status}
 use Rattle.image_runs.specs.Server.{disk_rules, placed_on}
 use Rattle.serving.specs.Voice.{spoken_counted}
 use Rattle.image_runs.specs.Served.{start_of}
-use Rattle.image_runs.proofs.Started.{placed_at, ends_opened, ends_unopened, judged_by, not_of_source, not_of_put}
+use Rattle.image_runs.proofs.Opened.{not_foreign}
+use Rattle.image_runs.proofs.Started.{asked_image, placed_at, ends_opened, ends_unopened, judged_by, not_of_source, not_of_put}
 use Rattle.image_runs.proofs.image.serve_image.Goals as goal
 
 pub serve_core-requires-clause-few : goal.serve_core-requires-clause-few
@@ -117,3 +118,17 @@ returns-in-Err-clause-no_device_fault g c other = c.in-Err.ensures.faults.1 (λ 
 
 pub returns-in-Err-clause-no_put_fault : goal.returns-in-Err-clause-no_put_fault
 returns-in-Err-clause-no_put_fault g c other = c.open_core.ensures.works.put_faults
+
+pub returns-in-Ok-clause-untouched : goal.returns-in-Ok-clause-untouched
+returns-in-Ok-clause-untouched g c told foreign = absurd (not_foreign _ (c.in-Ok.ensures.read told) foreign)
+
+pub returns-in-Err-clause-untouched : goal.returns-in-Err-clause-untouched
+returns-in-Err-clause-untouched g c = c.open_core.ensures.untouched
+
+pub returns-in-Ok-clause-spared : goal.returns-in-Ok-clause-spared
+returns-in-Ok-clause-spared g c told h =
+    let ran = c.serve_core.ensures.ran in
+    absurd (asked_image c.serve_core.result g.R.Protocol.spelling c.args.limit ran.bytes _ ran.asked ran.these h)
+
+pub returns-in-Err-clause-spared : goal.returns-in-Err-clause-spared
+returns-in-Err-clause-spared g c told h = c.in-Err.ensures.spared told h

@@ -8,6 +8,7 @@ use Rattle.volume_laws.specs.Volume.{IsVolumeAt}
 use Rattle.tsd_core.proofs.AtLaws.{at_core}
 use Rattle.tsd_words.specs.declared.status.Status.TheVariants as status
 use Rattle.image_runs.specs.Applying.{IsSummary}
+use Rattle.image_runs.proofs.Opened.{not_foreign, spared_on}
 use Rattle.image_runs.proofs.Loaded.{loaded_on, load_moments, starved_alike, judged_on, unopened_on}
 use Rattle.image_runs.proofs.load.carry_out.Goals as goal
 
@@ -49,3 +50,12 @@ run-requires-clause-at g c told =
 pub returns-in-Ok-clause-faults : goal.returns-in-Ok-clause-faults
 returns-in-Ok-clause-faults g c =
     subst (λ (n : ℕ). CountsFaultOf status.DeviceFault c.run.result n (g.D.Device.view c.run.new.dev).faults) (c.in-Ok.ensures.faults.1 (λ e. cc)) c.run.ensures.faults
+
+pub returns-in-Ok-clause-untouched : goal.returns-in-Ok-clause-untouched
+returns-in-Ok-clause-untouched g c told foreign = absurd (not_foreign _ (c.in-Ok.ensures.read told) foreign)
+
+pub returns-in-Ok-clause-spared : goal.returns-in-Ok-clause-spared
+returns-in-Ok-clause-spared g c told = spared_on _ c.run.result c.run.ensures.stops
+
+pub returns-in-Err-clause-no_memory : goal.returns-in-Err-clause-no_memory
+returns-in-Err-clause-no_memory g c told memory = c.open_volume.ensures.any_moment told

@@ -3,6 +3,7 @@ use Rattle.image_device.specs.View.{IsLeftInPut}
 use Rattle.image_device.specs.Runs.{LeavesOnly}
 use Rattle.image_device.proofs.Moments.{weakened}
 use Rattle.image_runs.specs.Sending.{IsCut}
+use Rattle.image_runs.proofs.Opened.{untouched_put}
 use Rattle.image_runs.proofs.Saying.{cut_from}
 use Rattle.image_runs.proofs.Loaded.{line_is, line_moments, loaded_still, not_loaded}
 use Rattle.image_runs.proofs.load.load_image.Goals as goal
@@ -59,3 +60,11 @@ returns-in-Err-clause-any_moment g c told firm =
 
 pub returns-in-Err-clause-no_memory : goal.returns-in-Err-clause-no_memory
 returns-in-Err-clause-no_memory g c told = c.in-Err.ensures.no_memory told
+
+pub returns-in-Ok-put_all-clause-untouched : goal.returns-in-Ok-put_all-clause-untouched
+returns-in-Ok-put_all-clause-untouched g c told foreign =
+    untouched_put g.P.Device.told _ (g.P.Device.view c.args.port.now) (g.P.Device.view c.carry_out.new.dev) (g.P.Device.view c.put_all.new.port) c.put_all.result told c.put_all.ensures (c.carry_out.ensures.untouched told foreign)
+
+pub returns-in-Err-put_all-clause-untouched : goal.returns-in-Err-put_all-clause-untouched
+returns-in-Err-put_all-clause-untouched g c told foreign =
+    untouched_put g.P.Device.told _ (g.P.Device.view c.args.port.now) (g.P.Device.view c.carry_out.new.dev) (g.P.Device.view c.put_all.new.port) c.put_all.result told c.put_all.ensures (c.carry_out.ensures.untouched told foreign)

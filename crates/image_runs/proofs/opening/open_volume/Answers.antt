@@ -5,8 +5,8 @@ use Rattle.tsd_words.specs.declared.status.Status.{Status}
 use Rattle.tsd_words.specs.declared.status.Status.TheVariants as status
 use Rattle.intent_journal.specs.Home.{home}
 use Rattle.image_world.specs.Debt.{owed}
-use Rattle.image_runs.specs.Opened.{IsJudged, IsUnopened}
-use Rattle.image_runs.proofs.Opened.{flag_of, judged_of, unopened_of, device_of, device_only}
+use Rattle.image_runs.specs.Opened.{IsJudged, IsNotImage, IsUnopened}
+use Rattle.image_runs.proofs.Opened.{image_fault_of, flag_of, judged_of, unopened_of, device_of, device_only}
 use Rattle.image_runs.proofs.opening.open_volume.Goals as goal
 
 pub returns-in-Err-clause-read : goal.returns-in-Err-clause-read
@@ -40,3 +40,7 @@ returns-in-Err-clause-any_debt g c told firm still = c.open_image.ensures.any_ow
 
 pub returns-in-Err-clause-unwritten : goal.returns-in-Err-clause-unwritten
 returns-in-Err-clause-unwritten g c told quiet = omega (arith, (c.open_image.ensures.unwritten told quiet).most)
+
+pub returns-in-Err-clause-spared : goal.returns-in-Err-clause-spared
+returns-in-Err-clause-spared g c told h =
+    c.in-Err.ensures.spared told (image_fault_of c.in-Err.why (subst (λ (r : Status). IsNotImage r) c.status_of.ensures h))

@@ -1,6 +1,8 @@
 use Rattle.std.proofs.Common.{inl}
-use Rattle.image_runs.specs.Opened.{IsJudged, IsUnopened}
+use Rattle.image_runs.specs.Opened.{IsJudged, IsNotImage, IsUnopened}
+use Rattle.recovery.specs.Opening.{IsSpared}
 use Rattle.image_device.proofs.Moments.{weakened}
+use Rattle.image_runs.proofs.Opened.{not_foreign}
 use Rattle.image_runs.proofs.Upgraded.{by_device, counted_since, not_for_memory, upgrade_moments, upgraded_there}
 use Rattle.image_runs.proofs.upgrade.upgrade.Goals as goal
 
@@ -34,3 +36,10 @@ pub returns-in-Ok-clause-faults : goal.returns-in-Ok-clause-faults
 returns-in-Ok-clause-faults g c =
     counted_since (g.D.Device.view c.args.dev.now).faults (g.D.Device.view c.open_volume.new.dev).faults (g.D.Device.view c.upgrade_at.new.dev).faults c.upgrade_at.result
     (c.in-Ok.ensures.faults.1 (λ e. cc)) c.upgrade_at.ensures.failed c.upgrade_at.ensures.faults
+
+pub returns-in-Ok-clause-untouched : goal.returns-in-Ok-clause-untouched
+returns-in-Ok-clause-untouched g c told foreign = absurd (not_foreign _ (c.in-Ok.ensures.read told) foreign)
+
+pub returns-in-Ok-clause-spared : goal.returns-in-Ok-clause-spared
+returns-in-Ok-clause-spared g c told =
+    by_device (λ why. IsNotImage why → IsSpared (g.D.Device.view c.args.dev.now) (g.D.Device.view c.upgrade_at.new.dev)) c.upgrade_at.result c.upgrade_at.ensures.failed (λ h. absurd h)

@@ -24,7 +24,7 @@ loop-request-init g c = record {
     handed_first g.R.Protocol.spelling _ _ c.new-intake.result c.requires.fresh g.met.R.Protocol.lawful.none c.new-intake.ensures.taken c.new-intake.ensures.held c.new-intake.ensures.over,
     λ told.
         let at = c.requires.at told in
-        goes_first g.H.Server.service g.met.H.Server.counted g.H.Server.work _ _ (g.P.Device.view c.args.port.now) (g.met.P.Device.sound c.args.port.now told) at.0 (g.met.H.Server.stands_now c.args.server.now _ at.1),
+        goes_first g.H.Server.service g.met.H.Server.counted g.H.Server.work _ _ (g.P.Device.view c.args.port.now) (g.met.P.Device.sound c.args.port.now told) at.0 (g.met.H.Server.stands_now c.args.server.now _ at.1) (g.met.H.Server.rests_now c.args.server.now _ at.1),
   );
 }
 
@@ -49,7 +49,7 @@ loop-request-preserved g c =
         λ told.
             let a = c.in-Ok.ensures.answered told in
             goes_next g.H.Server.service g.met.H.Server.counted g.H.Server.work _ _ (g.P.Device.view c.args.port.now) was.1 _ _ (g.P.Device.view c.loop-request.port) (was.4 told) _ (g.P.Device.view c.answer.new.port) (c.answer.ensures.any_moment told) (c.answer.ensures.debt told)
-            _ _ a.0 a.1 a.2 (c.in-Ok.ensures.less told) (c.in-Ok.ensures.paid told),
+            (g.met.P.Device.sound c.answer.new.port told) _ (g.met.H.Server.rests_now c.answer.new.self _ (c.answer.ensures.at (ok_not_err c.answer.result _ _ c.in-Ok.is) told).1) _ a.0 a.1 a.2 (c.in-Ok.ensures.less told) (c.in-Ok.ensures.paid told),
       );
     }
 
@@ -94,7 +94,7 @@ returns-in-CutOff-clause-ran g c =
     let found = c.in-CutOff.ensures.found was.0 was.1 was.3 in
     ran_of _ g.H.Server.service g.H.Server.work g.R.Protocol.spelling _ _ c.args.limit c.next.new.self.limit (taking g.S.Source.told g.S.Source.taken g.S.Source.left_bytes g.S.Source.ended c.args.source.now c.next.new.source) _ (moments g.P.Device.told g.P.Device.view c.args.port.now c.loop-request.port) (was.0 ++ found.0) was.1 (c.next.ensures.limit ∙ i.limit)
     (came_then g.S.Source.told _ _ _ _ _ _ was.0 found.0 was.2 found.1) found.2
-    (λ told. ends_now g.H.Server.service g.H.Server.work _ _ (g.P.Device.view c.args.port.now) _ was.1 _ _ (g.P.Device.view c.loop-request.port) (was.4 told) (served_of g.H.Server.service g.H.Server.work _ _ (g.P.Device.view c.args.port.now) was.1 _ _ (g.P.Device.view c.loop-request.port) (was.4 told)))
+    (λ told. ends_now g.H.Server.service g.H.Server.work _ _ (g.P.Device.view c.args.port.now) g.met.H.Server.counted _ was.1 _ _ (g.P.Device.view c.loop-request.port) (was.4 told) (served_of g.H.Server.service g.H.Server.work _ _ (g.P.Device.view c.args.port.now) was.1 _ _ (g.P.Device.view c.loop-request.port) (was.4 told)))
 
 pub returns-in-Fault-clause-ran : goal.returns-in-Fault-clause-ran
 returns-in-Fault-clause-ran g c =
@@ -103,7 +103,7 @@ returns-in-Fault-clause-ran g c =
     let found = c.in-Fault.ensures.found was.0 was.1 was.3 in
     ran_of _ g.H.Server.service g.H.Server.work g.R.Protocol.spelling _ _ c.args.limit c.next.new.self.limit (taking g.S.Source.told g.S.Source.taken g.S.Source.left_bytes g.S.Source.ended c.args.source.now c.next.new.source) _ (moments g.P.Device.told g.P.Device.view c.args.port.now c.loop-request.port) (was.0 ++ found.0) was.1 (c.next.ensures.limit ∙ i.limit)
     (came_then g.S.Source.told _ _ _ _ _ _ was.0 found.0 was.2 found.1) found.2
-    (λ told. ends_now g.H.Server.service g.H.Server.work _ _ (g.P.Device.view c.args.port.now) _ was.1 _ _ (g.P.Device.view c.loop-request.port) (was.4 told) (served_of g.H.Server.service g.H.Server.work _ _ (g.P.Device.view c.args.port.now) was.1 _ _ (g.P.Device.view c.loop-request.port) (was.4 told)))
+    (λ told. ends_now g.H.Server.service g.H.Server.work _ _ (g.P.Device.view c.args.port.now) g.met.H.Server.counted _ was.1 _ _ (g.P.Device.view c.loop-request.port) (was.4 told) (served_of g.H.Server.service g.H.Server.work _ _ (g.P.Device.view c.args.port.now) was.1 _ _ (g.P.Device.view c.loop-request.port) (was.4 told)))
 
 pub returns-in-TooLong-clause-ran : goal.returns-in-TooLong-clause-ran
 returns-in-TooLong-clause-ran g c =
@@ -112,4 +112,4 @@ returns-in-TooLong-clause-ran g c =
     let found = c.in-TooLong.ensures.found was.0 was.1 was.3 in
     ran_of _ g.H.Server.service g.H.Server.work g.R.Protocol.spelling _ _ c.args.limit c.next.new.self.limit (taking g.S.Source.told g.S.Source.taken g.S.Source.left_bytes g.S.Source.ended c.args.source.now c.next.new.source) _ (moments g.P.Device.told g.P.Device.view c.args.port.now c.loop-request.port) (was.0 ++ found.0) was.1 (c.next.ensures.limit ∙ i.limit)
     (came_then g.S.Source.told _ _ _ _ _ _ was.0 found.0 was.2 found.1) found.2
-    (λ told. ends_now g.H.Server.service g.H.Server.work _ _ (g.P.Device.view c.args.port.now) _ was.1 _ _ (g.P.Device.view c.loop-request.port) (was.4 told) (served_of g.H.Server.service g.H.Server.work _ _ (g.P.Device.view c.args.port.now) was.1 _ _ (g.P.Device.view c.loop-request.port) (was.4 told)))
+    (λ told. ends_now g.H.Server.service g.H.Server.work _ _ (g.P.Device.view c.args.port.now) g.met.H.Server.counted _ was.1 _ _ (g.P.Device.view c.loop-request.port) (was.4 told) (served_of g.H.Server.service g.H.Server.work _ _ (g.P.Device.view c.args.port.now) was.1 _ _ (g.P.Device.view c.loop-request.port) (was.4 told)))

@@ -1,5 +1,4 @@
 use Rattle.std.proofs.Common.{sym, ◌∙◌, ap, append-nil}
-use Rattle.image_device.specs.View.{View}
 use Rattle.serving.specs.Ran.{moments, taking}
 use Rattle.tsd_serve.proofs.Promises.{headline}
 use Rattle.tsd_serve.proofs.laws.acknowledged_requests_stay.Goals as goal

@@ -40,8 +40,8 @@ returns-in-Ok-eq0-clause-found g c bytes qs was =
     let i = c.read_held.new.self in (
       r.0,
       came_none g.S.Source.told _ _ _ _ _ _ _ r.0 _ c.in-Ok-eq0.field-0-test c.in-Ok-eq0.ensures.taken c.in-Ok-eq0.ensures.bytes r.1,
-      found_at_end g.R.Protocol.spelling _ _ _ i _ (bytes ++ r.0) qs _ _ _ (none_read g.R.Protocol.spelling _ _ _ qs (c.in-None.ensures.handed (bytes ++ r.0) qs r.2)) (c.in-None.ensures.all refl) (omega (arith, c.if-self-2.false)) c.at_end.ensures.counts.limit
-          (at_the_end g.S.Source.told _ _ _ _ _ c.in-Ok-eq0.field-0-test c.in-Ok-eq0.ensures.found_end.0 c.in-Ok-eq0.ensures.end c.in-Ok-eq0.ensures.bytes) c.ending.ensures c.at_end.ensures.next,
+      found_at_end g.R.Protocol.spelling _ _ _ i _ (bytes ++ r.0) qs _ _ _ (none_read g.R.Protocol.spelling _ _ _ qs (c.in-None.ensures.handed (bytes ++ r.0) qs r.2)) (c.in-None.ensures.all refl) (omega (arith, c.if-self-2.false)) c.last.ensures.counts.limit
+          (at_the_end g.S.Source.told _ _ _ _ _ c.in-Ok-eq0.field-0-test c.in-Ok-eq0.ensures.found_end.0 c.in-Ok-eq0.ensures.end c.in-Ok-eq0.ensures.bytes) c.last.ensures.next.1 c.last.ensures.next.2,
     )
 
 pub loop-request-preserved : goal.loop-request-preserved

@@ -1,0 +1,38 @@
+-- A core at a device, as a disk of blocks.
+use Rattle.std.specs.Prelude.{ℕ, List, Option, Some, None}
+use Rattle.tsd_model.specs.World.{World}
+use Rattle.tsd_model.specs.declared.requests.PlaceKind.{PlaceKind}
+use Rattle.image_device.specs.View.{View as DeviceView}
+use Rattle.image_layout.specs.Image.{Image}
+use Rattle.image_world.specs.Faults.{IsGood}
+use Rattle.image_world.specs.Stands.{Stands, world_of}
+use Rattle.fs_port.specs.View.{Left, View}
+use Rattle.tsd_core.specs.Core.{Core, told_world, sessions_of}
+
+-- what an image says: the world for which it stands, or none
+abbrev pub SaysWorld : Image → Option World → Type 0
+SaysWorld x (Some w) = Stands x w
+SaysWorld x None = ¬ IsGood x
+
+-- a crash at some moment since then may have left this image, with these bytes sent, and this is what it says
+pub record HasLeft (v : DeviceView) (t : ℕ) (x : Left) (f : List ℕ) : Type 0 where
+  pub was_left : v.left t x.image f
+  pub says : SaysWorld x.image x.world
+
+-- What memory tells, also where the device tells nothing, and beside it the world for which the device stands.
+abbrev pub core_view : ℕ × ℕ → PlaceKind → Core → DeviceView → View
+core_view lenders kind c v = record {
+  geometry = (told_world c).geometry;
+  version = (told_world c).version;
+  records = (told_world c).records;
+  sessions = sessions_of c;
+  kind = kind;
+  world = world_of v.reads;
+  sent = v.sent;
+  clock = v.clock;
+  left = HasLeft v;
+  faults = v.faults;
+  put_faults = v.put_faults;
+  spent = c.volume.is_spent;
+  lenders = lenders;
+}

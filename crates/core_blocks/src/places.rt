@@ -1,0 +1,58 @@
+//! Requests carried out with free blocks taken in some order.
+
+ghost use Rattle.std.specs.Prelude.{◌≡◌, true, OnOk, OnErr, IfOk};
+ghost use Rattle.image_device.specs.Counts.{CountsFault};
+ghost use Rattle.tsd_model.specs.declared.requests.PlaceKind.{PlaceKind};
+ghost use Rattle.tsd_model.specs.Run.{IsAnswer};
+ghost use Rattle.volume_laws.specs.Moments.{LeavesEither};
+ghost use Rattle.volume_laws.specs.Writes.{Works};
+ghost use Rattle.tsd_core.specs.Core.{IsCoreReady, IsCoreAt, state_on};
+ghost use Rattle.tsd_core.specs.Work.{SameSize};
+ghost use Rattle.tsd_core.specs.Applying.{IsToldAnswer, next_world};
+
+use image_device::{Device, Failed};
+use place_policy::Placement;
+use tsd_core::Core;
+use tsd_model::{Reply, Request};
+
+/// In which order free blocks are taken. A type with a fact about its device can't stand beside stored closures, so it
+/// knows them by this trait alone.
+pub trait Places {
+    /// The kind of placement.
+    ghost kind: { Self → PlaceKind };
+
+    /// Applies a request to a core, as `Core::apply` does.
+    fn apply<D: Device>(
+        &self,
+        core: &mut Core,
+        dev: &mut D,
+        request: &Request,
+    ) -> Result<Reply, Failed>
+        requires ready { IsCoreReady core.old }
+        requires at { D.told → IsCoreAt core.old (D.view dev.old) }
+        ensures ready { OnOk result (IsCoreReady core.new) }
+        ensures at { D.told → OnOk result (IsCoreAt core.new (D.view dev.new)) }
+        ensures given { D.told → IfOk result (λ r. IsAnswer (kind self.now) (state_on core.old (D.view dev.old).reads)
+            request.now r (state_on core.new (D.view dev.new).reads)) }
+        ensures told { IfOk result (λ r. IsToldAnswer (kind self.now) core.old request.now r core.new) }
+        ensures size { SameSize core.old core.new }
+        ensures spent { OnErr result (core.new.volume.is_spent ≡ true) }
+        ensures sent { D.told → (D.view dev.new).sent ≡ (D.view dev.old).sent }
+        ensures any_moment { D.told → LeavesEither (D.view dev.old) (D.view dev.new) (next_world (kind self.now)
+            (state_on core.old (D.view dev.old).reads) request.now) }
+        ensures works { Works (D.view dev.old) (D.view dev.new) }
+        ensures faults { CountsFault result (D.view dev.old).faults (D.view dev.new).faults };
+}
+
+impl Places for Placement {
+    ghost kind = { λ p. p.kind };
+
+    fn apply<D: Device>(
+        &self,
+        core: &mut Core,
+        dev: &mut D,
+        request: &Request,
+    ) -> Result<Reply, Failed> {
+        core.apply(dev, self, request)
+    }
+}

@@ -1,0 +1,76 @@
+-- A run over what a crash left of another.
+use Rattle.std.proofs.Common.{◌≡◌, inl, inr, ℕ, List, [], ◌∷◌, refl, sym, ◌∙◌, ap, subst}
+use Rattle.tsd_model.specs.World.{World}
+use Rattle.image_layout.specs.Image.{Image}
+use Rattle.image_world.specs.Stands.{world_of}
+use Rattle.fs_trees.specs.Tree.{is_there}
+use Rattle.fs_trees.specs.Outside.{OthersStay}
+use Rattle.fs_trees.specs.Layouts.{tree_at}
+use Rattle.fs_trees.specs.declared.ask.ShellAsk.{ShellAsk}
+use Rattle.fs_trees.specs.declared.ask.ShellAsk.TheVariants as ask
+use Rattle.fs_trees.specs.declared.ask.ShellKind.{ShellKind}
+use Rattle.fs_laws.proofs.OutsideLaws.{outside_twice}
+use Rattle.fs_port.specs.Files.{FilesView}
+use Rattle.serving.specs.Runs.{Run}
+use Rattle.shell_server.specs.Shell.{AnswersByLine, ShellState, IsLeftOf, files_after, heard, shell_service, tree_under}
+use Rattle.image_shell.specs.Served.{IsFirstState}
+use Rattle.image_shell.specs.Told.{IsFoundAgain, WhatACrashLeftIsMounted}
+
+-- the same layout under the same root
+abbrev IsSamePlace : FilesView → FilesView → Type 0
+IsSamePlace f g = (g.kind ≡ f.kind) × (g.root ≡ f.root)
+
+after_ask : (f : FilesView) (q : ShellAsk) → IsSamePlace f (files_after f q)
+after_ask f ask.Bad = (refl, refl)
+after_ask f ask.Make = (refl, refl)
+after_ask f (ask.Put path x) = (refl, refl)
+after_ask f (ask.Append path x) = (refl, refl)
+after_ask f (ask.Cat path) = (refl, refl)
+after_ask f (ask.Ls path) = (refl, refl)
+after_ask f (ask.MakeDir path) = (refl, refl)
+after_ask f (ask.Rm path) = (refl, refl)
+after_ask f (ask.Copy path new) = (refl, refl)
+after_ask f ask.Df = (refl, refl)
+
+after_answer : (start : World) (s t : ShellState) (q : ShellAsk) (line : List ℕ) → AnswersByLine start s q line t → IsSamePlace s.files t.files
+after_answer start s t q line given = subst (λ (h : FilesView). IsSamePlace s.files h) (sym given.files) (after_ask s.files (heard s.files.kind q))
+
+after_run : (start : World) (s t : ShellState) (qs : List ShellAsk) (xs : List (List ℕ)) → Run (shell_service start) s qs xs t → IsSamePlace s.files t.files
+after_run start s t [] [] run = subst (λ (u : ShellState). IsSamePlace s.files u.files) run (refl, refl)
+after_run start s t [] (a ∷ xs) run = absurd run
+after_run start s t (q ∷ qs) [] run = absurd run
+after_run start s t (q ∷ qs) (a ∷ xs) run =
+    let one = after_answer start s run.0 q a run.1 in
+    let more = after_run start run.0 t qs xs run.2 in
+    (more.0 ∙ one.0, more.1 ∙ one.1)
+
+module _ (f : FilesView) (start : World) (first second : ShellState) (x : Image) (is_first : IsFirstState f start first) (is_second : IsFirstState f (world_of x) second) where
+  found : (s : ShellState) → IsSamePlace first.files s.files → IsLeftOf start s x → IsFoundAgain start s second
+  found s same left =
+      let kind : s.files.kind ≡ f.kind = same.0 ∙ ap (λ (h : FilesView). h.kind) is_first.files in
+      let root : s.files.root ≡ f.root = same.1 ∙ ap (λ (h : FilesView). h.root) is_first.files in
+      let here : tree_under f (world_of x) ≡ tree_under s.files s.world =
+      ap (λ (k : ShellKind). tree_at k (world_of x) f.root) (sym kind) ∙ ap (λ (n : ℕ). tree_at s.files.kind (world_of x) n) (sym root) ∙ ap (λ (w : World). tree_under s.files w) (sym left.stands.world) ∙ left.tree in
+      let root_there : second.files.root ≡ s.files.root = ap (λ (h : FilesView). h.root) is_second.files ∙ sym root in
+      record {
+        tree = ap (λ (h : FilesView). tree_under h second.world) is_second.files ∙ is_second.tree ∙ here;
+        mounted = ap (λ (h : FilesView). h.mounted) is_second.files ∙ ap is_there here;
+        tidy = is_second.tidy;
+        others = outside_twice s.files.root start (world_of x) second.world (subst (λ (w : World). OthersStay s.files.root start w) left.stands.world left.others)
+            (subst (λ (n : ℕ). OthersStay n (world_of x) second.world) root_there is_second.kept.others);
+      }
+
+pub found_again : WhatACrashLeftIsMounted
+found_again f start first second before asked x sent is_first acked is_second = elim acked [
+  | inl b ↦ inl (b.0, found f start first second x is_first is_second b.0.state (after_run start first b.0.state b.0.answered b.0.answers b.0.run) b.1)
+  | inr c ↦
+      let run = after_run start first c.0.state c.0.answered c.0.answers c.0.run in
+      let one = after_answer start c.0.state c.0.next c.0.request c.0.answer c.0.given in
+      inr (
+        c.0,
+        elim c.1 [
+          | inl now ↦ inl (found f start first second x is_first is_second c.0.state run now)
+          | inr next ↦ inr (found f start first second x is_first is_second c.0.next (one.0 ∙ run.0, one.1 ∙ run.1) next)
+        ],
+      )
+]

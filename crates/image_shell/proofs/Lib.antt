@@ -1,0 +1,5 @@
+pub mod BeginLaws
+pub mod FromLaws
+pub mod MountLaws
+pub mod StartLaws
+pub mod AgainLaws

@@ -1,0 +1,187 @@
+-- A run over an image, from its start: opened, and then served from the core.
+use Rattle.std.proofs.Common.{◌≡◌, inl, inr, ℕ, ◌≤◌, List, [], refl, sym, ◌∙◌, ap, subst}
+use Rattle.tsd_model.specs.World.{World}
+use Rattle.tsd_model.specs.Run.{at_rest}
+use Rattle.tsd_model.specs.Sessions.{Fits, Sessions, fitted, no_sessions}
+use Rattle.tsd_model.specs.Step.{State}
+use Rattle.tsd_model.specs.Valid.{IsValid}
+use Rattle.tsd_model.specs.declared.caps.Cap.{Cap}
+use Rattle.disk_laws.proofs.FreshLaws.{no_sessions_fit}
+use Rattle.image_device.specs.View.{IsSound, View}
+use Rattle.image_device.specs.Runs.{IsFirm, LeavesOnly}
+use Rattle.image_device.proofs.Moments.{firm_image, joined, started, weakened}
+use Rattle.image_layout.specs.Image.{Image}
+use Rattle.image_world.specs.Faults.{IsGood}
+use Rattle.image_world.specs.Stands.{Stands, world_of}
+use Rattle.image_world.proofs.WorldLaws.{world_valid}
+use Rattle.recovery.specs.Opening.{StandAlike}
+use Rattle.image_runs.specs.Opened.{IsUnopened, IsNotImage}
+use Rattle.tsd_words.specs.declared.status.Status.{Status}
+use Rattle.tsd_words.specs.declared.status.Status.TheVariants as status
+use Rattle.fs_trees.specs.declared.ask.ShellAsk.{ShellAsk}
+use Rattle.fs_trees.specs.declared.ask.ShellKind.{ShellKind}
+use Rattle.fs_port.specs.Files.{FilesView}
+use Rattle.serving.specs.Handling.{FitsDevice}
+use Rattle.serving.specs.Ran.{ByStatus, Moments, Taking}
+use Rattle.serving.specs.Runs.{IsAcknowledged}
+use Rattle.tsd_core.specs.Core.{Core, state_on, told_world}
+use Rattle.tsd_core.specs.Core.{IsCoreAt}
+use Rattle.shell_server.specs.Shell.{IsLeftOf, shell_service, unmounted}
+use Rattle.shell_server.specs.Kept.{FitsShell}
+use Rattle.image_shell.specs.Loop.{MayServe}
+use Rattle.image_shell.specs.Served.{IsAsItWas, IsRootDenied, IsNotServed, IsShellJudged, NoAskServed, ShellEnds, ShellRan, level_at}
+use Rattle.image_shell.specs.FromCore.{EndsFrom, IsAdmitted, IsAsAtStart, IsAtStart, NoAskServedFrom, RanFrom}
+use Rattle.image_shell.proofs.FromLaws.{first_moment, seen_before, stays_put}
+
+-- ---- an image that was opened
+
+pub start_here : (start : World) (c : Core) (old mid : View) → start ≡ world_of old.reads → IsSound old → IsGood old.reads → IsCoreAt c mid → state_on c mid.reads ≡ at_rest (world_of old.reads) → c.grants.sessions ≡ no_sessions → IsAtStart start c mid
+start_here start c old mid is sound good at state none = record {
+  core = at;
+  world = ap (λ (s : State). s.world) state ∙ sym is;
+  valid = subst IsValid (sym is) (world_valid old.reads (world_of old.reads) sound.own.whole (record { good = good; world = refl }));
+  fits = subst (λ (v : Sessions). Fits start v) (sym (ap (fitted (told_world c)) none)) (no_sessions_fit start);
+}
+
+pub judged_start : (image : Image) (root : ℕ) (cap : Cap) (start : World) (r : Status) → start ≡ world_of image → IsGood image → IsAdmitted root cap start r → IsShellJudged root cap image r
+judged_start image root cap start (status.RootDenied attained) is good may = (good, subst (λ (w : World). IsRootDenied w root cap attained) is may)
+judged_start image root cap start (status.NotImage why) is good may = absurd may
+judged_start image root cap start status.DeviceFault is good may = tt
+judged_start image root cap start status.NoMemory is good may = tt
+judged_start image root cap start status.Done is good may = (good, ap (λ (w : World). level_at w root cap) (sym is) ∙ may)
+judged_start image root cap start status.Usage is good may = (good, ap (λ (w : World). level_at w root cap) (sym is) ∙ may)
+judged_start image root cap start status.SourceFault is good may = (good, ap (λ (w : World). level_at w root cap) (sym is) ∙ may)
+judged_start image root cap start status.PutFault is good may = (good, ap (λ (w : World). level_at w root cap) (sym is) ∙ may)
+judged_start image root cap start status.TooLong is good may = (good, ap (λ (w : World). level_at w root cap) (sym is) ∙ may)
+judged_start image root cap start status.Truncated is good may = (good, ap (λ (w : World). level_at w root cap) (sym is) ∙ may)
+
+-- who was let in, or wasn't, had an image
+pub admitted_image : (root : ℕ) (cap : Cap) (start : World) (r : Status) → IsAdmitted root cap start r → IsNotImage r → ⊥
+admitted_image root cap start (status.NotImage why) may h = may
+admitted_image root cap start status.Done may h = h
+admitted_image root cap start status.Usage may h = h
+admitted_image root cap start status.DeviceFault may h = h
+admitted_image root cap start status.SourceFault may h = h
+admitted_image root cap start status.PutFault may h = h
+admitted_image root cap start status.TooLong may h = h
+admitted_image root cap start status.NoMemory may h = h
+admitted_image root cap start status.Truncated may h = h
+admitted_image root cap start (status.RootDenied attained) may h = h
+
+-- a core at a device may serve from the world as it is
+pub serves_here : (f : FilesView) (c : Core) (v : View) → MayServe f c v → FitsDevice (FitsShell (world_of v.reads) f c) v
+serves_here f c v may = (
+  may.core.0,
+  record { core = may.core.1; kept = record { valid = may.valid; others = stays_put f.root (world_of v.reads) }; tidy = may.tidy; fits = may.fits; there = may.there },
+)
+
+-- ---- one that wasn't
+
+not_served_by : (r : Status) → IsUnopened r → IsNotServed r
+not_served_by (status.NotImage why) h = tt
+not_served_by status.DeviceFault h = tt
+not_served_by status.NoMemory h = tt
+not_served_by (status.RootDenied attained) h = absurd h
+not_served_by status.Done h = absurd h
+not_served_by status.Usage h = absurd h
+not_served_by status.SourceFault h = absurd h
+not_served_by status.PutFault h = absurd h
+not_served_by status.TooLong h = absurd h
+not_served_by status.Truncated h = absurd h
+
+pub ran_unopened : (r : Status) (kind : ShellKind) (root : ℕ) (cap : Cap) (limit : ℕ) (source : Taking) (told same : Type 0) (old new : View)
+    → IsUnopened r → source.came [] → source.untouched → (told → new.sent ≡ old.sent) → (told → IsFirm old → LeavesOnly old new (λ x s. StandAlike old.reads x × (s ≡ old.sent))) → ShellRan r kind root cap limit source (record { tells = told; untouched = same; old = old; new = new })
+ran_unopened r kind root cap limit source told same old new why came_in untouched sent any = record {
+  bytes = [];
+  came_in = came_in;
+  asked = [];
+  these = inl (record {
+    why = not_served_by r why;
+    untouched = untouched;
+    none = refl;
+    sent = sent;
+    alike = λ t firm. weakened old new (λ x s. StandAlike old.reads x × (s ≡ old.sent)) (λ x s. IsAsItWas r (unmounted kind root cap) old.reads x × (s ≡ old.sent)) (any t firm) (λ x s left. (inl left.0, left.1));
+  });
+}
+
+-- nothing was begun: no memory was found
+pub ran_unstarted : (kind : ShellKind) (root : ℕ) (cap : Cap) (limit : ℕ) (source : Taking) (told same : Type 0) (v : View) → (told → IsSound v) → source.came [] → source.untouched
+    → ShellRan status.NoMemory kind root cap limit source (record { tells = told; untouched = same; old = v; new = v })
+ran_unstarted kind root cap limit source told same v sound came_in untouched = record {
+  bytes = [];
+  came_in = came_in;
+  asked = [];
+  these = inl (record {
+    why = tt;
+    untouched = untouched;
+    none = refl;
+    sent = λ t. refl;
+    alike = λ t firm. started v (λ x s. IsAsItWas status.NoMemory (unmounted kind root cap) v.reads x × (s ≡ v.sent)) (sound t)
+        (λ x s left. (inl (subst (λ (y : Image). StandAlike v.reads y) (sym (firm_image v firm x s left)) (λ w. (λ is. is, λ is. is))), left.1));
+  });
+}
+
+-- ---- the whole
+
+alike_of : (old x : Image) → IsGood old → Stands x (world_of old) → StandAlike old x
+alike_of old x good stands w = (λ s. record { good = stands.good; world = s.world ∙ stands.world }, λ s. record { good = good; world = s.world ∙ sym stands.world })
+
+stands_by : (old x : Image) → IsGood old → StandAlike old x → Stands x (world_of old)
+stands_by old x good alike = (alike (world_of old)).0 (record { good = good; world = refl })
+
+module _ (r : Status) (kind : ShellKind) (root : ℕ) (cap : Cap) (limit : ℕ) (source : Taking) (told later_same same : Type 0) (start : World) (old mid new : View)
+    (is : told → start ≡ world_of old.reads) (good : told → IsGood old.reads) (sent : told → mid.sent ≡ old.sent) (any : told → IsFirm old → LeavesOnly old mid (λ x s. StandAlike old.reads x × (s ≡ old.sent))) (clock : old.clock ≤ mid.clock) where
+  abbrev files : FilesView
+  files = unmounted kind root cap
+
+  abbrev later : Moments
+  later = record { tells = told; untouched = later_same; old = mid; new = new }
+
+  abbrev all : Moments
+  all = record { tells = told; untouched = same; old = old; new = new }
+
+  as_it_was : told → (x : Image) → IsAsAtStart r files start x → IsAsItWas r files old.reads x
+  as_it_was t x (inl stands) = inl (alike_of old.reads x (good t) (subst (λ (w : World). Stands x w) (is t) stands))
+  as_it_was t x (inr left) = inr (left.0, subst (λ (w : World). IsLeftOf w (record { files = files; world = w }) x) (is t) left.1)
+
+  none_from : (asked : List ShellAsk) → NoAskServedFrom r files source start later asked → NoAskServed r files source all asked
+  none_from asked none = record {
+    why = none.why;
+    untouched = none.untouched;
+    none = none.none;
+    sent = λ t. none.sent t ∙ sent t;
+    alike = λ t firm. joined old mid new (λ x s. IsAsItWas r files old.reads x × (s ≡ old.sent)) (λ x s. IsAsAtStart r files start x × (s ≡ mid.sent))
+        (weakened old mid (λ x s. StandAlike old.reads x × (s ≡ old.sent)) (λ x s. IsAsItWas r files old.reads x × (s ≡ old.sent)) (any t firm) (λ x s left. (inl left.0, left.1)))
+        (none.alike t) (λ x s left. (as_it_was t x left.0, left.1 ∙ sent t));
+  }
+
+  ends_from : told → (asked : List ShellAsk) → EndsFrom r files (world_of old.reads) mid new asked → ShellEnds r files old new asked
+  ends_from t asked ends =
+      let k = shell_service (world_of old.reads) in
+      record {
+        first = ends.first;
+        is_first = ends.is_first;
+        final = ends.final;
+        sent = subst (λ (b : List ℕ). ByStatus r k ends.first b asked ends.final new.sent) (sent t) ends.sent;
+        any_moment = λ firm. joined old mid new (IsAcknowledged k ends.first old.sent asked) (IsAcknowledged k ends.first old.sent asked)
+            (weakened old mid (λ x s. StandAlike old.reads x × (s ≡ old.sent)) (IsAcknowledged k ends.first old.sent asked) (any t firm)
+            (λ x s left. first_moment (world_of old.reads) ends.first old.sent asked x s (ends.at_start x (stands_by old.reads x (good t) left.0)) left.1))
+            (subst (λ (b : List ℕ). LeavesOnly mid new (IsAcknowledged k ends.first b asked)) (sent t) ends.any_moment) (λ x s acked. acked);
+        seen = seen_before k (new.left old.clock) ends.first mid.sent old.sent asked new.sent (sent t) (ends.seen old.clock clock);
+        all_seen = λ fine. ends.all_seen fine old.clock clock;
+        done = ends.done;
+      }
+
+  ran_here : RanFrom r files kind limit source start later → ShellRan r kind root cap limit source all
+  ran_here ran = record {
+    bytes = ran.bytes;
+    came_in = ran.came_in;
+    asked = ran.asked;
+    these = elim ran.these [
+      | inl none ↦ inl (none_from ran.asked none)
+      | inr asked ↦ inr (asked.0, λ t. ends_from t ran.asked (subst (λ (w : World). EndsFrom r files w mid new ran.asked) (is t) (asked.1 t)))
+    ];
+  }
+
+  pub ran_opened : (f : FilesView) → f ≡ files → RanFrom r f kind limit source start later → ShellRan r kind root cap limit source all
+  ran_opened f is_new ran = ran_here (subst (λ (h : FilesView). RanFrom r h kind limit source start later) is_new ran)

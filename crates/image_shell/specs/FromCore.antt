@@ -1,0 +1,133 @@
+-- A run of the shell from a core that was opened, by its steps: the level, the session, mounting, and the loop.
+use Rattle.std.specs.Prelude.{◌≡◌, ◌≢◌, ◌⊎◌, ℕ, ◌≤◌, Bool, true, false, List, [], Result, OnOk, IfErr, IsTrue, ⊤}
+use Rattle.tsd_model.specs.World.{World}
+use Rattle.tsd_model.specs.Sessions.{Fits, is_open}
+use Rattle.tsd_model.specs.Valid.{IsValid}
+use Rattle.tsd_model.specs.declared.caps.Cap.{Cap}
+use Rattle.tsd_model.specs.declared.requests.Level.{Level}
+use Rattle.tsd_model.specs.declared.requests.Level.TheVariants as level
+use Rattle.disk_laws.specs.Bytes.{AreLike}
+use Rattle.image_device.specs.Counts.{CountsFaultOf, Rose}
+use Rattle.image_device.specs.View.{View}
+use Rattle.image_device.specs.Runs.{LeavesOnly}
+use Rattle.image_layout.specs.Image.{Image}
+use Rattle.image_world.specs.Stands.{Stands, world_of}
+use Rattle.tsd_words.specs.declared.status.Status.{Status}
+use Rattle.tsd_words.specs.declared.status.Status.TheVariants as status
+use Rattle.fs_trees.specs.declared.ask.ShellAsk.{ShellAsk}
+use Rattle.fs_trees.specs.declared.ask.ShellKind.{ShellKind}
+use Rattle.fs_trees.specs.declared.refusal.FsRefusal.{FsRefusal}
+use Rattle.fs_trees.specs.declared.refusal.FsRefusal.TheVariants as no
+use Rattle.fs_port.specs.Files.{FilesView, OnAnswer}
+use Rattle.serving.specs.Handling.{FitsDevice}
+use Rattle.serving.specs.Ran.{AskedBy, ByStatus, Moments, Taking}
+use Rattle.serving.specs.Runs.{IsAcknowledged}
+use Rattle.serving.specs.Seen.{IsSeenRun}
+use Rattle.tsd_core.specs.Core.{Core, IsCoreAt, IsCoreReady, sessions_of, told_world}
+use Rattle.image_runs.specs.Served.{IsAtEase}
+use Rattle.shell_server.specs.Lines.{shell_spelling}
+use Rattle.shell_server.specs.Shell.{ShellState, IsLeftOf, shell_service}
+use Rattle.shell_server.specs.Kept.{AreReady, FitsShell, shell_state}
+use Rattle.image_shell.specs.Served.{IsRootDenied, IsFirstState, IsNotServed, level_at}
+
+-- ---- before the loop
+
+-- The core is at a device that stands for this world, which is valid, and its sessions fit it.
+pub record IsAtStart (start : World) (c : Core) (v : View) : Type 0 where
+  pub core : IsCoreAt c v
+  pub world : world_of v.reads ≡ start
+  pub valid : IsValid start
+  pub fits : Fits start (sessions_of c)
+
+-- Session 1 was begun. The world stays.
+pub record IsSessionBegun {X : Type 0} (told : Type 0) (start : World) (c0 c1 : Core) (v w : View) (result : Result X Status) : Type 0 where
+  pub ready : OnOk result (IsCoreReady c1)
+  pub begun : OnOk result (IsTrue (is_open (sessions_of c1) 1))
+  pub like : OnOk result (AreLike (told_world c1) (told_world c0))
+  pub at : told → OnOk result (IsAtStart start c1 w)
+  pub sent : told → w.sent ≡ v.sent
+  pub any_moment : told → LeavesOnly v w (λ x f. Stands x start × (f ≡ v.sent))
+  pub stops : IfErr result (λ why. (why ≡ status.DeviceFault) ⊎ (why ≡ status.NoMemory))
+  pub clock : v.clock ≤ w.clock
+  pub put_faults : w.put_faults ≡ v.put_faults
+  pub faults : CountsFaultOf status.DeviceFault result v.faults w.faults
+
+-- A tree was mounted where one is there. The core may be used but after Device.
+pub record IsMounted {X : Type 0} (told : Type 0) (start : World) (f0 f1 : FilesView) (c0 c1 : Core) (v w : View) (result : Result X FsRefusal) : Type 0 where
+  pub ready : OnAnswer result (AreReady f1 c1)
+  pub at : told → OnAnswer result (FitsDevice (FitsShell start f1 c1) w)
+  pub first : told → OnAnswer result (IsFirstState f0 start (shell_state f1 w.reads))
+  pub sent : told → w.sent ≡ v.sent
+  pub any_moment : told → LeavesOnly v w (λ x f. IsLeftOf start (record { files = f0; world = start }) x × (f ≡ v.sent))
+  pub clock : v.clock ≤ w.clock
+  pub put_faults : w.put_faults ≡ v.put_faults
+  pub faultless : OnAnswer result (w.faults ≡ v.faults)
+  pub cause : IfErr result (λ e. e ≡ no.Device → Rose v.faults w.faults)
+
+-- it isn't write
+abbrev pub is_below_write : Level → Bool
+is_below_write level.Write = false
+is_below_write l = true
+
+-- the disk failed
+abbrev pub is_device : FsRefusal → Bool
+is_device no.Device = true
+is_device e = false
+
+-- ---- the run
+
+-- who may come in, of a disk that was opened
+abbrev pub IsAdmitted : ℕ → Cap → World → Status → Type 0
+IsAdmitted root cap start (status.RootDenied attained) = IsRootDenied start root cap attained
+IsAdmitted root cap start (status.NotImage why) = ⊥
+IsAdmitted root cap start status.DeviceFault = ⊤
+IsAdmitted root cap start status.NoMemory = ⊤
+IsAdmitted root cap start r = level_at start root cap ≡ level.Write
+
+-- it was let in
+abbrev pub IsLetIn : Status → Type 0
+IsLetIn (status.RootDenied attained) = ⊥
+IsLetIn (status.NotImage why) = ⊥
+IsLetIn r = ⊤
+
+-- the image stands for the world at the start, or where the device failed, for one that mounting may leave of it
+abbrev pub IsAsAtStart : Status → FilesView → World → Image → Type 0
+IsAsAtStart r f start x = Stands x start ⊎ ((r ≡ status.DeviceFault) × IsLeftOf start (record { files = f; world = start }) x)
+
+-- No ask was served.
+pub record NoAskServedFrom (r : Status) (f : FilesView) (source : Taking) (start : World) (port : Moments) (asked : List ShellAsk) : Type 0 where
+  pub why : IsNotServed r
+  pub untouched : source.untouched
+  pub none : asked ≡ []
+  pub sent : port.tells → port.new.sent ≡ port.old.sent
+  pub alike : port.tells → LeavesOnly port.old port.new (λ x sent. IsAsAtStart r f start x × (sent ≡ port.old.sent))
+
+-- How a run over these asks ended.
+pub record EndsFrom (r : Status) (f : FilesView) (start : World) (old new : View) (asked : List ShellAsk) : Type 0 where
+  pub first : ShellState
+  pub is_first : IsFirstState f start first
+  -- an image of the world at the start is one of the first state
+  pub at_start : (x : Image) → Stands x start → IsLeftOf start first x
+  pub final : ShellState
+  pub sent : ByStatus r (shell_service start) first old.sent asked final new.sent
+  pub any_moment : LeavesOnly old new (IsAcknowledged (shell_service start) first old.sent asked)
+  pub seen : (t : ℕ) → t ≤ old.clock → IsSeenRun (shell_service start) (new.left t) first old.sent asked new.sent
+  pub all_seen : r ≢ status.DeviceFault → (t : ℕ) (le : t ≤ old.clock) → (shell_service start).acked (seen t le).front ≡ 0
+  pub done : r ≡ status.Done → IsAtEase new final.world
+
+-- Bytes that came in, the asks that they hold, and how the run over these ended, where the port tells.
+pub record RanFrom (r : Status) (f : FilesView) (kind : ShellKind) (limit : ℕ) (source : Taking) (start : World) (port : Moments) : Type 0 where
+  pub bytes : List ℕ
+  pub came_in : source.came bytes
+  pub asked : List ShellAsk
+  pub these : NoAskServedFrom r f source start port asked
+      ⊎ (AskedBy r (shell_spelling kind) limit bytes source.at_end asked × (port.tells → EndsFrom r f start port.old port.new asked))
+
+-- A count of faults rose only where the status is that fault's.
+pub record TellsFaults (r : Status) (source_before source_now : ℕ) (old new : View) : Type 0 where
+  pub source_fault : r ≡ status.SourceFault → Rose source_before source_now
+  pub device_fault : r ≡ status.DeviceFault → Rose old.faults new.faults
+  pub put_fault : r ≡ status.PutFault → Rose old.put_faults new.put_faults
+  pub no_source_fault : r ≢ status.SourceFault → source_now ≡ source_before
+  pub no_device_fault : r ≢ status.DeviceFault → new.faults ≡ old.faults
+  pub no_put_fault : r ≢ status.PutFault → new.put_faults ≡ old.put_faults

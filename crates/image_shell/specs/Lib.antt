@@ -1,0 +1,4 @@
+pub mod Served
+pub mod FromCore
+pub mod Told
+pub mod Loop

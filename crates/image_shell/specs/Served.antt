@@ -1,0 +1,100 @@
+-- What one run of the shell over an image did, from its start to its end.
+use Rattle.std.specs.Prelude.{◌≡◌, ◌≢◌, ◌⊎◌, ℕ, cond, false, nat_lt, List, [], slice_get, ⊤}
+use Rattle.tsd_model.specs.World.{World}
+use Rattle.tsd_model.specs.Records.{kept_of}
+use Rattle.tsd_model.specs.Attained.{record_level}
+use Rattle.tsd_model.specs.declared.caps.Cap.{Cap}
+use Rattle.tsd_model.specs.declared.requests.Level.{Level}
+use Rattle.tsd_model.specs.declared.requests.Level.TheVariants as level
+use Rattle.image_device.specs.View.{View}
+use Rattle.image_device.specs.Runs.{IsFirm, LeavesOnly}
+use Rattle.image_layout.specs.Image.{Image}
+use Rattle.image_world.specs.Faults.{IsGood}
+use Rattle.image_world.specs.Stands.{world_of}
+use Rattle.recovery.specs.Opening.{StandAlike}
+use Rattle.tsd_words.specs.declared.status.Status.{Status}
+use Rattle.tsd_words.specs.declared.status.Status.TheVariants as status
+use Rattle.fs_trees.specs.Tree.{is_there}
+use Rattle.fs_trees.specs.declared.ask.ShellAsk.{ShellAsk}
+use Rattle.fs_trees.specs.declared.ask.ShellKind.{ShellKind}
+use Rattle.fs_port.specs.Files.{FilesView}
+use Rattle.serving.specs.Ran.{AskedBy, ByStatus, Moments, Taking}
+use Rattle.serving.specs.Runs.{IsAcknowledged}
+use Rattle.serving.specs.Seen.{IsSeenRun}
+use Rattle.image_runs.specs.Opened.{IsJudged}
+use Rattle.image_runs.specs.Served.{IsAtEase}
+use Rattle.shell_server.specs.Lines.{shell_spelling}
+use Rattle.shell_server.specs.Shell.{ShellState, IsKeptSince, IsLeftOf, IsTidyIn, shell_service, tree_under, unmounted}
+
+-- ---- who may come in
+
+-- what a capability attains at a block of a world: nothing where that isn't primary
+abbrev pub level_at : World → ℕ → Cap → Level
+level_at w root cap = cond (nat_lt root w.geometry.primaries) (record_level (slice_get w.records root) (kept_of w.version cap)) level.Bare
+
+-- it doesn't attain write, but this
+abbrev pub IsRootDenied : World → ℕ → Cap → Level → Type 0
+IsRootDenied w root cap attained = (attained ≡ level_at w root cap) × (attained ≢ level.Write)
+
+-- What a status says of the image at the start: NotImage comes exactly where it stands for no world, and RootDenied exactly where
+-- the capability doesn't attain write at the root.
+abbrev pub IsShellJudged : ℕ → Cap → Image → Status → Type 0
+IsShellJudged root cap image (status.RootDenied attained) = IsGood image × IsRootDenied (world_of image) root cap attained
+IsShellJudged root cap image (status.NotImage why) = IsJudged image (status.NotImage why)
+IsShellJudged root cap image status.DeviceFault = ⊤
+IsShellJudged root cap image status.NoMemory = ⊤
+IsShellJudged root cap image r = IsGood image × (level_at (world_of image) root cap ≡ level.Write)
+
+-- ---- where the run begins
+
+-- The tree of the world at the start is mounted where one is there: the world has the same tree, what the root doesn't reach is as it
+-- was, and it is tidy. Where none is there, nothing is mounted, and the world is as it was.
+pub record IsFirstState (f : FilesView) (w : World) (s : ShellState) : Type 0 where
+  pub files : s.files ≡ record f { mounted = is_there (tree_under f w) }
+  pub tree : tree_under f s.world ≡ tree_under f w
+  pub same : is_there (tree_under f w) ≡ false → s.world ≡ w
+  pub kept : IsKeptSince w s
+  pub tidy : IsTidyIn s
+
+-- ---- the whole
+
+-- no ask may have been served
+abbrev pub IsNotServed : Status → Type 0
+IsNotServed (status.NotImage why) = ⊤
+IsNotServed (status.RootDenied attained) = ⊤
+IsNotServed status.NoMemory = ⊤
+IsNotServed status.DeviceFault = ⊤
+IsNotServed r = ⊥
+
+-- The image stands for the world of the one at the start, or for none where that stands for none. Where the device failed, which it may
+-- while a tree is mounted, the tree is as it was, and what the root doesn't reach.
+abbrev pub IsAsItWas : Status → FilesView → Image → Image → Type 0
+IsAsItWas r f old x = StandAlike old x ⊎ ((r ≡ status.DeviceFault) × IsLeftOf (world_of old) (record { files = f; world = world_of old }) x)
+
+-- No ask was served: none was taken, and nothing was sent. A crash at any moment leaves all as it was.
+pub record NoAskServed (r : Status) (f : FilesView) (source : Taking) (port : Moments) (asked : List ShellAsk) : Type 0 where
+  pub why : IsNotServed r
+  pub untouched : source.untouched
+  pub none : asked ≡ []
+  pub sent : port.tells → port.new.sent ≡ port.old.sent
+  pub alike : port.tells → IsFirm port.old → LeavesOnly port.old port.new (λ x sent. IsAsItWas r f port.old.reads x × (sent ≡ port.old.sent))
+
+-- How a run over these asks ended that began in that state: what was sent; where the disk was firm, what a crash at any moment may have
+-- left, opening and mounting included; in which images the states of the run rested; and after Done, what the disk is.
+pub record ShellEnds (r : Status) (f : FilesView) (old new : View) (asked : List ShellAsk) : Type 0 where
+  pub first : ShellState
+  pub is_first : IsFirstState f (world_of old.reads) first
+  pub final : ShellState
+  pub sent : ByStatus r (shell_service (world_of old.reads)) first old.sent asked final new.sent
+  pub any_moment : IsFirm old → LeavesOnly old new (IsAcknowledged (shell_service (world_of old.reads)) first old.sent asked)
+  pub seen : IsSeenRun (shell_service (world_of old.reads)) (new.left old.clock) first old.sent asked new.sent
+  pub all_seen : r ≢ status.DeviceFault → (shell_service (world_of old.reads)).acked seen.front ≡ 0
+  pub done : r ≡ status.Done → IsAtEase new final.world
+
+-- Bytes that came in, the asks that they hold, and how the run over these ended, where the port tells.
+pub record ShellRan (r : Status) (kind : ShellKind) (root : ℕ) (cap : Cap) (limit : ℕ) (source : Taking) (port : Moments) : Type 0 where
+  pub bytes : List ℕ
+  pub came_in : source.came bytes
+  pub asked : List ShellAsk
+  pub these : NoAskServed r (unmounted kind root cap) source port asked
+      ⊎ (AskedBy r (shell_spelling kind) limit bytes source.at_end asked × (port.tells → ShellEnds r (unmounted kind root cap) port.old port.new asked))

@@ -1,0 +1,103 @@
+//! One run of the shell over an image.
+
+ghost use Rattle.std.specs.Prelude.{◌≡◌, ◌≢◌, ◌≤◌};
+ghost use Rattle.image_device.specs.Counts.{Rose};
+ghost use Rattle.image_world.specs.Stands.{world_of};
+ghost use Rattle.serving.specs.Ran.{moments, taking};
+ghost use Rattle.shell_server.specs.Shell.{unmounted};
+ghost use Rattle.image_runs.specs.Opened.{IsNotImage};
+ghost use Rattle.recovery.specs.Opening.{IsForeign, IsSpared, IsUntouched};
+ghost use Rattle.image_shell.specs.Served.{IsShellJudged, ShellRan};
+
+use crate::opened::serve_opened;
+use core_blocks::Places;
+use fs_port::Files;
+use image_device::{Port, Source};
+use image_runs::open_core;
+use serving::INPUT_MAX;
+use shell_server::{Layout, Started};
+use std::alloc::Global;
+use std::marker::Brand;
+use tsd_model::Cap;
+use tsd_words::Status;
+
+/// Opens an image, mounts the tree under a root, and serves the asks of an input until it ends. Where no tree is there,
+/// none is mounted until one is made.
+///
+/// The status is NotImage where the image stands for no world, RootDenied where the capability doesn't attain write at
+/// the root, NoMemory where none was found, DeviceFault where that count rose, or else how the loop ended: Done,
+/// SourceFault or PutFault where that count rose, or TooLong.
+pub fn serve_shell_image<F: Files, L: Places, Y: Layout, S: Source, P: Port>(
+    alloc: Global,
+    files: &mut F,
+    root: u32,
+    cap: &Cap,
+    place: &L,
+    source: &mut S,
+    port: &mut P,
+    limit: u64,
+) -> Status
+    requires few { limit ≤ INPUT_MAX }
+    requires files { F.view files.old ≡ unmounted Y.layout root cap.now }
+    ensures read { P.told → IsShellJudged root cap.now (P.view port.old).reads result }
+    // What came in and what was sent, by status; what a crash at any moment may have left; in which images the states
+    // rested; and what the disk is after Done.
+    ensures ran { ShellRan result Y.layout root cap.now limit
+        (taking S.told S.taken S.left_bytes S.ended source.old source.new) (moments P.told P.view port.old port.new) }
+    // Where the image fails one of the tests that need no write, nothing is written, and the disk reads as before;
+    // where it fails another, nothing is lost that a repair could use.
+    ensures untouched { P.told → IsForeign (P.view port.old).reads
+        → IsUntouched (P.view port.old) (P.view port.new) }
+    ensures spared { P.told → IsNotImage result → IsSpared (P.view port.old) (P.view port.new) }
+    // A count of faults rose only where the status is that fault's.
+    ensures source_fault { result ≡ Status.SourceFault → Rose (S.faults source.old) (S.faults source.new) }
+    ensures device_fault { result ≡ Status.DeviceFault → Rose (P.view port.old).faults (P.view port.new).faults }
+    ensures put_fault { result ≡ Status.PutFault → Rose (P.view port.old).put_faults (P.view port.new).put_faults }
+    ensures no_source_fault { result ≢ Status.SourceFault → S.faults source.new ≡ S.faults source.old }
+    ensures no_device_fault { result ≢ Status.DeviceFault → (P.view port.new).faults ≡ (P.view port.old).faults }
+    ensures no_put_fault { result ≢ Status.PutFault → (P.view port.new).put_faults ≡ (P.view port.old).put_faults }
+{
+    serve_from::<F, L, Brand, Y, S, P>(alloc, files, root, cap, place, source, port, limit)
+}
+
+/// The same, where the world at the start is named.
+fn serve_from<F: Files, L: Places, K: Started, Y: Layout, S: Source, P: Port>(
+    alloc: Global,
+    files: &mut F,
+    root: u32,
+    cap: &Cap,
+    place: &L,
+    source: &mut S,
+    port: &mut P,
+    limit: u64,
+) -> Status
+    requires few { limit ≤ INPUT_MAX }
+    requires start { P.told → K.start ≡ world_of (P.view port.old).reads }
+    requires files { F.view files.old ≡ unmounted Y.layout root cap.now }
+    ensures read { P.told → IsShellJudged root cap.now (P.view port.old).reads result }
+    // What came in and what was sent, by status; what a crash at any moment may have left; in which images the states
+    // rested; and what the disk is after Done.
+    ensures ran { ShellRan result Y.layout root cap.now limit
+        (taking S.told S.taken S.left_bytes S.ended source.old source.new) (moments P.told P.view port.old port.new) }
+    // Where the image fails one of the tests that need no write, nothing is written, and the disk reads as before;
+    // where it fails another, nothing is lost that a repair could use.
+    ensures untouched { P.told → IsForeign (P.view port.old).reads
+        → IsUntouched (P.view port.old) (P.view port.new) }
+    ensures spared { P.told → IsNotImage result → IsSpared (P.view port.old) (P.view port.new) }
+    // A count of faults rose only where the status is that fault's.
+    ensures source_fault { result ≡ Status.SourceFault → Rose (S.faults source.old) (S.faults source.new) }
+    ensures device_fault { result ≡ Status.DeviceFault → Rose (P.view port.old).faults (P.view port.new).faults }
+    ensures put_fault { result ≡ Status.PutFault → Rose (P.view port.old).put_faults (P.view port.new).put_faults }
+    ensures no_source_fault { result ≢ Status.SourceFault → S.faults source.new ≡ S.faults source.old }
+    ensures no_device_fault { result ≢ Status.DeviceFault → (P.view port.new).faults ≡ (P.view port.old).faults }
+    ensures no_put_fault { result ≢ Status.PutFault → (P.view port.new).put_faults ≡ (P.view port.old).put_faults }
+{
+    match open_core(alloc, port) {
+        Ok(mut core) => {
+            serve_opened::<F, L, K, Y, S, P>(
+                files, root, cap, &mut core, place, source, port, limit,
+            )
+        }
+        Err(why) => why,
+    }
+}

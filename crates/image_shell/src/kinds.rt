@@ -1,0 +1,95 @@
+//! The two file systems, each over an image.
+
+ghost use Rattle.std.specs.Prelude.{◌≡◌, ◌≢◌, ◌≤◌};
+ghost use Rattle.image_device.specs.Counts.{Rose};
+ghost use Rattle.fs_trees.specs.declared.ask.ShellKind.TheVariants as kind;
+ghost use Rattle.serving.specs.Ran.{moments, taking};
+ghost use Rattle.image_runs.specs.Opened.{IsNotImage};
+ghost use Rattle.recovery.specs.Opening.{IsForeign, IsSpared, IsUntouched};
+ghost use Rattle.image_shell.specs.Served.{IsShellJudged, ShellRan};
+
+use crate::image::serve_shell_image;
+use chain_fs::ChainFs;
+use image_device::{Port, Source};
+use inode_fs::InodeFs;
+use place_policy::Placement;
+use serving::INPUT_MAX;
+use shell_server::{ChainLayout, InodeLayout};
+use std::alloc::Global;
+use tsd_model::Cap;
+use tsd_words::Status;
+
+/// The session as which the shell asks: the only one.
+const SESSION: u32 = 1;
+
+/// Opens an image and serves the shell of inodes until the input ends, as `serve_shell_image` does.
+pub fn serve_inode_image<S: Source, P: Port>(
+    alloc: Global,
+    root: u32,
+    cap: &Cap,
+    place: &Placement,
+    source: &mut S,
+    port: &mut P,
+    limit: u64,
+) -> Status
+    requires few { limit ≤ INPUT_MAX }
+    ensures read { P.told → IsShellJudged root cap.now (P.view port.old).reads result }
+    ensures ran { ShellRan result kind.Inode root cap.now limit
+        (taking S.told S.taken S.left_bytes S.ended source.old source.new) (moments P.told P.view port.old port.new) }
+    // Where the image fails one of the tests that need no write, nothing is written, and the disk reads as before;
+    // where it fails another, nothing is lost that a repair could use.
+    ensures untouched { P.told → IsForeign (P.view port.old).reads
+        → IsUntouched (P.view port.old) (P.view port.new) }
+    ensures spared { P.told → IsNotImage result → IsSpared (P.view port.old) (P.view port.new) }
+    ensures source_fault { result ≡ Status.SourceFault → Rose (S.faults source.old) (S.faults source.new) }
+    ensures device_fault { result ≡ Status.DeviceFault → Rose (P.view port.old).faults (P.view port.new).faults }
+    ensures put_fault { result ≡ Status.PutFault → Rose (P.view port.old).put_faults (P.view port.new).put_faults }
+    ensures no_source_fault { result ≢ Status.SourceFault → S.faults source.new ≡ S.faults source.old }
+    ensures no_device_fault { result ≢ Status.DeviceFault → (P.view port.new).faults ≡ (P.view port.old).faults }
+    ensures no_put_fault { result ≢ Status.PutFault → (P.view port.new).put_faults ≡ (P.view port.old).put_faults }
+{
+    match InodeFs::new(alloc, root, cap, SESSION) {
+        Ok(mut files) => {
+            serve_shell_image::<InodeFs, Placement, InodeLayout, S, P>(
+                alloc, &mut files, root, cap, place, source, port, limit,
+            )
+        }
+        Err(_) => Status::NoMemory,
+    }
+}
+
+/// Opens an image and serves the shell of chains until the input ends, as `serve_shell_image` does.
+pub fn serve_chain_image<S: Source, P: Port>(
+    alloc: Global,
+    root: u32,
+    cap: &Cap,
+    place: &Placement,
+    source: &mut S,
+    port: &mut P,
+    limit: u64,
+) -> Status
+    requires few { limit ≤ INPUT_MAX }
+    ensures read { P.told → IsShellJudged root cap.now (P.view port.old).reads result }
+    ensures ran { ShellRan result kind.Chain root cap.now limit
+        (taking S.told S.taken S.left_bytes S.ended source.old source.new) (moments P.told P.view port.old port.new) }
+    // Where the image fails one of the tests that need no write, nothing is written, and the disk reads as before;
+    // where it fails another, nothing is lost that a repair could use.
+    ensures untouched { P.told → IsForeign (P.view port.old).reads
+        → IsUntouched (P.view port.old) (P.view port.new) }
+    ensures spared { P.told → IsNotImage result → IsSpared (P.view port.old) (P.view port.new) }
+    ensures source_fault { result ≡ Status.SourceFault → Rose (S.faults source.old) (S.faults source.new) }
+    ensures device_fault { result ≡ Status.DeviceFault → Rose (P.view port.old).faults (P.view port.new).faults }
+    ensures put_fault { result ≡ Status.PutFault → Rose (P.view port.old).put_faults (P.view port.new).put_faults }
+    ensures no_source_fault { result ≢ Status.SourceFault → S.faults source.new ≡ S.faults source.old }
+    ensures no_device_fault { result ≢ Status.DeviceFault → (P.view port.new).faults ≡ (P.view port.old).faults }
+    ensures no_put_fault { result ≢ Status.PutFault → (P.view port.new).put_faults ≡ (P.view port.old).put_faults }
+{
+    match ChainFs::new(alloc, root, cap, SESSION) {
+        Ok(mut files) => {
+            serve_shell_image::<ChainFs, Placement, ChainLayout, S, P>(
+                alloc, &mut files, root, cap, place, source, port, limit,
+            )
+        }
+        Err(_) => Status::NoMemory,
+    }
+}

@@ -1,0 +1,143 @@
+//! A run of the shell from a core that was opened.
+
+ghost use Rattle.std.specs.Prelude.{◌≡◌, ◌≤◌};
+ghost use Rattle.tsd_model.specs.Sessions.{no_sessions};
+ghost use Rattle.tsd_model.specs.declared.requests.Level.TheVariants as level;
+ghost use Rattle.tsd_core.specs.Core.{IsCoreReady, told_world};
+ghost use Rattle.serving.specs.Ran.{moments, taking};
+ghost use Rattle.shell_server.specs.Kept.{AreReady};
+ghost use Rattle.shell_server.specs.Shell.{unmounted};
+ghost use Rattle.image_shell.specs.Served.{level_at};
+ghost use Rattle.image_shell.specs.FromCore.{IsAdmitted, IsAtStart, IsLetIn, IsMounted, IsSessionBegun, RanFrom};
+ghost use Rattle.image_shell.specs.FromCore.{TellsFaults, is_below_write, is_device};
+
+use core_blocks::{CoreBlocks, Places};
+use fs_port::{Files, FsRefusal};
+use image_device::{Device, Port, Source};
+use serving::INPUT_MAX;
+use shell_server::{Layout, Started, serve_shell};
+use tsd_core::Core;
+use tsd_model::{Cap, Level, Reply, Request, Shown};
+use tsd_words::Status;
+
+/// Tests the level at the root, opens a session, mounts the tree, and serves.
+pub fn serve_opened<F: Files, L: Places, K: Started, Y: Layout, S: Source, P: Port>(
+    files: &mut F,
+    root: u32,
+    cap: &Cap,
+    core: &mut Core,
+    place: &L,
+    source: &mut S,
+    port: &mut P,
+    limit: u64,
+) -> Status
+    requires few { limit ≤ INPUT_MAX }
+    requires ready { IsCoreReady core.old }
+    requires none { core.old.grants.sessions ≡ no_sessions }
+    requires at { P.told → IsAtStart K.start core.old (P.view port.old) }
+    requires files { F.view files.old ≡ unmounted Y.layout root cap.now }
+    ensures allowed { P.told → IsAdmitted root cap.now K.start result }
+    ensures ran { RanFrom result (F.view files.old) Y.layout limit
+        (taking S.told S.taken S.left_bytes S.ended source.old source.new) K.start
+        (moments P.told P.view port.old port.new) }
+    ensures faults { TellsFaults result (S.faults source.old) (S.faults source.new) (P.view port.old)
+        (P.view port.new) }
+{
+    let attained = root_level(core, root, cap);
+    if is_below_write(&attained) {
+        return Status::RootDenied(attained);
+    }
+    match begin_on::<P, L, K>(core, place, port) {
+        Ok(()) => serve_begun::<F, L, K, Y, S, P>(files, core, place, source, port, limit),
+        Err(why) => why,
+    }
+}
+
+/// What a capability attains at a root: nothing where that isn't primary.
+pub fn root_level(core: &Core, root: u32, cap: &Cap) -> Level
+    ensures { result ≡ level_at (told_world core.now) root cap.now }
+{
+    let geometry = core.geometry();
+    if root < geometry.primaries {
+        return core.level_shown(root, &Shown::Key(*cap));
+    }
+    Level::Bare
+}
+
+/// Opens session 1.
+pub fn begin_on<D: Device, L: Places, K: Started>(
+    core: &mut Core,
+    place: &L,
+    dev: &mut D,
+) -> Result<(), Status>
+    requires ready { IsCoreReady core.old }
+    requires none { core.old.grants.sessions ≡ no_sessions }
+    requires at { D.told → IsAtStart K.start core.old (D.view dev.old) }
+    ensures { IsSessionBegun D.told K.start core.old core.new (D.view dev.old) (D.view dev.new) result }
+{
+    match place.apply(core, dev, &Request::Begin { session: 1 }) {
+        Ok(Reply::Done) => Ok(()),
+        Ok(_) => Err(Status::NoMemory),
+        Err(_) => Err(Status::DeviceFault),
+    }
+}
+
+/// Mounts the tree under the root, where one is there.
+pub fn mount_on<F: Files, D: Device, L: Places, K: Started>(
+    files: &mut F,
+    core: &mut Core,
+    place: &L,
+    dev: &mut D,
+) -> Result<(), FsRefusal>
+    requires ready { AreReady (F.view files.old) core.old }
+    requires at { D.told → IsAtStart K.start core.old (D.view dev.old) }
+    ensures { IsMounted D.told K.start (F.view files.old) (F.view files.new) core.old core.new (D.view dev.old)
+        (D.view dev.new) result }
+{
+    let mut blocks = CoreBlocks::new(core, place, dev);
+    files.mount(&mut blocks)
+}
+
+/// Mounts the tree and serves.
+pub fn serve_begun<F: Files, L: Places, K: Started, Y: Layout, S: Source, P: Port>(
+    files: &mut F,
+    core: &mut Core,
+    place: &L,
+    source: &mut S,
+    port: &mut P,
+    limit: u64,
+) -> Status
+    requires few { limit ≤ INPUT_MAX }
+    requires ready { AreReady (F.view files.old) core.old }
+    requires at { P.told → IsAtStart K.start core.old (P.view port.old) }
+    ensures let_in { IsLetIn result }
+    ensures ran { RanFrom result (F.view files.old) Y.layout limit
+        (taking S.told S.taken S.left_bytes S.ended source.old source.new) K.start
+        (moments P.told P.view port.old port.new) }
+    ensures faults { TellsFaults result (S.faults source.old) (S.faults source.new) (P.view port.old)
+        (P.view port.new) }
+{
+    match mount_on::<F, P, L, K>(files, core, place, port) {
+        Ok(()) => serve_shell::<F, L, K, Y, S, P>(files, core, place, source, port, limit),
+        Err(why) => {
+            if is_device(&why) {
+                return Status::DeviceFault;
+            }
+            serve_shell::<F, L, K, Y, S, P>(files, core, place, source, port, limit)
+        }
+    }
+}
+
+/// Whether the disk failed.
+fn is_device(why: &FsRefusal) -> bool
+    ensures { result ≡ is_device why.now }
+{
+    matches!(why, FsRefusal::Device)
+}
+
+/// Whether it isn't write.
+fn is_below_write(attained: &Level) -> bool
+    ensures { result ≡ is_below_write attained.now }
+{
+    !matches!(attained, Level::Write)
+}

@@ -1,0 +1,73 @@
+-- What comes after the disk was read for an ask: the answer, or a refusal.
+use Rattle.std.proofs.Common.{◌≡◌, ◌≢◌, inl, ℕ, List, [], ◌∷◌, ◌++◌, sym, ◌∙◌, ap, subst}
+use Rattle.std.specs.Prelude.{Result, Ok, Err, OnOk, IfErr}
+use Rattle.tsd_model.specs.World.{World}
+use Rattle.image_device.specs.Counts.{CountsFaultOf}
+use Rattle.image_device.specs.View.{View}
+use Rattle.image_device.specs.Runs.{LeavesOnly}
+use Rattle.image_device.proofs.Moments.{joined, weakened}
+use Rattle.script_text.specs.Pieces.{line_feeds}
+use Rattle.fs_trees.specs.Answer.{Answer, refused}
+use Rattle.fs_trees.specs.declared.ask.ShellAsk.{ShellAsk}
+use Rattle.fs_trees.specs.declared.refusal.FsRefusal.{FsRefusal}
+use Rattle.fs_trees.specs.declared.refusal.FsRefusal.TheVariants as no
+use Rattle.fs_port.specs.Files.{FilesView}
+use Rattle.shell_text.specs.Texts.{answer_text}
+use Rattle.tsd_words.specs.declared.status.Status.{Status}
+use Rattle.tsd_words.specs.declared.status.Status.TheVariants as status
+use Rattle.serving.specs.Service.{IsInAnswer, LeftBy}
+use Rattle.tsd_core.specs.Core.{Core}
+use Rattle.shell_server.specs.Shell.{ShellState, AnswersByLine, files_after, heard, shell_service, shell_step, tree_in}
+use Rattle.shell_server.specs.Kept.{shell_state}
+use Rattle.shell_server.specs.Carried.{IsLeftBeforeOrAfter, IsCarried, IsLooked, IsServed}
+use Rattle.shell_server.proofs.ChangeLaws.{judged_refused}
+
+module _ {X Y : Type 0} (told : Type 0) (start : World) (q : ShellAsk) (f0 f1 f2 : FilesView) (c0 c1 c2 : Core) (v w z : View) (of_answer : X → Answer → Type 0) where
+  -- the answer was sent behind it
+  pub served_after : (x : X) (result : Result Y Status) → IsLooked told start q f0 f1 c0 c1 v w of_answer (Ok x) → IsServed told start q f1 f2 c1 c2 w z result → IsServed told start q f0 f2 c0 c2 v z result
+  served_after x result look served = record {
+    ready = served.ready;
+    at = served.at;
+    spent = served.spent;
+    answered = λ t. subst (λ (s : ShellState). OnOk result ((line : List ℕ) × AnswersByLine start s q line (shell_state f2 z.reads) × (z.sent ≡ v.sent ++ line))) (look.state t).0
+        (subst (λ (b : List ℕ). OnOk result ((line : List ℕ) × AnswersByLine start (shell_state f1 w.reads) q line (shell_state f2 z.reads) × (z.sent ≡ b ++ line))) (look.sent t) (served.answered t));
+    left = λ t. subst (λ (s : ShellState). IfErr result (λ why. LeftBy why (shell_service start) s q (shell_state f2 z.reads) v.sent z.sent)) (look.state t).0
+        (subst (λ (b : List ℕ). IfErr result (λ why. LeftBy why (shell_service start) (shell_state f1 w.reads) q (shell_state f2 z.reads) b z.sent)) (look.sent t) (served.left t));
+    any_moment = λ t.
+        joined v w z (IsInAnswer (shell_service start) (shell_state f0 v.reads) q v.sent) (IsInAnswer (shell_service start) (shell_state f0 v.reads) q v.sent)
+        (weakened v w _ (IsInAnswer (shell_service start) (shell_state f0 v.reads) q v.sent) (look.any_moment t) (λ y g left. inl (left.0, left.1)))
+        (subst (λ (s : ShellState). LeavesOnly w z (IsInAnswer (shell_service start) s q v.sent)) (look.state t).0
+        (subst (λ (b : List ℕ). LeavesOnly w z (IsInAnswer (shell_service start) (shell_state f1 w.reads) q b)) (look.sent t) (served.any_moment t)))
+        (λ y g left. left);
+    stops = served.stops;
+    faults = subst (λ (n : ℕ). CountsFaultOf status.DeviceFault result n z.faults) look.faultless.0 served.faults;
+    put_faults = subst (λ (n : ℕ). CountsFaultOf status.PutFault result n z.put_faults) look.put_faults served.put_faults;
+  }
+
+-- It was refused: as an ask that changes nothing.
+module _ {X Y : Type 0} (told : Type 0) (start : World) (q : ShellAsk) (f0 f1 : FilesView) (c0 c1 : Core) (v w : View) (of_answer : X → Answer → Type 0) (still : files_after f0 (heard f0.kind q) ≡ f0) where
+  pub carried_look : (e : FsRefusal) → IsLooked told start q f0 f1 c0 c1 v w of_answer (Err e) → IsCarried {X = Y} told start q f0 f1 c0 c1 v w (Err e)
+  carried_look e look = record {
+    ready = look.ready;
+    at = look.at;
+    answered = λ t. (tt, λ other line. answers t other line);
+    sent = look.sent;
+    any_moment = λ t. weakened v w _ (λ x g. IsLeftBeforeOrAfter start (shell_state f0 v.reads) q x × (g ≡ v.sent)) (look.any_moment t) (λ x g left. (inl left.0, left.1));
+    put_faults = look.put_faults;
+    faultless = look.faultless;
+    spent = look.spent;
+    cause = look.cause;
+  }
+    where
+      answers : told → e ≢ no.Device → line_feeds (answer_text (refused e)) ≡ 0 → AnswersByLine start (shell_state f0 v.reads) q (answer_text (refused e) ++ 10 ∷ []) (shell_state f1 w.reads)
+      answers t other line =
+          let is : (shell_step (shell_state f0 v.reads) q).answer ≡ refused e = look.refused t other in
+          let same : shell_state f1 w.reads ≡ shell_state f0 v.reads = (look.state t).1 other in
+          record {
+            text = ap (λ a. answer_text a ++ 10 ∷ []) (sym is);
+            one_line = ap (λ a. line_feeds (answer_text a)) is ∙ line;
+            tree = ap tree_in same ∙ sym (judged_refused (tree_in (shell_state f0 v.reads)) _ (heard f0.kind q) _ e is);
+            same = λ other_answer. ap (λ (s : ShellState). s.world) same;
+            files = ap (λ (s : ShellState). s.files) same ∙ sym still;
+            kept = ((look.at t).1 other).1.kept;
+          }

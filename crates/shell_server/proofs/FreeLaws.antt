@@ -1,0 +1,66 @@
+-- The number of free blocks, read and answered.
+use Rattle.std.proofs.Common.{◌≡◌, ◌≢◌, inl, ℕ, ◌^◌, ◌<◌, List, [], ◌∷◌, ◌++◌, refl, sym, ◌∙◌, ap, subst, arith, decimal}
+use Rattle.std.specs.Prelude.{Result, Ok, Err, IfOk, IfErr, codes}
+use Rattle.tsd_model.specs.World.{World, free_count}
+use Rattle.image_device.specs.View.{View}
+use Rattle.image_device.specs.Runs.{PutsAll}
+use Rattle.image_device.proofs.Moments.{weakened}
+use Rattle.script_text.specs.Pieces.{line_feeds}
+use Rattle.script_text.proofs.FeedLaws.{feeds-append}
+use Rattle.fs_trees.specs.Answer.{Answer, free_blocks, refused}
+use Rattle.fs_trees.specs.declared.ask.ShellAsk.TheVariants as ask
+use Rattle.fs_trees.specs.declared.refusal.FsRefusal.{FsRefusal}
+use Rattle.fs_trees.specs.declared.refusal.FsRefusal.TheVariants as no
+use Rattle.fs_port.specs.View.{View as BlocksView}
+use Rattle.fs_port.specs.Files.{FilesView, step_on}
+use Rattle.shell_text.specs.Texts.{answer_text}
+use Rattle.tsd_words.specs.declared.status.Status.{Status}
+use Rattle.tsd_words.specs.declared.status.Status.TheVariants as status
+use Rattle.tsd_core.specs.Core.{Core}
+use Rattle.shell_server.specs.Shell.{ShellState, AnswersByLine, IsKeptSince, shell_step}
+use Rattle.shell_server.specs.Kept.{shell_state}
+use Rattle.shell_server.specs.Carried.{IsLeftBeforeOrAfter, IsLooked, IsServed}
+use Rattle.shell_server.proofs.RefusalLaws.{number_none}
+use Rattle.shell_server.proofs.SendLaws.{line_served}
+
+abbrev pub free_line : ℕ → List ℕ
+free_line n = answer_text (free_blocks n) ++ 10 ∷ []
+
+-- what is answered with a number of free blocks
+abbrev pub TellsFree : ℕ → Answer → Type 0
+TellsFree n answer = answer ≡ free_blocks n
+
+-- what a count of the free blocks tells, whatever is mounted
+pub free_told : (f : FilesView) (v : BlocksView) (result : Result ℕ FsRefusal) → IfOk result (λ n. n ≡ free_count v.world) → IfOk result (λ n. TellsFree n (step_on f v ask.Df).answer)
+free_told f v (Ok n) is = ap free_blocks (sym is)
+free_told f v (Err e) is = tt
+
+pub free_refused : (a : Answer) (result : Result ℕ FsRefusal) → IfErr result (λ e. e ≡ no.Device) → IfErr result (λ e. e ≢ no.Device → a ≡ refused e)
+free_refused a (Ok n) only = tt
+free_refused a (Err e) only = λ other. absurd (other only)
+
+free_one_line : (n : ℕ) → n < 2 ^ 32 → line_feeds (answer_text (free_blocks n)) ≡ 0
+free_one_line n few = omega (arith, feeds-append (codes "free") (32 ∷ decimal n), number_none n few)
+
+free_answers : (start : World) (s : ShellState) (n : ℕ) → n < 2 ^ 32 → TellsFree n (shell_step s ask.Df).answer → IsKeptSince start s → AnswersByLine start s ask.Df (free_line n) s
+free_answers start s n few is kept = record {
+  text = ap (λ a. answer_text a ++ 10 ∷ []) (sym is);
+  one_line = ap (λ a. line_feeds (answer_text a)) is ∙ free_one_line n few;
+  tree = refl;
+  same = λ other. refl;
+  files = refl;
+  kept = kept;
+}
+
+-- the number was read, and its line sent
+pub served_free : {Y : Type 0} (told : Type 0) (start : World) (f0 f1 : FilesView) (c0 c1 : Core) (v w z : View) (n : ℕ) → n < 2 ^ 32 → IsLooked told start ask.Df f0 f1 c0 c1 v w TellsFree (Ok n)
+    → (result : Result Y Status) → IfErr result (λ why. why ≡ status.PutFault) → PutsAll told (free_line n) w z result → IsServed told start ask.Df f0 f1 c0 c1 v z result
+served_free told start f0 f1 c0 c1 v w z n few look result stops puts =
+    line_served told start ask.Df f0 f1 c0 c1 v w z (free_line n) look.ready.0 (λ t. (look.at t).0)
+    (λ t.
+    let same = (look.state t).0 in
+    subst (λ (s : ShellState). AnswersByLine start (shell_state f0 v.reads) ask.Df (free_line n) s) (sym same)
+    (free_answers start (shell_state f0 v.reads) n few (look.read t) (subst (λ (s : ShellState). IsKeptSince start s) same (look.at t).0.1.kept)))
+    look.sent
+    (λ t. weakened v w _ (λ x g. IsLeftBeforeOrAfter start (shell_state f0 v.reads) ask.Df x × (g ≡ v.sent)) (look.any_moment t) (λ x g left. (inl left.0, left.1)))
+    look.faultless.0 look.put_faults result stops puts

@@ -1,0 +1,15 @@
+pub mod AfterLaws
+pub mod CatLaws
+pub mod ChangeLaws
+pub mod Examples
+pub mod LookLaws
+pub mod MakeLaws
+pub mod RefusalLaws
+pub mod SendLaws
+pub mod SpeakLaws
+pub mod ToldLaws
+pub mod ListingLaws
+pub mod LsLaws
+pub mod CopyLaws
+pub mod FreeLaws
+pub mod KeptLaws

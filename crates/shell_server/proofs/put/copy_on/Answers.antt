@@ -1,0 +1,33 @@
+use Rattle.std.proofs.Common.{◌≡◌, ℕ, ◌&&◌, cond, refl, sym, ◌∙◌, ap}
+use Rattle.fs_trees.specs.Names.{is_path}
+use Rattle.fs_trees.specs.declared.ask.ShellAsk.TheVariants as ask
+use Rattle.core_blocks.specs.CoreView.{core_view}
+use Rattle.shell_server.specs.Kept.{AreReady, FitsShell}
+use Rattle.shell_server.proofs.ChangeLaws.{carried}
+use Rattle.shell_server.proofs.CopyLaws.{copy_of_change, copy_unmounted, copy_stays}
+use Rattle.shell_server.proofs.put.copy_on.Goals as goal
+
+pub copy-requires-clause-valid : goal.copy-requires-clause-valid
+copy-requires-clause-valid g c = λ told. rw c.new-blocks.ensures.dev_now (let k = (c.requires.at told).1 in record { valid = k.kept.valid; fits = rw c.new-blocks.ensures.core_now k.fits })
+
+pub returns : goal.returns
+returns g c =
+    let d = c.copy.new.disk in
+    let b = c.new-blocks.result in
+    let f = g.F.Files.view c.args.files.now in
+    let ask_it = ask.Copy c.args.path.now c.args.new.now in
+    let l : ℕ × ℕ = (b.core.ghost_name, b.dev.ghost_name) in
+    let kind = g.L.Places.kind b.place.now in
+    let v = g.D.Device.view b.dev.now in
+    let p = c.copy.ensures in
+    let ready : AreReady f b.core.now = rw c.new-blocks.ensures.core_now c.requires.ready in
+    let keeps : g.D.Device.told → FitsShell g.K.Started.start f b.core.now v.reads = λ told. rw (c.new-blocks.ensures.core_now, c.new-blocks.ensures.dev_now) (c.requires.at told).1 in
+    let core_is : c.core-1.given.0 ≡ d.core.now = c.core-1.given.1 (sym c.new-blocks.ensures.core ∙ sym (ap (λ n. n.0) p.changes.counts.lenders)) in
+    let dev_is : c.dev-1.given.0 ≡ d.dev.now = c.dev-1.given.1 (sym c.new-blocks.ensures.dev ∙ sym (ap (λ n. n.1) p.changes.counts.lenders)) in
+    rw (core_is, dev_is, ← c.new-blocks.ensures.core_now, ← c.new-blocks.ensures.dev_now, p.same)
+    (carried g.K.Started.start f ask_it ask_it (ap (λ t. cond (t && (is_path c.args.path.now && is_path c.args.new.now)) ask_it ask.Bad) c.requires.dirs ∙ ap (λ t. cond (t && is_path c.args.new.now) ask_it ask.Bad) c.requires.named ∙ ap (λ t. cond t ask_it ask.Bad) c.requires.new_named) refl l (d.core.ghost_name, d.dev.ghost_name) kind (g.L.Places.kind d.place.now) b.core.now d.core.now v (g.D.Device.view d.dev.now)
+    (copy_of_change f (core_view l kind b.core.now v) c.args.path.now c.args.new.now)
+    (copy_unmounted f (core_view l kind b.core.now v) c.args.path.now c.args.new.now)
+    g.D.Device.told c.copy.result ready keeps d.ready d.at
+    (λ told mounted. copy_stays f (core_view l kind b.core.now v) c.args.path.now c.args.new.now mounted ((keeps told).there mounted))
+    p.answer p.changes)

@@ -1,0 +1,9 @@
+pub mod Shell
+pub mod ShellLaws
+pub mod Lines
+pub mod LineLaws
+pub mod Kept
+pub mod Start
+pub mod Carried
+pub mod Speaking
+pub mod Told

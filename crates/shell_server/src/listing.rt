@@ -1,0 +1,91 @@
+//! The names in a directory, answered name by name.
+
+ghost use Rattle.std.specs.Prelude.{◌≡◌, [], IsTrue};
+ghost use Rattle.fs_trees.specs.Names.{is_path};
+ghost use Rattle.fs_trees.specs.declared.ask.ShellAsk.TheVariants as ask;
+ghost use Rattle.fs_port.specs.Files.{TellsNext};
+ghost use Rattle.serving.specs.Handling.{FitsDevice};
+ghost use Rattle.shell_server.specs.Carried.{IsServed};
+ghost use Rattle.shell_server.specs.Kept.{AreReady, FitsShell, shell_state};
+ghost use Rattle.shell_server.specs.Shell.{shell_step};
+
+use crate::look::next_on;
+use crate::send::{send_change, send_end, send_text};
+use crate::started::Started;
+use core_blocks::Places;
+use fs_port::{Files, FsRefusal, Path};
+use fs_trees::Name;
+use image_device::Port;
+use script_text::OutBuf;
+use shell_text::{print_name, print_names_head};
+use tsd_core::Core;
+use tsd_words::Status;
+
+/// How many names a directory has at most.
+const NAMES_MAX: u32 = 4096;
+
+/// Sends the names in a directory, name by name.
+pub fn answer_ls<F: Files, P: Port, L: Places, K: Started>(
+    files: &mut F,
+    core: &mut Core,
+    place: &L,
+    port: &mut P,
+    path: &Path,
+) -> Result<(), Status>
+    requires ready { AreReady (F.view files.old) core.old }
+    requires at { P.told → FitsDevice (FitsShell K.start (F.view files.old) core.old) (P.view port.old) }
+    requires named { IsTrue (is_path path.now) }
+    ensures { IsServed P.told K.start (ask.Ls path.now) (F.view files.old) (F.view files.new) core.old core.new
+        (P.view port.old) (P.view port.new) result }
+{
+    let none = Name::new();
+    match next_on::<F, P, L, K>(files, core, place, port, path, &none) {
+        Ok(first) => send_names::<F, P, L, K>(files, core, place, port, path, first),
+        Err(why) => send_change(port, Err(why)),
+    }
+}
+
+/// Sends the names in a directory, of which this is the first. A disk that tells its world has all of them.
+fn send_names<F: Files, P: Port, L: Places, K: Started>(
+    files: &mut F,
+    core: &mut Core,
+    place: &L,
+    port: &mut P,
+    path: &Path,
+    first: Option<Name>,
+) -> Result<(), Status>
+    requires ready { AreReady (F.view files.old) core.old }
+    requires at { P.told → FitsDevice (FitsShell K.start (F.view files.old) core.old) (P.view port.old) }
+    requires named { IsTrue (is_path path.now) }
+    requires told { P.told → TellsNext [] first (shell_step (shell_state (F.view files.old) (P.view port.old).reads)
+        (ask.Ls path.now)).answer }
+    ensures { IsServed P.told K.start (ask.Ls path.now) (F.view files.old) (F.view files.new) core.old core.new
+        (P.view port.old) (P.view port.new) result }
+{
+    let mut line = OutBuf::new();
+    print_names_head(first.is_none(), &mut line);
+    match send_text(port, line.as_slice()) {
+        Ok(()) => {}
+        Err(why) => return Err(why),
+    }
+    let mut next = first;
+    let mut left = NAMES_MAX;
+    while left > 0 {
+        let name = match next {
+            Some(name) => name,
+            None => return send_end(port),
+        };
+        print_name(&name, &mut line);
+        match send_text(port, line.as_slice()) {
+            Ok(()) => {}
+            Err(why) => return Err(why),
+        }
+        match next_on::<F, P, L, K>(files, core, place, port, path, &name) {
+            Ok(more) => next = more,
+            Err(FsRefusal::Device) => return Err(Status::DeviceFault),
+            Err(_) => return send_end(port),
+        }
+        left -= 1;
+    }
+    send_end(port)
+}

@@ -1,0 +1,74 @@
+//! A file or a directory read, part by part.
+
+ghost use Rattle.std.specs.Prelude.{◌≡◌, IsTrue};
+ghost use Rattle.fs_trees.specs.Names.{is_path};
+ghost use Rattle.fs_trees.specs.declared.ask.ShellAsk.TheVariants as ask;
+ghost use Rattle.fs_port.specs.Files.{TellsNext, TellsPart, TellsSize};
+ghost use Rattle.serving.specs.Handling.{FitsDevice};
+ghost use Rattle.shell_server.specs.Carried.{IsLooked};
+ghost use Rattle.shell_server.specs.Kept.{AreReady, FitsShell};
+
+use crate::started::Started;
+use core_blocks::{CoreBlocks, Places};
+use fs_port::{Files, FsRefusal, Path};
+use fs_trees::Name;
+use image_device::Device;
+use tsd_core::Core;
+use tsd_model::Data;
+
+/// How many bytes a file has.
+pub fn size_on<F: Files, D: Device, L: Places, K: Started>(
+    files: &mut F,
+    core: &mut Core,
+    place: &L,
+    dev: &mut D,
+    path: &Path,
+) -> Result<u64, FsRefusal>
+    requires ready { AreReady (F.view files.old) core.old }
+    requires at { D.told → FitsDevice (FitsShell K.start (F.view files.old) core.old) (D.view dev.old) }
+    requires named { IsTrue (is_path path.now) }
+    ensures { IsLooked D.told K.start (ask.Cat path.now) (F.view files.old) (F.view files.new) core.old core.new
+        (D.view dev.old) (D.view dev.new) TellsSize result }
+{
+    let mut blocks = CoreBlocks::new(core, place, dev);
+    files.size(&mut blocks, path)
+}
+
+/// The bytes of a file from a place on, at most 4,096.
+pub fn part_on<F: Files, D: Device, L: Places, K: Started>(
+    files: &mut F,
+    core: &mut Core,
+    place: &L,
+    dev: &mut D,
+    path: &Path,
+    start: u64,
+    into: &mut Data,
+) -> Result<(), FsRefusal>
+    requires ready { AreReady (F.view files.old) core.old }
+    requires at { D.told → FitsDevice (FitsShell K.start (F.view files.old) core.old) (D.view dev.old) }
+    requires named { IsTrue (is_path path.now) }
+    ensures { IsLooked D.told K.start (ask.Cat path.now) (F.view files.old) (F.view files.new) core.old core.new
+        (D.view dev.old) (D.view dev.new) (λ _. TellsPart start into.new) result }
+{
+    let mut blocks = CoreBlocks::new(core, place, dev);
+    files.read_part(&mut blocks, path, start, into)
+}
+
+/// The least name in a directory above another; the empty name is below all.
+pub fn next_on<F: Files, D: Device, L: Places, K: Started>(
+    files: &mut F,
+    core: &mut Core,
+    place: &L,
+    dev: &mut D,
+    path: &Path,
+    after: &Name,
+) -> Result<Option<Name>, FsRefusal>
+    requires ready { AreReady (F.view files.old) core.old }
+    requires at { D.told → FitsDevice (FitsShell K.start (F.view files.old) core.old) (D.view dev.old) }
+    requires named { IsTrue (is_path path.now) }
+    ensures { IsLooked D.told K.start (ask.Ls path.now) (F.view files.old) (F.view files.new) core.old core.new
+        (D.view dev.old) (D.view dev.new) (TellsNext after.now) result }
+{
+    let mut blocks = CoreBlocks::new(core, place, dev);
+    files.name_after(&mut blocks, path, after)
+}

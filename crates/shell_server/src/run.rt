@@ -1,0 +1,65 @@
+//! The loop over the shell.
+
+ghost use Rattle.std.specs.Prelude.{◌≡◌, ◌≢◌, ◌≤◌, true};
+ghost use Rattle.image_device.specs.Counts.{Rose};
+ghost use Rattle.image_world.specs.Stands.{world_of};
+ghost use Rattle.serving.specs.Handling.{FitsDevice};
+ghost use Rattle.serving.specs.Ran.{Ran, moments, taking};
+ghost use Rattle.tsd_core.specs.Core.{IsCoreAt, IsCoreReady};
+ghost use Rattle.volume_laws.specs.Quiet.{IsQuiet};
+ghost use Rattle.volume_laws.specs.Writes.{due};
+ghost use Rattle.shell_server.specs.Kept.{AreReady, FitsShell, shell_state};
+ghost use Rattle.shell_server.specs.Lines.{shell_spelling};
+ghost use Rattle.shell_server.specs.Shell.{ShellState, shell_service, shell_work};
+
+use crate::lines::{Layout, ShellLines};
+use crate::server::ShellServer;
+use crate::started::Started;
+use core_blocks::Places;
+use fs_port::Files;
+use image_device::{Port, Source};
+use serving::{INPUT_MAX, serve};
+use std::marker::PhantomData;
+use tsd_core::Core;
+use tsd_words::Status;
+
+/// Serves the asks of an input by a file system on a core until it ends, as `serving::serve` does.
+pub fn serve_shell<F: Files, L: Places, K: Started, Y: Layout, S: Source, P: Port>(
+    files: &mut F,
+    core: &mut Core,
+    place: &L,
+    source: &mut S,
+    port: &mut P,
+    limit: u64,
+) -> Status
+    requires few { limit ≤ INPUT_MAX }
+    requires ready { AreReady (F.view files.old) core.old }
+    requires at { P.told → FitsDevice (FitsShell K.start (F.view files.old) core.old) (P.view port.old) }
+    // What came in and what was sent, by status; what a crash at any moment may have left; and in which images the
+    // states rested.
+    ensures ran { (final : ShellState) × Ran result (shell_service K.start) shell_work (shell_spelling Y.layout)
+        (shell_state (F.view files.old) (P.view port.old).reads) final limit
+        (taking S.told S.taken S.left_bytes S.ended source.old source.new) (due core.old.volume)
+        (moments P.told P.view port.old port.new) × (final.world ≡ world_of (P.view port.new).reads) }
+    // Unless the device failed, the core may be used again; else it is spent.
+    ensures ready { result ≢ Status.DeviceFault → IsCoreReady core.new }
+    ensures at { result ≢ Status.DeviceFault → P.told → IsCoreAt core.new (P.view port.new) }
+    ensures spent { result ≡ Status.DeviceFault → core.new.volume.is_spent ≡ true }
+    ensures closed { result ≡ Status.Done → P.told → IsQuiet (P.view port.new).reads }
+    // A count of faults rose only where the status is that fault's.
+    ensures source_fault { result ≡ Status.SourceFault → Rose (S.faults source.old) (S.faults source.new) }
+    ensures device_fault { result ≡ Status.DeviceFault → Rose (P.view port.old).faults (P.view port.new).faults }
+    ensures put_fault { result ≡ Status.PutFault → Rose (P.view port.old).put_faults (P.view port.new).put_faults }
+    ensures no_source_fault { result ≢ Status.SourceFault → S.faults source.new ≡ S.faults source.old }
+    ensures no_device_fault { result ≢ Status.DeviceFault → (P.view port.new).faults ≡ (P.view port.old).faults }
+    ensures no_put_fault { result ≢ Status.PutFault → (P.view port.new).put_faults ≡ (P.view port.old).put_faults }
+{
+    let mut server: ShellServer<F, L, K> = ShellServer {
+        core,
+        place,
+        files,
+        of: PhantomData,
+    };
+    let mut lines: ShellLines<Y> = ShellLines::new();
+    serve(&mut server, &mut lines, source, port, limit)
+}

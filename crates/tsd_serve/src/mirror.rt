@@ -1,0 +1,95 @@
+//! The top call over two images as one disk.
+
+ghost use Rattle.std.specs.Prelude.{◌≡◌, ◌≢◌, ◌↔◌, ◌⊎◌, map, string_bytes, None, Some};
+ghost use Rattle.image_device.specs.Counts.{Rose};
+ghost use Rattle.mirror_device.specs.Mirror.{start_at};
+ghost use Rattle.mirror_device.specs.Sending.{CanRise, IsIdle};
+ghost use Rattle.mirror_device.specs.SidesView.{Item};
+ghost use Rattle.mirror_device.specs.declared.side.Serving.{Serving};
+ghost use Rattle.serving.specs.Ran.{moments, taking};
+ghost use Rattle.tsd_serve.specs.MirrorDid.{AreSoundAtEnd, DidCopy, DidOver, HasFailed, MirrorHeadline, NoSideIsLeft};
+ghost use Rattle.tsd_serve.specs.MirrorDid.{lost_of};
+ghost use Rattle.tsd_serve.specs.MirrorStatus.{answered};
+ghost use Rattle.tsd_words.specs.Words.{command_of};
+ghost use Rattle.tsd_words.specs.declared.commands.Command.{Command as Words};
+
+use crate::mirror_status::MirrorStatus;
+use crate::top::obey;
+use image_device::{Device, Source};
+use mirror_device::{Began, Mirror, Side, Sides};
+use place_policy::PlaceBook;
+use std::alloc::Global;
+use tsd_words::{Status, command};
+
+/// Does what the words say over two images as one disk, with one port beside both: copies the first image to the second
+/// and then goes on as [`tsd`](crate::tsd) does, on both; where a call on one of them fails, on the other alone. It
+/// gives both back. A caller picks `K` by `Brand`.
+pub fn tsd_mirror<S: Source, P: Sides + Drop, K: Began>(
+    alloc: Global,
+    words: &Vec<String>,
+    source: &mut S,
+    sides: P,
+    places: &PlaceBook,
+) -> (MirrorStatus, P)
+    requires { K.start ≡ start_at (P.view sides) }
+    // Usage comes exactly where the words are no command, and before any call.
+    ensures usage { (result.0 ≡ MirrorStatus.Ended Status.Usage) ↔ (command_of (map string_bytes words.now.items)
+        ≡ None) }
+    ensures untouched_source { result.0 ≡ MirrorStatus.Ended Status.Usage → source.new ≡ source.old }
+    ensures untouched_sides { result.0 ≡ MirrorStatus.Ended Status.Usage → result.1 ≡ sides }
+    // The first side failed in the copying; or the command did over both sides what `tsd` does over one image.
+    ensures did { result.0 ≢ MirrorStatus.Ended Status.Usage → let old = P.view sides in
+        let new = P.view result.1 in
+        let taken = taking S.told S.taken S.left_bytes S.ended source.old source.new in
+        DidCopy P.told result.0 taken old new ⊎ ((c : Serving) × (m : _) × (n : _)
+        × DidOver (command_of (map string_bytes words.now.items)) result.0 taken old new c
+        (moments P.told ⟦<Mirror<P, K> as Device>⟧.view m n)) }
+    // The headline holds of each side that is sound, at each moment.
+    ensures headline { P.told → (command : Words) → command_of (map string_bytes words.now.items) ≡ Some command
+        → MirrorHeadline command (taking S.told S.taken S.left_bytes S.ended source.old source.new) (P.view sides)
+        (P.view result.1) }
+    // No byte is sent before the copying has ended.
+    ensures sends_late { P.told → CanRise (start_at (P.view sides)) → (i : Item)
+        → (P.view result.1).left (P.view sides).clock i → IsIdle (start_at (P.view sides)) i.second
+        → i.sent ≡ (P.view sides).sent }
+    // By the status: which sides are sound at the end, and which one failed.
+    ensures sound { AreSoundAtEnd result.0 (P.view sides) (P.view result.1) }
+    ensures lost { (side : Side) → (result.0 ≡ MirrorStatus.SideLost side)
+        ↔ ((answered result.0 ≡ Status.Done) × HasFailed side (P.view sides) (P.view result.1)) }
+    ensures device_fault { result.0 ≡ MirrorStatus.Ended Status.DeviceFault
+        → NoSideIsLeft (P.view sides) (P.view result.1) }
+    // A count of faults of the source, or of puts, rose only where the status is that fault's.
+    ensures source_fault { result.0 ≡ MirrorStatus.Ended Status.SourceFault
+        → Rose (S.faults source.old) (S.faults source.new) }
+    ensures put_fault { result.0 ≡ MirrorStatus.Ended Status.PutFault
+        → Rose (P.view sides).put_faults (P.view result.1).put_faults }
+    ensures no_source_fault { result.0 ≢ MirrorStatus.Ended Status.SourceFault
+        → S.faults source.new ≡ S.faults source.old }
+    ensures no_put_fault { result.0 ≢ MirrorStatus.Ended Status.PutFault
+        → (P.view result.1).put_faults ≡ (P.view sides).put_faults }
+{
+    let words = match command(words) {
+        Some(words) => words,
+        None => return (MirrorStatus::Ended(Status::Usage), sides),
+    };
+    let mut mirror: Mirror<P, K> = match Mirror::new(sides) {
+        Ok(mirror) => mirror,
+        Err(sides) => return (MirrorStatus::Ended(Status::DeviceFault), sides),
+    };
+    let status = obey(alloc, words, source, &mut mirror, places);
+    let status = MirrorStatus::of(status, lost_side(&mirror));
+    (status, mirror.into_sides())
+}
+
+/// The side that is lost, if one is.
+fn lost_side<P: Sides, K: Began>(mirror: &Mirror<P, K>) -> Option<Side>
+    ensures { result ≡ lost_of mirror.now.serving }
+{
+    if mirror.lost(Side::First) {
+        Some(Side::First)
+    } else if mirror.lost(Side::Second) {
+        Some(Side::Second)
+    } else {
+        None
+    }
+}
