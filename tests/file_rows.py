@@ -1,0 +1,220 @@
+"""Worked sessions of the shell, answer by answer, over files: sizes that matter, all layouts of a disk, malformed
+lines, and one session that is stopped at each of its calls.
+
+What must be answered is written down here from docs/FILES.md, and nothing of it was made by the program.
+"""
+
+from __future__ import annotations
+
+from pathlib import Path
+from typing import Iterator, NamedTuple, Sequence
+
+from crash_images import Choice, Medium, moments, written
+from disk_model import PLACES, seed_caps
+from file_text import CHAIN, INODE
+from file_trees import plain, read_tree
+from image_reader import Fault, read_image
+from parts import Context, Result, compared, failed, passed, skipped
+from program import Program
+from recording import NoRecorder, Recorder
+
+NAME = "file_rows"
+USAGE = 2
+R, W = "aa" * 16, "bb" * 16
+SEED = bytes(32)
+OK = ["ok"]
+BAD = "no bad-request"
+LONGEST_LINE = 8400
+
+
+class Session(NamedTuple):
+    """A disk by the words of `fresh`, a layout of trees, lines and their answers."""
+
+    name: str
+    blocks: int
+    sectors: int
+    kind: str
+    lines: Sequence[str]
+    answers: Sequence[str]
+
+
+def letters(count: int) -> str:
+    """So many bytes 0x61."""
+    return "61" * count
+
+
+# An empty file grows by appends, and is then replaced: the old blocks come back once the new ones are named.
+GROWN = ["mkfs", "mkdir /docs", "put /docs/a -"] + [f"append /docs/a {letters(2560)}"] * 8 + ["df"]
+REPLACED = ["put /docs/a 6869", "cat /docs/a", "df"]
+
+
+def long_chain(blocks: int, appends: int, last: int, free: int) -> Session:
+    """A file of many clusters, which is taken away again."""
+    lines = ["mkfs", "put /big -"] + [f"append /big {letters(4096)}"] * appends + [f"append /big {letters(last)}"]
+    answers = OK * len(lines) + [f"free {free}", "ok", f"free {blocks - 1}"]
+    lines += ["df", "rm /big", "df"]
+    return Session(f"a file of {blocks - 1 - free} clusters", blocks, 1, CHAIN, lines, answers)
+
+
+SESSIONS = (
+    Session("a file that is replaced", 2048, 8, INODE, GROWN + REPLACED,
+            OK * 11 + ["free 2040", "ok", "data 6869", "free 2044"]),
+    long_chain(1024, 60, 2240, 523),
+    long_chain(8192, 605, 1920, 3191),
+    Session("nothing is mounted before mkfs", 8, 1, INODE,
+            ["put /a 01", "mkfs", "ls /", "put /a 01", "cat /a", f"put /a {letters(4096)}", "cp /a /b", "df",
+             "mkdir /a", "rm /a", "cat /b", "ls /", "df", "cat /a", "ls /b"],
+            ["no not-this-fs", "ok", "names -", "ok", "data 01", "no full 5 9", "ok", "free 4", "no exists", "ok",
+             "data 01", "names b", "free 5", "no no-entry", "no not-dir"]),
+    Session("chains have one directory", 8, 1, CHAIN,
+            ["mkfs", "put /a -", "append /a 01", "cat /a", "mkdir /b", "cp /a /b", "df"],
+            ["ok", "ok", "ok", "data 01", BAD, BAD, "free 6"]),
+    Session("malformed lines", 8, 1, INODE,
+            ["", "mkfs ", " mkfs", "mkfs /", "put /a", "put /a 0", "put /a 0g", "put a 00", "put / 00", "put /a/ 00",
+             "put /. 00", "put /.. 00", "put /- 00", f"put /{'n' * 29} 00", f"put {'/a' * 17} 00", "put  /a 00",
+             "PUT /a 00", "cat", "ls", "cp /a", "df /", "x" * LONGEST_LINE, "x" * (LONGEST_LINE + 1), "df"],
+            [BAD] * 8 + ["no not-this-fs"] + [BAD] * 14 + ["free 7"]),
+    Session("names at their ends", 8, 1, INODE,
+            ["mkfs", f"put /{'n' * 28} 01", "put /n 02", "put /nn 03", "ls /", "cat /n", "cat /nn", f"cat /{'n' * 28}"],
+            ["ok", "ok", "ok", "ok", f"names n nn {'n' * 28}", "data 02", "data 03", "data 01"]),
+)
+
+
+def result_of(session: Session, program: Program, image: Path) -> Result:
+    """A session over a disk that `fresh` has made."""
+    image.unlink(missing_ok=True)
+    program.run([image, "fresh", str(session.blocks), str(session.sectors), R, W, "near"], b"")
+    run = program.run([image, "shell", session.kind, "0", W, "near"], text_of(session.lines))
+    return compared(f"{session.name} ({session.kind})", (0, text_of(session.answers), b""), tuple(run))
+
+
+def text_of(lines: Sequence[str]) -> bytes:
+    """Lines as bytes."""
+    return "".join(f"{line}\n" for line in lines).encode()
+
+
+# --- all layouts of a disk ---
+
+def disk_results(program: Program, image: Path) -> Iterator[Result]:
+    """Both layouts, blocks of each size, all placements, a root that isn't 0, and a disk that was upgraded."""
+    for kind in (INODE, CHAIN):
+        for sectors in (1, 2, 4, 8):
+            for place in PLACES:
+                for upgraded in (False, True):
+                    yield disk_result(program, image, kind, sectors, place, upgraded)
+
+
+def disk_result(program: Program, image: Path, kind: str, sectors: int, place: str, upgraded: bool) -> Result:
+    """A file under root 1, with a block under root 0 that another session wrote meanwhile."""
+    caps = [pair[1].hex() for pair in seed_caps(SEED)[:2]]
+    image.unlink(missing_ok=True)
+    program.run([image, "format", "32", str(sectors), "128", "2", SEED.hex()], b"")
+    if upgraded:
+        program.run([image, "upgrade"], b"")
+    shell = [image, "shell", kind, "1", caps[1], place]
+    program.run(shell, text_of(["mkfs", "put /a 0102"]))
+    lines = ["open 1", f"alloc 1 0 {caps[0]} - 1", f"write 1 0 {caps[0]} 07"]
+    other = program.run([image, "run", place], text_of(lines))
+    run = program.run(shell, text_of(["cat /a", "append /a 03", "cat /a", "ls /"]))
+    rest = program.run([image, "run", place], text_of(["open 1", f"read 1 0 {caps[0]}"]))
+    found = (run.out, other.out[:3] + other.out[-3:], rest.out)
+    right = (b"data 0102\nok\ndata 010203\nnames a\n", b"ok\nok\n", b"ok\ndata 07\n")
+    return compared(f"{kind}, {sectors} sectors, {place}{', upgraded' if upgraded else ''}", right, found)
+
+
+# --- a full directory, and files that are too big ---
+
+def largest_results(program: Program, image: Path) -> Iterator[Result]:
+    """How many entries a directory of inodes has and how many blocks a file, by the sectors of a block."""
+    for sectors, entries, blocks in ((2, 31, 252), (4, 63, 508)):
+        image.unlink(missing_ok=True)
+        program.run([image, "fresh", "2048", str(sectors), R, W, "low"], b"")
+        lines = ["mkfs"] + [f"put /{number} -" for number in range(entries)] + ["put /more -", "rm /0", "put /more -"]
+        answers = OK * (entries + 1) + ["no dir-full", "ok", "ok"]
+        run = program.run([image, "shell", INODE, "0", W, "low"], text_of(lines))
+        yield compared(f"{entries} entries of a directory", (0, text_of(answers), b""), tuple(run))
+        piece = 512 * sectors
+        lines = ["mkfs", "put /a -"] + [f"append /a {letters(piece)}"] * blocks + ["append /a 61", "append /a -"]
+        answers = OK * (blocks + 2) + ["no too-big", "ok"]
+        run = program.run([image, "shell", INODE, "0", W, "low"], text_of(lines))
+        yield compared(f"{blocks} blocks of a file", (0, text_of(answers), b""), tuple(run))
+
+
+# --- a mount that is refused, and then mkfs ---
+
+def other_kind_result(program: Program, image: Path) -> Result:
+    """Chains find no tree where inodes keep one, change nothing, and take the place over by `mkfs` alone."""
+    image.unlink(missing_ok=True)
+    program.run([image, "fresh", "16", "1", R, W, "near"], b"")
+    program.run([image, "shell", INODE, "0", W, "near"], text_of(["mkfs", "put /a 01"]))
+    before = image.read_bytes()
+    refused = program.run([image, "shell", CHAIN, "0", W, "near"], text_of(["ls /", "cat /a", "rm /a", "df"]))
+    kept = image.read_bytes() == before
+    made = program.run([image, "shell", CHAIN, "0", W, "near"], text_of(["mkfs", "put /b 02", "ls /", "df"]))
+    right = (b"no not-this-fs\nno not-this-fs\nno not-this-fs\nfree 13\n", True, b"ok\nok\nnames b\nfree 14\n")
+    return compared("a tree of the other kind", right, (refused.out, kept, made.out))
+
+
+# --- stopped at each call ---
+
+def stopped_results(context: Context, program: Program) -> Iterator[Result]:
+    """The second `put` of a file, with a crash inside each call of the device."""
+    image, opened = context.folder / "stopped.img", context.folder / "stopped_opened.img"
+    try:
+        recorder = Recorder(context.program, context.compiler or "cc", context.folder)
+    except NoRecorder as no_recorder:
+        yield skipped("a put that is stopped", str(no_recorder))
+        return
+    program.run([image, "fresh", "2048", "8", R, W, "near"], b"")
+    shell = ["shell", INODE, "0", W, "near"]
+    program.run([image, *shell], text_of(GROWN))
+    medium = Medium(image.read_bytes())
+    recording = recorder.run(image, shell, text_of(["put /docs/a 6869"]))
+    old, new = bytes.fromhex(letters(20480)), bytes.fromhex("6869")
+    stops = 0
+    for number, progress in moments(medium, recording.events):
+        for choices in ({}, {sector: last_write(medium, sector) for sector in medium.loose}):
+            stops += 1
+            found = file_of(medium.image(choices))
+            allowed = [new] if progress.sent == 3 else [old, new]
+            if found not in allowed:
+                yield failed(f"stopped at call {number + 1}", f"the file has {found!r}"[:200])
+        opened.write_bytes(medium.image({}))
+        run = program.run([opened, *shell], text_of(["cat /docs/a", "df"]))
+        answers = [text_of([f"data {old.hex()}", "free 2040"]), text_of(["data 6869", "free 2044"])]
+        if run.out not in answers[int(progress.sent == 3):]:
+            yield failed(f"opened after a stop at call {number + 1}", run.out[-40:].decode())
+    yield passed(f"a put that is stopped: {stops} images")
+
+
+def last_write(medium: Medium, sector: int) -> Choice:
+    """What a loose sector was last given."""
+    return written(medium, sector, len(medium.loose[sector]) - 1)
+
+
+def file_of(data: bytes) -> object:
+    """The bytes of /docs/a in an image; what is wrong where there are none."""
+    world = read_image(data)
+    if isinstance(world, Fault):
+        return world.line
+    tree = read_tree(world, INODE, 0)
+    found = None if tree is None else plain(tree)
+    return found.get(b"docs", {}).get(b"a") if isinstance(found, dict) else found
+
+
+def run(context: Context) -> Iterator[Result]:
+    """All of it, where the program has a shell."""
+    program = Program(context.program)
+    image = context.folder / "rows.img"
+    if program.run(["-", "shell", INODE, "0", W, "near"], b"").status == USAGE:
+        yield skipped("worked sessions of the shell", "the program has no shell")
+        return
+    for session in SESSIONS:
+        yield result_of(session, program, image)
+    yield from disk_results(program, image)
+    yield from largest_results(program, image)
+    yield other_kind_result(program, image)
+    if context.compiler is None:
+        yield skipped("a put that is stopped", "no C compiler was found")
+    else:
+        yield from stopped_results(context, program)
