@@ -6,6 +6,7 @@ BINDIR = $(DESTDIR)$(PREFIX)/bin
 MANDIR = $(DESTDIR)$(PREFIX)/share/man/man1
 BASHDIR = $(DESTDIR)$(PREFIX)/share/bash-completion/completions
 ZSHDIR = $(DESTDIR)$(PREFIX)/share/zsh/site-functions
+PYTHONDIR = $(DESTDIR)$(PREFIX)/lib/tsd/python
 LICENSEDIR = $(DESTDIR)$(PREFIX)/share/doc/tsd
 
 .PHONY: all prove test install uninstall
@@ -27,7 +28,11 @@ install:
 	install -D -m 644 completions/tsd.bash "$(BASHDIR)/tsd"
 	install -D -m 644 completions/_tsd "$(ZSHDIR)/_tsd"
 	install -D -m 644 -t "$(LICENSEDIR)" LICENSE LICENSE-MIT LICENSE-APACHE
+	install -D -m 755 -t "$(BINDIR)" python/bin/tsd-hub python/bin/tsd-shell
+	install -D -m 644 -t "$(PYTHONDIR)/tsd" python/tsd/*.py python/tsd/py.typed
+	install -D -m 644 -t "$(PYTHONDIR)/tsd/hub" python/tsd/hub/*.py
+	install -D -m 644 -t "$(PYTHONDIR)/tsd/shell" python/tsd/shell/*.py
 
 uninstall:
-	rm -f "$(BINDIR)/tsd" "$(MANDIR)/tsd.1" "$(BASHDIR)/tsd" "$(ZSHDIR)/_tsd"
-	rm -rf "$(LICENSEDIR)"
+	rm -f "$(BINDIR)/tsd" "$(BINDIR)/tsd-hub" "$(BINDIR)/tsd-shell" "$(MANDIR)/tsd.1" "$(BASHDIR)/tsd" "$(ZSHDIR)/_tsd"
+	rm -rf "$(LICENSEDIR)" "$(DESTDIR)$(PREFIX)/lib/tsd"

@@ -1,0 +1,37 @@
+#!/usr/bin/env python3
+"""A program that answers `tsd IMAGE shell KIND ROOT CAP PLACE` as docs/FILES.md has it, by the model of tests/, with
+its tree in memory: a stand-in for a program that has no such command yet. Not a disk."""
+
+import sys
+from pathlib import Path
+
+sys.dont_write_bytecode = True
+sys.path.insert(0, str(Path(__file__).resolve().parent.parent.parent / "tests"))
+
+from file_model import FileModel  # noqa: E402
+
+BLOCKS, LENGTH = 8192, 4096
+SIZES = {"small.img": (8, 512), "middle.img": (100, 512)}
+GOOD = b"bb" * 16
+
+
+def main() -> int:
+    """Answers lines to the end of the input."""
+    image, _, kind, root, cap, _ = sys.argv[1:]
+    shown = Path(cap[1:]).read_bytes().split()[0] if cap.startswith("@") else cap.encode()
+    if root != "0" or shown != GOOD:
+        print("tsd: root denied, none attained", file=sys.stderr)
+        return 10
+    blocks, length = SIZES.get(image, (BLOCKS, LENGTH))
+    model = FileModel(kind, length, blocks - 1, 0, 4 * blocks)
+    for line in sys.stdin.buffer:
+        if line.startswith(b"cat /die"):
+            sys.stdout.buffer.write(b"data 61")
+            print("tsd: device fault", file=sys.stderr)
+            return 4
+        sys.stdout.buffer.write(model.answer(line.rstrip(b"\n")))
+        sys.stdout.buffer.flush()
+    return 0
+
+
+sys.exit(main())

@@ -1,0 +1,1 @@
+"""`tsd-hub`: one disk for many processes, at a Unix socket."""

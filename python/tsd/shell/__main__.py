@@ -1,0 +1,7 @@
+"""`python3 -m tsd.shell`."""
+
+import sys
+
+from tsd.shell.main import main
+
+sys.exit(main())

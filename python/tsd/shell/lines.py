@@ -1,0 +1,54 @@
+"""The lines of the shell (docs/FILES.md) and the lines that answer them."""
+
+from __future__ import annotations
+
+import re
+from typing import Tuple
+
+MOST_LINE = 8400
+PIECE = 4096
+MOST_NAMES = 16
+NAME = re.compile(r"[A-Za-z0-9._-]{1,28}\Z")
+NO_NAMES = (".", "..", "-")
+INODE, CHAIN = "inode", "chain"
+
+
+class BadPath(ValueError):
+    """No path of the disk."""
+
+
+def disk_path(text: str) -> str:
+    """A path as the disk spells it: a slash at its start may be left out, and one at its end is dropped."""
+    names = text.strip("/").split("/") if text.strip("/") else []
+    if len(names) > MOST_NAMES:
+        raise BadPath(f"{text}: a path has at most {MOST_NAMES} names")
+    for name in names:
+        if not NAME.match(name) or name in NO_NAMES:
+            raise BadPath(f"{text}: a name has 1 to 28 letters, digits, dots, lines below and dashes")
+    return "/" + "/".join(names)
+
+
+def split_path(path: str) -> Tuple[str, str]:
+    """The directory above, and the last name; that of `/` is empty."""
+    above, _, name = path.rpartition("/")
+    return above or "/", name
+
+
+def below(directory: str, name: str) -> str:
+    """The path of a name in a directory."""
+    return f"{directory.rstrip('/')}/{name}"
+
+
+def piece_length(path: str) -> int:
+    """How many bytes a line may bring to this path: a long path leaves less room in the line."""
+    return min(PIECE, (MOST_LINE - len("append ") - len(path) - 1) // 2)
+
+
+def line_of(name: str, *paths: str) -> bytes:
+    """A line without bytes to bring, and without its line feed."""
+    return " ".join((name,) + paths).encode()
+
+
+def bringing_line(name: str, path: str, data: bytes) -> bytes:
+    """A `put` or an `append`."""
+    return line_of(name, path, data.hex() or "-")
