@@ -44,17 +44,26 @@ def bytes_for(size: int) -> bytes:
     return random.Random(size).getrandbits(8 * size).to_bytes(size, "little") if size else b""
 
 
+# Whoever runs these tests may have Ctrl-C ignored, as a shell does for what it runs in the background.
+AS_AT_A_TERMINAL = """
+import os, signal, sys
+signal.signal(signal.SIGINT, signal.SIG_DFL)
+os.execv(sys.argv[1], sys.argv[1:])
+"""
+
+
 class Terminal:
     """A process at a terminal of its own."""
 
     def __init__(self, words: Sequence[str], folder: Path) -> None:
         self.shown = b""
         self._at = 0
-        self.process, self._terminal = pty.fork()
-        if self.process == 0:
-            os.chdir(folder)
-            more = {"TERM": "dumb", "INPUTRC": "/dev/null", "XDG_STATE_HOME": str(folder / "state"), "COLUMNS": "200"}
-            os.execve(words[0], list(words), {**os.environ, **more})
+        self._terminal, theirs = pty.openpty()
+        more = {"TERM": "dumb", "INPUTRC": "/dev/null", "XDG_STATE_HOME": str(folder / "state"), "COLUMNS": "200"}
+        # Not pty.fork(): other tests leave threads behind, and a fork beside threads may come to a stop.
+        self.process = subprocess.Popen(["setsid", "-c", sys.executable, "-c", AS_AT_A_TERMINAL, *words], cwd=folder,
+                                        env={**os.environ, **more}, stdin=theirs, stdout=theirs, stderr=theirs)
+        os.close(theirs)
 
     def wait_for(self, text: str) -> str:
         """What is shown from here on up to this text."""
@@ -82,7 +91,7 @@ class Terminal:
         while self._read(time.monotonic() + MOST_SECONDS):
             pass
         os.close(self._terminal)
-        return os.waitstatus_to_exitcode(os.waitpid(self.process, 0)[1])
+        return self.process.wait(MOST_SECONDS)
 
     def _read(self, end: float) -> bool:
         if not select.select([self._terminal], [], [], max(0.0, end - time.monotonic()))[0]:
