@@ -1,0 +1,235 @@
+//! One image in a file, and what failed of it.
+
+ghost use Rattle.std.specs.Prelude.{◌≡◌, ◌≢◌, ◌≤◌, ◌^◌, None, Some, IfOk, OnErr, OnOk};
+ghost use Rattle.image_device.specs.Counts.{raised, CountsFault};
+
+use crate::ahead::Ahead;
+use crate::image_file::{ImageFile, Kind, SECTOR};
+use crate::trouble::Trouble;
+use image_device::Failed;
+use std::alloc::Global;
+use std::io::{self, Write};
+
+/// The file of an image, or why there is none.
+#[derive(Drop)]
+enum Image {
+    /// It is open.
+    Open(ImageFile),
+
+    /// It couldn't be opened.
+    Lost(Trouble),
+}
+
+/// An image in a file, read and written by offset, and read ahead where reads follow one another. It counts the calls
+/// that failed and the syncs that were answered Ok, each up to the greatest `u64`.
+#[derive(Drop)]
+pub struct FileSide {
+    image: Image,
+    ahead: Ahead,
+    trouble: Option<Trouble>,
+    unsure: Option<Kind>,
+    pub(crate) faults: u64,
+    pub(crate) syncs: u64,
+}
+
+impl FileSide {
+    /// An image that was opened, or failed to be: then each call on it fails.
+    pub fn new(alloc: Global, image: Result<ImageFile, Trouble>) -> FileSide
+        ensures faults { result.faults ≡ 0 }
+        ensures syncs { result.syncs ≡ 0 }
+    {
+        FileSide {
+            image: match image {
+                Ok(file) => Image::Open(file),
+                Err(trouble) => Image::Lost(trouble),
+            },
+            ahead: Ahead::none(alloc),
+            trouble: None,
+            unsure: None,
+            faults: 0,
+            syncs: 0,
+        }
+    }
+
+    /// Why the first call on the image failed that did.
+    pub fn trouble(&self) -> Option<Trouble> {
+        self.trouble
+    }
+
+    /// What the image is kept in, where a write or a sync of it failed: the system may then show what the medium
+    /// doesn't hold.
+    pub fn unsure(&self) -> Option<Kind> {
+        self.unsure
+    }
+
+    /// Reads a sector.
+    pub fn read(&mut self, sector: u32, into: &mut [u8; SECTOR]) -> Result<(), Failed>
+        ensures kept { OnErr result (into.new ≡ into.old) }
+        ensures faults { CountsFault result self.old.faults self.new.faults }
+        ensures later { self.old.faults ≤ self.new.faults }
+        ensures syncs { self.new.syncs ≡ self.old.syncs }
+    {
+        let mut room = [0u8; SECTOR];
+        match read_sector(&self.image, &mut self.ahead, sector, &mut room) {
+            Ok(()) => {
+                *into = room;
+                Ok(())
+            }
+            Err(trouble) => {
+                note(&mut self.trouble, trouble);
+                self.faults = self.faults.saturating_add(1);
+                Err(Failed)
+            }
+        }
+    }
+
+    /// Writes a sector.
+    pub fn write(&mut self, sector: u32, from: &[u8; SECTOR]) -> Result<(), Failed>
+        ensures faults { CountsFault result self.old.faults self.new.faults }
+        ensures later { self.old.faults ≤ self.new.faults }
+        ensures syncs { self.new.syncs ≡ self.old.syncs }
+    {
+        match write_sector(&self.image, sector, from) {
+            Ok(()) => {
+                self.ahead.renew(sector, from);
+                Ok(())
+            }
+            Err(trouble) => {
+                self.ahead.forget();
+                note(&mut self.trouble, trouble);
+                self.unsure = kind_of(&self.image);
+                self.faults = self.faults.saturating_add(1);
+                Err(Failed)
+            }
+        }
+    }
+
+    /// Waits until all that was written is on the medium.
+    pub fn sync(&mut self) -> Result<(), Failed>
+        ensures faults { CountsFault result self.old.faults self.new.faults }
+        ensures later { self.old.faults ≤ self.new.faults }
+        ensures synced { OnOk result (self.new.syncs ≡ raised self.old.syncs) }
+        ensures later_syncs { self.old.syncs ≤ self.new.syncs }
+        ensures not_synced { OnErr result (self.new.syncs ≡ self.old.syncs) }
+    {
+        match sync_image(&self.image) {
+            Ok(()) => {
+                self.syncs = self.syncs.saturating_add(1);
+                Ok(())
+            }
+            Err(trouble) => {
+                self.ahead.forget();
+                note(&mut self.trouble, trouble);
+                self.unsure = kind_of(&self.image);
+                self.faults = self.faults.saturating_add(1);
+                Err(Failed)
+            }
+        }
+    }
+
+    /// The number of sectors, where the last may be a part of one.
+    pub fn end(&mut self) -> Result<u64, Failed>
+        ensures range { IfOk result (λ end. end ≤ 2 ^ 32) }
+        ensures faults { CountsFault result self.old.faults self.new.faults }
+        ensures later { self.old.faults ≤ self.new.faults }
+        ensures syncs { self.new.syncs ≡ self.old.syncs }
+    {
+        match end_of(&self.image) {
+            Ok(end) => Ok(end),
+            Err(trouble) => {
+                note(&mut self.trouble, trouble);
+                self.faults = self.faults.saturating_add(1);
+                Err(Failed)
+            }
+        }
+    }
+}
+
+/// Reads a sector into a room of zeros, with those behind it where reads follow one another.
+fn read_sector(
+    image: &Image,
+    ahead: &mut Ahead,
+    sector: u32,
+    room: &mut [u8; SECTOR],
+) -> Result<(), Trouble> {
+    match image {
+        Image::Open(file) => {
+            ahead.follow(file, sector);
+            if ahead.copy(sector, room) {
+                return Ok(());
+            }
+            file.read(sector, room)
+        }
+        Image::Lost(trouble) => Err(*trouble),
+    }
+}
+
+/// Writes a sector.
+fn write_sector(image: &Image, sector: u32, from: &[u8; SECTOR]) -> Result<(), Trouble> {
+    match image {
+        Image::Open(file) => file.write(sector, from),
+        Image::Lost(trouble) => Err(*trouble),
+    }
+}
+
+/// Has all that was written on the medium.
+fn sync_image(image: &Image) -> Result<(), Trouble> {
+    match image {
+        Image::Open(file) => file.sync(),
+        Image::Lost(trouble) => Err(*trouble),
+    }
+}
+
+/// The number of sectors.
+fn end_of(image: &Image) -> Result<u64, Trouble>
+    ensures { IfOk result (λ end. end ≤ 2 ^ 32) }
+{
+    match image {
+        Image::Open(file) => file.end(),
+        Image::Lost(trouble) => Err(*trouble),
+    }
+}
+
+/// Keeps the first trouble.
+pub fn note(first: &mut Option<Trouble>, trouble: Trouble)
+    ensures noted { first.old ≡ None → first.new ≡ Some trouble }
+    ensures kept { first.old ≢ None → first.new ≡ first.old }
+{
+    if first.is_none() {
+        *first = Some(trouble);
+    }
+}
+
+/// What an image that is open is kept in.
+fn kind_of(image: &Image) -> Option<Kind> {
+    match image {
+        Image::Open(file) => Some(file.kind()),
+        Image::Lost(_) => None,
+    }
+}
+
+/// Writes why a call on an image failed, and where a write or a sync did, how to have the system forget what it shows.
+pub fn tell_image<E: Write>(
+    errors: &mut E,
+    path: &str,
+    trouble: &Trouble,
+    unsure: Option<Kind>,
+) -> io::Result<()> {
+    writeln!(errors, "tsd: {path}: {trouble}")?;
+    match unsure {
+        None => Ok(()),
+        Some(Kind::Device) => {
+            writeln!(errors, "tsd: {path}: {UNSURE} blockdev --flushbufs {path}")
+        }
+        Some(_) => {
+            writeln!(
+                errors,
+                "tsd: {path}: {UNSURE} dd if={path} iflag=nocache count=0, or mount its file system anew"
+            )
+        }
+    }
+}
+
+/// What is told after a write or a sync that failed, before the command that helps.
+const UNSURE: &str =
+    "the system may now show what the medium doesn't hold; before the next run, have it forget that:";

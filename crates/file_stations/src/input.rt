@@ -1,0 +1,87 @@
+//! Standard input as a source.
+
+ghost use Rattle.std.specs.Prelude.{ℕ, List, []};
+ghost use Rattle.std.specs.Io.{ReadsAtMost};
+
+use crate::trouble::Trouble;
+use image_device::{Failed, Source};
+use std::io::{self, ErrorKind, Read};
+
+/// The most bytes that one take asks for.
+const PIECE_MAX: usize = 4_096;
+
+/// Standard input, or another reader. It tells nothing of its bytes: what a system gives, no clause can say.
+#[derive(Drop)]
+pub struct InputSource<R> {
+    input: R,
+    ended: bool,
+    faults: u64,
+    trouble: Option<Trouble>,
+}
+
+impl<R> InputSource<R> {
+    /// A source of what this reader gives.
+    pub fn new(input: R) -> InputSource<R> {
+        InputSource {
+            input,
+            ended: false,
+            faults: 0,
+            trouble: None,
+        }
+    }
+
+    /// Why the last take failed that did.
+    pub fn trouble(&self) -> Option<Trouble> {
+        self.trouble
+    }
+}
+
+/// Reads once. A read that a signal interrupts is made again.
+fn read_some<R: Read>(input: &mut R, room: &mut [u8]) -> io::Result<usize>
+    ensures { ReadsAtMost result room.new }
+{
+    for _ in 0..u64::MAX {
+        match input.read(room) {
+            Err(error) if error.kind() == ErrorKind::Interrupted => {}
+            other => return other,
+        }
+    }
+    Err(io::Error::from(ErrorKind::Interrupted))
+}
+
+impl<R: Read> Source for InputSource<R> {
+    ghost use Rattle.image_device.specs.Counts.{Rose};
+    ghost use Rattle.std.specs.Prelude.{◌≡◌, ◌≤◌, ◌++◌, ◌↔◌, [], true, length, take, IfOk, OnErr};
+
+    ghost told = { ⊥ };
+
+    ghost left_bytes = { λ s. [] };
+
+    ghost taken = { λ s. [] };
+
+    ghost ended = { λ s. s.ended ≡ true };
+
+    ghost faults = { λ s. s.faults };
+
+    fn take(&mut self, into: &mut [u8]) -> Result<usize, Failed> {
+        if self.ended {
+            return Ok(0);
+        }
+
+        // A read may leave anything in all of its room, so it gets a room of its own.
+        let mut piece = [0u8; PIECE_MAX];
+        let most = into.len().min(PIECE_MAX);
+        match read_some(&mut self.input, &mut piece[..most]) {
+            Ok(count) => {
+                into[..count].copy_from_slice(&piece[..count]);
+                self.ended = count == 0;
+                Ok(count)
+            }
+            Err(error) => {
+                self.trouble = Some(Trouble::from(error));
+                self.faults = self.faults.saturating_add(1);
+                Err(Failed)
+            }
+        }
+    }
+}

@@ -1,0 +1,36 @@
+//! The outside on a real machine: an image in a file, standard output and standard input.
+//!
+//! It stands on the traits of `image_device` and `mirror_device`. A [`FileStation`] is an image in a file or on a block
+//! device ([`ImageFile`], locked while it is open, read ahead) with an output beside it; [`FileSides`] are two such
+//! images under one clock; an [`InputSource`] is an input. Where there is a terminal a [`Progress`] tells there that
+//! long work goes on. [`StandIns`] keep an image from being opened in the place of a standard stream that is closed.
+//!
+//! That the counts of faults rise exactly with calls that fail is proved. What files, streams and the system are is
+//! trusted: the types tell nothing of their contents, and tests alone show it, here and in the script `tests/edge`.
+#![tactic(auto)]
+
+mod ahead;
+mod file_side;
+mod file_sides;
+mod file_station;
+mod image_file;
+mod input;
+#[cfg(test)]
+mod input_tests;
+mod outlet;
+mod progress;
+#[cfg(test)]
+mod progress_tests;
+mod standard;
+#[cfg(test)]
+mod station_tests;
+mod trouble;
+
+pub use file_side::tell_image;
+pub use file_sides::{FileSides, Named};
+pub use file_station::FileStation;
+pub use image_file::{ImageFile, Kind, Opening, Readers, are_one};
+pub use input::InputSource;
+pub use progress::Progress;
+pub use standard::StandIns;
+pub use trouble::Trouble;
