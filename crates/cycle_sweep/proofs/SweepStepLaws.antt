@@ -1,7 +1,7 @@
 -- The step of a sweep at a block.
 use Rattle.std.proofs.Common.{◌≡◌, ℕ, ◌+◌, ◌≤◌, Bool, true, false, not, cond, ◌&&◌, ◌==◌, nat_le, List, [], ◌∷◌, length, refl, sym, ◌∙◌, ap, subst, arith, take, ◌⊎◌, ◌↔◌, inl, inr, Option, Some, None}
 use Rattle.std.proofs.lemmas.Bool.{eq-eqb, eqb-true, ne_eqb, and_parts, and_from, both_ways, cases_eq, cases_Bool, false_from_ne_true}
-use Rattle.std.proofs.lemmas.List.{length-take}
+use Rattle.std.proofs.lemmas.List.{length-take, take-take}
 use Rattle.std.specs.Prelude.{filter, IfSome}
 use Rattle.tsd_model.specs.Pairs.{is_pair, holds, count_to}
 use Rattle.tsd_model.specs.Step.{targets_from}
@@ -18,6 +18,7 @@ use Rattle.graph_laws.proofs.SameGraphLaws.{raw_by_graph, reach_by_graph, step_b
 use Rattle.graph_laws.proofs.StepLaws.{holds-without_pointers, nothing_out, raw-stepped}
 use Rattle.graph_laws.proofs.SweepLaws.{target_reached, unreached_apart, sweeps-stepped, swept_whole}
 use Rattle.graph_laws.proofs.WeightLaws.{step_takes}
+use Rattle.reclaim.proofs.StepLaws.{few_of}
 use Rattle.reclaim.proofs.TargetLaws.{first_targets_taken, takes_all, takes_all_only}
 use Rattle.cycle_sweep.specs.Sweep.{MaySweep, AreSweptBy, IsStuck, is_last}
 
@@ -85,19 +86,19 @@ module _ (w : World) (b : ℕ) (raw : IsRawGraph w) (ts : List ℕ) (all : Bool)
       both_ways (holds (without_pointers w b ts).pairs a b) (alone.into a) (next a b ∙ and_from (holds w.pairs a b) (not ((a == b) && has_number ts b)) held
       (ap not (false_from_ne_true ((a == b) && has_number ts b) (λ h. let parts = and_parts (a == b) (has_number ts b) h in other parts.1 (eqb-true a b parts.0))))))))
 
--- the step with the first 16 of these targets, and so many pairs to the block
-module _ (w : World) (b : ℕ) (all ts : List ℕ) (count : ℕ) (raw : IsRawGraph w) (is : all ≡ targets_from w.pairs b 0) (first : ts ≡ take 16 all) (counted : count ≡ count_to w.pairs b) where
+-- the step with the first 16 of these targets, of which there are at most 17, and so many pairs to the block
+module _ (w : World) (b : ℕ) (all ts : List ℕ) (count : ℕ) (raw : IsRawGraph w) (is : all ≡ take 17 (targets_from w.pairs b 0)) (first : ts ≡ take 16 all) (counted : count ≡ count_to w.pairs b) where
   here : ts ≡ take 16 (targets_from w.pairs b 0)
-  here = first ∙ ap (λ (xs : List ℕ). take 16 xs) is
+  here = first ∙ (ap (λ (xs : List ℕ). take 16 xs) is ∙ take-take 16 17 (targets_from w.pairs b 0) (omega arith))
 
   taken : AreTargets w b ts
   taken = subst (AreTargets w b) (sym here) (first_targets_taken w b raw.laid_out.rising)
 
   takes : nat_le (length all) 16 ≡ true → (c : ℕ) → holds w.pairs b c ≡ true → has_number ts c ≡ true
-  takes few c held = ap (λ xs. has_number xs c) here ∙ takes_all w b raw.laid_out.rising (ap (λ (xs : List ℕ). nat_le (length xs) 16) (sym is) ∙ few) c held
+  takes few c held = ap (λ xs. has_number xs c) here ∙ takes_all w b raw.laid_out.rising (sym (few_of (targets_from w.pairs b 0)) ∙ (ap (λ (xs : List ℕ). nat_le (length xs) 16) (sym is) ∙ few)) c held
 
   only : ((c : ℕ) → holds w.pairs b c ≡ true → has_number ts c ≡ true) → nat_le (length all) 16 ≡ true
-  only each = ap (λ (xs : List ℕ). nat_le (length xs) 16) is ∙ takes_all_only w b raw.laid_out.rising (λ c held. ap (λ xs. has_number xs c) (sym here) ∙ each c held)
+  only each = ap (λ (xs : List ℕ). nat_le (length xs) 16) is ∙ (few_of (targets_from w.pairs b 0) ∙ takes_all_only w b raw.laid_out.rising (λ c held. ap (λ xs. has_number xs c) (sym here) ∙ each c held))
 
   frees : (freed : Bool) → freed ≡ (nat_le (length all) 16 && is_last count (has_number ts b)) → freed ≡ (nat_le (length all) 16 && is_last (count_to w.pairs b) (has_number ts b))
   frees freed fit = fit ∙ ap (λ n. nat_le (length all) 16 && is_last n (has_number ts b)) counted

@@ -129,7 +129,7 @@ fn step_at(
     ensures freed { IfSome result (λ s. IsTrue s.freed ↔ IsAloneAfter (graph_of pointers.now live.now) s) }
     ensures none { IsNone result → IsStuck (graph_of pointers.now live.now) block }
 {
-    let all = pointers.targets_from(block, 0);
+    let all = pointers.least_targets(block, STEP_TARGETS + 1);
     let targets = first_targets(all.as_slice());
     let own = has_block(targets.as_slice(), block);
     let into = counts.count(block);

@@ -48,7 +48,7 @@ abbrev pub Kept : Geometry → List RawSlot → ℕ → Index → Type 0
 Kept g items held x =
     IsTable (record { geometry = g; slots = slots_in items })
     × (held ≡ length (pairs (record { geometry = g; slots = slots_in items })))
-    × AreEmpties (slots_in items) held x.empty x.by_bucket.next.items
+    × AreEmpties (slots_in items) held x.empty x.by_bucket.next
     × IsIndex (slot_at (slots_in items)) x
     × HasRoom g.blocks g.slots x
 
@@ -64,15 +64,15 @@ few_held t g items held x is kept room =
 
 pub next_empty : (t : Table) (g : Geometry) (items : List RawSlot) (held : ℕ) (x : Index) → ◌≡◌ {A = Table} (record { geometry = g; slots = slots_in items }) t
     → Kept g items held x → length (pairs t) < t.geometry.slots → (x.empty < length (slots_in items)) × (slot_at (slots_in items) x.empty ≡ None)
-next_empty t g items held x is kept room = first_empty (slots_in items) held x.empty x.by_bucket.next.items kept.2 (few_held t g items held x is kept room)
+next_empty t g items held x is kept room = first_empty (slots_in items) held x.empty x.by_bucket.next kept.2 (few_held t g items held x is kept room)
 
 -- it is filled
 pub filled : (t : Table) (g : Geometry) (items : List RawSlot) (held : ℕ) (x now : Index) (place a b : ℕ) (raw : RawSlot) → ◌≡◌ {A = Table} (record { geometry = g; slots = slots_in items }) t
     → Kept g items held x → length (pairs t) < t.geometry.slots → holds (pairs t) a b ≡ false → IsWithin t.geometry (a, b) → place ≡ x.empty → slot_in raw ≡ Some (a, b)
     → ((next : ℕ → Option (ℕ × ℕ)) → IsWith (slot_at (slots_in items)) place (a, b) next → IsIndex next now)
     → ((blocks places : ℕ) → HasRoom blocks places x → HasRoom blocks places now)
-    → now.empty ≡ get_or x.by_bucket.next.items x.empty 0
-    → ((k : ℕ) → slot_at (slots_in items) k ≡ None → (k ≡ place → ⊥) → get_or now.by_bucket.next.items k 0 ≡ get_or x.by_bucket.next.items k 0)
+    → now.empty ≡ get_or x.by_bucket.next x.empty 0
+    → ((k : ℕ) → slot_at (slots_in items) k ≡ None → (k ≡ place → ⊥) → get_or now.by_bucket.next k 0 ≡ get_or x.by_bucket.next k 0)
     → Kept g (set items place raw) (held + 1) now
 filled t g items held x now place a b raw is kept room absent within place_is raw_is index rooms first stays = (table, many, empties_now, index_now, rooms g.blocks g.slots kept.4)
   where
@@ -99,13 +99,13 @@ filled t g items held x now place a b raw is kept room absent within place_is ra
     many = ap (λ (n : ℕ). n + 1) kept.1 ∙ (sym (held_added u place a b kept.0 (let here = inside in let all = kept.0.count in omega arith) empty not_held)
         ∙ ap (λ (slots : List (Option (ℕ × ℕ))). length (pairs_in slots)) slots_are)
 
-    taken : AreEmpties (set (slots_in items) x.empty (Some (a, b))) (held + 1) (get_or x.by_bucket.next.items x.empty 0) now.by_bucket.next.items
-    taken = empties_taken (slots_in items) held x.empty x.by_bucket.next.items now.by_bucket.next.items (a, b) kept.2 (few_held t g items held x is kept room)
+    taken : AreEmpties (set (slots_in items) x.empty (Some (a, b))) (held + 1) (get_or x.by_bucket.next x.empty 0) now.by_bucket.next
+    taken = empties_taken (slots_in items) held x.empty x.by_bucket.next now.by_bucket.next (a, b) kept.2 (few_held t g items held x is kept room)
         (λ k none off. stays k none (λ same. off (same ∙ place_is)))
 
-    empties_now : AreEmpties (slots_in (set items place raw)) (held + 1) now.empty now.by_bucket.next.items
-    empties_now = subst (λ (link : ℕ). AreEmpties (slots_in (set items place raw)) (held + 1) link now.by_bucket.next.items) (sym first)
-        (subst (λ (slots : List (Option (ℕ × ℕ))). AreEmpties slots (held + 1) (get_or x.by_bucket.next.items x.empty 0) now.by_bucket.next.items)
+    empties_now : AreEmpties (slots_in (set items place raw)) (held + 1) now.empty now.by_bucket.next
+    empties_now = subst (λ (link : ℕ). AreEmpties (slots_in (set items place raw)) (held + 1) link now.by_bucket.next) (sym first)
+        (subst (λ (slots : List (Option (ℕ × ℕ))). AreEmpties slots (held + 1) (get_or x.by_bucket.next x.empty 0) now.by_bucket.next)
         (ap (λ (p : ℕ). set (slots_in items) p (Some (a, b))) (sym place_is) ∙ slots_are) taken)
 
     index_now : IsIndex (slot_at (slots_in (set items place raw))) now
@@ -115,19 +115,19 @@ filled t g items held x now place a b raw is kept room absent within place_is ra
 -- the same in the steps of the code: the slot is taken off the list, and then the pair is threaded
 pub put_kept : (t : Table) (g : Geometry) (items : List RawSlot) (held : ℕ) (x taken now : Index) (place a b : ℕ) (raw : RawSlot) → ◌≡◌ {A = Table} (record { geometry = g; slots = slots_in items }) t
     → Kept g items held x → length (pairs t) < t.geometry.slots → holds (pairs t) a b ≡ false → IsWithin t.geometry (a, b) → place ≡ x.empty
-    → taken ≡ record x { empty = get_or x.by_bucket.next.items x.empty 0 } → slot_in raw ≡ Some (a, b)
+    → taken ≡ record x { empty = get_or x.by_bucket.next x.empty 0 } → slot_in raw ≡ Some (a, b)
     → ((next : ℕ → Option (ℕ × ℕ)) → IsWith (slot_at (slots_in items)) place (a, b) next → IsIndex next now)
     → ((blocks places : ℕ) → HasRoom blocks places taken → HasRoom blocks places now)
     → now.empty ≡ taken.empty
-    → ((k : ℕ) → slot_at (slots_in items) k ≡ None → (k ≡ place → ⊥) → get_or now.by_bucket.next.items k 0 ≡ get_or taken.by_bucket.next.items k 0)
+    → ((k : ℕ) → slot_at (slots_in items) k ≡ None → (k ≡ place → ⊥) → get_or now.by_bucket.next k 0 ≡ get_or taken.by_bucket.next k 0)
     → Kept g (set items place raw) (held + 1) now
 put_kept t g items held x taken now place a b raw is kept room absent within place_is taken_is raw_is index rooms first stays =
     filled t g items held x now place a b raw is kept room absent within place_is raw_is index
     (λ blocks places old. rooms blocks places (subst (HasRoom blocks places) (sym taken_is) (same_room blocks places old)))
     (first ∙ ap (λ (y : Index). y.empty) taken_is)
-    (λ k none off. stays k none off ∙ ap (λ (y : Index). get_or y.by_bucket.next.items k 0) taken_is)
+    (λ k none off. stays k none off ∙ ap (λ (y : Index). get_or y.by_bucket.next k 0) taken_is)
   where
-    same_room : (blocks places : ℕ) → HasRoom blocks places x → HasRoom blocks places (record x { empty = get_or x.by_bucket.next.items x.empty 0 })
+    same_room : (blocks places : ℕ) → HasRoom blocks places x → HasRoom blocks places (record x { empty = get_or x.by_bucket.next x.empty 0 })
     same_room blocks places old = record {
       sources = old.sources;
       targets = old.targets;
@@ -151,8 +151,8 @@ pub emptied : (t : Table) (g : Geometry) (items : List RawSlot) (held left : ℕ
     → ((next : ℕ → Option (ℕ × ℕ)) → IsWith next place (a, b) (slot_at (slots_in items)) → IsIndex next cut)
     → ((next : ℕ → Option (ℕ × ℕ)) → next place ≡ None → IsIndex next cut → IsIndex next now)
     → HasRoom g.blocks g.slots now
-    → now.empty ≡ place → now.by_bucket.next.items ≡ set cut.by_bucket.next.items place x.empty → place < length cut.by_bucket.next.items
-    → ((k : ℕ) → slot_at (slots_in items) k ≡ None → get_or cut.by_bucket.next.items k 0 ≡ get_or x.by_bucket.next.items k 0)
+    → now.empty ≡ place → now.by_bucket.next ≡ set cut.by_bucket.next place x.empty → place < length cut.by_bucket.next
+    → ((k : ℕ) → slot_at (slots_in items) k ≡ None → get_or cut.by_bucket.next k 0 ≡ get_or x.by_bucket.next k 0)
     → Kept g (set items place raw) left now
 emptied t g items held left x cut now place a b raw is kept here one_more raw_is index given rooms first links inside stays = (table, many, empties_now, index_now, rooms)
   where
@@ -175,11 +175,11 @@ emptied t g items held left x cut now place a b raw is kept here one_more raw_is
         let less : left ≡ length (pairs_in (set (slots_in items) place None)) = omega arith in
         less ∙ ap (λ (slots : List (Option (ℕ × ℕ))). length (pairs_in slots)) slots_are
 
-    empties_now : AreEmpties (slots_in (set items place raw)) left now.empty now.by_bucket.next.items
-    empties_now = subst (λ (link : ℕ). AreEmpties (slots_in (set items place raw)) left link now.by_bucket.next.items) (sym first)
+    empties_now : AreEmpties (slots_in (set items place raw)) left now.empty now.by_bucket.next
+    empties_now = subst (λ (link : ℕ). AreEmpties (slots_in (set items place raw)) left link now.by_bucket.next) (sym first)
         (subst (AreEmpties (slots_in (set items place raw)) left place) (sym links)
-        (subst (λ (slots : List (Option (ℕ × ℕ))). AreEmpties slots left place (set cut.by_bucket.next.items place x.empty)) slots_are
-        (empties_given (slots_in items) held left x.empty x.by_bucket.next.items cut.by_bucket.next.items place (a, b) kept.2 one_more there inside stays)))
+        (subst (λ (slots : List (Option (ℕ × ℕ))). AreEmpties slots left place (set cut.by_bucket.next place x.empty)) slots_are
+        (empties_given (slots_in items) held left x.empty x.by_bucket.next cut.by_bucket.next place (a, b) kept.2 one_more there inside stays)))
 
     index_now : IsIndex (slot_at (slots_in (set items place raw))) now
     index_now = subst (λ (slots : List (Option (ℕ × ℕ))). IsIndex (slot_at slots) now) slots_are

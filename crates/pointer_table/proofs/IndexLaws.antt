@@ -27,7 +27,7 @@ target_group w n e is = ap (λ v. group v n e) is
 pub bucket_group : (w : Way) (n : ℕ) (e : ℕ × ℕ) → w ≡ way.Bucket → 0 < n → group w n e < n
 bucket_group w n e is some = let same : group w n e ≡ mixed (rank e) % n = ap (λ v. group v n e) is in omega arith
 
-pub room_here : (blocks places : ℕ) (x : Index) → HasRoom blocks places x → HasRoom (length x.by_source.heads.items) places x
+pub room_here : (blocks places : ℕ) (x : Index) → HasRoom blocks places x → HasRoom (length x.by_source.heads) places x
 room_here blocks places x room = record {
   sources = refl;
   targets = room.targets ∙ sym room.sources;
@@ -124,28 +124,28 @@ source_some slots w n b start r k result ways ranks leads found =
     (that_source slots (group w n) b start k (λ e. target_group w n e ways) there)
 
 -- a block past the last head has no pairs
-pub target_past : (slots : List (Option (ℕ × ℕ))) (x : Index) (a start : ℕ) → IsIndex (slot_at slots) x → length x.by_source.heads.items ≤ a → IsNextTarget (pairs_in slots) a start None
+pub target_past : (slots : List (Option (ℕ × ℕ))) (x : Index) (a start : ℕ) → IsIndex (slot_at slots) x → length x.by_source.heads ≤ a → IsNextTarget (pairs_in slots) a start None
 target_past slots x a start index past b held =
     let k = slot_from_holds slots a b held in
     let inside = index.sources.threads.groups k.0 (a, b) k.2 in
-    let same = source_group x.by_source.way (length x.by_source.heads.items) (a, b) index.sources.way_is in
+    let same = source_group x.by_source.way (length x.by_source.heads) (a, b) index.sources.way_is in
     absurd (omega arith)
 
-pub source_past : (slots : List (Option (ℕ × ℕ))) (x : Index) (b start : ℕ) → IsIndex (slot_at slots) x → length x.by_target.heads.items ≤ b → IsNextSource (pairs_in slots) b start None
+pub source_past : (slots : List (Option (ℕ × ℕ))) (x : Index) (b start : ℕ) → IsIndex (slot_at slots) x → length x.by_target.heads ≤ b → IsNextSource (pairs_in slots) b start None
 source_past slots x b start index past a held =
     let k = slot_from_holds slots a b held in
     let inside = index.targets.threads.groups k.0 (a, b) k.2 in
-    let same = target_group x.by_target.way (length x.by_target.heads.items) (a, b) index.targets.way_is in
+    let same = target_group x.by_target.way (length x.by_target.heads) (a, b) index.targets.way_is in
     absurd (omega arith)
 
 -- ---- no slot threaded
 
-pub none_threaded : (way : Way) (groups : ℕ) (t : Threads) → 0 < groups → t.way ≡ way → t.heads.items ≡ replicate groups no_link → IsThreadedBy way (λ k. None) t
+pub none_threaded : (way : Way) (groups : ℕ) (t : Threads) → 0 < groups → t.way ≡ way → t.heads ≡ replicate groups no_link → IsThreadedBy way (λ k. None) t
 none_threaded way groups t some ways heads = record {
   way_is = ways;
   some = (let many = ap length heads in let all : length (replicate groups no_link) ≡ groups = length-replicate groups no_link in omega arith);
   threads = record {
-    first = λ of inside. subst (λ (link : ℕ). LeadsTo (λ k. None) (group t.way (length t.heads.items)) of 0 (linked link)) (sym (all of inside)) (λ j f m. absurd (never f m.here));
+    first = λ of inside. subst (λ (link : ℕ). LeadsTo (λ k. None) (group t.way (length t.heads)) of 0 (linked link)) (sym (all of inside)) (λ j f m. absurd (never f m.here));
     follow = λ k e here. absurd (never e here);
     groups = λ k e here. absurd (never e here);
     inside = λ k e here. absurd (never e here);
@@ -157,19 +157,19 @@ none_threaded way groups t some ways heads = record {
     never : (e : ℕ × ℕ) → ◌≡◌ {A = Option (ℕ × ℕ)} None (Some e) → ⊥
     never e h = cc
 
-    all : (of : ℕ) → of < length t.heads.items → get_or t.heads.items of 0 ≡ no_link
+    all : (of : ℕ) → of < length t.heads → get_or t.heads of 0 ≡ no_link
     all of inside = ap (λ xs. get_or xs of 0) heads ∙ get_or-replicate groups of no_link 0 (let many = ap length heads in let every : length (replicate groups no_link) ≡ groups = length-replicate groups no_link in omega arith)
 
 -- ---- the link of an empty slot
 
-pub linked_aside : (way : Way) (held : ℕ → Option (ℕ × ℕ)) (t now : Threads) (place link : ℕ) → held place ≡ None → now.way ≡ t.way → now.heads.items ≡ t.heads.items → now.next.items ≡ set t.next.items place link
+pub linked_aside : (way : Way) (held : ℕ → Option (ℕ × ℕ)) (t now : Threads) (place link : ℕ) → held place ≡ None → now.way ≡ t.way → now.heads ≡ t.heads → now.next ≡ set t.next place link
     → IsThreadedBy way held t → IsThreadedBy way held now
 linked_aside way held t now place link none ways heads next threads = record {
   way_is = ways ∙ threads.way_is;
   some = (let many = ap length heads in let some = threads.some in omega arith);
   threads =
-      subst (λ (w : Way). AreThreads held (group w (length now.heads.items)) now.heads.items now.next.items) (sym ways)
-      (subst (λ (xs : List ℕ). AreThreads held (group t.way (length xs)) xs now.next.items) (sym heads)
-      (subst (AreThreads held (group t.way (length t.heads.items)) t.heads.items) (sym next)
-      (link_aside held (group t.way (length t.heads.items)) t.heads.items t.next.items place link threads.threads none)));
+      subst (λ (w : Way). AreThreads held (group w (length now.heads)) now.heads now.next) (sym ways)
+      (subst (λ (xs : List ℕ). AreThreads held (group t.way (length xs)) xs now.next) (sym heads)
+      (subst (AreThreads held (group t.way (length t.heads)) t.heads) (sym next)
+      (link_aside held (group t.way (length t.heads)) t.heads t.next place link threads.threads none)));
 }

@@ -7,6 +7,7 @@ pub mod TableLaws
 pub mod LoadingLaws
 pub mod FreshLaws
 pub mod ThreadLaws
+pub mod LinkLaws
 pub mod IndexLaws
 pub mod OrderLaws
 pub mod EmptyLaws

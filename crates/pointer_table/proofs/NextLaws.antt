@@ -5,7 +5,6 @@ use Rattle.std.specs.Prelude.{filter, map}
 use Rattle.std.proofs.lemmas.Bool.{or_cases, or_left, or_right, and_parts, and_from, and_right, eqb-true, eq-eqb, leb-true, le-leb, lt-leb, both_ways, false_from_ne_true}
 use Rattle.std.proofs.lemmas.Bool.Decides.{nat_tests}
 use Rattle.std.proofs.lemmas.List.{append_assoc, append-nil, length_push, take_all, take_at}
-use Rattle.tsd_model.proofs.TakeLaws.{take-take-append}
 use Rattle.tsd_model.specs.Pairs.{is_pair, holds, pair_lt, is_below_first, is_rising}
 use Rattle.tsd_model.specs.Next.{IsNextTarget}
 use Rattle.tsd_model.proofs.PairLaws.{above_first}
@@ -98,9 +97,10 @@ first_target (e ∷ es) a s t rising least =
 -- ---- a list of targets, one after another
 
 -- one target more
-pub targets_more : (targets new rest all : List ℕ) (t : ℕ) → new ≡ take 64 (targets ++ t ∷ []) → take 64 (targets ++ t ∷ rest) ≡ all → take 64 (new ++ rest) ≡ all
-targets_more targets new rest all t is so_far =
-    ap (λ xs. take 64 (xs ++ rest)) is ∙ (take-take-append 64 (targets ++ t ∷ []) rest ∙ (ap (take 64) (append_assoc targets (t ∷ []) rest) ∙ so_far))
+pub targets_more : (most : ℕ) (targets new rest all : List ℕ) (t : ℕ) → length targets < 64 → new ≡ take 64 (targets ++ t ∷ []) → take most (targets ++ t ∷ rest) ≡ all → take most (new ++ rest) ≡ all
+targets_more most targets new rest all t room is so_far =
+    let longer = length_push targets t in
+    ap (λ xs. take most (xs ++ rest)) (is ∙ take_all 64 (targets ++ t ∷ []) (omega arith)) ∙ (ap (take most) (append_assoc targets (t ∷ []) rest) ∙ so_far)
 
 pub targets_longer : (targets new : List ℕ) (t : ℕ) → length targets < 64 → new ≡ take 64 (targets ++ t ∷ []) → length new ≡ length targets + 1
 targets_longer targets new t room is =
@@ -108,10 +108,10 @@ targets_longer targets new t room is =
     ap length (is ∙ take_all 64 (targets ++ t ∷ []) (omega arith)) ∙ longer
 
 -- as many as there may be
-pub targets_full : (targets rest all : List ℕ) → length targets ≤ 64 → 64 ≤ length targets → take 64 (targets ++ rest) ≡ all → targets ≡ all
-targets_full targets rest all most least so_far = sym (take_at targets rest 64 (omega arith)) ∙ so_far
+pub targets_full : (many : ℕ) (targets rest all : List ℕ) → length targets ≤ many → many ≤ length targets → take many (targets ++ rest) ≡ all → targets ≡ all
+targets_full many targets rest all most least so_far = sym (take_at targets rest many (omega arith)) ∙ so_far
 
 -- no more to come
-pub targets_ended : (targets rest all : List ℕ) → length targets ≤ 64 → rest ≡ [] → take 64 (targets ++ rest) ≡ all → targets ≡ all
-targets_ended targets rest all most none so_far =
-    sym (take_all 64 targets most) ∙ (ap (take 64) (sym (append-nil targets)) ∙ (ap (λ xs. take 64 (targets ++ xs)) (sym none) ∙ so_far))
+pub targets_ended : (many : ℕ) (targets rest all : List ℕ) → length targets ≤ many → rest ≡ [] → take many (targets ++ rest) ≡ all → targets ≡ all
+targets_ended many targets rest all most none so_far =
+    sym (take_all many targets most) ∙ (ap (take many) (sym (append-nil targets)) ∙ (ap (λ xs. take many (targets ++ xs)) (sym none) ∙ so_far))

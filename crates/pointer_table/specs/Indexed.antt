@@ -10,13 +10,13 @@ use Rattle.pointer_table.specs.declared.way.Way.TheVariants as way
 
 -- the slots are threaded as these threads say
 abbrev pub AreThreadsOf : (ℕ → Option (ℕ × ℕ)) → Threads → Type 0
-AreThreadsOf held t = AreThreads held (group t.way (length t.heads.items)) t.heads.items t.next.items
+AreThreadsOf held t = AreThreads held (group t.way (length t.heads)) t.heads t.next
 
 -- the slots are threaded this way
 pub record IsThreadedBy (way : Way) (held : ℕ → Option (ℕ × ℕ)) (t : Threads) : Type 0 where
   pub way_is : t.way ≡ way
-  pub some : 0 < length t.heads.items
-  pub threads : AreThreads held (group t.way (length t.heads.items)) t.heads.items t.next.items
+  pub some : 0 < length t.heads
+  pub threads : AreThreads held (group t.way (length t.heads)) t.heads t.next
 
 -- the slots are threaded all three ways
 pub record IsIndex (held : ℕ → Option (ℕ × ℕ)) (x : Index) : Type 0 where
@@ -26,11 +26,11 @@ pub record IsIndex (held : ℕ → Option (ℕ × ℕ)) (x : Index) : Type 0 whe
 
 -- there is a head for each block, and a link for each slot
 pub record HasRoom (blocks slots : ℕ) (x : Index) : Type 0 where
-  pub sources : length x.by_source.heads.items ≡ blocks
-  pub targets : length x.by_target.heads.items ≡ blocks
-  pub by_source : length x.by_source.next.items ≡ slots
-  pub by_target : length x.by_target.next.items ≡ slots
-  pub by_bucket : length x.by_bucket.next.items ≡ slots
+  pub sources : length x.by_source.heads ≡ blocks
+  pub targets : length x.by_target.heads ≡ blocks
+  pub by_source : length x.by_source.next ≡ slots
+  pub by_target : length x.by_target.next ≡ slots
+  pub by_bucket : length x.by_bucket.next ≡ slots
 
 -- the slot that holds the pair (a, b), None exactly where none does
 abbrev pub IsPlaceOf : List (Option (ℕ × ℕ)) → ℕ → ℕ → Option ℕ → Type 0

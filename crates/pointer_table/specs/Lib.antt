@@ -10,6 +10,7 @@ pub mod Reading
 pub mod Changes
 pub mod Fresh
 pub mod Threads
+pub mod Links
 pub mod Indexed
 pub mod Order
 pub mod Empties

@@ -8,8 +8,10 @@
 -- numbers sends to one bucket. Each way has a head for each group and a link behind each slot. A head leads to the first pair
 -- of its group, and the link behind a pair leads to the next one of its group, ascending: that is the invariant, said of each
 -- head and each link alone. Where an ascending walk through a group stands is therefore known without the walk. A pair is
--- looked for in its bucket, the targets of a source and the sources of a target in their groups; a question that begins right
--- above a pair which is held begins its walk there. The empty slots are linked to a list (Empties.antt).
+-- looked for in its bucket, the targets of a source and the sources of a target in their groups. A walk to a place in a group
+-- begins near it: two searches take turns, up from the head of the group and down from the number that is sought, by the
+-- buckets, and the first that finds a pair of the group below the place ends both. What they find is a guess, of which no word
+-- is said here. The empty slots are linked to a list (Empties.antt).
 --
 -- Slots are given as a function from their numbers, so that the same words serve for slots of which some are threaded only.
 use Rattle.std.specs.Prelude.{◌≡◌, ℕ, ◌+◌, ◌*◌, ◌/◌, ◌%◌, ◌^◌, ◌<◌, ◌≤◌, ◌==◌, nat_lt, cond, Bool, false, List, length, slice_index_or, slice_set, Option, Some, None, ⊤}

@@ -7,20 +7,21 @@ ghost use Rattle.pointer_table.specs.Raw.{slots_in};
 ghost use Rattle.pointer_table.specs.Slots.{slot_at};
 ghost use Rattle.pointer_table.specs.Threads.{no_link};
 
+use crate::links::NO_LINK;
 use crate::order::pair_at;
 use crate::raw::RawSlot;
-use crate::threads::{NO_LINK, Threads};
+use crate::threads::Threads;
 use crate::way::Way;
 
 /// Links the empty slots to a list, ascending, and gives the first of them.
 pub(crate) fn link_empties(slots: &[RawSlot], by_bucket: &mut Threads) -> u32
-    requires many { length by_bucket.old.next.items ≡ length slots.now }
+    requires many { length by_bucket.old.next ≡ length slots.now }
     requires few { length slots.now < no_link }
     requires threads { IsThreadedBy Way.Bucket (slot_at (slots_in slots.now)) by_bucket.old }
     ensures threads { IsThreadedBy Way.Bucket (slot_at (slots_in slots.now)) by_bucket.new }
-    ensures many { length by_bucket.new.next.items ≡ length slots.now }
+    ensures many { length by_bucket.new.next ≡ length slots.now }
     ensures empties { AreEmpties (slots_in slots.now) (count_by is_some (slots_in slots.now)) result
-        by_bucket.new.next.items }
+        by_bucket.new.next }
 {
     let mut first = NO_LINK;
     let mut left = slots.len();

@@ -16,9 +16,10 @@ ghost use Rattle.pointer_table.specs.Threads.{rank, no_link, IsWith};
 
 use crate::empties::link_empties;
 use crate::fault::TableFault;
+use crate::links::NO_LINK;
 use crate::raw::RawSlot;
 use crate::threading::{by_bucket, by_ends};
-use crate::threads::{NO_LINK, Threads, is_below};
+use crate::threads::{Threads, is_below};
 use crate::way::rank;
 use std::alloc::Global;
 use tsd_model::Geometry;
@@ -90,7 +91,7 @@ impl Index {
         ensures index { IfOk result (IsIndex (slot_at (slots_in slots.now))) }
         ensures room { IfOk result (HasRoom geometry.now.blocks geometry.now.slots) }
         ensures empties { IfOk result (λ x. AreEmpties (slots_in slots.now) (count_by is_some (slots_in slots.now))
-            x.empty x.by_bucket.next.items) }
+            x.empty x.by_bucket.next) }
         ensures err { IfErr result (IsRefusal (slots_in slots.now)) }
     {
         let (by_source, by_target) = by_ends(alloc, geometry, slots)?;
@@ -210,9 +211,9 @@ impl Index {
     /// Threads the pair that an empty slot is to hold.
     pub(crate) fn add(&mut self, slots: &[RawSlot], place: u32, source: u32, target: u32)
         requires index { IsIndex (slot_at (slots_in slots.now)) self.old }
-        requires room { HasRoom (length self.old.by_source.heads.items) (length slots.now) self.old }
-        requires source { source < length self.old.by_source.heads.items }
-        requires target { target < length self.old.by_source.heads.items }
+        requires room { HasRoom (length self.old.by_source.heads) (length slots.now) self.old }
+        requires source { source < length self.old.by_source.heads }
+        requires target { target < length self.old.by_source.heads }
         requires inside { place < length slots.now }
         requires few { length slots.now < no_link }
         requires empty { slot_at (slots_in slots.now) place ≡ None }
@@ -222,7 +223,7 @@ impl Index {
         ensures room { (blocks places : ℕ) → HasRoom blocks places self.old → HasRoom blocks places self.new }
         ensures empty { self.new.empty ≡ self.old.empty }
         ensures empties { (k : ℕ) → slot_at (slots_in slots.now) k ≡ None → (k ≡ place → ⊥)
-            → slice_index_or self.new.by_bucket.next.items k 0 ≡ slice_index_or self.old.by_bucket.next.items k 0 }
+            → slice_index_or self.new.by_bucket.next k 0 ≡ slice_index_or self.old.by_bucket.next k 0 }
     {
         let near_target = self.near_target(slots, source, target);
         let near_source = self.near_source(slots, source, target);
@@ -242,7 +243,7 @@ impl Index {
         ensures room { (blocks places : ℕ) → HasRoom blocks places self.old → HasRoom blocks places self.new }
         ensures empty { self.new.empty ≡ self.old.empty }
         ensures empties { (k : ℕ) → slot_at (slots_in slots.now) k ≡ None
-            → slice_index_or self.new.by_bucket.next.items k 0 ≡ slice_index_or self.old.by_bucket.next.items k 0 }
+            → slice_index_or self.new.by_bucket.next k 0 ≡ slice_index_or self.old.by_bucket.next k 0 }
     {
         let near_target = self.near_target(slots, source, target);
         let near_source = self.near_source(slots, source, target);
@@ -255,23 +256,23 @@ impl Index {
 
     /// Takes the first slot off the list of empty slots.
     pub(crate) fn take_empty(&mut self) -> u32
-        requires { self.old.empty < length self.old.by_bucket.next.items }
+        requires { self.old.empty < length self.old.by_bucket.next }
         ensures place { result ≡ self.old.empty }
         ensures now { self.new ≡ record self.old {
-          empty = slice_index_or self.old.by_bucket.next.items self.old.empty
+          empty = slice_index_or self.old.by_bucket.next self.old.empty
               0;
         } }
     {
         let place = self.empty;
-        self.empty = self.by_bucket.next[place as usize];
+        self.empty = self.by_bucket.next.get(place as usize);
         place
     }
 
     /// Puts an empty slot in front of the list of empty slots.
     pub(crate) fn give_empty(&mut self, place: u32)
-        requires { place < length self.old.by_bucket.next.items }
+        requires { place < length self.old.by_bucket.next }
         ensures empty { self.new.empty ≡ place }
-        ensures next { self.new.by_bucket.next.items ≡ slice_set self.old.by_bucket.next.items place self.old.empty }
+        ensures next { self.new.by_bucket.next ≡ slice_set self.old.by_bucket.next place self.old.empty }
         ensures index { (held : ℕ → Option (ℕ × ℕ)) → held place ≡ None → IsIndex held self.old
             → IsIndex held self.new }
         ensures room { (blocks places : ℕ) → HasRoom blocks places self.old → HasRoom blocks places self.new }

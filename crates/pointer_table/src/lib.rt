@@ -13,7 +13,8 @@
 //! two ends.
 //!
 //! How it stays fast: the slots that hold pairs are threaded by source, by target and by bucket (`specs/Threads.antt`),
-//! and the empty ones are linked to a list (`specs/Empties.antt`), so no question or change looks at all of them.
+//! and the empty ones are linked to a list (`specs/Empties.antt`), so no question or change looks at all of them. Links
+//! that were never set take room and touch no memory (`specs/Links.antt`).
 #![tactic(auto)]
 
 mod empties;
@@ -21,6 +22,7 @@ mod fault;
 mod fresh;
 mod index;
 pub mod laws;
+mod links;
 mod load;
 mod next;
 mod order;

@@ -1,7 +1,7 @@
 //! The targets of a block in a row, and how many pairs are held.
 
 ghost use Rattle.std.specs.Prelude.{◌≡◌, ℕ, ◌+◌, ◌^◌, ◌<◌, length, count_by, is_some, Option, None};
-ghost use Rattle.std.specs.Prelude.{IsTrue};
+ghost use Rattle.std.specs.Prelude.{◌≤◌, take, IsTrue};
 ghost use Rattle.tsd_model.specs.Pairs.{holds};
 ghost use Rattle.tsd_model.specs.Step.{targets_from};
 ghost use Rattle.pointer_table.specs.Indexed.{IsIndex};
@@ -27,9 +27,25 @@ pub(crate) fn targets_from(slots: &[RawSlot], index: &Index, source: u32, start:
     requires small { (b : ℕ) → IsTrue (holds (pairs_in (slots_in slots.now)) source b) → b + 1 < 2 ^ 32 }
     ensures { result ≡ targets_from (pairs_in (slots_in slots.now)) source start }
 {
+    least_targets(slots, index, source, start, BLOCKS_MAX)
+}
+
+/// The first of these, as many as are wanted.
+pub(crate) fn least_targets(
+    slots: &[RawSlot],
+    index: &Index,
+    source: u32,
+    start: u32,
+    most: usize,
+) -> BlockList
+    requires index { IsIndex (slot_at (slots_in slots.now)) index.now }
+    requires small { (b : ℕ) → IsTrue (holds (pairs_in (slots_in slots.now)) source b) → b + 1 < 2 ^ 32 }
+    requires most { most ≤ 64 }
+    ensures { result ≡ take most (targets_from (pairs_in (slots_in slots.now)) source start) }
+{
     let mut targets = BlockList::new();
     let mut from = start;
-    while targets.len() < BLOCKS_MAX {
+    while targets.len() < most {
         let Some(target) = index.next_target(slots, source, from) else {
             break;
         };

@@ -1,7 +1,7 @@
 //! The table.
 
 ghost use Rattle.std.specs.Prelude.{◌≡◌, ◌↔◌, ◌<◌, ◌/◌, false, None, Some, length, IsErr, IfOk};
-ghost use Rattle.std.specs.Prelude.{OnOk, OnErr};
+ghost use Rattle.std.specs.Prelude.{◌≤◌, take, OnOk, OnErr};
 ghost use Rattle.image_device.specs.Calls.{Rests, Uses};
 ghost use Rattle.image_device.specs.Counts.{CountsFaultOf};
 ghost use Rattle.tsd_model.specs.Geometry.{IsLawful};
@@ -20,7 +20,7 @@ ghost use Rattle.pointer_table.specs.Table.{pairs, IsWithin, IsTable, ArePairs};
 use crate::fault::{NoPointer, TableFault, TableFull};
 use crate::index::Index;
 use crate::load::{empty_slots, read_slots};
-use crate::next::{count_held, targets_from};
+use crate::next::{count_held, least_targets, targets_from};
 use crate::raw::RawSlot;
 use crate::sector::{PER_SECTOR, sector_bytes};
 use image_device::Device;
@@ -56,7 +56,7 @@ impl Model for PointerTable {
     ghost invariant = { λ t.
         IsTable (record { geometry = t.geometry; slots = slots_in t.slots.items })
         × (t.held ≡ length (pairs (record { geometry = t.geometry; slots = slots_in t.slots.items })))
-        × AreEmpties (slots_in t.slots.items) t.held t.index.empty t.index.by_bucket.next.items
+        × AreEmpties (slots_in t.slots.items) t.held t.index.empty t.index.by_bucket.next
         × IsIndex (slot_at (slots_in t.slots.items)) t.index
         × HasRoom t.geometry.blocks t.geometry.slots t.index };
 }
@@ -121,6 +121,14 @@ impl PointerTable {
         ensures { result ≡ targets_from (pairs self.now) source start }
     {
         targets_from(&self.slots, &self.index, source, start)
+    }
+
+    /// The least targets of the pairs from a block, ascending, as many as are wanted.
+    pub fn least_targets(&self, source: u32, most: usize) -> BlockList
+        requires { most ≤ 64 }
+        ensures { result ≡ take most (targets_from (pairs self.now) source 0) }
+    {
+        least_targets(&self.slots, &self.index, source, 0, most)
     }
 
     /// The least target of the pairs from a block.

@@ -14,9 +14,10 @@ ghost use Rattle.pointer_table.specs.Table.{IsWithin, IsTable};
 ghost use Rattle.pointer_table.specs.Threads.{group};
 
 use crate::fault::TableFault;
+use crate::links::NO_LINK;
 use crate::order::{holders, least_repeated, pair_at, sort_by_pair};
 use crate::raw::RawSlot;
-use crate::threads::{NO_LINK, Threads};
+use crate::threads::Threads;
 use crate::way::Way;
 use std::alloc::Global;
 use tsd_model::Geometry;
@@ -34,8 +35,8 @@ fn by_order(
     requires order { IsOrder (slots_in slots.now) order.now }
     requires groups { (n : ℕ) (e : ℕ × ℕ) → IsWithin geometry.now e → group way n e < geometry.now.blocks }
     ensures threads { IfOk result (IsThreadedBy way (slot_at (slots_in slots.now))) }
-    ensures groups { IfOk result (λ t. length t.heads.items ≡ geometry.now.blocks) }
-    ensures slots { IfOk result (λ t. length t.next.items ≡ geometry.now.slots) }
+    ensures groups { IfOk result (λ t. length t.heads ≡ geometry.now.blocks) }
+    ensures slots { IfOk result (λ t. length t.next ≡ geometry.now.slots) }
     ensures err { IfErr result (λ e. e ≡ TableFault.NoMemory) }
 {
     let blocks = geometry.blocks as usize;
@@ -64,10 +65,10 @@ pub(crate) fn by_ends(
     ensures none { OnOk result (IsLeastOfAll (slots_in slots.now) None) }
     ensures sources { IfOk result (λ t. IsThreadedBy Way.Source (slot_at (slots_in slots.now)) t.0) }
     ensures targets { IfOk result (λ t. IsThreadedBy Way.Target (slot_at (slots_in slots.now)) t.1) }
-    ensures groups { IfOk result (λ t. (length t.0.heads.items ≡ geometry.now.blocks)
-        × (length t.1.heads.items ≡ geometry.now.blocks)) }
-    ensures slots { IfOk result (λ t. (length t.0.next.items ≡ geometry.now.slots)
-        × (length t.1.next.items ≡ geometry.now.slots)) }
+    ensures groups { IfOk result (λ t. (length t.0.heads ≡ geometry.now.blocks)
+        × (length t.1.heads ≡ geometry.now.blocks)) }
+    ensures slots { IfOk result (λ t. (length t.0.next ≡ geometry.now.slots)
+        × (length t.1.next ≡ geometry.now.slots)) }
     ensures err { IfErr result (IsRefusal (slots_in slots.now)) }
 {
     let mut order = holders(alloc, slots)?;
@@ -88,7 +89,7 @@ pub(crate) fn by_bucket(
 ) -> Result<Threads, TableFault>
     requires table { IsTable (record { geometry = geometry.now; slots = slots_in slots.now }) }
     ensures threads { IfOk result (IsThreadedBy Way.Bucket (slot_at (slots_in slots.now))) }
-    ensures slots { IfOk result (λ t. length t.next.items ≡ geometry.now.slots) }
+    ensures slots { IfOk result (λ t. length t.next ≡ geometry.now.slots) }
     ensures err { IfErr result (λ e. e ≡ TableFault.NoMemory) }
 {
     let mut threads = Threads::none(alloc, Way::Bucket, slots.len() / 2 + 1, slots.len(), false)?;

@@ -1,6 +1,6 @@
 //! Threads through the slots: of each group of pairs an ascending list, by heads and links.
 
-ghost use Rattle.std.specs.Prelude.{◌≡◌, ℕ, ◌<◌, length, slice_index_or};
+ghost use Rattle.std.specs.Prelude.{◌≡◌, ℕ, ◌<◌, ◌^◌, length, slice_index_or};
 ghost use Rattle.std.specs.Prelude.{slice_set, replicate, Option, Some, None, IfSome, IfOk, IfErr};
 ghost use Rattle.pointer_table.specs.Indexed.{AreThreadsOf};
 ghost use Rattle.pointer_table.specs.Raw.{slots_in};
@@ -9,12 +9,10 @@ ghost use Rattle.pointer_table.specs.Threads.{rank, is_below, group, linked, no_
 ghost use Rattle.pointer_table.specs.Threads.{LeadsTo, IsBefore, IsBelowAll, IsNear, IsWith};
 
 use crate::fault::TableFault;
+use crate::links::{Links, NO_LINK};
 use crate::raw::RawSlot;
 use crate::way::{Way, group, rank};
 use std::alloc::Global;
-
-/// The link that leads nowhere.
-pub(crate) const NO_LINK: u32 = 4_294_967_295;
 
 /// The threads of one way to group pairs.
 #[derive(Drop)]
@@ -23,14 +21,14 @@ pub(crate) struct Threads {
     pub way: Way,
 
     /// For each group the slot of its first pair.
-    pub heads: Vec<u32>,
+    pub heads: Links,
 
     /// For each slot that holds a pair the slot of the next pair of its group. What stands at an empty slot no thread
     /// asks.
-    pub next: Vec<u32>,
+    pub next: Links,
 
     /// For each group the slot that was last added at its end, where that is kept. A wrong one costs time alone.
-    ends: Vec<u32>,
+    ends: Links,
 }
 
 /// Whether the pair of a slot is below a rank.
@@ -54,36 +52,26 @@ fn linked(link: u32) -> Option<u32>
 }
 
 /// One of some links. Past the last of them none leads anywhere.
-fn link_at(links: &[u32], place: usize) -> u32 {
-    match links.get(place) {
-        Some(link) => *link,
-        None => NO_LINK,
-    }
-}
-
-/// So many links that lead nowhere.
-fn links(alloc: Global, count: usize) -> Result<Vec<u32>, TableFault>
-    ensures items { IfOk result (λ v. v.items ≡ replicate count no_link) }
-    ensures err { IfErr result (λ e. e ≡ TableFault.NoMemory) }
-{
-    match vec![in alloc; NO_LINK; count] {
-        Ok(links) => Ok(links),
-        Err(_) => Err(TableFault::NoMemory),
+fn link_at(links: &Links, place: usize) -> u32 {
+    if place < links.len() {
+        links.get(place)
+    } else {
+        NO_LINK
     }
 }
 
 impl Threads {
     /// How many groups there are.
     pub(crate) fn groups(&self) -> usize
-        ensures { result ≡ length self.now.heads.items }
+        ensures { result ≡ length self.now.heads }
     {
         self.heads.len()
     }
 
     /// The group of a pair.
     pub(crate) fn group(&self, source: u32, target: u32) -> usize
-        requires { 0 < length self.now.heads.items }
-        ensures { result ≡ group self.now.way (length self.now.heads.items) (source, target) }
+        requires { 0 < length self.now.heads }
+        ensures { result ≡ group self.now.way (length self.now.heads) (source, target) }
     {
         group(self.way, self.heads.len(), source, target)
     }
@@ -105,34 +93,34 @@ impl Threads {
 
     /// The link behind a slot, or the head of a group.
     fn after(&self, of: usize, before: Option<u32>) -> u32
-        requires group { of < length self.now.heads.items }
-        requires slot { IfSome before (λ k. k < length self.now.next.items) }
-        ensures { result ≡ after self.now.heads.items self.now.next.items of before }
+        requires group { of < length self.now.heads }
+        requires slot { IfSome before (λ k. k < length self.now.next) }
+        ensures { result ≡ after self.now.heads self.now.next of before }
     {
         match before {
-            Some(place) => self.next[place as usize],
-            None => self.heads[of],
+            Some(place) => self.next.get(place as usize),
+            None => self.heads.get(of),
         }
     }
 
     /// Sets the link behind a slot, or the head of a group.
     fn set_after(&mut self, of: usize, before: Option<u32>, link: u32)
-        requires group { of < length self.old.heads.items }
-        requires slot { IfSome before (λ k. k < length self.old.next.items) }
-        ensures heads { self.new.heads.items ≡ heads_with self.old.heads.items of before link }
-        ensures next { self.new.next.items ≡ next_with self.old.next.items before link }
+        requires group { of < length self.old.heads }
+        requires slot { IfSome before (λ k. k < length self.old.next) }
+        ensures heads { self.new.heads ≡ heads_with self.old.heads of before link }
+        ensures next { self.new.next ≡ next_with self.old.next before link }
         ensures way { self.new.way ≡ self.old.way }
     {
         match before {
-            Some(place) => self.next[place as usize] = link,
-            None => self.heads[of] = link,
+            Some(place) => self.next.set(place as usize, link),
+            None => self.heads.set(of, link),
         }
     }
 
     /// A slot of a group whose pair is below a rank: this one, if it is.
     fn near(&self, slots: &[RawSlot], of: usize, limit: u64, place: u32) -> Option<u32>
-        requires { of < length self.now.heads.items }
-        ensures { IsNear (slot_at (slots_in slots.now)) (group self.now.way (length self.now.heads.items)) of limit
+        requires { of < length self.now.heads }
+        ensures { IsNear (slot_at (slots_in slots.now)) (group self.now.way (length self.now.heads)) of limit
             result }
     {
         let (source, target) = slots.get(place as usize)?.pair()?;
@@ -146,25 +134,25 @@ impl Threads {
     /// The slot of the last pair of a group below a rank. The walk begins at `near`, where that is a slot of the group
     /// below the rank, and at the head otherwise.
     fn before(&self, slots: &[RawSlot], of: usize, limit: u64, near: u32) -> Option<u32>
-        requires group { of < length self.now.heads.items }
+        requires group { of < length self.now.heads }
         requires threads { AreThreadsOf (slot_at (slots_in slots.now)) self.now }
-        ensures { IsBefore (slot_at (slots_in slots.now)) (group self.now.way (length self.now.heads.items)) of limit
+        ensures { IsBefore (slot_at (slots_in slots.now)) (group self.now.way (length self.now.heads)) of limit
             result }
     {
         let mut before = self.near(slots, of, limit, near);
         let mut link = self.after(of, before);
         while link != NO_LINK && is_below(slots, link, limit) {
             before = Some(link);
-            link = self.next[link as usize];
+            link = self.next.get(link as usize);
         }
         before
     }
 
     /// The slot of the first pair of a group that isn't below a rank. The walk begins as that of `before`.
     pub(crate) fn first(&self, slots: &[RawSlot], of: usize, from: u64, near: u32) -> Option<u32>
-        requires group { of < length self.now.heads.items }
+        requires group { of < length self.now.heads }
         requires threads { AreThreadsOf (slot_at (slots_in slots.now)) self.now }
-        ensures { LeadsTo (slot_at (slots_in slots.now)) (group self.now.way (length self.now.heads.items)) of from
+        ensures { LeadsTo (slot_at (slots_in slots.now)) (group self.now.way (length self.now.heads)) of from
             result }
     {
         let before = self.before(slots, of, from, near);
@@ -174,7 +162,8 @@ impl Threads {
 
 impl Threads {
     /// Threads of no slot, with room for so many groups and slots. The ends of the groups are kept where that is
-    /// wanted.
+    /// wanted. What stands behind an empty slot leads to the next slot, so that a list of the empty ones is there where
+    /// all are.
     pub(crate) fn none(
         alloc: Global,
         way: Way,
@@ -182,15 +171,17 @@ impl Threads {
         slots: usize,
         with_ends: bool,
     ) -> Result<Threads, TableFault>
+        requires groups { groups < 2 ^ 32 }
+        requires slots { slots < 2 ^ 32 }
         ensures way { IfOk result (λ t. t.way ≡ way) }
-        ensures heads { IfOk result (λ t. t.heads.items ≡ replicate groups no_link) }
-        ensures next { IfOk result (λ t. length t.next.items ≡ slots) }
+        ensures heads { IfOk result (λ t. t.heads ≡ replicate groups no_link) }
+        ensures next { IfOk result (λ t. length t.next ≡ slots) }
         ensures err { IfErr result (λ e. e ≡ TableFault.NoMemory) }
     {
         let ends = if with_ends { groups } else { 0 };
-        let heads = links(alloc, groups)?;
-        let next = links(alloc, slots)?;
-        let ends = links(alloc, ends)?;
+        let heads = Links::nowhere(alloc, groups)?;
+        let next = Links::row(alloc, slots)?;
+        let ends = Links::nowhere(alloc, ends)?;
         Ok(Threads {
             way,
             heads,
@@ -201,38 +192,38 @@ impl Threads {
 
     /// Puts a slot behind another of its group, or first, and gives the link that is behind it now.
     fn put(&mut self, of: usize, before: Option<u32>, place: u32) -> u32
-        requires group { of < length self.old.heads.items }
-        requires slot { IfSome before (λ k. k < length self.old.next.items) }
-        requires place { place < length self.old.next.items }
-        ensures heads { self.new.heads.items ≡ heads_with self.old.heads.items of before place }
-        ensures next { let link = after self.old.heads.items self.old.next.items of before in
-            self.new.next.items ≡ next_with (slice_set self.old.next.items place link) before place }
+        requires group { of < length self.old.heads }
+        requires slot { IfSome before (λ k. k < length self.old.next) }
+        requires place { place < length self.old.next }
+        ensures heads { self.new.heads ≡ heads_with self.old.heads of before place }
+        ensures next { let link = after self.old.heads self.old.next of before in
+            self.new.next ≡ next_with (slice_set self.old.next place link) before place }
         ensures way { self.new.way ≡ self.old.way }
     {
         let link = self.after(of, before);
-        self.next[place as usize] = link;
+        self.next.set(place as usize, link);
         self.set_after(of, before, place);
         link
     }
 
     /// Threads the pair of a slot that was empty. The walk to its place begins as that of `before`.
     pub(crate) fn add(&mut self, slots: &[RawSlot], place: u32, source: u32, target: u32, near: u32)
-        requires some { 0 < length self.old.heads.items }
+        requires some { 0 < length self.old.heads }
         requires threads { AreThreadsOf (slot_at (slots_in slots.now)) self.old }
-        requires group { group self.old.way (length self.old.heads.items) (source, target)
-            < length self.old.heads.items }
+        requires group { group self.old.way (length self.old.heads) (source, target)
+            < length self.old.heads }
         requires empty { slot_at (slots_in slots.now) place ≡ None }
-        requires place { place < length self.old.next.items }
+        requires place { place < length self.old.next }
         requires link { place < no_link }
         requires absent { (k : ℕ) → slot_at (slots_in slots.now) k ≡ Some (source, target) → ⊥ }
         ensures threads { (now : ℕ → Option (ℕ × ℕ)) → IsWith (slot_at (slots_in slots.now)) place
             (source, target) now
             → AreThreadsOf now self.new }
         ensures way { self.new.way ≡ self.old.way }
-        ensures groups { length self.new.heads.items ≡ length self.old.heads.items }
-        ensures slots { length self.new.next.items ≡ length self.old.next.items }
+        ensures groups { length self.new.heads ≡ length self.old.heads }
+        ensures slots { length self.new.next ≡ length self.old.next }
         ensures empties { (k : ℕ) → slot_at (slots_in slots.now) k ≡ None → (k ≡ place → ⊥)
-            → slice_index_or self.new.next.items k 0 ≡ slice_index_or self.old.next.items k 0 }
+            → slice_index_or self.new.next k 0 ≡ slice_index_or self.old.next k 0 }
     {
         let of = self.group(source, target);
         let before = self.before(slots, of, rank(source, target), near);
@@ -249,17 +240,17 @@ impl Threads {
         target: u32,
         near: u32,
     )
-        requires some { 0 < length self.old.heads.items }
+        requires some { 0 < length self.old.heads }
         requires threads { AreThreadsOf (slot_at (slots_in slots.now)) self.old }
         requires held { slot_at (slots_in slots.now) place ≡ Some (source, target) }
         ensures threads { (left : ℕ → Option (ℕ × ℕ))
             → IsWith left place (source, target) (slot_at (slots_in slots.now))
             → AreThreadsOf left self.new }
         ensures way { self.new.way ≡ self.old.way }
-        ensures groups { length self.new.heads.items ≡ length self.old.heads.items }
-        ensures slots { length self.new.next.items ≡ length self.old.next.items }
+        ensures groups { length self.new.heads ≡ length self.old.heads }
+        ensures slots { length self.new.next ≡ length self.old.next }
         ensures empties { (k : ℕ) → slot_at (slots_in slots.now) k ≡ None
-            → slice_index_or self.new.next.items k 0 ≡ slice_index_or self.old.next.items k 0 }
+            → slice_index_or self.new.next k 0 ≡ slice_index_or self.old.next k 0 }
     {
         let of = self.group(source, target);
         let before = self.before(slots, of, rank(source, target), near);
@@ -270,16 +261,16 @@ impl Threads {
 
     /// Threads the pair of a slot, which is below all pairs of its group that are threaded.
     pub(crate) fn add_first(&mut self, place: u32, source: u32, target: u32)
-        requires some { 0 < length self.old.heads.items }
-        requires group { group self.old.way (length self.old.heads.items) (source, target)
-            < length self.old.heads.items }
-        requires place { place < length self.old.next.items }
+        requires some { 0 < length self.old.heads }
+        requires group { group self.old.way (length self.old.heads) (source, target)
+            < length self.old.heads }
+        requires place { place < length self.old.next }
         requires link { place < no_link }
         ensures threads { (held now : ℕ → Option (ℕ × ℕ)) → IsWith held place (source, target) now
             → IsBelowAll held (source, target) → AreThreadsOf held self.old → AreThreadsOf now self.new }
         ensures way { self.new.way ≡ self.old.way }
-        ensures groups { length self.new.heads.items ≡ length self.old.heads.items }
-        ensures slots { length self.new.next.items ≡ length self.old.next.items }
+        ensures groups { length self.new.heads ≡ length self.old.heads }
+        ensures slots { length self.new.next ≡ length self.old.next }
     {
         let of = self.group(source, target);
         let link = self.put(of, None, place);
@@ -288,25 +279,25 @@ impl Threads {
 
     /// Sets the link of an empty slot, which is in no thread.
     pub(crate) fn link_empty(&mut self, place: u32, behind: u32)
-        requires { place < length self.old.next.items }
+        requires { place < length self.old.next }
         ensures way { self.new.way ≡ self.old.way }
-        ensures heads { self.new.heads.items ≡ self.old.heads.items }
-        ensures next { self.new.next.items ≡ slice_set self.old.next.items place behind }
+        ensures heads { self.new.heads ≡ self.old.heads }
+        ensures next { self.new.next ≡ slice_set self.old.next place behind }
     {
-        self.next[place as usize] = behind;
+        self.next.set(place as usize, behind);
     }
 
     /// Keeps a slot as the end of a group, where ends are kept and no link leads on from it.
     fn keep_end(&mut self, of: usize, link: u32, place: u32)
         ensures way { self.new.way ≡ self.old.way }
-        ensures heads { self.new.heads.items ≡ self.old.heads.items }
-        ensures next { self.new.next.items ≡ self.old.next.items }
+        ensures heads { self.new.heads ≡ self.old.heads }
+        ensures next { self.new.next ≡ self.old.next }
     {
         if link != NO_LINK {
             return;
         }
-        if let Some(end) = self.ends.get_mut(of) {
-            *end = place;
+        if of < self.ends.len() {
+            self.ends.set(of, place);
         }
     }
 }

@@ -1,8 +1,8 @@
 -- The step at a block that waits.
-use Rattle.std.proofs.Common.{◌≡◌, ℕ, ◌+◌, ◌<◌, Bool, true, false, cond, ◌==◌, nat_le, Option, Some, None, List, [], length, refl, sym, ◌∙◌, ap, arith, take, ◌⊎◌, ◌↔◌, inl, inr}
-use Rattle.std.proofs.lemmas.Bool.{eq-eqb, or_right, cases_Bool}
+use Rattle.std.proofs.Common.{◌≡◌, ℕ, ◌+◌, ◌<◌, min, Bool, true, false, cond, ◌==◌, nat_le, Option, Some, None, List, [], length, refl, sym, ◌∙◌, ap, arith, take, ◌⊎◌, ◌↔◌, inl, inr}
+use Rattle.std.proofs.lemmas.Bool.{eq-eqb, or_right, cases_Bool, cases_lt, le-leb, lt-leb}
 use Rattle.std.proofs.lemmas.Bool.Decides.{nat_tests}
-use Rattle.std.proofs.lemmas.List.{length-take}
+use Rattle.std.proofs.lemmas.List.{length-take, take-take}
 use Rattle.std.specs.Prelude.{IsTrue, IfSome, IsNone}
 use Rattle.tsd_model.specs.World.{World, has_number}
 use Rattle.tsd_model.specs.Doomed.{doomed}
@@ -66,12 +66,22 @@ step_keeps w s laid_out may r same =
 abbrev pub first_step : World → ℕ → OutStep
 first_step w b = record { block = b; targets = take 16 (targets_from w.pairs b 0); freed = nat_le (length (targets_from w.pairs b 0)) 16 }
 
+-- whether there are more than 16 is known of the first 17
+pub few_of : (xs : List ℕ) → nat_le (length (take 17 xs)) 16 ≡ nat_le (length xs) 16
+few_of xs = go (length (take 17 xs)) (length xs) (length-take 17 xs)
+  where
+    go : (m n : ℕ) → m ≡ min 17 n → nat_le m 16 ≡ nat_le n 16
+    go m n is = elim (cases_lt 16 n) [
+      | inl more ↦ lt-leb m 16 (omega arith) ∙ sym (lt-leb n 16 more)
+      | inr few ↦ le-leb m 16 (omega arith) ∙ sym (le-leb n 16 few)
+    ]
+
 -- the step of these targets is that
-pub this_step : (w : World) (b : ℕ) (first items all : List ℕ) (freed : Bool) (len : ℕ) → first ≡ take 16 items → items ≡ all → all ≡ targets_from w.pairs b 0 → freed ≡ nat_le len 16 → len ≡ length all
+pub this_step : (w : World) (b : ℕ) (first items all : List ℕ) (freed : Bool) (len : ℕ) → first ≡ take 16 items → items ≡ all → all ≡ take 17 (targets_from w.pairs b 0) → freed ≡ nat_le len 16 → len ≡ length all
     → first_step w b ≡ record { block = b; targets = first; freed = freed }
 this_step w b first items all freed len is same all_is fit long =
-    let targets : take 16 (targets_from w.pairs b 0) ≡ first = sym (is ∙ (ap (λ (xs : List ℕ). take 16 xs) same ∙ ap (λ (xs : List ℕ). take 16 xs) all_is)) in
-    let fits : nat_le (length (targets_from w.pairs b 0)) 16 ≡ freed = sym (fit ∙ (ap (λ n. nat_le n 16) long ∙ ap (λ (xs : List ℕ). nat_le (length xs) 16) all_is)) in
+    let targets : take 16 (targets_from w.pairs b 0) ≡ first = sym (is ∙ (ap (λ (xs : List ℕ). take 16 xs) same ∙ (ap (λ (xs : List ℕ). take 16 xs) all_is ∙ take-take 16 17 (targets_from w.pairs b 0) (omega arith)))) in
+    let fits : nat_le (length (targets_from w.pairs b 0)) 16 ≡ freed = sym (fit ∙ (ap (λ n. nat_le n 16) long ∙ (ap (λ (xs : List ℕ). nat_le (length xs) 16) all_is ∙ few_of (targets_from w.pairs b 0)))) in
     λ i. record { block = b; targets = targets i; freed = fits i }
 
 pub first_may_step : (w : World) (b : ℕ) → IsLaidOut w → IsLost w b → MayStep w (first_step w b)

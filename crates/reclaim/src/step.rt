@@ -60,7 +60,7 @@ pub(crate) fn step_at(pointers: &PointerTable, live: &LiveMap, block: u32) -> Ou
     ensures wide { (result.freed ≡ true) ⊎ (length result.targets ≡ 16) }
     ensures kept { AreKeptBy (graph_of pointers.now live.now) result }
 {
-    let all = pointers.targets_from(block, 0);
+    let all = pointers.least_targets(block, STEP_TARGETS + 1);
     OutStep {
         block,
         targets: first_targets(all.as_slice()),

@@ -10,9 +10,9 @@ use Rattle.pointer_table.proofs.empties.link_empties.Given as goal
 abbrev pub invariant-loop-left : goal.invariant-loop-left
 invariant-loop-left l = record {
   inside : l.left ≤ length l.slots;
-  many : length l.by_bucket.next.items ≡ length l.slots;
+  many : length l.by_bucket.next ≡ length l.slots;
   threads : IsThreadedBy way.Bucket (slot_at (slots_in l.slots)) l.by_bucket;
-  empties : AreEmptiesFrom (slots_in l.slots) l.left l.first l.by_bucket.next.items;
+  empties : AreEmptiesFrom (slots_in l.slots) l.left l.first l.by_bucket.next;
 }
 
 abbrev pub decreases-loop-left : goal.decreases-loop-left

@@ -34,13 +34,13 @@ loop-place-preserved c =
               threads = w.add.ensures.threads (slot_at (slots_in (take (place + 1) raws)))
                   (raws_more raws place (w.in-Some.source, w.in-Some.target) (sym c.pair_at.ensures ∙ w.in-Some.is));
             });
-        slots = ap (λ (t : Threads). length t.next.items) w.threads-is ∙ (w.add.ensures.slots ∙ so_far.slots);
+        slots = ap (λ (t : Threads). length t.next) w.threads-is ∙ (w.add.ensures.slots ∙ so_far.slots);
       }
       | in_default w ↦ record {
         threads =
             subst (IsThreadedBy way.Bucket (slot_at (slots_in (take (place + 1) raws)))) (sym w.threads-is)
             (threaded_same way.Bucket (slot_at (slots_in (take place raws))) (slot_at (slots_in (take (place + 1) raws))) c.loop-place.threads
             (raws_same raws place (sym c.pair_at.ensures ∙ w.in_default.is)) so_far.threads);
-        slots = ap (λ (t : Threads). length t.next.items) w.threads-is ∙ so_far.slots;
+        slots = ap (λ (t : Threads). length t.next) w.threads-is ∙ so_far.slots;
       }
     ]

@@ -9,5 +9,5 @@ use Rattle.pointer_table.proofs.threading.by_bucket.Given as goal
 abbrev pub invariant-loop-place : goal.invariant-loop-place
 invariant-loop-place l = record {
   threads : IsThreadedBy way.Bucket (slot_at (slots_in (take l.place l.slots))) l.threads;
-  slots : length l.threads.next.items ≡ length l.slots;
+  slots : length l.threads.next ≡ length l.slots;
 }

@@ -9,8 +9,8 @@ abbrev pub invariant-loop-left : goal.invariant-loop-left
 invariant-loop-left l = record {
   inside : l.left ≤ length l.order;
   threads : IsThreadedBy l.fn.way (threaded (slots_in l.slots) l.order l.left) l.threads;
-  groups : length l.threads.heads.items ≡ l.geometry.blocks;
-  slots : length l.threads.next.items ≡ l.geometry.slots;
+  groups : length l.threads.heads ≡ l.geometry.blocks;
+  slots : length l.threads.next ≡ l.geometry.slots;
 }
 
 abbrev pub decreases-loop-left : goal.decreases-loop-left

@@ -8,7 +8,7 @@ use Rattle.reclaim.proofs.step.step_at.Goals as goal
 
 -- it is the step with the first 16 targets
 this : (c : goal.After-len) → first_step (graph_of c.args.pointers.now c.args.live.now) c.args.block ≡ record { block = c.args.block; targets = c.first_targets.result; freed = nat_le c.len.result 16 }
-this c = this_step (graph_of c.args.pointers.now c.args.live.now) c.args.block c.first_targets.result c.as_slice.result.now c.targets_from-all.result (nat_le c.len.result 16) c.len.result c.first_targets.ensures c.as_slice.ensures.value c.targets_from-all.ensures refl c.len.ensures.value
+this c = this_step (graph_of c.args.pointers.now c.args.live.now) c.args.block c.first_targets.result c.as_slice.result.now c.least_targets-all.result (nat_le c.len.result 16) c.len.result c.first_targets.ensures c.as_slice.ensures.value c.least_targets-all.ensures refl c.len.ensures.value
 
 pub returns-clause-step : goal.returns-clause-step
 returns-clause-step c =

@@ -9,10 +9,10 @@ returns-then-of-groups c = source_past (slots_in c.args.slots.now) c.args.self.n
 pub returns-in_default : goal.returns-in_default
 returns-in_default c =
     let t = c.args.self.now.by_target in
-    source_none (slots_in c.args.slots.now) t.way (length t.heads.items) c.args.target c.args.start c.rank.result c.requires.targets.way_is c.rank.ensures c.in_default.ensures
+    source_none (slots_in c.args.slots.now) t.way (length t.heads) c.args.target c.args.start c.rank.result c.requires.targets.way_is c.rank.ensures c.in_default.ensures
 
 pub returns : goal.returns
 returns c =
     let t = c.args.self.now.by_target in
-    source_some (slots_in c.args.slots.now) t.way (length t.heads.items) c.args.target c.args.start c.rank.result c.in-Some.place c.source_in.result
+    source_some (slots_in c.args.slots.now) t.way (length t.heads) c.args.target c.args.start c.rank.result c.in-Some.place c.source_in.result
     c.requires.targets.way_is c.rank.ensures c.in-Some.ensures c.source_in.ensures

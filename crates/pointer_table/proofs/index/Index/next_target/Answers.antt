@@ -9,10 +9,10 @@ returns-then-of-groups c = target_past (slots_in c.args.slots.now) c.args.self.n
 pub returns-in_default : goal.returns-in_default
 returns-in_default c =
     let t = c.args.self.now.by_source in
-    target_none (slots_in c.args.slots.now) t.way (length t.heads.items) c.args.source c.args.start c.rank.result c.requires.sources.way_is c.rank.ensures c.in_default.ensures
+    target_none (slots_in c.args.slots.now) t.way (length t.heads) c.args.source c.args.start c.rank.result c.requires.sources.way_is c.rank.ensures c.in_default.ensures
 
 pub returns : goal.returns
 returns c =
     let t = c.args.self.now.by_source in
-    target_some (slots_in c.args.slots.now) t.way (length t.heads.items) c.args.source c.args.start c.rank.result c.in-Some.place c.target_in.result
+    target_some (slots_in c.args.slots.now) t.way (length t.heads) c.args.source c.args.start c.rank.result c.in-Some.place c.target_in.result
     c.requires.sources.way_is c.rank.ensures c.in-Some.ensures c.target_in.ensures

@@ -7,11 +7,11 @@ use Rattle.pointer_table.proofs.index.Index.place_of.Goals as goal
 pub returns-in_default : goal.returns-in_default
 returns-in_default c =
     let t = c.args.self.now.by_bucket in
-    no_place (slots_in c.args.slots.now) (group t.way (length t.heads.items)) c.group-of.result c.rank.result c.args.source c.args.target
+    no_place (slots_in c.args.slots.now) (group t.way (length t.heads)) c.group-of.result c.rank.result c.args.source c.args.target
     c.group-of.ensures c.rank.ensures c.in_default.ensures
 
 pub returns-else-holds_at : goal.returns-else-holds_at
 returns-else-holds_at c =
     let t = c.args.self.now.by_bucket in
-    another_place (slots_in c.args.slots.now) (group t.way (length t.heads.items)) t.heads.items t.next.items c.group-of.result c.rank.result c.args.source c.args.target c.in-Some.place
+    another_place (slots_in c.args.slots.now) (group t.way (length t.heads)) t.heads t.next c.group-of.result c.rank.result c.args.source c.args.target c.in-Some.place
     c.requires.buckets.threads c.group-of.ensures c.rank.ensures c.ranges.target.fits c.in-Some.ensures (sym c.holds_at.ensures ∙ c.if-holds_at.false)

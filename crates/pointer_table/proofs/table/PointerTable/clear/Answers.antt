@@ -37,7 +37,7 @@ invariant_of-self c =
     c.give_empty.ensures.index
     (c.give_empty.ensures.room s.geometry.blocks s.geometry.slots (c.remove.ensures.room s.geometry.blocks s.geometry.slots c.self.invariant.4))
     c.give_empty.ensures.empty
-    (c.give_empty.ensures.next ∙ ap (set c.remove.new.self.by_bucket.next.items c.args.place) c.remove.ensures.empty)
+    (c.give_empty.ensures.next ∙ ap (set c.remove.new.self.by_bucket.next c.args.place) c.remove.ensures.empty)
     (omega arith)
     (λ k none. c.remove.ensures.empties k (ap (λ raws. slot_at (slots_in raws) k) c.deref.ensures.value ∙ none))
 
@@ -56,7 +56,7 @@ kept_now c =
     c.give_empty.ensures.index
     (c.give_empty.ensures.room s.geometry.blocks s.geometry.slots (c.remove.ensures.room s.geometry.blocks s.geometry.slots c.self.invariant.4))
     c.give_empty.ensures.empty
-    (c.give_empty.ensures.next ∙ ap (set c.remove.new.self.by_bucket.next.items c.args.place) c.remove.ensures.empty)
+    (c.give_empty.ensures.next ∙ ap (set c.remove.new.self.by_bucket.next c.args.place) c.remove.ensures.empty)
     (omega arith)
     (λ k none. c.remove.ensures.empties k (ap (λ raws. slot_at (slots_in raws) k) c.deref.ensures.value ∙ none))
 

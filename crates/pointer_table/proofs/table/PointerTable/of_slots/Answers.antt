@@ -23,8 +23,8 @@ invariant_of-result c =
     let counted : held ≡ count_by is_some (slots_in items) = c.count_held-held.ensures ∙ ap (λ raws. count_by is_some (slots_in raws)) c.deref-2.ensures.value in (
       table,
       counted ∙ sym (length-pairs_in (slots_in items) table.apart),
-      subst (λ (n : ℕ). AreEmpties (slots_in items) n x.empty x.by_bucket.next.items) (sym counted)
-          (subst (λ (raws : List RawSlot). AreEmpties (slots_in raws) (count_by is_some (slots_in raws)) x.empty x.by_bucket.next.items) c.deref.ensures.value c.in_ok-index.ensures.empties),
+      subst (λ (n : ℕ). AreEmpties (slots_in items) n x.empty x.by_bucket.next) (sym counted)
+          (subst (λ (raws : List RawSlot). AreEmpties (slots_in raws) (count_by is_some (slots_in raws)) x.empty x.by_bucket.next) c.deref.ensures.value c.in_ok-index.ensures.empties),
       subst (λ (raws : List RawSlot). IsIndex (slot_at (slots_in raws)) x) c.deref.ensures.value c.in_ok-index.ensures.index,
       c.in_ok-index.ensures.room,
     )

@@ -7,8 +7,8 @@ use Rattle.pointer_table.proofs.threads.Threads.before.Given as goal
 
 abbrev pub invariant-loop-link : goal.invariant-loop-link
 invariant-loop-link l = record {
-  near : IsNear (slot_at (slots_in l.slots)) (group l.self.way (length l.self.heads.items)) l.of l.limit l.before;
-  link : l.link ≡ after l.self.heads.items l.self.next.items l.of l.before;
+  near : IsNear (slot_at (slots_in l.slots)) (group l.self.way (length l.self.heads)) l.of l.limit l.before;
+  link : l.link ≡ after l.self.heads l.self.next l.of l.before;
 }
 
 abbrev pub decreases-loop-link : goal.decreases-loop-link

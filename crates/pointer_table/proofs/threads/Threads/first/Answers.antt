@@ -9,6 +9,6 @@ pub returns : goal.returns
 returns c =
     let t = c.args.self.now in
     let held = slot_at (slots_in c.args.slots.now) in
-    let by = group t.way (length t.heads.items) in
+    let by = group t.way (length t.heads) in
     subst (LeadsTo held by c.args.of c.args.from) (sym (c.linked.ensures ∙ ap linked c.after.ensures))
-    (leads_there held by t.heads.items t.next.items c.args.of c.args.from c.before-before.result c.requires.threads c.requires.group c.before-before.ensures)
+    (leads_there held by t.heads t.next c.args.of c.args.from c.before-before.result c.requires.threads c.requires.group c.before-before.ensures)

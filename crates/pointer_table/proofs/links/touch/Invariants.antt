@@ -1,0 +1,13 @@
+use Rattle.std.proofs.Common.{◌≡◌, ◌+◌, ◌-◌}
+use Rattle.std.specs.Prelude.{vec_len, vec_capacity}
+use Rattle.pointer_table.specs.Links.{links_of, AreKept}
+use Rattle.pointer_table.proofs.links.touch.Given as goal
+
+abbrev pub invariant-loop-items : goal.invariant-loop-items
+invariant-loop-items l = record {
+  kept : AreKept l.count l.items.items (vec_capacity l.items);
+  same : links_of l.in_row l.count l.items.items ≡ links_of l.in_row l.count l.fn.items.items;
+}
+
+abbrev pub decreases-loop-items : goal.decreases-loop-items
+decreases-loop-items l = l.place + 1 - vec_len l.items

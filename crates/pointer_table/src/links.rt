@@ -1,0 +1,133 @@
+//! Links by number, of which few are set: memory is touched up to the last one that was.
+
+ghost use Rattle.std.specs.Prelude.{◌≡◌, ◌≤◌, ◌<◌, ◌^◌, length, slice_index_or, slice_set, replicate, false};
+ghost use Rattle.std.specs.Prelude.{vec_capacity, IfOk, IfErr};
+ghost use Rattle.pointer_table.specs.Links.{unset_link, links_of, AreKept};
+ghost use Rattle.pointer_table.specs.Threads.{no_link};
+
+use crate::fault::TableFault;
+use std::alloc::Global;
+use std::marker::Model;
+
+/// The link that leads nowhere.
+pub(crate) const NO_LINK: u32 = 4_294_967_295;
+
+/// So many links, all there from the start. Room for all of them is taken when they are made, and no memory behind the
+/// last one that was ever set is touched, so links that hold nothing cost nothing.
+#[derive(Drop)]
+pub(crate) struct Links {
+    /// The links up to the last that was set. There is room for all.
+    items: Vec<u32>,
+
+    /// How many links there are.
+    count: usize,
+
+    /// What a link is that was never set: whether it leads to the next number, the last one nowhere, or all nowhere.
+    in_row: bool,
+}
+
+impl Model for Links {
+    ghost use Rattle.std.specs.Prelude.{List, ℕ, vec_capacity};
+    ghost use Rattle.pointer_table.specs.Links.{links_of, AreKept};
+
+    ghost Value = { List ℕ };
+
+    ghost view = { λ l. links_of l.in_row l.count l.items.items };
+
+    ghost invariant = { λ l. AreKept l.count l.items.items (vec_capacity l.items) };
+}
+
+/// A link that was never set.
+fn unset_link(in_row: bool, count: usize, place: usize) -> u32
+    requires inside { place < count }
+    requires few { count < 2 ^ 32 }
+    ensures { result ≡ unset_link in_row count place }
+{
+    if in_row && place + 1 < count {
+        (place + 1) as u32
+    } else {
+        NO_LINK
+    }
+}
+
+/// Puts links that were never set behind the ones in memory, until this one is among them.
+fn touch(items: &mut Vec<u32>, in_row: bool, count: usize, place: usize)
+    requires kept { AreKept count items.old.items (vec_capacity items.old) }
+    requires inside { place < count }
+    ensures kept { AreKept count items.new.items (vec_capacity items.new) }
+    ensures same { links_of in_row count items.new.items ≡ links_of in_row count items.old.items }
+    ensures touched { place < length items.new.items }
+{
+    while items.len() <= place {
+        let link = unset_link(in_row, count, items.len());
+        items.push_reserved(link);
+    }
+}
+
+impl Links {
+    /// So many links that lead nowhere.
+    pub(crate) fn nowhere(alloc: Global, count: usize) -> Result<Links, TableFault>
+        requires { count < 2 ^ 32 }
+        ensures links { IfOk result (λ l. l ≡ replicate count no_link) }
+        ensures err { IfErr result (λ e. e ≡ TableFault.NoMemory) }
+    {
+        Links::of(alloc, count, false)
+    }
+
+    /// So many links, each of which leads to the next number, and the last one nowhere.
+    pub(crate) fn row(alloc: Global, count: usize) -> Result<Links, TableFault>
+        requires { count < 2 ^ 32 }
+        ensures len { IfOk result (λ l. length l ≡ count) }
+        ensures err { IfErr result (λ e. e ≡ TableFault.NoMemory) }
+    {
+        Links::of(alloc, count, true)
+    }
+
+    /// So many links that were never set.
+    fn of(alloc: Global, count: usize, in_row: bool) -> Result<Links, TableFault>
+        requires { count < 2 ^ 32 }
+        ensures len { IfOk result (λ l. length l ≡ count) }
+        ensures nowhere { in_row ≡ false → IfOk result (λ l. l ≡ replicate count no_link) }
+        ensures err { IfErr result (λ e. e ≡ TableFault.NoMemory) }
+    {
+        match Vec::with_capacity(alloc, count) {
+            Ok(items) => Ok(Links {
+                items,
+                count,
+                in_row,
+            }),
+            Err(_) => Err(TableFault::NoMemory),
+        }
+    }
+
+    /// How many links there are.
+    pub(crate) fn len(&self) -> usize
+        ensures { result ≡ length self.now }
+    {
+        self.count
+    }
+
+    /// A link.
+    pub(crate) fn get(&self, place: usize) -> u32
+        requires { place < length self.now }
+        ensures { result ≡ slice_index_or self.now place 0 }
+    {
+        if place < self.items.len() {
+            self.items[place]
+        } else {
+            unset_link(self.in_row, self.count, place)
+        }
+    }
+
+    /// Sets a link.
+    pub(crate) fn set(&mut self, place: usize, link: u32)
+        requires { place < length self.old }
+        ensures { self.new ≡ slice_set self.old place link }
+    {
+        if self.get(place) == link {
+            return;
+        }
+        touch(&mut self.items, self.in_row, self.count, place);
+        self.items[place] = link;
+    }
+}
