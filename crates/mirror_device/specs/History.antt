@@ -43,7 +43,14 @@ after (e ∷ es) s = after es (step s e)
 
 -- the same as two images under one clock, that had no past
 abbrev pub still : Stand → SidesView
-still s = record { first = s.first; second = s.second; sent = s.sent; clock = 0; left = λ t i. Unit {0}; put_faults = 0 }
+still s = record {
+  first = s.first;
+  second = s.second;
+  sent = s.sent;
+  clock = 0;
+  left = λ t i. Unit {0};
+  put_faults = 0;
+}
 
 -- what a crash between two entries leaves
 abbrev pub IsNow : Stand → Item → Type 0

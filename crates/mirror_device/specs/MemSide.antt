@@ -8,7 +8,12 @@ use Rattle.mirror_device.specs.declared.mem_side.MemSide.{MemSide}
 use Rattle.mirror_device.specs.SidesView.{SideView}
 
 abbrev pub side_view : MemSide → SideView
-side_view d = record { reads = (station_view d.station).reads; loose = (station_view d.station).loose; faults = d.faults; syncs = d.syncs }
+side_view d = record {
+  reads = (station_view d.station).reads;
+  loose = (station_view d.station).loose;
+  faults = d.faults;
+  syncs = d.syncs;
+}
 
 -- the sectors as the last sync held them
 abbrev pub synced_side : MemSide → Image
@@ -20,11 +25,21 @@ blank_side = record { reads = λ n. zeros; loose = λ n. false; faults = 0; sync
 
 -- a sector was written
 abbrev pub written : ℕ → List ℕ → SideView → SideView
-written sector bytes v = record { reads = put_at sector bytes v.reads; loose = loosened sector v.loose; faults = v.faults; syncs = v.syncs }
+written sector bytes v = record {
+  reads = put_at sector bytes v.reads;
+  loose = loosened sector v.loose;
+  faults = v.faults;
+  syncs = v.syncs;
+}
 
 -- a sector was set from outside
 abbrev pub poked : ℕ → List ℕ → SideView → SideView
-poked sector bytes v = record { reads = put_at sector bytes v.reads; loose = firmed sector v.loose; faults = v.faults; syncs = v.syncs }
+poked sector bytes v = record {
+  reads = put_at sector bytes v.reads;
+  loose = firmed sector v.loose;
+  faults = v.faults;
+  syncs = v.syncs;
+}
 
 -- a sync answered Ok
 abbrev pub settled : SideView → SideView

@@ -39,7 +39,8 @@ short_of m = m.short
 abbrev pub is_failing : MemSides → Bool
 is_failing m = is_listed m.calls m.fail.items
 
--- Each failed call is in the record. One that isn't, for want of memory, has raised its side's count to the greatest u64.
+-- Each failed call is in the record. One that isn't, for want of memory, has raised its side's count to the greatest
+-- u64.
 abbrev pub IsRecorded : MemSides → Type 0
 IsRecorded m = m.twins.lapse ≡ Never
 

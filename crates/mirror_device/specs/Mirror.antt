@@ -1,8 +1,8 @@
 -- A mirror: which sides count, which are sound in an item, and what is told of the two as one device.
 --
--- A side is sound in an item where it has failed no call since the mirror began and, the second one, where the copying was done.
--- A side that is left never serves stale bytes: a side that failed once is never read again, so each write that is read was made
--- on every side that counts.
+-- A side is sound in an item where it has failed no call since the mirror began and, the second one, where the copying
+-- was done. A side that is left never serves stale bytes: a side that failed once is never read again, so each write
+-- that is read was made on every side that counts.
 use Rattle.std.specs.Prelude.{ℕ, ◌-◌, ◌^◌, ◌<◌, ◌≤◌, ◌≡◌, ◌≢◌, ◌⊎◌, ◌||◌, Bool, List, Result, OnErr}
 use Rattle.image_device.specs.Counts.{Rose}
 use Rattle.image_device.specs.Image.{Image}
@@ -23,7 +23,13 @@ pub record Start : Type 0 where
 
 -- the same as they stand
 abbrev pub start_at : SidesView → Start
-start_at v = record { first_faults = v.first.faults; second_faults = v.second.faults; second_syncs = v.second.syncs; clock = v.clock; sent = v.sent }
+start_at v = record {
+  first_faults = v.first.faults;
+  second_faults = v.second.faults;
+  second_syncs = v.second.syncs;
+  clock = v.clock;
+  sent = v.sent;
+}
 
 -- the first side has failed no call
 abbrev pub IsFirstSound : Start → Item → Type 0
@@ -39,7 +45,8 @@ image_left Both i = i.first.image
 image_left First i = i.first.image
 image_left Second i = i.second.image
 
--- A mirror shows this image of an item: that of a side that is sound in it or, where neither is, of the side that is left.
+-- A mirror shows this image of an item: that of a side that is sound in it or, where neither is, of the side that is
+-- left.
 abbrev pub Shows : Start → Serving → Item → Image → Type 0
 Shows s c i x =
     (IsFirstSound s i × (x ≡ i.first.image))
@@ -99,7 +106,8 @@ pub record CountsAgree (v : SidesView) (s : Start) (c : Serving) : Type 0 where
   pub second_out : c ≡ First → IsSecondOut s v.second
   pub first_out : c ≡ Second → s.first_faults < v.first.faults
   -- the second one alone isn't lost but by a call of it that failed, where its counts could rise
-  pub second_failed : c ≡ First → s.second_faults < 2 ^ 64 - 1 → s.second_syncs < 2 ^ 64 - 1 → s.second_faults < v.second.faults
+  pub second_failed : c ≡ First → s.second_faults < 2 ^ 64 - 1 → s.second_syncs < 2 ^ 64 - 1
+      → s.second_faults < v.second.faults
 
 -- sides that both count read alike, and the same sectors are loose
 pub record AreAlike (v : SidesView) (c : Serving) : Type 0 where
@@ -145,4 +153,7 @@ IsSideLost SecondSide c = c ≡ First
 
 -- what holds of the image of each side that is sound in an item and, where neither is, of that of the side that is left
 abbrev pub EachSound : Start → Serving → Item → (Image → Type 0) → Type 0
-EachSound s c i P = (IsFirstSound s i → P i.first.image) × (IsSecondSound s i → P i.second.image) × ((IsFirstSound s i → ⊥) → (IsSecondSound s i → ⊥) → P (image_left c i))
+EachSound s c i P =
+    (IsFirstSound s i → P i.first.image)
+    × (IsSecondSound s i → P i.second.image)
+    × ((IsFirstSound s i → ⊥) → (IsSecondSound s i → ⊥) → P (image_left c i))

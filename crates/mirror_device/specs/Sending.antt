@@ -3,7 +3,8 @@ use Rattle.std.specs.Prelude.{◌-◌, ◌^◌, ◌<◌, ◌≤◌, ◌≡◌}
 use Rattle.mirror_device.specs.SidesView.{SideItem, SidesView, Item}
 use Rattle.mirror_device.specs.Mirror.{Start}
 
--- Both counts of the second side can rise. Where one stood at its end as the mirror began, nothing is copied and that side is lost.
+-- Both counts of the second side can rise. Where one stood at its end as the mirror began, nothing is copied and that
+-- side is lost.
 pub record CanRise (s : Start) : Type 0 where
   pub faults : s.second_faults < 2 ^ 64 - 1
   pub syncs : s.second_syncs < 2 ^ 64 - 1

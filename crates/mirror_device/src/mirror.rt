@@ -152,9 +152,11 @@ impl<P: Sides, K: Began> Device for Mirror<P, K> {
     fn read(&mut self, sector: u32, into: &mut [u8; 512]) -> Result<(), Failed>
         ensures bytes { P.told → OnOk result (into.new ≡ (⟦<Mirror<P, K> as Device>⟧.view self.old).reads sector) }
         ensures kept { OnErr result (into.new ≡ into.old) }
-        ensures rests { P.told → Rests (⟦<Mirror<P, K> as Device>⟧.view self.old) (⟦<Mirror<P, K> as Device>⟧.view self.new) }
+        ensures rests { P.told → Rests (⟦<Mirror<P, K> as Device>⟧.view self.old)
+            (⟦<Mirror<P, K> as Device>⟧.view self.new) }
         ensures uses { Uses 0 (⟦<Mirror<P, K> as Device>⟧.view self.old) (⟦<Mirror<P, K> as Device>⟧.view self.new) }
-        ensures faults { CountsFault result (⟦<Mirror<P, K> as Device>⟧.view self.old).faults (⟦<Mirror<P, K> as Device>⟧.view self.new).faults }
+        ensures faults { CountsFault result (⟦<Mirror<P, K> as Device>⟧.view self.old).faults
+            (⟦<Mirror<P, K> as Device>⟧.view self.new).faults }
         ensures one_call { OneCall result self.old.serving self.new.serving (P.view self.old.sides.sides)
             (P.view self.new.sides.sides) }
     {
@@ -190,9 +192,11 @@ impl<P: Sides, K: Began> Device for Mirror<P, K> {
     fn write(&mut self, sector: u32, from: &[u8; 512]) -> Result<(), Failed>
         ensures written { P.told → OnOk result ((⟦<Mirror<P, K> as Device>⟧.view self.new).reads sector ≡ from.now) }
         ensures loose { P.told → OnOk result ((⟦<Mirror<P, K> as Device>⟧.view self.new).loose sector ≡ true) }
-        ensures touches { P.told → Touches sector (⟦<Mirror<P, K> as Device>⟧.view self.old) (⟦<Mirror<P, K> as Device>⟧.view self.new) }
+        ensures touches { P.told → Touches sector (⟦<Mirror<P, K> as Device>⟧.view self.old)
+            (⟦<Mirror<P, K> as Device>⟧.view self.new) }
         ensures uses { Uses 1 (⟦<Mirror<P, K> as Device>⟧.view self.old) (⟦<Mirror<P, K> as Device>⟧.view self.new) }
-        ensures faults { CountsFault result (⟦<Mirror<P, K> as Device>⟧.view self.old).faults (⟦<Mirror<P, K> as Device>⟧.view self.new).faults }
+        ensures faults { CountsFault result (⟦<Mirror<P, K> as Device>⟧.view self.old).faults
+            (⟦<Mirror<P, K> as Device>⟧.view self.new).faults }
         ensures one_call { OneCall result self.old.serving self.new.serving (P.view self.old.sides.sides)
             (P.view self.new.sides.sides) }
     {
@@ -231,10 +235,13 @@ impl<P: Sides, K: Began> Device for Mirror<P, K> {
 
     fn sync(&mut self) -> Result<(), Failed>
         ensures firm { P.told → OnOk result (IsFirm (⟦<Mirror<P, K> as Device>⟧.view self.new)) }
-        ensures loose { P.told → OnErr result ((⟦<Mirror<P, K> as Device>⟧.view self.new).loose ≡ (⟦<Mirror<P, K> as Device>⟧.view self.old).loose) }
-        ensures settles { P.told → Settles (⟦<Mirror<P, K> as Device>⟧.view self.old) (⟦<Mirror<P, K> as Device>⟧.view self.new) }
+        ensures loose { P.told → OnErr result ((⟦<Mirror<P, K> as Device>⟧.view self.new).loose
+            ≡ (⟦<Mirror<P, K> as Device>⟧.view self.old).loose) }
+        ensures settles { P.told → Settles (⟦<Mirror<P, K> as Device>⟧.view self.old)
+            (⟦<Mirror<P, K> as Device>⟧.view self.new) }
         ensures uses { Uses 0 (⟦<Mirror<P, K> as Device>⟧.view self.old) (⟦<Mirror<P, K> as Device>⟧.view self.new) }
-        ensures faults { CountsFault result (⟦<Mirror<P, K> as Device>⟧.view self.old).faults (⟦<Mirror<P, K> as Device>⟧.view self.new).faults }
+        ensures faults { CountsFault result (⟦<Mirror<P, K> as Device>⟧.view self.old).faults
+            (⟦<Mirror<P, K> as Device>⟧.view self.new).faults }
         ensures one_call { OneCall result self.old.serving self.new.serving (P.view self.old.sides.sides)
             (P.view self.new.sides.sides) }
     {

@@ -77,9 +77,9 @@ fn left_on(sides: MemSides, side: Side, pick: Pick) -> (u8, u8, u8) {
     )
 }
 
-// A mirror begins with a sync and two ends, which are calls 0 to 2, and reads five sectors of both in turn. It writes the
-// two that differ, in calls 11 and 14, and ends with the sync 15. Then two writes are 16 and 17, two syncs 18 and 19, three
-// reads 20 to 22, and a put 23.
+// A mirror begins with a sync and two ends, which are calls 0 to 2, and reads five sectors of both in turn. It writes
+// the two that differ, in calls 11 and 14, and ends with the sync 15. Then two writes are 16 and 17, two syncs 18 and
+// 19, three reads 20 to 22, and a put 23.
 #[test]
 fn each_call_fails_in_turn(rt: HostRuntime) -> Result<(), Fail> {
     let alloc = rt.alloc();

@@ -26,7 +26,8 @@ fn save_over<P: Sides + Drop, K: Began>(sides: P, sector: u32, from: &[u8; 512])
     requires { K.start ≡ start_at (P.view sides) }
     ensures saved { P.told → IfOk result (λ rest. (c : Serving)
         × ((i : Item) → (P.view rest).left (P.view sides).clock i
-        → EachSound K.start c i (λ x. IsSaved sector from.now (P.view sides).first.reads (P.view sides).first.loose (P.view sides).sent x i.sent))) }
+        → EachSound K.start c i (λ x. IsSaved sector from.now (P.view sides).first.reads
+        (P.view sides).first.loose (P.view sides).sent x i.sent))) }
     ensures late { P.told → IfOk result (λ rest. CanRise K.start → (i : Item)
         → (P.view rest).left (P.view sides).clock i → IsIdle K.start i.second → i.sent ≡ (P.view sides).sent) }
 {
@@ -40,7 +41,8 @@ fn save_over<P: Sides + Drop, K: Began>(sides: P, sector: u32, from: &[u8; 512])
 pub fn save_both<P: Sides + Drop>(sides: P, sector: u32, from: &[u8; 512]) -> Result<P, P>
     ensures saved { P.told → IfOk result (λ rest. (c : Serving)
         × ((i : Item) → (P.view rest).left (P.view sides).clock i
-        → EachSound (start_at (P.view sides)) c i (λ x. IsSaved sector from.now (P.view sides).first.reads (P.view sides).first.loose (P.view sides).sent x i.sent))) }
+        → EachSound (start_at (P.view sides)) c i (λ x. IsSaved sector from.now (P.view sides).first.reads
+        (P.view sides).first.loose (P.view sides).sent x i.sent))) }
     ensures late { P.told → IfOk result (λ rest. CanRise (start_at (P.view sides)) → (i : Item)
         → (P.view rest).left (P.view sides).clock i
         → IsIdle (start_at (P.view sides)) i.second → i.sent ≡ (P.view sides).sent) }
