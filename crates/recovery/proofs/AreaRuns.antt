@@ -1,5 +1,6 @@
 -- The writes of all sectors but the format gate, one group after another.
-use Rattle.std.proofs.Common.{◌≡◌, ℕ, ◌<◌, ◌≤◌, ◌==◌, nat_le, Bool, true, false, not, List, length, sym, ◌∙◌, ap, subst, arith, refl, Ok}
+use Rattle.std.proofs.Common.{◌≡◌, ℕ, ◌<◌, ◌≤◌, ◌==◌, nat_le, nat_lt, inl, inr, Bool, true, false, not, List, length, sym, ◌∙◌, ap, subst, arith, refl, Ok}
+use Rattle.std.proofs.lemmas.Bool.{cases_Bool, both_ways}
 use Rattle.std.proofs.lemmas.Bool.Decides.{nat_tests}
 use Rattle.tsd_model.specs.declared.caps.CapPair.{CapPair}
 use Rattle.tsd_model.specs.declared.geometry.Geometry.{Geometry}
@@ -18,7 +19,7 @@ use Rattle.image_layout.specs.Ring.{gate_sector}
 use Rattle.image_world.specs.Fresh.{IsWrittenFresh, AreClosed}
 use Rattle.intent_journal.specs.Home.{is_journal}
 use Rattle.intent_journal.proofs.Places.{gate_in}
-use Rattle.recovery.specs.Areas.{fresh_end, fresh_bytes}
+use Rattle.recovery.specs.Areas.{fresh_end, fresh_bytes, is_fresh}
 use Rattle.recovery.proofs.AreaLaws.{has_written}
 
 abbrev pub but_gate : ℕ → Bool
@@ -38,11 +39,46 @@ pub after_tables : (v0 v2 v3 : View) → IsConfined but_gate v0 v2 → IsConfine
 after_tables v0 v2 v3 two three =
     confined_joined but_gate v0 v2 v3 two (confined_wider (nat_le sweep_flag) but_gate v2 v3 (λ n out. ap (nat_le sweep_flag) (is_gate n out)) three)
 
-below_flag : (n : ℕ) → n < 131 → nat_le sweep_flag n ≡ false
-below_flag n less = grind (arith, nat_tests)
-
 gate_low : (n : ℕ) → is_journal n ≡ true → n < 131
 gate_low n inside = grind (arith, nat_tests)
+
+-- ---- the same of all that formatting writes
+low_fresh : (g : Geometry) (n : ℕ) → n < 131 → is_fresh g n ≡ true
+low_fresh g n low = below n (fresh_end g) (omega (arith, low))
+  where
+    below : (m k : ℕ) → m < k → nat_lt m k ≡ true
+    below m k h = grind (arith, nat_tests)
+
+-- what is outside of it is outside of what is written first
+journal_out : (g : Geometry) (n : ℕ) → is_fresh g n ≡ false → is_journal n ≡ false
+journal_out g n out = elim (cases_Bool (is_journal n)) [
+  | inl inside ↦ absurd (both_ways (is_fresh g n) out (low_fresh g n (gate_low n inside)))
+  | inr e ↦ e
+]
+
+pub header_inside : (g : Geometry) (v0 v1 : View) → IsSound v0 → Touches header_sector v0 v1 → IsConfined (is_fresh g) v0 v1
+header_inside g v0 v1 sound touches = confined_write (is_fresh g) header_sector v0 v0 v1 (low_fresh g header_sector (omega arith)) (confined_start (is_fresh g) v0 sound) touches
+
+pub gates_inside : (g : Geometry) (v0 v1 v2 : View) → IsConfined (is_fresh g) v0 v1 → IsConfined is_journal v1 v2 → IsConfined (is_fresh g) v0 v2
+gates_inside g v0 v1 v2 one two = confined_joined (is_fresh g) v0 v1 v2 one (confined_wider is_journal (is_fresh g) v1 v2 (journal_out g) two)
+
+pub gate_inside : (g : Geometry) (v0 v1 : View) → IsConfined (λ n. n == format_gate) v0 v1 → IsConfined (is_fresh g) v0 v1
+gate_inside g v0 v1 one = confined_wider (λ n. n == format_gate) (is_fresh g) v0 v1 (λ n out. apart n out) one
+  where
+    first : (n : ℕ) → (n == format_gate) ≡ true → n < 131
+    first n same = grind (arith, nat_tests)
+
+    apart : (n : ℕ) → is_fresh g n ≡ false → (n == format_gate) ≡ false
+    apart n out = elim (cases_Bool (n == format_gate)) [
+      | inl same ↦ absurd (both_ways (is_fresh g n) out (low_fresh g n (first n same)))
+      | inr e ↦ e
+    ]
+
+pub inside_joined : (g : Geometry) (v0 v1 v2 : View) → IsConfined (is_fresh g) v0 v1 → IsConfined (is_fresh g) v1 v2 → IsConfined (is_fresh g) v0 v2
+inside_joined g v0 v1 v2 one two = confined_joined (is_fresh g) v0 v1 v2 one two
+
+below_flag : (n : ℕ) → n < 131 → nat_le sweep_flag n ≡ false
+below_flag n less = grind (arith, nat_tests)
 
 no_gate : (n : ℕ) → 2 ≤ n → (n == format_gate) ≡ false
 no_gate n more = grind (arith, nat_tests)

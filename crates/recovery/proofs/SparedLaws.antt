@@ -18,7 +18,16 @@ use Rattle.volume_laws.specs.Volume.{Volume}
 use Rattle.recovery.specs.declared.fault.OpenFault.{OpenFault}
 use Rattle.recovery.specs.declared.fault.OpenFault.TheVariants as fault
 use Rattle.recovery.specs.Faults.{of_replay}
-use Rattle.recovery.specs.Opening.{IsImageFault, IsSpared}
+use Rattle.recovery.specs.Opening.{IsImageFault, IsSpared, LeavesData}
+use Rattle.tsd_model.specs.declared.geometry.Geometry.{Geometry}
+use Rattle.image_device.proofs.Moments.{weakened}
+use Rattle.image_layout.specs.Areas.{data_start, header_sector}
+use Rattle.image_world.specs.Tables.{Tables, tables_of}
+use Rattle.image_layout.specs.Header.{header_of}
+use Rattle.image_world.proofs.WrittenLaws.{above_journal}
+use Rattle.volume_laws.specs.Data.{HasSameData, KeepsData}
+use Rattle.volume_laws.specs.Volume.{IsVolumeAt}
+use Rattle.image_device.specs.declared.device.Failed.{Failed}
 use Rattle.recovery.proofs.OpenRuns.{IsStill, synced, read_still}
 
 -- ---- by the answer
@@ -97,3 +106,55 @@ spared_load v0 v1 v2 v3 v4 sound firm settles head leaves at done valid firm3 re
           after_read v0 v3 v4 (Same v0) replaying rests
           (λ x f left. subst (IsTheSame v0.reads) (sym (firm_image v3 firm3 x f left)) now);
     }
+
+-- ---- the data stays
+
+same_data : (g : Geometry) (image x : Image) → IsTheSame image x → HasSameData g [] image x
+same_data g image x same n from out = same.stands n (above_journal n (omega (arith, from)))
+
+as_data : (v w : View) → LeavesOnly v w (Same v) → LeavesData v w
+as_data v w leaves = weakened v w (Same v) (λ x f. HasSameData (tables_of (home v.reads)).geometry [] v.reads x) leaves (λ x f same. same_data (tables_of (home v.reads)).geometry v.reads x same)
+
+pub data_start_of : (v0 : View) → IsSound v0 → IsFirm v0 → LeavesData v0 v0
+data_start_of v0 sound firm = as_data v0 v0 (started v0 (Same v0) sound (still_same v0 v0 (record { firm = firm; reads = refl; sent = refl })))
+
+pub data_sync : (v0 v1 : View) → IsSound v0 → IsFirm v0 → Settles v0 v1 → LeavesData v0 v1
+data_sync v0 v1 sound firm settles = as_data v0 v1 (synced_same v0 v1 sound firm settles)
+
+head_same : (v0 v1 v2 : View) → IsSound v0 → IsFirm v0 → IsFirm v1 → Settles v0 v1 → Rests v1 v2 → LeavesOnly v0 v2 (Same v0)
+head_same v0 v1 v2 sound firm now settles rests = read_same v0 v1 v2 (synced v0 v1 now settles) rests (synced_same v0 v1 sound firm settles)
+
+pub data_head : (v0 v1 v2 : View) → IsSound v0 → IsFirm v0 → IsFirm v1 → Settles v0 v1 → Rests v1 v2 → LeavesData v0 v2
+data_head v0 v1 v2 sound firm now settles rests = as_data v0 v2 (head_same v0 v1 v2 sound firm now settles rests)
+
+replay_same : (v0 v1 v2 v3 : View) → IsSound v0 → IsFirm v0 → IsFirm v1 → Settles v0 v1 → Rests v1 v2 → LeavesOnly v2 v3 (λ x f. IsTheSame v2.reads x × (f ≡ v2.sent)) → LeavesOnly v0 v3 (Same v0)
+replay_same v0 v1 v2 v3 sound firm now settles rests leaves =
+    let still = read_still v0 v1 v2 (synced v0 v1 now settles) rests in
+    joined v0 v2 v3 (Same v0) (λ x f. IsTheSame v2.reads x × (f ≡ v2.sent)) (head_same v0 v1 v2 sound firm now settles rests) leaves
+    (λ x f left. subst (λ (r : Image). IsTheSame r x) still.reads left.0)
+
+pub data_replay : (v0 v1 v2 v3 : View) → IsSound v0 → IsFirm v0 → IsFirm v1 → Settles v0 v1 → Rests v1 v2 → LeavesOnly v2 v3 (λ x f. IsTheSame v2.reads x × (f ≡ v2.sent)) → LeavesData v0 v3
+data_replay v0 v1 v2 v3 sound firm now settles rests leaves = as_data v0 v3 (replay_same v0 v1 v2 v3 sound firm now settles rests leaves)
+
+pub data_load : (v0 v4 : View) → IsFirm v0 → IsSpared v0 v4 → LeavesData v0 v4
+data_load v0 v4 firm spared = as_data v0 v4 (spared.left firm)
+
+geometry_on : (x : Image) → (tables_of x).geometry ≡ (header_of (x header_sector)).geometry
+unfolding tables_of
+geometry_on x = refl
+
+-- the volume that was loaded goes on from there
+pub data_finish : {T : Type 0} (r : Result T Failed) (v0 v4 v5 : View) (vol : Volume) → IsFirm v0 → IsSpared v0 v4 → IsVolumeAt vol v4 → KeepsData vol.tables.geometry [] v4 v5 r → LeavesData v0 v5
+data_finish r v0 v4 v5 vol firm spared at keeps =
+    joined v0 v4 v5 (λ x f. HasSameData k [] v0.reads x) (λ x f. HasSameData vol.tables.geometry [] v4.reads x) (data_load v0 v4 firm spared) keeps.left
+    (λ x f same. subst (λ (g : Geometry). HasSameData g [] v0.reads x) size (λ n from out. same n from out ∙ same_data vol.tables.geometry v0.reads v4.reads spared.reads n from out))
+  where
+    k : Geometry
+    k = (tables_of (home v0.reads)).geometry
+
+    size : vol.tables.geometry ≡ k
+    size =
+        ap (λ (t : Tables). t.geometry) (sym at.tables)
+        ∙ (geometry_on (home v4.reads)
+        ∙ (ap (λ (bytes : List ℕ). (header_of bytes).geometry) (spared.reads.stands header_sector refl)
+        ∙ sym (geometry_on (home v0.reads))))

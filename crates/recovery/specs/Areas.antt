@@ -1,5 +1,5 @@
 -- What formatting writes, but for the format gate.
-use Rattle.std.specs.Prelude.{◌≡◌, ℕ, ◌+◌, ◌-◌, ◌*◌, ◌<◌, ◌≤◌, ◌&&◌, nat_le, nat_lt, if◌then◌else◌, List, Ok}
+use Rattle.std.specs.Prelude.{◌≡◌, ℕ, ◌+◌, ◌-◌, ◌*◌, ◌<◌, ◌≤◌, ◌&&◌, nat_le, nat_lt, if◌then◌else◌, Bool, List, Ok}
 use Rattle.tsd_model.specs.declared.caps.CapPair.{CapPair}
 use Rattle.tsd_model.specs.declared.geometry.Geometry.{Geometry}
 use Rattle.image_device.specs.Image.{Image, zeros}
@@ -14,6 +14,10 @@ use Rattle.image_world.specs.Fresh.{AreClosed}
 -- behind the data of the last primary block
 abbrev pub fresh_end : Geometry → ℕ
 fresh_end g = data_start g + g.sectors * g.primaries
+
+-- in front of it: all that formatting writes, the format gate too
+abbrev pub is_fresh : Geometry → ℕ → Bool
+is_fresh g n = nat_lt n (fresh_end g)
 
 -- The bytes of a sector from the sweep flag to there: the records, the bits of the primary blocks, and zeros. So the flag is
 -- closed, each count is 0, each slot is empty, and the primary blocks contain zeros.

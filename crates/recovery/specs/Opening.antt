@@ -1,5 +1,5 @@
 -- What opening answers, and what a crash leaves of it.
-use Rattle.std.specs.Prelude.{◌≡◌, ◌↔◌, ◌+◌, ◌≤◌, Result, Ok, Err, ⊤}
+use Rattle.std.specs.Prelude.{◌≡◌, ◌↔◌, ◌+◌, ◌≤◌, [], Result, Ok, Err, ⊤}
 use Rattle.tsd_model.specs.World.{World}
 use Rattle.image_device.specs.View.{View}
 use Rattle.image_device.specs.Runs.{IsFirm, LeavesOnly}
@@ -12,6 +12,8 @@ use Rattle.intent_journal.specs.Home.{home}
 use Rattle.intent_journal.specs.Ring.{replay_writes}
 use Rattle.image_world.specs.Faults.{IsFormatGateOpen, HasJournal, IsGood, IsFirstFault}
 use Rattle.image_world.specs.Stands.{Stands}
+use Rattle.image_world.specs.Tables.{tables_of}
+use Rattle.volume_laws.specs.Data.{HasSameData}
 use Rattle.volume_laws.specs.Volume.{Volume}
 use Rattle.recovery.specs.declared.fault.OpenFault.{OpenFault}
 use Rattle.recovery.specs.declared.fault.OpenFault.TheVariants as fault
@@ -43,6 +45,10 @@ pub record IsSpared (old new : View) : Type 0 where
   pub reads : IsTheSame old.reads new.reads
   pub writes : new.writes ≤ old.writes + replay_writes old.reads
   pub left : IsFirm old → LeavesOnly old new (λ x f. IsTheSame old.reads x)
+
+-- From the data on, each sector is to hold what it was to hold, behind the image too.
+abbrev pub LeavesData : View → View → Type 0
+LeavesData old new = LeavesOnly old new (λ x f. HasSameData (tables_of (home old.reads)).geometry [] old.reads x)
 
 -- what the first three tests answer
 abbrev pub IsHead : Image → Result Header OpenFault → Type 0

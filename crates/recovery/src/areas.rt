@@ -12,7 +12,7 @@ ghost use Rattle.image_device.specs.Runs.{IsConfined, IsFirm};
 ghost use Rattle.image_layout.specs.Areas.{format_gate, sweep_flag};
 ghost use Rattle.image_world.specs.Fresh.{IsWrittenFresh, AreClosed};
 ghost use Rattle.intent_journal.specs.Home.{is_journal};
-ghost use Rattle.recovery.specs.Areas.{fresh_end, fresh_bytes};
+ghost use Rattle.recovery.specs.Areas.{fresh_end, fresh_bytes, is_fresh};
 
 use image_device::{Device, Failed};
 use image_layout::Layout;
@@ -58,6 +58,7 @@ fn write_tables<D: Device>(dev: &mut D, layout: &Layout, caps: &CapList) -> Resu
         → (D.view dev.new).reads n ≡ fresh_bytes layout.now.geometry caps.now n) }
     ensures kept { OnOk result (AreRecords 1 (fresh_records caps.now)) }
     ensures confined { D.told → IsConfined (nat_le sweep_flag) (D.view dev.old) (D.view dev.new) }
+    ensures inside { D.told → IsConfined (is_fresh layout.now.geometry) (D.view dev.old) (D.view dev.new) }
     ensures uses { Uses (fresh_end layout.now.geometry - sweep_flag) (D.view dev.old) (D.view dev.new) }
     ensures faults { CountsFault result (D.view dev.old).faults (D.view dev.new).faults }
 {
@@ -80,6 +81,7 @@ pub(crate) fn write_areas<D: Device>(
         → x n ≡ (D.view dev.new).reads n) → IsWrittenFresh geometry.now caps.now x) }
     ensures firm { D.told → OnOk result (IsFirm (D.view dev.new)) }
     ensures confined { D.told → IsConfined (λ n. not (n == format_gate)) (D.view dev.old) (D.view dev.new) }
+    ensures inside { D.told → IsConfined (is_fresh geometry.now) (D.view dev.old) (D.view dev.new) }
     ensures uses { Uses (fresh_end geometry.now - 122) (D.view dev.old) (D.view dev.new) }
     ensures faults { CountsFault result (D.view dev.old).faults (D.view dev.new).faults }
 {

@@ -5,10 +5,10 @@ ghost use Rattle.tsd_model.specs.Geometry.{IsLawful};
 ghost use Rattle.tsd_model.specs.Run.{fresh_world};
 ghost use Rattle.image_device.specs.Calls.{Uses};
 ghost use Rattle.image_device.specs.Counts.{CountsFault};
-ghost use Rattle.image_device.specs.Runs.{IsFirm, LeavesOnly};
+ghost use Rattle.image_device.specs.Runs.{IsConfined, IsFirm, LeavesOnly};
 ghost use Rattle.image_world.specs.Stands.{Stands};
 ghost use Rattle.volume_laws.specs.Quiet.{IsQuiet};
-ghost use Rattle.recovery.specs.Areas.{fresh_end};
+ghost use Rattle.recovery.specs.Areas.{fresh_end, is_fresh};
 ghost use Rattle.recovery.specs.Formatting.{IsFormatting};
 
 use crate::areas::write_areas;
@@ -31,6 +31,9 @@ pub fn format<D: Device>(dev: &mut D, geometry: &Geometry, caps: &CapList) -> Re
     // A crash leaves what one at the start would, the format gate aside, or a closed gate, or the new world.
     ensures any_moment { D.told → LeavesOnly (D.view dev.old) (D.view dev.new)
         (λ x f. IsFormatting (D.view dev.old) (fresh_world geometry.now caps.now) x f × (f ≡ (D.view dev.old).sent)) }
+
+    // Nothing behind the data of the primary blocks is written: no data of a free block, and nothing behind the image.
+    ensures inside { D.told → IsConfined (is_fresh geometry.now) (D.view dev.old) (D.view dev.new) }
 
     ensures uses { Uses (fresh_end geometry.now - 120) (D.view dev.old) (D.view dev.new) }
     ensures faults { CountsFault result (D.view dev.old).faults (D.view dev.new).faults }

@@ -15,7 +15,7 @@ ghost use Rattle.volume_laws.specs.Quiet.{IsQuiet};
 ghost use Rattle.volume_laws.specs.Volume.{IsVolumeAt, IsVolumeReady, world_on};
 ghost use Rattle.volume_laws.specs.Writes.{due, Works};
 ghost use Rattle.recovery.specs.Opening.{IsForeign, IsImageFault, IsOpening, IsSpared, IsUntouched};
-ghost use Rattle.recovery.specs.Opening.{StandAlike};
+ghost use Rattle.recovery.specs.Opening.{LeavesData, StandAlike};
 
 use crate::fault::OpenFault;
 use crate::head::read_head;
@@ -47,6 +47,9 @@ pub fn open_image<D: Device>(alloc: Global, dev: &mut D) -> Result<Volume, OpenF
 
     // Where any test fails, nothing is lost that a repair could use.
     ensures spared { D.told → IfErr result (λ why. IsImageFault why → IsSpared (D.view dev.old) (D.view dev.new)) }
+
+    // The data of all blocks, of free ones too, and what lies behind the image stay, in each image that a crash leaves.
+    ensures data_kept { D.told → IsFirm (D.view dev.old) → LeavesData (D.view dev.old) (D.view dev.new) }
 
     ensures unwritten { D.told → IsQuiet (D.view dev.old).reads → Uses 0 (D.view dev.old) (D.view dev.new) }
     ensures paid { D.told → IsQuiet (D.view dev.old).reads → IfOk result (λ v. (D.view dev.new).writes + due v

@@ -39,7 +39,10 @@ use Rattle.tsd_core.specs.Applying.{IsToldAnswer, told_verdict, is_refusal, asks
 use Rattle.tsd_core.proofs.AtLaws.{at_volume, at_core, like_at}
 use Rattle.tsd_core.proofs.Likes.{like_itself}
 use Rattle.tsd_core.proofs.Operations.{then_ok, if_map, if_kept, and_ok, and_ok3}
-use Rattle.tsd_core.proofs.Quiet.{still_stands, still_owes}
+use Rattle.tsd_core.proofs.Quiet.{still_stands, still_owes, rests_none}
+use Rattle.tsd_core.specs.Journal.{bytes_given, homes_of}
+use Rattle.volume_laws.proofs.DataLaws.{data_none}
+use Rattle.volume_laws.proofs.RingLaws.{batch_none}
 
 -- ---- the core over a world
 
@@ -112,6 +115,11 @@ refused_applied told kind q c v r ready known table sound at refusal = record {
   size = record { geometry = refl; version = refl };
   spent = tt;
   sent = λ t. refl;
+  data_kept = λ t. data_none c.volume.tables.geometry (bytes_given kind (told_world c) q) v (reply.Refused r) (sound t) (at t).0;
+  once = λ b. record { ring = batch_none (homes_of c.volume.tables.geometry q) c.volume.ring; most = omega arith };
+  owes = λ e. absurd (cc);
+  grown = λ b e. absurd (cc);
+  rests = λ t b. rests_none v;
   any_moment = λ t. still_stands c.volume v (next_world kind (state_on c v.reads) q) (sound t) (at_volume c v (at t));
   debt = λ t b. owes c.volume v v (world_on v) (made_in (state_on c v.reads) q) (made_in (state_on c v.reads) q) (at_volume c v (at t)) refl
       (still_owes c.volume v (made_in (state_on c v.reads) q) (sound t) (at_volume c v (at t))) (still_stands c.volume v (world_on v) (sound t) (at_volume c v (at t)));
@@ -278,6 +286,11 @@ granted_risen told kind q old new v w result ready known table at granted carrie
       size = record { geometry = op.geometry; version = does.version };
       spent = op.spent;
       sent = op.sent;
+      data_kept = op.data_kept;
+      once = does.once;
+      owes = if_kept result (λ r form owes e. owes) carried.form does.owes;
+      grown = λ b. if_kept result (λ r form grown e. grown) carried.form (does.grown b);
+      rests = does.rests;
       any_moment = λ h. subst (LeavesEither v w) (next h) (op.any_moment h);
       debt = λ h b. owes old.volume v w (world_after kind (world_on v) q) (made_by t q) (made_in (state_on old v.reads) q) (there h) (same h) (does.any_owed h b) (op.any_moment h);
       paid = λ h b. then_ok result (λ (p : w.writes + due new.volume ≤ v.writes + due old.volume + cost_of t q). omega (arith, p, same h)) (does.paid b);

@@ -1,4 +1,5 @@
 pub mod Operations
+pub mod Created
 pub mod Likes
 pub mod AtLaws
 pub mod Choosing

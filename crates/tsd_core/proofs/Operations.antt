@@ -54,6 +54,12 @@ pub and_ok : {T E A B : Type 0} {P Q R : T → Type 0} (r : Result T E) → ((x 
 and_ok (Ok x) f p q a b = f x p q a b
 and_ok (Err e) f p q a b = tt
 
+-- ---- what is written
+
+-- the same blocks, named otherwise
+pub other_names : {T : Type 0} {told : Type 0} {change : World → World} {old new : Volume} {v w : View} {r : Result T Failed} (bs cs : List ℕ) → bs ≡ cs → IsOperation told bs change old new v w r → IsOperation told cs change old new v w r
+other_names {told = told} {change = change} {old = old} {new = new} {v = v} {w = w} {r = r} bs cs same op = subst (λ (ns : List ℕ). IsOperation told ns change old new v w r) same op
+
 -- ---- counts
 
 pub at_most : (few most : ℕ) (v w : View) → Uses few v w → few ≤ most → w.writes ≤ v.writes + most
@@ -68,13 +74,14 @@ paid_more few most old new v w less paid = omega (arith, paid, less)
 -- ---- the request
 
 -- the outcome of a call, as the outcome of the request
-operation_of : {T U : Type 0} (told : Type 0) (change : World → World) (old new : Volume) (v w : View) (r : Result T Failed) → IsOperation told change old new v w r
-    → (s : Result U Failed) → ((P : Type 0) → OnOk r P → OnOk s P) → ((P : Type 0) → OnErr r P → OnErr s P) → CountsFault s v.faults w.faults → IsOperation told change old new v w s
+operation_of : {T U : Type 0} {bs : List ℕ} (told : Type 0) (change : World → World) (old new : Volume) (v w : View) (r : Result T Failed) → IsOperation told bs change old new v w r
+    → (s : Result U Failed) → ((P : Type 0) → OnOk r P → OnOk s P) → ((P : Type 0) → OnErr r P → OnErr s P) → CountsFault s v.faults w.faults → IsOperation told bs change old new v w s
 operation_of told change old new v w r op s ok err faults = record {
   at = λ t. ok _ (op.at t);
   done = λ t. ok _ (op.done t);
   any_moment = op.any_moment;
   sent = op.sent;
+  data_kept = λ t. let keeps = op.data_kept t in record { reads = ok _ keeps.reads; left = keeps.left };
   unspent = ok _ op.unspent;
   spent = err _ op.spent;
   faults = faults;
@@ -89,6 +96,10 @@ request_of told kind q old new v w r does s ok err faults = record {
   version = does.version;
   like = ok _ does.like;
   ready = ok _ does.ready;
+  once = λ b. let once = does.once b in record { ring = ok _ once.ring; most = once.most };
+  owes = ok _ does.owes;
+  grown = λ b. ok _ (does.grown b);
+  rests = does.rests;
   any_owed = does.any_owed;
   paid = λ b. ok _ (does.paid b);
   most = does.most;
@@ -96,13 +107,14 @@ request_of told kind q old new v w r does s ok err faults = record {
 }
 
 -- the same change of the world, said in other words
-pub same_change : {T : Type 0} (told : Type 0) (f h : World → World) (old new : Volume) (v w : View) (r : Result T Failed) → (told → f (world_on v) ≡ h (world_on v)) → IsOperation told f old new v w r
-    → IsOperation told h old new v w r
+pub same_change : {T : Type 0} {bs : List ℕ} (told : Type 0) (f h : World → World) (old new : Volume) (v w : View) (r : Result T Failed) → (told → f (world_on v) ≡ h (world_on v)) → IsOperation told bs f old new v w r
+    → IsOperation told bs h old new v w r
 same_change told f h old new v w r same op = record {
   at = op.at;
   done = λ t. then_ok r (λ (d : world_on w ≡ f (world_on v)). d ∙ same t) (op.done t);
   any_moment = λ t. subst (λ (u : World). LeavesEither v w u) (same t) (op.any_moment t);
   sent = op.sent;
+  data_kept = op.data_kept;
   unspent = op.unspent;
   spent = op.spent;
   faults = op.faults;

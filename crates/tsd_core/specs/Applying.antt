@@ -20,6 +20,12 @@ use Rattle.tsd_model.specs.Run.{IsAnswer}
 use Rattle.volume_laws.specs.Moments.{LeavesEither}
 use Rattle.volume_laws.specs.Writes.{due, Works}
 use Rattle.tsd_core.specs.Core.{Core, IsCoreReady, IsCoreAt, told_world, told_state, sessions_of, state_on}
+use Rattle.tsd_core.specs.Journal.{bytes_given, waits, homes_of, owed_then, makes_blocks, HasGrown}
+use Rattle.tsd_core.specs.Seen.{writes_nothing}
+use Rattle.volume_laws.specs.Data.{KeepsData}
+use Rattle.volume_laws.specs.Rings.{CommitsOnce}
+use Rattle.image_world.specs.Debt.{owed}
+use Rattle.image_device.specs.Calls.{Rests}
 use Rattle.tsd_core.specs.Work.{made_in, cost_in, write_limit, LeavesDebt, SameSize}
 
 -- the same reply, or both are the bytes of a block
@@ -69,6 +75,11 @@ pub record IsApplied (told : Type 0) (kind : PlaceKind) (q : Request) (old new :
   pub size : SameSize old new
   pub spent : OnErr result (new.volume.is_spent ≡ true)
   pub sent : told → w.sent ≡ v.sent
+  pub data_kept : told → KeepsData old.volume.tables.geometry (bytes_given kind (told_world old) q) v w result
+  pub once : waits old.volume q ≡ false → CommitsOnce (homes_of old.volume.tables.geometry q) old.volume new.volume v w result
+  pub owes : IfOk result (λ r. is_refusal r ≡ false → owed new.volume.tables ≡ owed_then old.volume q)
+  pub grown : makes_blocks q ≡ true → IfOk result (λ r. is_refusal r ≡ false → HasGrown kind q old.volume new.volume)
+  pub rests : told → writes_nothing q ≡ true → Rests v w
   pub any_moment : told → LeavesEither v w (next_world kind (state_on old v.reads) q)
   pub debt : told → is_sweep q ≡ false → LeavesDebt v w (made_in (state_on old v.reads) q)
   pub paid : told → is_sweep q ≡ false → OnOk result (w.writes + due new.volume ≤ v.writes + due old.volume + cost_in (state_on old v.reads) q)

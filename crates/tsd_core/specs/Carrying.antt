@@ -14,7 +14,7 @@ use Rattle.intent_journal.specs.Ring.{checkpoint_writes}
 use Rattle.disk_laws.specs.Bytes.{AreLike}
 use Rattle.disk_laws.specs.Reclaiming.{is_sweep}
 use Rattle.grant_table.specs.Table.{Table, with_sessions}
-use Rattle.tsd_core.specs.Seen.{table_change, world_after, reply_to, is_read, IsStarved}
+use Rattle.tsd_core.specs.Seen.{table_change, world_after, reply_to, is_read, writes_nothing, IsStarved}
 use Rattle.volume_laws.specs.Operations.{IsOperation}
 use Rattle.volume_laws.specs.Volume.{IsVolumeReady, Volume, told_by, world_on}
 use Rattle.image_world.specs.Debt.{owed}
@@ -22,6 +22,9 @@ use Rattle.volume_laws.specs.Moments.{LeavesOwed}
 use Rattle.volume_laws.specs.Writes.{due, IsPaid}
 use Rattle.tsd_core.specs.Core.{Core, told_world}
 use Rattle.tsd_core.specs.Work.{made_by, cost_of, write_limit}
+use Rattle.tsd_core.specs.Journal.{bytes_given, waits, homes_of, owed_then, makes_blocks, HasGrown}
+use Rattle.volume_laws.specs.Rings.{CommitsOnce}
+use Rattle.image_device.specs.Calls.{Rests}
 
 -- What holds of each volume: the sizes of what it tells, that both ends of each pair are live, and how much the journal holds.
 pub record IsKnown (v : Volume) : Type 0 where
@@ -34,7 +37,12 @@ pub record IsKnown (v : Volume) : Type 0 where
 -- What a call on the volume does for a request, between these devices: it makes the change of the request, in memory too. What it
 -- costs is said of all but a sweep.
 pub record DoesRequest {T : Type 0} (told : Type 0) (kind : PlaceKind) (q : Request) (old new : Volume) (v w : View) (result : Result T Failed) : Type 0 where
-  pub operation : IsOperation told (λ u. world_after kind u q) old new v w result
+  pub operation : IsOperation told (bytes_given kind (told_by old) q) (λ u. world_after kind u q) old new v w result
+  -- it commits one batch, where it needn't wait for what is doomed; what is owed then; and what new blocks leave of the journal
+  pub once : waits old q ≡ false → CommitsOnce (homes_of old.tables.geometry q) old new v w result
+  pub owes : OnOk result (owed new.tables ≡ owed_then old q)
+  pub grown : makes_blocks q ≡ true → OnOk result (HasGrown kind q old new)
+  pub rests : told → writes_nothing q ≡ true → Rests v w
   pub version : new.tables.version ≡ old.tables.version
   pub like : OnOk result (AreLike (told_by new) (world_after kind (told_by old) q))
   pub ready : OnOk result (IsVolumeReady new)

@@ -1,5 +1,6 @@
 pub mod Core
 pub mod Work
+pub mod Journal
 pub mod Carrying
 pub mod Growing
 pub mod Granted

@@ -57,6 +57,16 @@ world_after kind w q = (change kind w no_sessions q).state.world
 abbrev pub reply_to : PlaceKind → World → Request → Reply
 reply_to kind w q = (change kind w no_sessions q).reply
 
+-- it opens or closes a session, reads, or is answered from memory
+abbrev pub writes_nothing : Request → Bool
+writes_nothing ask.Bad = true
+writes_nothing (ask.Begin s) = true
+writes_nothing (ask.End s) = true
+writes_nothing (ask.Read s b shown) = true
+writes_nothing ask.GetFree = true
+writes_nothing (ask.List s a shown start) = true
+writes_nothing q = false
+
 -- ---- what is told
 
 -- it reads a block, whose bytes tables don't know

@@ -9,7 +9,13 @@ ghost use Rattle.disk_laws.specs.Reclaiming.{is_sweep};
 ghost use Rattle.tsd_model.specs.Run.{IsAnswer};
 ghost use Rattle.volume_laws.specs.Moments.{LeavesEither};
 ghost use Rattle.volume_laws.specs.Writes.{due, Works};
-ghost use Rattle.tsd_core.specs.Core.{IsCoreReady, IsCoreAt, state_on};
+ghost use Rattle.tsd_core.specs.Core.{IsCoreReady, IsCoreAt, state_on, told_world};
+ghost use Rattle.tsd_core.specs.Journal.{bytes_given, waits, homes_of, owed_then, makes_blocks, HasGrown};
+ghost use Rattle.tsd_core.specs.Seen.{writes_nothing};
+ghost use Rattle.volume_laws.specs.Data.{KeepsData};
+ghost use Rattle.volume_laws.specs.Rings.{CommitsOnce};
+ghost use Rattle.image_device.specs.Calls.{Rests};
+ghost use Rattle.image_world.specs.Debt.{owed};
 ghost use Rattle.tsd_core.specs.Work.{made_in, cost_in, write_limit, LeavesDebt, SameSize};
 ghost use Rattle.tsd_core.specs.Applying.{IsToldAnswer, told_verdict, is_refusal, asks_nothing, next_world, IsApplied};
 
@@ -49,6 +55,22 @@ impl Core {
         ensures refused { IfOk result (λ r. is_refusal r ≡ true → self.new ≡ self.old) }
         ensures asks_nothing { IfOk result (λ r. (is_refusal r || asks_nothing request.now) ≡ true
             → dev.new ≡ dev.old) }
+
+        // A read, a list, a count, and an open or a close of a session write nothing. The data of all blocks but the
+        // one that is written and new ones stays, and so does what lies behind the image.
+        ensures rests { D.told → writes_nothing request.now ≡ true → Rests (D.view dev.old) (D.view dev.new) }
+        ensures data_kept { D.told → KeepsData self.old.volume.tables.geometry (bytes_given place.now.kind
+            (told_world self.old) request.now) (D.view dev.old) (D.view dev.new) result }
+
+        // Where it needn't wait, it commits one batch and writes nothing else. What is owed then is said exactly, and
+        // of new blocks when the journal is emptied for them.
+        ensures once { waits self.old.volume request.now ≡ false → CommitsOnce
+            (homes_of self.old.volume.tables.geometry request.now) self.old.volume self.new.volume (D.view dev.old)
+            (D.view dev.new) result }
+        ensures owes { IfOk result (λ r. is_refusal r ≡ false → owed self.new.volume.tables ≡ owed_then
+            self.old.volume request.now) }
+        ensures grown { makes_blocks request.now ≡ true → IfOk result (λ r. is_refusal r ≡ false → HasGrown
+            place.now.kind request.now self.old.volume self.new.volume) }
 
         ensures size { SameSize self.old self.new }
         ensures spent { OnErr result (self.new.volume.is_spent ≡ true) }

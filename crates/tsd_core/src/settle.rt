@@ -1,9 +1,12 @@
 //! What is left to be done between requests.
 
-ghost use Rattle.std.specs.Prelude.{◌≡◌, ◌↔◌, ◌+◌, ◌-◌, ◌<◌, ◌≤◌, true, OnOk, OnErr};
+ghost use Rattle.std.specs.Prelude.{◌≡◌, [], length, ◌↔◌, ◌+◌, ◌-◌, ◌<◌, ◌≤◌, true, OnOk, OnErr};
 ghost use Rattle.std.specs.Prelude.{IfOk, IsTrue};
 ghost use Rattle.image_device.specs.Counts.{CountsFault};
-ghost use Rattle.image_world.specs.Debt.{debt, owed};
+ghost use Rattle.image_world.specs.Debt.{debt, graph_in, owed};
+ghost use Rattle.tsd_model.specs.Doomed.{doomed};
+ghost use Rattle.volume_laws.specs.Data.{KeepsData};
+ghost use Rattle.volume_laws.specs.Rings.{HasBatches};
 ghost use Rattle.volume_laws.specs.Moments.{LeavesWorld};
 ghost use Rattle.volume_laws.specs.Quiet.{IsQuiet};
 ghost use Rattle.volume_laws.specs.Writes.{due, Works};
@@ -28,9 +31,18 @@ impl Core {
         ensures size { SameSize self.old self.new }
         ensures spent { OnErr result (self.new.volume.is_spent ≡ true) }
         ensures sent { D.told → (D.view dev.new).sent ≡ (D.view dev.old).sent }
+        ensures data_kept { D.told → KeepsData self.old.volume.tables.geometry [] (D.view dev.old) (D.view dev.new)
+            result }
         ensures any_moment { D.told → LeavesWorld (D.view dev.old) (D.view dev.new) }
         ensures debt { D.told → LeavesNoDebt (D.view dev.old) (D.view dev.new) }
         ensures less { D.told → OnOk result (debt (D.view dev.new).reads ≤ debt (D.view dev.old).reads - 4) }
+
+        // No more than four steps are made: at most four blocks, and 64 pairs from them, in four batches.
+        ensures few { OnOk result (owed self.old.volume.tables ≤ owed self.new.volume.tables + 68) }
+        ensures few_blocks { OnOk result (length (doomed (graph_in self.old.volume.tables))
+            ≤ length (doomed (graph_in self.new.volume.tables)) + 4) }
+        ensures ring { OnOk result (HasBatches 4 33 self.old.volume.ring self.new.volume.ring) }
+
         ensures paid { OnOk result ((D.view dev.new).writes + due self.new.volume ≤ (D.view dev.old).writes + due
             self.old.volume) }
         ensures most { (D.view dev.new).writes ≤ (D.view dev.old).writes + due self.old.volume }
@@ -59,6 +71,8 @@ impl Core {
         ensures size { SameSize self.old self.new }
         ensures spent { OnErr result (self.new.volume.is_spent ≡ true) }
         ensures sent { D.told → (D.view dev.new).sent ≡ (D.view dev.old).sent }
+        ensures data_kept { D.told → KeepsData self.old.volume.tables.geometry [] (D.view dev.old) (D.view dev.new)
+            result }
         ensures any_moment { D.told → LeavesWorld (D.view dev.old) (D.view dev.new) }
         ensures debt { D.told → LeavesNoDebt (D.view dev.old) (D.view dev.new) }
         ensures paid { OnOk result ((D.view dev.new).writes + due self.new.volume ≤ (D.view dev.old).writes + due

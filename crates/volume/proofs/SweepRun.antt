@@ -1,5 +1,5 @@
 -- In the middle of a sweep: the world is as at the start.
-use Rattle.std.proofs.Common.{◌≡◌, ℕ, Bool, true, false, List, length, refl, sym, ◌∙◌, ◌<◌, ap, subst, Result, Ok, Err}
+use Rattle.std.proofs.Common.{[], ◌≡◌, ℕ, Bool, true, false, List, length, refl, sym, ◌∙◌, ◌<◌, ap, subst, Result, Ok, Err}
 use Rattle.std.specs.Prelude.{OnOk, IsErrAnd}
 use Rattle.tsd_model.specs.Reach.{reach}
 use Rattle.tsd_model.specs.World.{World, has_number}
@@ -31,7 +31,7 @@ use Rattle.volume.specs.Sweeping.{sweep_left}
 use Rattle.volume.proofs.SweepOps.{sweep_allowed, sweep_lowers, sweep_op, graph_itself}
 
 pub record IsSweepRun (told : Type 0) (first : Volume) (start : View) (vol : Volume) (v : View) : Type 0 where
-  pub operation : IsOperation told (λ w. w) first vol start v done
+  pub operation : IsOperation told [] (λ w. w) first vol start v done
   pub tells : told_by vol ≡ told_by first
   pub version : vol.tables.version ≡ first.tables.version
   pub sweeping : vol.tables.is_sweeping ≡ true
@@ -52,10 +52,10 @@ run_none told first start sound sweeping unready unspent at = record {
 
 module _ (told : Type 0) (first : Volume) (start : View) (vol : Volume) (v : View) (so_far : IsSweepRun told first start vol v) (now : Volume) (new : View) where
   -- one call more, which may have failed
-  pub run_op : {T : Type 0} (r : Result T Failed) → IsOperation told (λ w. w) vol now v new r → IsOperation told (λ w. w) first now start new r
+  pub run_op : {T : Type 0} (r : Result T Failed) → IsOperation told [] (λ w. w) vol now v new r → IsOperation told [] (λ w. w) first now start new r
   run_op r op = kept_then told (λ w. w) first vol now start v new tt r so_far.operation op
 
-  pub run_more : {T : Type 0} (x : T) → IsOperation {T = T} told (λ w. w) vol now v new (Ok x) → told_by now ≡ told_by vol → now.tables.version ≡ vol.tables.version → now.tables.is_sweeping ≡ true → now.is_ready ≡ false → IsSweepRun told first start now new
+  pub run_more : {T : Type 0} (x : T) → IsOperation {T = T} told [] (λ w. w) vol now v new (Ok x) → told_by now ≡ told_by vol → now.tables.version ≡ vol.tables.version → now.tables.is_sweeping ≡ true → now.is_ready ≡ false → IsSweepRun told first start now new
   run_more x op tells version sweeping unready = record {
     operation = op_answers told (λ w. w) first now start new x tt (run_op (Ok x) op);
     tells = tells ∙ so_far.tells;
@@ -65,13 +65,13 @@ module _ (told : Type 0) (first : Volume) (start : View) (vol : Volume) (v : Vie
   }
 
   -- a step that was committed, and one that failed
-  pub run_made : (r : Result (Unit {0}) Failed) (x : Unit {0}) → r ≡ Ok x → IsOperation told (λ w. w) vol now v new r → OnOk r (told_by now ≡ told_by vol) → now.tables.version ≡ vol.tables.version
+  pub run_made : (r : Result (Unit {0}) Failed) (x : Unit {0}) → r ≡ Ok x → IsOperation told [] (λ w. w) vol now v new r → OnOk r (told_by now ≡ told_by vol) → now.tables.version ≡ vol.tables.version
       → now.tables.is_sweeping ≡ true → now.is_ready ≡ false → IsSweepRun told first start now new
   run_made r x is op tells version sweeping unready =
-      run_more x (subst (λ (o : Result (Unit {0}) Failed). IsOperation told (λ w. w) vol now v new o) is op) (subst (λ (o : Result (Unit {0}) Failed). OnOk o (told_by now ≡ told_by vol)) is tells) version sweeping unready
+      run_more x (subst (λ (o : Result (Unit {0}) Failed). IsOperation told [] (λ w. w) vol now v new o) is op) (subst (λ (o : Result (Unit {0}) Failed). OnOk o (told_by now ≡ told_by vol)) is tells) version sweeping unready
 
-  pub run_failed : (r : Result (Unit {0}) Failed) (e : Failed) (Q : Failed → Type 0) (s : Result (Unit {0}) Failed) → r ≡ Err e → IsErrAnd s Q → IsOperation told (λ w. w) vol now v new r → IsOperation told (λ w. w) first now start new s
-  run_failed r e Q s is err op = op_fails told (λ w. w) first now start new e Q s err (run_op (Err e) (subst (λ (o : Result (Unit {0}) Failed). IsOperation told (λ w. w) vol now v new o) is op))
+  pub run_failed : (r : Result (Unit {0}) Failed) (e : Failed) (Q : Failed → Type 0) (s : Result (Unit {0}) Failed) → r ≡ Err e → IsErrAnd s Q → IsOperation told [] (λ w. w) vol now v new r → IsOperation told [] (λ w. w) first now start new s
+  run_failed r e Q s is err op = op_fails told (λ w. w) first now start new e Q s err (run_op (Err e) (subst (λ (o : Result (Unit {0}) Failed). IsOperation told [] (λ w. w) vol now v new o) is op))
 
 -- A step that may be made at the parts of a volume.
 module _ (h : Header) (p : Pointers) (k : Counts) (l : LiveMap) (c : Store) (is : Bool) (marks : List Bool) (a : Kept) (ready : Bool) (parts : AreParts h p k l c is (length marks) a ready)

@@ -1,12 +1,13 @@
 //! Capabilities.
 
-ghost use Rattle.std.specs.Prelude.{◌≡◌, ◌+◌, ◌<◌, true, false, OnOk, OnErr};
+ghost use Rattle.std.specs.Prelude.{◌≡◌, [], ◌+◌, ◌<◌, true, false, OnOk, OnErr};
 ghost use Rattle.tsd_model.specs.Records.{kept};
 ghost use Rattle.tsd_model.specs.Step.{with_caps};
 ghost use Rattle.image_device.specs.Calls.{Uses};
 ghost use Rattle.image_device.specs.Counts.{CountsFault};
 ghost use Rattle.intent_journal.specs.Ring.{checkpoint_writes};
 ghost use Rattle.volume_laws.specs.Operations.{IsOperation, IsWithin};
+ghost use Rattle.volume_laws.specs.Rings.{CommitsOnce};
 ghost use Rattle.volume_laws.specs.Volume.{IsVolumeAt, IsVolumeReady, told_by, world_on};
 ghost use Rattle.volume_laws.specs.Writes.{batch_cost, due, IsPaid};
 ghost use Rattle.volume_laws.specs.Moments.{LeavesEither, LeavesOwed};
@@ -29,10 +30,12 @@ impl Volume {
         requires ready { IsVolumeReady self.old }
         requires unspent { self.old.is_spent ≡ false }
         requires at { D.told → IsVolumeAt self.old (D.view dev.old) }
-        ensures operation { IsOperation D.told (λ w. with_caps w block (kept self.old.tables.version caps.now))
+        ensures operation { IsOperation D.told [] (λ w. with_caps w block (kept self.old.tables.version caps.now))
             self.old self.new (D.view dev.old) (D.view dev.new) result }
         ensures cost { IsWithin D.told (owed self.old.tables) (batch_cost 1) (checkpoint_writes
             self.old.ring + batch_cost 1) self.old self.new (D.view dev.old) (D.view dev.new) result }
+        ensures once { CommitsOnce 1 self.old self.new (D.view dev.old) (D.view dev.new) result }
+        ensures owes { owed self.new.tables ≡ owed self.old.tables }
         ensures version { self.new.tables.version ≡ self.old.tables.version }
         ensures told { OnOk result (told_by self.new ≡ with_caps (told_by self.old) block
             (kept self.old.tables.version caps.now)) }

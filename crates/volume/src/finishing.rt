@@ -1,6 +1,6 @@
 //! Ending what an image holds of a sweep and a cascade.
 
-ghost use Rattle.std.specs.Prelude.{◌≡◌, ◌-◌, ◌≤◌, true, false, OnOk, OnErr, IfOk};
+ghost use Rattle.std.specs.Prelude.{◌≡◌, [], ◌-◌, ◌≤◌, true, false, OnOk, OnErr, IfOk};
 ghost use Rattle.block_alloc.specs.LiveMap.{free_count as free_in};
 ghost use Rattle.image_device.specs.Calls.{Uses};
 ghost use Rattle.image_device.specs.Counts.{CountsFault};
@@ -35,7 +35,7 @@ impl Volume {
     pub fn finish<D: Device>(&mut self, dev: &mut D) -> Result<u32, Failed>
         requires unspent { self.old.is_spent ≡ false }
         requires at { D.told → IsVolumeAt self.old (D.view dev.old) }
-        ensures operation { IsOperation D.told (λ w. w) self.old self.new (D.view dev.old) (D.view dev.new) result }
+        ensures operation { IsOperation D.told [] (λ w. w) self.old self.new (D.view dev.old) (D.view dev.new) result }
         ensures cost { self.old.tables.is_sweeping ≡ false → IsWithin D.told (owed self.old.tables) 0 (due self.old)
             self.old self.new (D.view dev.old) (D.view dev.new) result }
         ensures version { self.new.tables.version ≡ self.old.tables.version }
@@ -56,7 +56,7 @@ impl Volume {
     fn end_sweep<D: Device>(&mut self, dev: &mut D) -> Result<(), Failed>
         requires unspent { self.old.is_spent ≡ false }
         requires at { D.told → IsVolumeAt self.old (D.view dev.old) }
-        ensures operation { IsOperation D.told (λ w. w) self.old self.new (D.view dev.old) (D.view dev.new) result }
+        ensures operation { IsOperation D.told [] (λ w. w) self.old self.new (D.view dev.old) (D.view dev.new) result }
         ensures cost { self.old.tables.is_sweeping ≡ false → IsWithin D.told (owed self.old.tables) 0 0 self.old
             self.new (D.view dev.old) (D.view dev.new) result }
         ensures version { self.new.tables.version ≡ self.old.tables.version }

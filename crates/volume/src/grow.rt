@@ -1,6 +1,6 @@
 //! New blocks.
 
-ghost use Rattle.std.specs.Prelude.{◌≡◌, ℕ, ◌+◌, ◌*◌, ◌<◌, ◌≤◌, true, false, length};
+ghost use Rattle.std.specs.Prelude.{◌≡◌, ◌⊎◌, ℕ, List, [], ◌+◌, ◌*◌, ◌<◌, ◌≤◌, true, false, length};
 ghost use Rattle.std.specs.Prelude.{slice_get, Some, OnOk, OnErr};
 ghost use Rattle.tsd_model.specs.Step.{with_new_blocks};
 ghost use Rattle.tsd_model.specs.World.{is_live, is_free};
@@ -13,7 +13,9 @@ ghost use Rattle.volume_laws.specs.Writes.{batch_cost, due, zeroed_cost, IsPaid}
 ghost use Rattle.volume_laws.specs.Moments.{LeavesEither, LeavesWorld, LeavesOwed};
 ghost use Rattle.image_world.specs.Debt.{owed};
 ghost use Rattle.volume_laws.specs.Growing.{AreFree};
-ghost use Rattle.intent_journal.specs.Records.{patches_of};
+ghost use Rattle.intent_journal.specs.Records.{Record, patches_of};
+ghost use Rattle.volume_laws.specs.Data.{KeepsData};
+ghost use Rattle.volume_laws.specs.Rings.{HasBatch, HasBatches, HasNewBlocks};
 ghost use Rattle.volume_laws.specs.Zeroed.{IsZeroedAt, AreMissed};
 ghost use Rattle.image_world.specs.Tables.{pairs_of};
 
@@ -42,11 +44,17 @@ impl Volume {
         requires ready { IsVolumeReady self.old }
         requires unspent { self.old.is_spent ≡ false }
         requires at { D.told → IsVolumeAt self.old (D.view dev.old) }
-        ensures operation { IsOperation D.told (λ w. with_new_blocks w source blocks.now) self.old self.new
+        ensures operation { IsOperation D.told blocks.now (λ w. with_new_blocks w source blocks.now) self.old self.new
             (D.view dev.old) (D.view dev.new) result }
         ensures cost { IsWithin D.told (owed self.old.tables) (zeroed_cost self.old.tables.geometry
             (length blocks.now)) (due self.old + zeroed_cost self.old.tables.geometry (length blocks.now)) self.old
             self.new (D.view dev.old) (D.view dev.new) result }
+
+        // Behind the records of what was reclaimed comes one batch; the journal is emptied before it only where it
+        // holds a sector of these blocks, or has no room.
+        ensures ring { OnOk result ((mid : List Record) × HasBatches (owed self.old.tables) 33 self.old.ring mid
+            × HasNewBlocks self.old.tables.geometry blocks.now mid self.new.ring) }
+
         ensures version { self.new.tables.version ≡ self.old.tables.version }
         ensures told { OnOk result (told_by self.new ≡ with_new_blocks (told_by self.old) source blocks.now) }
         ensures settled { OnOk result (owed self.new.tables ≡ 0) }
@@ -72,11 +80,12 @@ impl Volume {
         requires settled { owed self.old.tables ≡ 0 }
         requires ready { IsVolumeReady self.old }
         requires at { D.told → IsZeroedAt self.old (D.view dev.old) blocks.now }
-        ensures operation { IsOperation D.told (λ w. with_new_blocks w source blocks.now) self.old self.new
+        ensures operation { IsOperation D.told blocks.now (λ w. with_new_blocks w source blocks.now) self.old self.new
             (D.view dev.old) (D.view dev.new) result }
         ensures cost { IsWithin D.told (owed self.old.tables) (batch_cost (3 * length blocks.now)) (checkpoint_writes
             self.old.ring + batch_cost (3 * length blocks.now)) self.old self.new (D.view dev.old)
             (D.view dev.new) result }
+        ensures ring { OnOk result (HasBatch (3 * length blocks.now) self.old.ring self.new.ring) }
         ensures version { self.new.tables.version ≡ self.old.tables.version }
         ensures told { OnOk result (told_by self.new ≡ with_new_blocks (told_by self.old) source blocks.now) }
         ensures settled { OnOk result (owed self.new.tables ≡ 0) }
@@ -105,9 +114,11 @@ impl Volume {
         requires free { AreFree self.old.tables.live self.old.tables.geometry.blocks blocks.now }
         requires unspent { self.old.is_spent ≡ false }
         requires at { D.told → IsVolumeAt self.old (D.view dev.old) }
-        ensures operation { IsOperation D.told (λ w. w) self.old self.new (D.view dev.old) (D.view dev.new) result }
+        ensures operation { IsOperation D.told [] (λ w. w) self.old self.new (D.view dev.old) (D.view dev.new) result }
         ensures cost { IsWithin D.told (owed self.old.tables) 0 (checkpoint_writes self.old.ring) self.old self.new
             (D.view dev.old) (D.view dev.new) result }
+        ensures way { OnOk result ((self.new.ring ≡ self.old.ring) ⊎ ((self.new.ring ≡ [])
+            × ¬ AreMissed self.old.tables.geometry (patches_of self.old.ring) blocks.now)) }
         ensures version { self.new.tables.version ≡ self.old.tables.version }
         ensures same { OnOk result (self.new ≡ record self.old { ring = self.new.ring }) }
         ensures missed { OnOk result (AreMissed self.old.tables.geometry (patches_of self.new.ring) blocks.now) }
@@ -133,6 +144,8 @@ impl Volume {
         ensures size { (self.new.tables.geometry ≡ self.old.tables.geometry)
             × (self.new.tables.version ≡ self.old.tables.version) }
         ensures sent { D.told → (D.view dev.new).sent ≡ (D.view dev.old).sent }
+        ensures data_kept { D.told → KeepsData self.old.tables.geometry blocks.now (D.view dev.old) (D.view dev.new)
+            result }
         ensures any_moment { D.told → LeavesWorld (D.view dev.old) (D.view dev.new) }
         ensures any_owed { D.told → LeavesOwed (D.view dev.old) (D.view dev.new) (owed self.old.tables) }
         ensures uses { Uses (self.old.tables.geometry.sectors * length blocks.now) (D.view dev.old) (D.view dev.new) }
@@ -153,11 +166,12 @@ impl Volume {
         requires ready { IsVolumeReady self.old }
         requires unspent { self.old.is_spent ≡ false }
         requires at { D.told → IsVolumeAt self.old (D.view dev.old) }
-        ensures operation { IsOperation D.told (λ w. with_new_blocks w source blocks.now) self.old self.new
+        ensures operation { IsOperation D.told blocks.now (λ w. with_new_blocks w source blocks.now) self.old self.new
             (D.view dev.old) (D.view dev.new) result }
         ensures cost { IsWithin D.told (owed self.old.tables) (zeroed_cost self.old.tables.geometry
             (length blocks.now)) (checkpoint_writes self.old.ring + zeroed_cost self.old.tables.geometry
             (length blocks.now)) self.old self.new (D.view dev.old) (D.view dev.new) result }
+        ensures ring { OnOk result (HasNewBlocks self.old.tables.geometry blocks.now self.old.ring self.new.ring) }
         ensures version { self.new.tables.version ≡ self.old.tables.version }
         ensures told { OnOk result (told_by self.new ≡ with_new_blocks (told_by self.old) source blocks.now) }
         ensures settled { OnOk result (owed self.new.tables ≡ 0) }

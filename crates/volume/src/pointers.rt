@@ -1,6 +1,6 @@
 //! Pointers.
 
-ghost use Rattle.std.specs.Prelude.{◌≡◌, ◌+◌, ◌-◌, ◌<◌, ◌≤◌, ◌*◌, true, false, length};
+ghost use Rattle.std.specs.Prelude.{◌≡◌, ◌≢◌, [], ◌+◌, ◌-◌, ◌<◌, ◌≤◌, ◌*◌, true, false, length};
 ghost use Rattle.std.specs.Prelude.{OnOk, OnErr, IfOk};
 ghost use Rattle.tsd_model.specs.Doomed.{settle};
 ghost use Rattle.tsd_model.specs.Pairs.{holds};
@@ -10,6 +10,7 @@ ghost use Rattle.image_device.specs.Calls.{Uses};
 ghost use Rattle.image_device.specs.Counts.{CountsFault};
 ghost use Rattle.intent_journal.specs.Ring.{checkpoint_writes};
 ghost use Rattle.volume_laws.specs.Operations.{IsOperation, IsWithin};
+ghost use Rattle.volume_laws.specs.Rings.{CommitsOnce};
 ghost use Rattle.volume_laws.specs.Volume.{IsVolumeAt, IsVolumeReady, told_by, world_on};
 ghost use Rattle.volume_laws.specs.Writes.{batch_cost, due, IsPaid};
 ghost use Rattle.volume_laws.specs.Moments.{LeavesEither, LeavesOwed, made};
@@ -39,16 +40,18 @@ impl Volume {
         requires ready { IsVolumeReady self.old }
         requires unspent { self.old.is_spent ≡ false }
         requires at { D.told → IsVolumeAt self.old (D.view dev.old) }
-        ensures operation { IsOperation D.told (λ w. with_pointer w source target) self.old self.new (D.view dev.old)
+        ensures operation { IsOperation D.told [] (λ w. with_pointer w source target) self.old self.new (D.view dev.old)
             (D.view dev.new) result }
         ensures cost { IsWithin D.told (owed self.old.tables) (batch_cost 2) (due self.old + batch_cost 2) self.old
             self.new (D.view dev.old) (D.view dev.new) result }
+        ensures once { length (pairs_of self.old.tables) ≢ self.old.tables.geometry.slots
+            → CommitsOnce 2 self.old self.new (D.view dev.old) (D.view dev.new) result }
         ensures version { self.new.tables.version ≡ self.old.tables.version }
         ensures told { OnOk result (told_by self.new ≡ with_pointer (told_by self.old) source target) }
         ensures ready { OnOk result (IsVolumeReady self.new) }
         ensures settled { length (pairs_of self.old.tables) ≡ self.old.tables.geometry.slots
             → OnOk result (owed self.new.tables ≡ 0) }
-        ensures unsettled { length (pairs_of self.old.tables) < self.old.tables.geometry.slots
+        ensures unsettled { length (pairs_of self.old.tables) ≢ self.old.tables.geometry.slots
             → OnOk result (owed self.new.tables ≡ owed self.old.tables) }
         ensures uses_few { length (pairs_of self.old.tables) < self.old.tables.geometry.slots
             → Uses (checkpoint_writes self.old.ring + batch_cost 2) (D.view dev.old) (D.view dev.new) }
@@ -73,11 +76,12 @@ impl Volume {
         requires ready { IsVolumeReady self.old }
         requires unspent { self.old.is_spent ≡ false }
         requires at { D.told → IsVolumeAt self.old (D.view dev.old) }
-        ensures operation { IsOperation D.told (λ w. settle (without_pointer w source target)) self.old self.new
+        ensures operation { IsOperation D.told [] (λ w. settle (without_pointer w source target)) self.old self.new
             (D.view dev.old) (D.view dev.new) result }
         ensures cost { let gone = made (told_by self.old) source target in IsWithin D.told (owed
             self.old.tables + gone) (batch_cost 2 + lost_cost * gone) (checkpoint_writes
             self.old.ring + batch_cost 2) self.old self.new (D.view dev.old) (D.view dev.new) result }
+        ensures once { CommitsOnce 2 self.old self.new (D.view dev.old) (D.view dev.new) result }
         ensures version { self.new.tables.version ≡ self.old.tables.version }
         ensures told { OnOk result (told_by self.new ≡ settle (without_pointer (told_by self.old) source target)) }
         ensures lost { IfOk result (λ count. count ≡ free_count (told_by self.new) - free_count (told_by self.old)) }
@@ -109,10 +113,11 @@ impl Volume {
         requires room { length (pairs_of self.old.tables) < self.old.tables.geometry.slots }
         requires ready { IsVolumeReady self.old }
         requires at { D.told → IsVolumeAt self.old (D.view dev.old) }
-        ensures operation { IsOperation D.told (λ w. with_pointer w source target) self.old self.new (D.view dev.old)
+        ensures operation { IsOperation D.told [] (λ w. with_pointer w source target) self.old self.new (D.view dev.old)
             (D.view dev.new) result }
         ensures cost { IsWithin D.told (owed self.old.tables) (batch_cost 2) (checkpoint_writes
             self.old.ring + batch_cost 2) self.old self.new (D.view dev.old) (D.view dev.new) result }
+        ensures once { CommitsOnce 2 self.old self.new (D.view dev.old) (D.view dev.new) result }
         ensures version { self.new.tables.version ≡ self.old.tables.version }
         ensures told { OnOk result (told_by self.new ≡ with_pointer (told_by self.old) source target) }
         ensures ready { OnOk result (IsVolumeReady self.new) }
@@ -137,11 +142,12 @@ impl Volume {
         requires held { holds (told_by self.old).pairs source target ≡ true }
         requires ready { IsVolumeReady self.old }
         requires at { D.told → IsVolumeAt self.old (D.view dev.old) }
-        ensures operation { IsOperation D.told (λ w. settle (without_pointer w source target)) self.old self.new
+        ensures operation { IsOperation D.told [] (λ w. settle (without_pointer w source target)) self.old self.new
             (D.view dev.old) (D.view dev.new) result }
         ensures cost { let gone = made (told_by self.old) source target in IsWithin D.told (owed
             self.old.tables + gone) (batch_cost 2 + lost_cost * gone) (checkpoint_writes
             self.old.ring + batch_cost 2) self.old self.new (D.view dev.old) (D.view dev.new) result }
+        ensures once { CommitsOnce 2 self.old self.new (D.view dev.old) (D.view dev.new) result }
         ensures version { self.new.tables.version ≡ self.old.tables.version }
         ensures told { OnOk result (told_by self.new ≡ settle (without_pointer (told_by self.old) source target)) }
         ensures ready { OnOk result (IsVolumeReady self.new) }

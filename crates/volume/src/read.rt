@@ -1,9 +1,9 @@
 //! Reading a block.
 
-ghost use Rattle.std.specs.Prelude.{◌≡◌, true, false, length, Some, OnOk, OnErr};
+ghost use Rattle.std.specs.Prelude.{◌≡◌, [], true, false, length, Some, OnOk, OnErr};
 ghost use Rattle.tsd_model.specs.Geometry.{block_len};
 ghost use Rattle.tsd_model.specs.World.{is_live, contents};
-ghost use Rattle.image_device.specs.Calls.{Uses};
+ghost use Rattle.image_device.specs.Calls.{Rests, Uses};
 ghost use Rattle.image_device.specs.Counts.{CountsFault};
 ghost use Rattle.volume_laws.specs.Operations.{IsOperation, IsWithin};
 ghost use Rattle.volume_laws.specs.Volume.{IsVolumeAt, IsVolumeReady, told_by, world_on};
@@ -28,9 +28,10 @@ impl Volume {
         requires ready { IsVolumeReady self.old }
         requires unspent { self.old.is_spent ≡ false }
         requires at { D.told → IsVolumeAt self.old (D.view dev.old) }
-        ensures operation { IsOperation D.told (λ w. w) self.old self.new (D.view dev.old) (D.view dev.new) result }
+        ensures operation { IsOperation D.told [] (λ w. w) self.old self.new (D.view dev.old) (D.view dev.new) result }
         ensures cost { IsWithin D.told (owed self.old.tables) 0 0 self.old self.new (D.view dev.old)
             (D.view dev.new) result }
+        ensures rests { D.told → Rests (D.view dev.old) (D.view dev.new) }
         ensures version { self.new.tables.version ≡ self.old.tables.version }
         ensures same { OnOk result (self.new ≡ self.old) }
         ensures bytes { D.told → OnOk result (contents (world_on (D.view dev.old)) block ≡ Some into.new) }

@@ -1,6 +1,6 @@
 //! Reclaiming what is doomed.
 
-ghost use Rattle.std.specs.Prelude.{◌≡◌, ◌⊎◌, ◌↔◌, ◌+◌, ◌-◌, ◌≤◌, ◌<◌, ◌*◌};
+ghost use Rattle.std.specs.Prelude.{◌≡◌, [], length, ◌⊎◌, ◌↔◌, ◌+◌, ◌-◌, ◌≤◌, ◌<◌, ◌*◌};
 ghost use Rattle.std.specs.Prelude.{true, false, OnOk, OnErr, IfOk, IfSome, IsTrue, IsNone};
 ghost use Rattle.tsd_model.specs.Reach.{swept};
 ghost use Rattle.tsd_model.specs.World.{free_count};
@@ -9,10 +9,12 @@ ghost use Rattle.image_device.specs.Calls.{Uses};
 ghost use Rattle.image_device.specs.Counts.{CountsFault};
 ghost use Rattle.intent_journal.specs.Ring.{checkpoint_writes};
 ghost use Rattle.volume_laws.specs.Operations.{IsOperation, IsWithin};
+ghost use Rattle.volume_laws.specs.Rings.{HasBatch, HasBatches};
 ghost use Rattle.volume_laws.specs.Volume.{IsVolumeAt, IsVolumeReady, told_by, world_on};
 ghost use Rattle.volume_laws.specs.Writes.{batch_cost, due, IsPaid, Works};
 ghost use Rattle.volume_laws.specs.Moments.{LeavesEither, LeavesWorld, LeavesOwed};
-ghost use Rattle.image_world.specs.Debt.{owed};
+ghost use Rattle.tsd_model.specs.Doomed.{doomed};
+ghost use Rattle.image_world.specs.Debt.{graph_in, owed};
 ghost use Rattle.volume_laws.specs.Graphs.{IsNext};
 
 use crate::volume::Volume;
@@ -31,13 +33,17 @@ impl Volume {
         requires ready { IsVolumeReady self.old }
         requires unspent { self.old.is_spent ≡ false }
         requires at { D.told → IsVolumeAt self.old (D.view dev.old) }
-        ensures operation { IsOperation D.told (λ w. w) self.old self.new (D.view dev.old) (D.view dev.new) result }
+        ensures operation { IsOperation D.told [] (λ w. w) self.old self.new (D.view dev.old) (D.view dev.new) result }
         ensures cost { IsWithin D.told (owed self.old.tables) 0 (due self.old) self.old self.new (D.view dev.old)
             (D.view dev.new) result }
         ensures version { self.new.tables.version ≡ self.old.tables.version }
         ensures told { OnOk result (told_by self.new ≡ told_by self.old) }
         ensures steps { OnOk result ((owed self.new.tables + 4 ≤ owed self.old.tables)
             ⊎ (owed self.new.tables ≡ 0)) }
+        ensures few { OnOk result (owed self.old.tables ≤ owed self.new.tables + 68) }
+        ensures few_blocks { OnOk result (length (doomed (graph_in self.old.tables))
+            ≤ length (doomed (graph_in self.new.tables)) + 4) }
+        ensures ring { OnOk result (HasBatches 4 33 self.old.ring self.new.ring) }
         ensures more { IfOk result (λ more. IsTrue more ↔ (0 < owed self.new.tables)) }
         ensures ready { OnOk result (IsVolumeReady self.new) }
         ensures uses { Uses (checkpoint_writes self.old.ring + 4 * batch_cost 33) (D.view dev.old) (D.view dev.new) }
@@ -56,11 +62,12 @@ impl Volume {
         requires ready { IsVolumeReady self.old }
         requires unspent { self.old.is_spent ≡ false }
         requires at { D.told → IsVolumeAt self.old (D.view dev.old) }
-        ensures operation { IsOperation D.told (λ w. w) self.old self.new (D.view dev.old) (D.view dev.new) result }
+        ensures operation { IsOperation D.told [] (λ w. w) self.old self.new (D.view dev.old) (D.view dev.new) result }
         ensures cost { IsWithin D.told (owed self.old.tables) 0 (due self.old) self.old self.new (D.view dev.old)
             (D.view dev.new) result }
         ensures version { self.new.tables.version ≡ self.old.tables.version }
         ensures told { OnOk result (told_by self.new ≡ told_by self.old) }
+        ensures ring { OnOk result (HasBatches (owed self.old.tables) 33 self.old.ring self.new.ring) }
         ensures settled { OnOk result (owed self.new.tables ≡ 0) }
         ensures ready { OnOk result (IsVolumeReady self.new) }
     {
@@ -74,9 +81,13 @@ impl Volume {
         requires next { IsNext self.old.tables step.now }
         requires still { self.old.tables.is_sweeping ≡ false }
         requires at { D.told → IsVolumeAt self.old (D.view dev.old) }
-        ensures operation { IsOperation D.told (λ w. w) self.old self.new (D.view dev.old) (D.view dev.new) result }
+        ensures operation { IsOperation D.told [] (λ w. w) self.old self.new (D.view dev.old) (D.view dev.new) result }
         ensures cost { IsWithin D.told (owed self.old.tables) 0 (due self.old) self.old self.new (D.view dev.old)
             (D.view dev.new) result }
+        ensures ring { OnOk result (HasBatch 33 self.old.ring self.new.ring) }
+        ensures few { OnOk result (owed self.old.tables ≤ owed self.new.tables + 17) }
+        ensures few_blocks { OnOk result (length (doomed (graph_in self.old.tables))
+            ≤ length (doomed (graph_in self.new.tables)) + 1) }
         ensures version { self.new.tables.version ≡ self.old.tables.version }
         ensures told { OnOk result (told_by self.new ≡ told_by self.old) }
         ensures lowered { OnOk result (owed self.new.tables < owed self.old.tables) }
@@ -109,9 +120,14 @@ impl Volume {
         requires still { self.old.tables.is_sweeping ≡ false }
         requires unspent { self.old.is_spent ≡ false }
         requires at { D.told → IsVolumeAt self.old (D.view dev.old) }
-        ensures operation { IsOperation D.told (λ w. w) self.old self.new (D.view dev.old) (D.view dev.new) result }
+        ensures operation { IsOperation D.told [] (λ w. w) self.old self.new (D.view dev.old) (D.view dev.new) result }
         ensures cost { IsWithin D.told (owed self.old.tables) 0 (due self.old) self.old self.new (D.view dev.old)
             (D.view dev.new) result }
+        ensures ring { OnOk result (HasBatch 33 self.old.ring self.new.ring) }
+        ensures idle { IfOk result (λ some. some ≡ false → self.new.ring ≡ self.old.ring) }
+        ensures few { OnOk result (owed self.old.tables ≤ owed self.new.tables + 17) }
+        ensures few_blocks { OnOk result (length (doomed (graph_in self.old.tables))
+            ≤ length (doomed (graph_in self.new.tables)) + 1) }
         ensures version { self.new.tables.version ≡ self.old.tables.version }
         ensures told { OnOk result (told_by self.new ≡ told_by self.old) }
         ensures lowered { IfOk result (λ some. some ≡ true → owed self.new.tables < owed self.old.tables) }
@@ -136,11 +152,12 @@ impl Volume {
         requires still { self.old.tables.is_sweeping ≡ false }
         requires unspent { self.old.is_spent ≡ false }
         requires at { D.told → IsVolumeAt self.old (D.view dev.old) }
-        ensures operation { IsOperation D.told (λ w. w) self.old self.new (D.view dev.old) (D.view dev.new) result }
+        ensures operation { IsOperation D.told [] (λ w. w) self.old self.new (D.view dev.old) (D.view dev.new) result }
         ensures cost { IsWithin D.told (owed self.old.tables) 0 (due self.old) self.old self.new (D.view dev.old)
             (D.view dev.new) result }
         ensures version { self.new.tables.version ≡ self.old.tables.version }
         ensures told { OnOk result (told_by self.new ≡ told_by self.old) }
+        ensures ring { OnOk result (HasBatches (owed self.old.tables) 33 self.old.ring self.new.ring) }
         ensures settled { OnOk result (owed self.new.tables ≡ 0) }
         ensures still { OnOk result (self.new.tables.is_sweeping ≡ false) }
         ensures same_ready { self.new.is_ready ≡ self.old.is_ready }

@@ -1,6 +1,6 @@
 //! Reclaiming the unreached blocks, to which no primary block leads.
 
-ghost use Rattle.std.specs.Prelude.{◌≡◌, ◌-◌, ◌<◌, true, false, OnOk, OnErr, IfOk, IfSome, IsNone};
+ghost use Rattle.std.specs.Prelude.{◌≡◌, [], ◌-◌, ◌<◌, true, false, OnOk, OnErr, IfOk, IfSome, IsNone};
 ghost use Rattle.tsd_model.specs.Reach.{swept};
 ghost use Rattle.tsd_model.specs.World.{World, free_count};
 ghost use Rattle.cycle_sweep.specs.Sweep.{MaySweep, AreSweptBy};
@@ -28,7 +28,7 @@ impl Volume {
         requires ready { IsVolumeReady self.old }
         requires unspent { self.old.is_spent ≡ false }
         requires at { D.told → IsVolumeAt self.old (D.view dev.old) }
-        ensures operation { IsOperation D.told swept self.old self.new (D.view dev.old) (D.view dev.new) result }
+        ensures operation { IsOperation D.told [] swept self.old self.new (D.view dev.old) (D.view dev.new) result }
         ensures version { self.new.tables.version ≡ self.old.tables.version }
         ensures told { OnOk result (told_by self.new ≡ swept (told_by self.old)) }
         ensures count { IfOk result (λ count. count ≡ free_count (told_by self.new) - free_count (told_by self.old)) }
@@ -48,7 +48,7 @@ impl Volume {
         requires still { self.old.tables.is_sweeping ≡ false }
         requires none { owed self.old.tables ≡ 0 }
         requires at { D.told → IsVolumeAt self.old (D.view dev.old) }
-        ensures operation { IsOperation D.told swept self.old self.new (D.view dev.old) (D.view dev.new) result }
+        ensures operation { IsOperation D.told [] swept self.old self.new (D.view dev.old) (D.view dev.new) result }
         ensures version { self.new.tables.version ≡ self.old.tables.version }
         ensures told { OnOk result (told_by self.new ≡ swept (told_by self.old)) }
         ensures sweeping { self.new.tables.is_sweeping ≡ true }
@@ -71,7 +71,7 @@ impl Volume {
         requires unready { self.old.is_ready ≡ false }
         requires unspent { self.old.is_spent ≡ false }
         requires at { D.told → IsVolumeAt self.old (D.view dev.old) }
-        ensures operation { IsOperation D.told (λ w. w) self.old self.new (D.view dev.old) (D.view dev.new) result }
+        ensures operation { IsOperation D.told [] (λ w. w) self.old self.new (D.view dev.old) (D.view dev.new) result }
         ensures version { self.new.tables.version ≡ self.old.tables.version }
         ensures told { OnOk result (told_by self.new ≡ told_by self.old) }
         ensures settled { OnOk result (owed self.new.tables ≡ 0) }
@@ -89,7 +89,7 @@ impl Volume {
         requires whole { (r : World) → HasGraphOf (graph_in self.old.tables) r → swept r ≡ r }
         requires unready { self.old.is_ready ≡ false }
         requires at { D.told → IsVolumeAt self.old (D.view dev.old) }
-        ensures operation { IsOperation D.told (λ w. w) self.old self.new (D.view dev.old) (D.view dev.new) result }
+        ensures operation { IsOperation D.told [] (λ w. w) self.old self.new (D.view dev.old) (D.view dev.new) result }
         ensures version { self.new.tables.version ≡ self.old.tables.version }
         ensures told { OnOk result (told_by self.new ≡ told_by self.old) }
         ensures settled { OnOk result (owed self.new.tables ≡ 0) }
@@ -111,7 +111,7 @@ impl Volume {
         requires unready { self.old.is_ready ≡ false }
         requires unspent { self.old.is_spent ≡ false }
         requires at { D.told → IsVolumeAt self.old (D.view dev.old) }
-        ensures operation { IsOperation D.told (λ w. w) self.old self.new (D.view dev.old) (D.view dev.new) result }
+        ensures operation { IsOperation D.told [] (λ w. w) self.old self.new (D.view dev.old) (D.view dev.new) result }
         ensures version { self.new.tables.version ≡ self.old.tables.version }
         ensures told { OnOk result (told_by self.new ≡ told_by self.old) }
         ensures whole { OnOk result ((r : World) → HasGraphOf (graph_in self.new.tables) r → swept r ≡ r) }

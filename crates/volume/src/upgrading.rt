@@ -8,6 +8,7 @@ ghost use Rattle.image_device.specs.Image.{zeros};
 ghost use Rattle.image_world.specs.Fresh.{AreClosed};
 ghost use Rattle.intent_journal.specs.Ring.{checkpoint_writes};
 ghost use Rattle.volume_laws.specs.Operations.{IsOperation, IsWithin};
+ghost use Rattle.volume_laws.specs.Rings.{CommitsOnce};
 ghost use Rattle.volume_laws.specs.Volume.{IsVolumeAt, IsVolumeReady, told_by, world_on};
 ghost use Rattle.volume_laws.specs.Writes.{batch_cost, due, IsPaid};
 ghost use Rattle.volume_laws.specs.Moments.{LeavesEither, LeavesWorld, LeavesOwed};
@@ -26,9 +27,11 @@ impl Volume {
         requires ready { IsVolumeReady self.old }
         requires unspent { self.old.is_spent ≡ false }
         requires at { D.told → IsVolumeAt self.old (D.view dev.old) }
-        ensures operation { IsOperation D.told upgraded self.old self.new (D.view dev.old) (D.view dev.new) result }
+        ensures operation { IsOperation D.told [] upgraded self.old self.new (D.view dev.old) (D.view dev.new) result }
         ensures cost { IsWithin D.told (owed self.old.tables) (batch_cost 3 + 113) (checkpoint_writes
             self.old.ring + batch_cost 3 + 113) self.old self.new (D.view dev.old) (D.view dev.new) result }
+        ensures none { self.old.tables.version ≡ 2
+            → (D.view dev.new).writes ≤ (D.view dev.old).writes + checkpoint_writes self.old.ring + 113 }
         ensures told { OnOk result (told_by self.new ≡ upgraded (told_by self.old)) }
         ensures ring { OnOk result (self.new.ring ≡ []) }
         ensures closed { D.told → OnOk result (AreClosed (D.view dev.new).reads) }
@@ -45,9 +48,11 @@ impl Volume {
     fn change_version<D: Device>(&mut self, dev: &mut D) -> Result<(), Failed>
         requires ready { IsVolumeReady self.old }
         requires at { D.told → IsVolumeAt self.old (D.view dev.old) }
-        ensures operation { IsOperation D.told upgraded self.old self.new (D.view dev.old) (D.view dev.new) result }
+        ensures operation { IsOperation D.told [] upgraded self.old self.new (D.view dev.old) (D.view dev.new) result }
         ensures cost { IsWithin D.told (owed self.old.tables) (batch_cost 3) (checkpoint_writes
             self.old.ring + batch_cost 3) self.old self.new (D.view dev.old) (D.view dev.new) result }
+        ensures none { self.old.tables.version ≡ 2 → CommitsOnce 0 self.old self.new (D.view dev.old) (D.view dev.new)
+            result }
         ensures told { OnOk result (told_by self.new ≡ upgraded (told_by self.old)) }
         ensures ready { OnOk result (IsVolumeReady self.new) }
         ensures owes { owed self.new.tables ≡ owed self.old.tables }
@@ -66,7 +71,7 @@ impl Volume {
     fn erase<D: Device>(&mut self, dev: &mut D) -> Result<(), Failed>
         requires emptied { self.old.ring ≡ [] }
         requires at { D.told → IsVolumeAt self.old (D.view dev.old) }
-        ensures operation { IsOperation D.told (λ w. w) self.old self.new (D.view dev.old) (D.view dev.new) result }
+        ensures operation { IsOperation D.told [] (λ w. w) self.old self.new (D.view dev.old) (D.view dev.new) result }
         ensures cost { IsWithin D.told (owed self.old.tables) 113 113 self.old self.new (D.view dev.old)
             (D.view dev.new) result }
         ensures version { self.new.tables.version ≡ self.old.tables.version }

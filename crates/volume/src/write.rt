@@ -1,12 +1,13 @@
 //! Writing a block.
 
-ghost use Rattle.std.specs.Prelude.{◌≡◌, ◌+◌, ◌≤◌, true, false, length, OnOk, OnErr};
+ghost use Rattle.std.specs.Prelude.{◌≡◌, ◌∷◌, [], ◌+◌, ◌≤◌, true, false, length, OnOk, OnErr};
 ghost use Rattle.image_device.specs.Calls.{Uses};
 ghost use Rattle.image_device.specs.Counts.{CountsFault};
 ghost use Rattle.tsd_model.specs.Geometry.{block_len};
 ghost use Rattle.tsd_model.specs.World.{is_live};
 ghost use Rattle.intent_journal.specs.Ring.{checkpoint_writes};
 ghost use Rattle.volume_laws.specs.Operations.{IsOperation, IsWithin};
+ghost use Rattle.volume_laws.specs.Rings.{CommitsOnce};
 ghost use Rattle.volume_laws.specs.Volume.{IsVolumeAt, IsVolumeReady, told_by, world_on};
 ghost use Rattle.volume_laws.specs.Moments.{LeavesEither, LeavesOwed, written_world};
 ghost use Rattle.image_world.specs.Debt.{owed};
@@ -32,11 +33,13 @@ impl Volume {
         requires ready { IsVolumeReady self.old }
         requires unspent { self.old.is_spent ≡ false }
         requires at { D.told → IsVolumeAt self.old (D.view dev.old) }
-        ensures operation { IsOperation D.told (λ w. written_world w block bytes.now) self.old self.new
+        ensures operation { IsOperation D.told (block ∷ []) (λ w. written_world w block bytes.now) self.old self.new
             (D.view dev.old) (D.view dev.new) result }
         ensures cost { IsWithin D.told (owed self.old.tables) (batch_cost self.old.tables.geometry.sectors)
             (checkpoint_writes self.old.ring + batch_cost self.old.tables.geometry.sectors) self.old self.new
             (D.view dev.old) (D.view dev.new) result }
+        ensures once { CommitsOnce self.old.tables.geometry.sectors self.old self.new (D.view dev.old)
+            (D.view dev.new) result }
         ensures version { self.new.tables.version ≡ self.old.tables.version }
         ensures same { OnOk result (self.new ≡ record self.old { ring = self.new.ring }) }
 

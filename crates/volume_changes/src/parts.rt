@@ -1,6 +1,6 @@
 //! The sectors of a block, read.
 
-ghost use Rattle.std.specs.Prelude.{◌≡◌, ◌<◌, length, OnOk, OnErr};
+ghost use Rattle.std.specs.Prelude.{◌≡◌, ◌<◌, [], length, OnOk, OnErr};
 ghost use Rattle.tsd_model.specs.Geometry.{IsLawful, block_len};
 ghost use Rattle.image_device.specs.Calls.{Rests, Uses};
 ghost use Rattle.image_device.specs.Counts.{CountsFault};
@@ -15,6 +15,7 @@ use intent_journal::Ring;
 use tsd_model::Data;
 
 /// Reads the sectors of a block as they are to be once the records of the journal are in place.
+#[inline(never)]
 pub fn read_parts<D: Device>(
     dev: &mut D,
     ring: &Ring,
@@ -33,10 +34,27 @@ pub fn read_parts<D: Device>(
     ensures faults { CountsFault result (D.view dev.old).faults (D.view dev.new).faults }
 {
     let mut sector = [0; SECTOR_BYTES];
-    *into = Data::new();
+    empty(into);
     for part in 0..layout.geometry.sectors {
         ring.read(dev, layout.data_sector(block, part), &mut sector)?;
         let _ = into.extend_from_slice(&sector);
     }
     Ok(())
+}
+
+/// Takes all bytes out. Where there are none, nothing is cleared.
+fn empty(bytes: &mut Data)
+    ensures { bytes.new ≡ [] }
+{
+    if !bytes.is_empty() {
+        take_out(bytes);
+    }
+}
+
+/// Takes all bytes out. It stays a call, so that a block that is read into an empty list pays for no second list.
+#[inline(never)]
+fn take_out(bytes: &mut Data)
+    ensures { bytes.new ≡ [] }
+{
+    *bytes = Data::new();
 }

@@ -20,8 +20,10 @@ use intent_journal::Ring;
 /// Whether the journal holds a data sector of a block.
 fn holds_block(ring: &Ring, layout: &Layout, block: u32) -> bool
     requires inside { block < layout.now.geometry.blocks }
-    ensures { result ≡ false → (part : ℕ) → part < layout.now.geometry.sectors
+    ensures missed { result ≡ false → (part : ℕ) → part < layout.now.geometry.sectors
         → has_home (patches_of ring.now) (data_sector layout.now.geometry block part) ≡ false }
+    ensures held { result ≡ true → ¬ ((part : ℕ) → part < layout.now.geometry.sectors
+        → has_home (patches_of ring.now) (data_sector layout.now.geometry block part) ≡ false) }
 {
     let mut is_held = false;
     for part in 0..layout.geometry.sectors {
@@ -33,7 +35,8 @@ fn holds_block(ring: &Ring, layout: &Layout, block: u32) -> bool
 /// Whether the journal holds a data sector of one of these blocks.
 pub fn holds_data(ring: &Ring, layout: &Layout, blocks: &[u32]) -> bool
     requires inside { (b : ℕ) → has_number blocks.now b ≡ true → b < layout.now.geometry.blocks }
-    ensures { result ≡ false → AreMissed layout.now.geometry (patches_of ring.now) blocks.now }
+    ensures missed { result ≡ false → AreMissed layout.now.geometry (patches_of ring.now) blocks.now }
+    ensures held { result ≡ true → ¬ AreMissed layout.now.geometry (patches_of ring.now) blocks.now }
 {
     let mut is_held = false;
     for index in 0..blocks.len() {

@@ -19,11 +19,15 @@ use Rattle.image_world.specs.Stands.{Stands}
 use Rattle.image_world.specs.Tables.{tables_of}
 use Rattle.image_world.proofs.AlikeLaws.{alike_tables}
 use Rattle.volume_laws.specs.Erased.{is_body}
+use Rattle.volume_laws.specs.Data.{HasSameData, KeepsData}
 use Rattle.volume_laws.specs.Moments.{LeavesWorld, LeavesOwed}
 use Rattle.image_world.specs.Debt.{owed}
 use Rattle.volume_laws.specs.Volume.{Volume, IsVolumeAt, world_on}
 use Rattle.volume_laws.proofs.Committed.{agree_stands, same_new}
 use Rattle.image_world.proofs.AgreeLaws.{alike_outside}
+use Rattle.image_device.specs.declared.device.Failed.{Failed}
+use Rattle.image_device.proofs.Outcomes.{on_ok}
+use Rattle.image_world.proofs.WrittenLaws.{above_journal}
 
 gate_out : (index : ℕ) → index < 8 → is_body (gate_sector index) ≡ false
 gate_out index less = elim (cases_eq index 0) [
@@ -89,3 +93,11 @@ module _ (vol : Volume) (old : View) (at : IsVolumeAt vol old) (none : vol.ring 
 pub erased_ok : {T E : Type 0} (r : Result T E) (vol now : Volume) (old new : View) → IsVolumeAt vol old → vol.ring ≡ [] → now.ring ≡ [] → now.tables ≡ vol.tables → IsConfined is_body old new → OnOk r (IsFirm new) → OnOk r (IsVolumeAt now new × (world_on new ≡ world_on old))
 erased_ok (Ok u) vol now old new at none empty kept run firm = erased_new vol old at none now new empty kept run firm
 erased_ok (Err e) vol now old new at none empty kept run firm = tt
+
+-- the data stays
+pub erased_data : {T : Type 0} (r : Result T Failed) (vol : Volume) (old new : View) → IsVolumeAt vol old → vol.ring ≡ [] → IsConfined is_body old new → KeepsData vol.tables.geometry [] old new r
+erased_data r vol old new at none run = record {
+  reads = on_ok r (λ n from out. home_there vol old at none new.reads run.reads n (above_journal n (omega (arith, from))));
+  left = weakened old new (IsLeftWithin is_body old) (λ x f. HasSameData vol.tables.geometry [] old.reads x) run.leaves (λ x f left n from out.
+      home_there vol old at none x (λ m far. left.0.agrees m (or_false (is_body m) (old.loose m) far (at.firm m))) n (above_journal n (omega (arith, from))));
+}

@@ -17,6 +17,8 @@ pub mod AheadKept
 pub mod StepOps
 pub mod NextLaws
 pub mod Idle
+pub mod DataLaws
+pub mod RingLaws
 pub mod OperationLaws
 pub mod SettlingLaws
 pub mod DropOwed

@@ -1,5 +1,5 @@
 -- Operations, one after another and of a batch that is committed.
-use Rattle.std.proofs.Common.{◌≡◌, ℕ, ◌+◌, ◌*◌, ◌≤◌, inl, Bool, true, false, List, length, refl, sym, ◌∙◌, ap, subst, arith, Result, Ok, Err}
+use Rattle.std.proofs.Common.{◌≡◌, ℕ, ◌+◌, ◌*◌, ◌≤◌, inl, Bool, true, false, List, [], length, refl, sym, ◌∙◌, ap, subst, arith, Result, Ok, Err}
 use Rattle.std.specs.Prelude.{OnOk, OnErr, IsErrAnd, is_err}
 use Rattle.tsd_model.specs.World.{World}
 use Rattle.tsd_model.specs.declared.geometry.Geometry.{Geometry}
@@ -19,12 +19,14 @@ use Rattle.image_world.specs.Tables.{tables_of}
 use Rattle.volume_laws.specs.Moments.{LeavesEither, LeavesWorld, LeavesOwed, StandsForEither}
 use Rattle.image_world.specs.Debt.{owed}
 use Rattle.volume_laws.specs.Operations.{IsOperation, IsWithin}
+use Rattle.volume_laws.specs.Data.{KeepsData}
 use Rattle.volume_laws.specs.Volume.{Volume, IsVolumeAt, world_on}
 use Rattle.volume_laws.specs.Writes.{Works, due, IsPaid, batch_cost, lost_cost}
 use Rattle.volume_laws.proofs.Allocated.{then_moments, change_first}
 use Rattle.volume_laws.proofs.Committed.{ok_map}
 use Rattle.volume_laws.proofs.Idle.{idle_either, idle_owed}
 use Rattle.volume_laws.proofs.Costs.{commit_pays}
+use Rattle.volume_laws.proofs.DataLaws.{data_answers, data_fails, data_same_failure, data_then, then_data, data_none, data_committed}
 use Rattle.volume_laws.proofs.Ops.{IsOp, op_at, op_done, op_moments, op_paid}
 use Rattle.volume_laws.proofs.StepOps.{either_same, owed_moments}
 
@@ -56,14 +58,14 @@ pub spent_on_err : {T E : Type 0} (r : Result T E) (spent : Bool) → spent ≡ 
 spent_on_err (Ok x) spent is = tt
 spent_on_err (Err e) spent is = is
 
-module _ {T : Type 0} (told : Type 0) (change : World → World) (a b : Volume) (u v : View) where
+module _ {T : Type 0} {bs : List ℕ} (told : Type 0) (change : World → World) (a b : Volume) (u v : View) where
   -- of a call that keeps the world a crash leaves the world before
-  pub kept_moments : (r : Result T Failed) → IsOperation told (λ w. w) a b u v r → told → LeavesWorld u v
+  pub kept_moments : (r : Result T Failed) → IsOperation told bs (λ w. w) a b u v r → told → LeavesWorld u v
   kept_moments r op t = either_same u v (op.any_moment t)
 
   -- the volume is ready then, or not
-  pub op_ready : (r : Result T Failed) (c : Volume) (is_ready : Bool) → c ≡ record b { is_ready = is_ready } → IsOperation told change a b u v r → IsOperation told change a c u v r
-  op_ready r c is_ready same op = subst (λ (x : Volume). IsOperation told change a x u v r) (sym same) (record {
+  pub op_ready : (r : Result T Failed) (c : Volume) (is_ready : Bool) → c ≡ record b { is_ready = is_ready } → IsOperation told bs change a b u v r → IsOperation told bs change a c u v r
+  op_ready r c is_ready same op = subst (λ (x : Volume). IsOperation told bs change a x u v r) (sym same) (record {
     at = λ t. ok_map r _ _ (λ (at : IsVolumeAt b v). record { firm = at.firm; ring = at.ring; good = at.good; tables = at.tables }) (op.at t);
     done = op.done;
     any_moment = op.any_moment;
@@ -72,11 +74,12 @@ module _ {T : Type 0} (told : Type 0) (change : World → World) (a b : Volume) 
     spent = op.spent;
     faults = op.faults;
     works = op.works;
+    data_kept = op.data_kept;
     geometry = op.geometry;
   })
 
   -- it makes another change that is the same here
-  pub op_as : (r : Result T Failed) (other : World → World) → (told → change (world_on u) ≡ other (world_on u)) → IsOperation told change a b u v r → IsOperation told other a b u v r
+  pub op_as : (r : Result T Failed) (other : World → World) → (told → change (world_on u) ≡ other (world_on u)) → IsOperation told bs change a b u v r → IsOperation told bs other a b u v r
   op_as r other same op = record {
     at = op.at;
     done = λ t. ok_map r _ _ (λ (done : world_on v ≡ change (world_on u)). done ∙ same t) (op.done t);
@@ -86,21 +89,44 @@ module _ {T : Type 0} (told : Type 0) (change : World → World) (a b : Volume) 
     spent = op.spent;
     faults = op.faults;
     works = op.works;
+    data_kept = op.data_kept;
     geometry = op.geometry;
   }
 
   -- whatever it answers, and whatever its failure is handed on as
-  pub op_answers : {U : Type 0} (x : T) (y : U) → IsOperation {T = T} told change a b u v (Ok x) → IsOperation {T = U} told change a b u v (Ok y)
-  op_answers x y op = record { at = op.at; done = op.done; any_moment = op.any_moment; sent = op.sent; unspent = op.unspent; spent = tt; faults = op.faults; works = op.works; geometry = op.geometry }
+  pub op_answers : {U : Type 0} (x : T) (y : U) → IsOperation {T = T} told bs change a b u v (Ok x) → IsOperation {T = U} told bs change a b u v (Ok y)
+  op_answers x y op = record {
+    at = op.at;
+    done = op.done;
+    any_moment = op.any_moment;
+    sent = op.sent;
+    data_kept = λ t. data_answers a.tables.geometry bs u v x y (op.data_kept t);
+    unspent = op.unspent;
+    spent = tt;
+    faults = op.faults;
+    works = op.works;
+    geometry = op.geometry;
+  }
 
-  pub op_fails : {U : Type 0} (e : Failed) (Q : Failed → Type 0) (r : Result U Failed) → IsErrAnd r Q → IsOperation {T = T} told change a b u v (Err e) → IsOperation told change a b u v r
+  pub op_fails : {U : Type 0} (e : Failed) (Q : Failed → Type 0) (r : Result U Failed) → IsErrAnd r Q → IsOperation {T = T} told bs change a b u v (Err e) → IsOperation told bs change a b u v r
   op_fails e Q (Ok y) is op = absurd is
-  op_fails e Q (Err f) is op = record { at = λ t. tt; done = λ t. tt; any_moment = op.any_moment; sent = op.sent; unspent = tt; spent = op.spent; faults = op.faults; works = op.works; geometry = op.geometry }
+  op_fails e Q (Err f) is op = record {
+    at = λ t. tt;
+    done = λ t. tt;
+    any_moment = op.any_moment;
+    sent = op.sent;
+    data_kept = λ t. data_same_failure a.tables.geometry bs u v e f (op.data_kept t);
+    unspent = tt;
+    spent = op.spent;
+    faults = op.faults;
+    works = op.works;
+    geometry = op.geometry;
+  }
 
 -- A call that keeps the world failed, of one that changes it.
-pub kept_fails : {T U : Type 0} (told : Type 0) (change : World → World) (a b : Volume) (u v : View) (e : Failed) (Q : Failed → Type 0) (r : Result U Failed) → IsErrAnd r Q → IsOperation {T = T} told (λ w. w) a b u v (Err e) → IsOperation told change a b u v r
+pub kept_fails : {T U : Type 0} {bs : List ℕ} (told : Type 0) (change : World → World) (a b : Volume) (u v : View) (e : Failed) (Q : Failed → Type 0) (r : Result U Failed) → IsErrAnd r Q → IsOperation {T = T} told [] (λ w. w) a b u v (Err e) → IsOperation told bs change a b u v r
 kept_fails told change a b u v e Q (Ok y) is op = absurd is
-kept_fails told change a b u v e Q (Err f) is op = record {
+kept_fails {bs = bs} told change a b u v e Q (Err f) is op = record {
   at = λ t. tt;
   done = λ t. tt;
   any_moment = λ t. as_either u v (change (world_on u)) (either_same u v (op.any_moment t));
@@ -109,16 +135,34 @@ kept_fails told change a b u v e Q (Err f) is op = record {
   spent = op.spent;
   faults = op.faults;
   works = op.works;
+  data_kept = λ t. data_fails a.tables.geometry bs u v e f (op.data_kept t);
+  geometry = op.geometry;
+}
+
+-- the same of one that gave bytes to the same blocks
+pub kept_failed : {T U : Type 0} {bs : List ℕ} (told : Type 0) (change : World → World) (a b : Volume) (u v : View) (e : Failed) (Q : Failed → Type 0) (r : Result U Failed) → IsErrAnd r Q → IsOperation {T = T} told bs (λ w. w) a b u v (Err e) → IsOperation told bs change a b u v r
+kept_failed told change a b u v e Q (Ok y) is op = absurd is
+kept_failed {bs = bs} told change a b u v e Q (Err f) is op = record {
+  at = λ t. tt;
+  done = λ t. tt;
+  any_moment = λ t. as_either u v (change (world_on u)) (either_same u v (op.any_moment t));
+  sent = op.sent;
+  unspent = tt;
+  spent = op.spent;
+  faults = op.faults;
+  works = op.works;
+  data_kept = λ t. data_same_failure a.tables.geometry bs u v e f (op.data_kept t);
   geometry = op.geometry;
 }
 
 -- no call is made
-pub no_op : {T : Type 0} (told : Type 0) (vol : Volume) (v : View) (x : T) → (told → IsSound v) → (told → IsVolumeAt vol v) → vol.is_spent ≡ false → IsOperation {T = T} told (λ w. w) vol vol v v (Ok x)
+pub no_op : {T : Type 0} (told : Type 0) (vol : Volume) (v : View) (x : T) → (told → IsSound v) → (told → IsVolumeAt vol v) → vol.is_spent ≡ false → IsOperation {T = T} told [] (λ w. w) vol vol v v (Ok x)
 no_op told vol v x sound at unspent = record {
   at = at;
   done = λ t. refl;
   any_moment = λ t. idle_either vol v (sound t) (at t);
   sent = λ t. refl;
+  data_kept = λ t. data_none vol.tables.geometry [] v x (sound t) (at t).firm;
   unspent = unspent;
   spent = tt;
   faults = refl;
@@ -129,14 +173,15 @@ no_op told vol v x sound at unspent = record {
 pub faults_after : {T : Type 0} (r : Result T Failed) (a b c : ℕ) → b ≡ a → CountsFault r b c → CountsFault r a c
 faults_after r a b c same counts = subst (λ (n : ℕ). CountsFault r n c) same counts
 
-module _ {T U : Type 0} (told : Type 0) (change : World → World) (a b c : Volume) (u v w : View) (x : T) (r : Result U Failed) where
+module _ {T U : Type 0} {bs : List ℕ} (told : Type 0) (change : World → World) (a b c : Volume) (u v w : View) (x : T) (r : Result U Failed) where
   -- a call that keeps the world, and then another
-  pub kept_then : IsOperation {T = T} told (λ z. z) a b u v (Ok x) → IsOperation told change b c v w r → IsOperation told change a c u w r
+  pub kept_then : IsOperation {T = T} told [] (λ z. z) a b u v (Ok x) → IsOperation told bs change b c v w r → IsOperation told bs change a c u w r
   kept_then one two = record {
     at = two.at;
     done = λ t. ok_map r _ _ (λ (done : world_on w ≡ change (world_on v)). done ∙ ap change (one.done t)) (two.done t);
     any_moment = λ t. then_moments u v w change (either_same u v (one.any_moment t)) (one.done t) (one.sent t) (two.any_moment t);
     sent = λ t. two.sent t ∙ one.sent t;
+    data_kept = λ t. data_then a.tables.geometry b.tables.geometry bs u v w x r one.geometry (one.data_kept t) (two.data_kept t);
     unspent = two.unspent;
     spent = two.spent;
     faults = faults_after r u.faults v.faults w.faults one.faults two.faults;
@@ -145,12 +190,13 @@ module _ {T U : Type 0} (told : Type 0) (change : World → World) (a b c : Volu
   }
 
   -- a call that changes the world, and then one that keeps it
-  pub then_kept : IsOperation {T = T} told change a b u v (Ok x) → IsOperation told (λ z. z) b c v w r → IsOperation told change a c u w r
+  pub then_kept : IsOperation {T = T} told bs change a b u v (Ok x) → IsOperation told [] (λ z. z) b c v w r → IsOperation told bs change a c u w r
   then_kept one two = record {
     at = two.at;
     done = λ t. ok_map r _ _ (λ (done : world_on w ≡ world_on v). done ∙ one.done t) (two.done t);
     any_moment = λ t. change_first u v w change (one.any_moment t) (one.done t) (one.sent t) (either_same v w (two.any_moment t));
     sent = λ t. two.sent t ∙ one.sent t;
+    data_kept = λ t. then_data a.tables.geometry b.tables.geometry bs u v w x r one.geometry (one.data_kept t) (two.data_kept t);
     unspent = two.unspent;
     spent = two.spent;
     faults = faults_after r u.faults v.faults w.faults one.faults two.faults;
@@ -164,12 +210,13 @@ pub committed_op : {T : Type 0} (told : Type 0) (r : Result T Failed) (fit : (�
     → (told → OnOk r (AgreeBut is_journal (overlaid batch (home old.reads)) (home new.reads))) → (told → OnOk r (IsRingAt now.ring new)) → (told → OnOk r (IsFirm new))
     → (told → LeavesOnly old new (λ x f. IsBeforeOrAfter batch old x × (f ≡ old.sent))) → (told → new.sent ≡ old.sent) → Uses most old new → CountsFault r old.faults new.faults
     → now.is_spent ≡ is_err r → now.tables.geometry ≡ vol.tables.geometry
-    → IsOperation told change vol now old new r
+    → IsOperation told [] change vol now old new r
 committed_op told r fit vol now old new batch homes more most change op at fits done ring firm leaves sent uses faults spent size = record {
   at = λ t. op_at r fit vol now old new batch homes more change op (at t) (fits t) (done t) (ring t) (firm t);
   done = λ t. op_done r fit vol now old new batch homes more change op (at t) (fits t) (done t) (ring t) (firm t);
   any_moment = λ t. op_moments fit vol now old new batch homes more change op (at t) (fits t) (leaves t);
   sent = sent;
+  data_kept = λ t. data_committed r vol.tables.geometry [] old new batch (λ n from out. (at t).firm n) (λ z n from out. op.turns.contents z n from) (done t) (leaves t);
   unspent = spent_unless_ok r now.is_spent spent;
   spent = spent_on_err r now.is_spent spent;
   faults = faults;

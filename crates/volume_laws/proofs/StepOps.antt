@@ -1,7 +1,7 @@
 -- A step of reclamation as an operation: the world stays, and less is owed.
 use Rattle.std.proofs.Common.{◌≡◌, ℕ, ◌+◌, ◌*◌, ◌<◌, ◌≤◌, Bool, true, false, cond, inl, inr, ⊎_elim, List, length, refl, sym, ◌∙◌, ap, subst, arith, Result, Ok, Err}
 use Rattle.std.specs.Prelude.{OnOk}
-use Rattle.tsd_model.specs.Doomed.{settle}
+use Rattle.tsd_model.specs.Doomed.{doomed, settle}
 use Rattle.tsd_model.specs.World.{World}
 use Rattle.image_device.specs.Calls.{Uses}
 use Rattle.image_device.specs.View.{View}
@@ -46,6 +46,13 @@ step_owed t now s next is =
     let less = step_lowers (graph_in t) s.block s.targets (graph_laid_out t) next.may.lost s.freed next.may.step in
     omega (arith, then, less.0, less.1)
 
+-- so many blocks fewer are doomed
+pub step_blocks : (t now : Tables) (s : OutStep) → IsNext t s → IsStepped t now s.block s.targets s.freed → length (doomed (graph_in t)) ≡ cond s.freed 1 0 + length (doomed (graph_in now))
+step_blocks t now s next is =
+    let then = ap (λ (w : World). length (doomed w)) (graph_stepped t now s.block s.targets s.freed is) in
+    let less = step_lowers (graph_in t) s.block s.targets (graph_laid_out t) next.may.lost s.freed next.may.step in
+    omega (arith, then, less.0)
+
 -- ---- the world
 pub still_left : (t : Tables) (w : World) → t.is_sweeping ≡ false → left_of t w ≡ settle w
 unfolding left_of
@@ -63,6 +70,8 @@ step_left t now s c still next is =
 -- all of it
 pub record IsStepOf (vol : Volume) (s : OutStep) (now : Tables) (batch : List Patch) : Type 0 where
   pub op : IsOp any_bytes vol now batch 33 0 (λ w. w)
+  pub blocks : length (doomed (graph_in vol.tables)) ≤ length (doomed (graph_in now)) + 1
+  pub most : owed vol.tables ≤ owed now + 17
   pub takes : owed vol.tables ≡ owed now + (cond s.freed 1 0 + length s.targets)
   pub cheap : batch_cost (length batch) ≤ 5 * (cond s.freed 1 0 + length s.targets)
   pub some : 0 < cond s.freed 1 0 + length s.targets
@@ -79,6 +88,8 @@ step_of vol s now batch still next put =
         few = let most = next.may.few in let one = one_most s.freed in omega (arith, few, most, one);
         owes = omega (arith, takes);
       };
+      blocks = let one = one_most s.freed in omega (arith, one, step_blocks vol.tables now s next put.stepped);
+      most = let most = next.may.few in let one = one_most s.freed in omega (arith, takes, most, one);
       takes = takes;
       cheap = elim next.wide [
         | inl f ↦ let one : ◌≡◌ {A = ℕ} (cond s.freed 1 0) 1 = ap (λ t. cond t 1 0) f in omega (arith, one, few)

@@ -49,6 +49,13 @@ low_data g (b ∷ bs) n low = let here : is_part g b n ≡ false = no_part (data
     no_part : (first k m : ℕ) → m < first → (nat_le first m && nat_lt m (first + k)) ≡ false
     no_part first k m h = grind (arith, nat_tests)
 
+-- nor is a sector of the journal
+pub journal_low : (g : Geometry) (bs : List ℕ) (n : ℕ) → is_journal n ≡ true → is_data g bs n ≡ false
+journal_low g bs n inside = low_data g bs n (let h : n ≤ 130 = in_journal n inside in omega arith)
+  where
+    in_journal : (m : ℕ) → is_journal m ≡ true → m ≤ 130
+    in_journal m e = grind (arith, nat_tests)
+
 pub part_inside : (first k m : ℕ) → (nat_le first m && nat_lt m (first + k)) ≡ true → (first ≤ m) × (m < first + k)
 part_inside first k m h = (grind (arith, nat_tests), grind (arith, nat_tests))
 

@@ -5,6 +5,8 @@ pub mod Steps
 pub mod Graphs
 pub mod Growing
 pub mod Zeroed
+pub mod Data
+pub mod Rings
 pub mod Erased
 pub mod Quiet
 pub mod Operations

@@ -1,11 +1,12 @@
 use Rattle.std.proofs.Common.{◌≡◌, ℕ, ◌<◌, ◌≤◌, sym, subst, inl, refl, Ok}
 use Rattle.tsd_model.specs.declared.geometry.Geometry.{Geometry}
 use Rattle.image_device.proofs.Confined.{confined_sync}
+use Rattle.image_device.specs.Runs.{IsConfined}
 use Rattle.image_device.proofs.Outcomes.{on_ok}
 use Rattle.image_layout.specs.Areas.{sweep_flag}
 use Rattle.image_layout.specs.Header.{IsReading}
-use Rattle.recovery.specs.Areas.{fresh_end, fresh_bytes}
-use Rattle.recovery.proofs.AreaRuns.{but_gate, after_header, after_gates, after_tables, all_written}
+use Rattle.recovery.specs.Areas.{fresh_end, fresh_bytes, is_fresh}
+use Rattle.recovery.proofs.AreaRuns.{but_gate, after_header, after_gates, after_tables, all_written, header_inside, gates_inside, inside_joined}
 use Rattle.recovery.proofs.areas.write_areas.Goals as goal
 
 pub returns-in_err-write-clause-confined : goal.returns-in_err-write-clause-confined
@@ -23,6 +24,25 @@ pub returns-clause-confined : goal.returns-clause-confined
 returns-clause-confined g c told =
     confined_sync but_gate _ _ _
     (after_tables _ _ _ (after_gates _ _ _ (after_header _ _ (g.met.D.Device.sound c.args.dev.now told) (c.write.ensures.touches told)) (c.close_gates.ensures.confined told)) (c.write_tables.ensures.confined told))
+    (c.sync.ensures.settles told)
+
+pub returns-in_err-write-clause-inside : goal.returns-in_err-write-clause-inside
+returns-in_err-write-clause-inside g c told = header_inside c.args.geometry.now _ _ (g.met.D.Device.sound c.args.dev.now told) (c.write.ensures.touches told)
+
+pub returns-in_err-close_gates-clause-inside : goal.returns-in_err-close_gates-clause-inside
+returns-in_err-close_gates-clause-inside g c told =
+    gates_inside c.args.geometry.now _ _ _ (header_inside c.args.geometry.now _ _ (g.met.D.Device.sound c.args.dev.now told) (c.write.ensures.touches told)) (c.close_gates.ensures.confined told)
+
+pub returns-in_err-write_tables-clause-inside : goal.returns-in_err-write_tables-clause-inside
+returns-in_err-write_tables-clause-inside g c told =
+    inside_joined c.args.geometry.now _ _ _ (gates_inside c.args.geometry.now _ _ _ (header_inside c.args.geometry.now _ _ (g.met.D.Device.sound c.args.dev.now told) (c.write.ensures.touches told)) (c.close_gates.ensures.confined told))
+    (subst (λ (k : Geometry). IsConfined (is_fresh k) (g.D.Device.view c.close_gates.new.dev) (g.D.Device.view c.write_tables.new.dev)) c.of.ensures (c.write_tables.ensures.inside told))
+
+pub returns-clause-inside : goal.returns-clause-inside
+returns-clause-inside g c told =
+    confined_sync (is_fresh c.args.geometry.now) _ _ _
+    (inside_joined c.args.geometry.now _ _ _ (gates_inside c.args.geometry.now _ _ _ (header_inside c.args.geometry.now _ _ (g.met.D.Device.sound c.args.dev.now told) (c.write.ensures.touches told)) (c.close_gates.ensures.confined told))
+    (subst (λ (k : Geometry). IsConfined (is_fresh k) (g.D.Device.view c.close_gates.new.dev) (g.D.Device.view c.write_tables.new.dev)) c.of.ensures (c.write_tables.ensures.inside told)))
     (c.sync.ensures.settles told)
 
 pub returns-clause-written : goal.returns-clause-written

@@ -1,10 +1,10 @@
-use Rattle.std.proofs.Common.{◌≡◌, ℕ, ◌≤◌, ◌+◌, ◌-◌, nat_le, true, inl, inr, ◌∙◌, ap, sym, arith}
+use Rattle.std.proofs.Common.{◌≡◌, ℕ, ◌≤◌, ◌<◌, ◌+◌, ◌-◌, nat_le, nat_lt, true, inl, inr, ◌∙◌, ap, sym, arith}
 use Rattle.std.proofs.lemmas.Bool.{cases_eq, cases_lt}
 use Rattle.std.proofs.lemmas.Bool.Decides.{nat_tests}
 use Rattle.image_device.proofs.Confined.{confined_write}
 use Rattle.image_device.proofs.Moments.{uses_and}
 use Rattle.image_layout.specs.Areas.{sweep_flag}
-use Rattle.recovery.specs.Areas.{fresh_bytes}
+use Rattle.recovery.specs.Areas.{fresh_bytes, fresh_end, is_fresh}
 use Rattle.recovery.proofs.areas.write_tables.Goals as goal
 
 from_flag : (n : ℕ) → sweep_flag ≤ n → nat_le sweep_flag n ≡ true
@@ -13,6 +13,14 @@ from_flag n h = grind (arith, nat_tests)
 pub returns-in_err-write-clause-confined : goal.returns-in_err-write-clause-confined
 returns-in_err-write-clause-confined g c told =
     confined_write (nat_le sweep_flag) c.loop-sector.sector _ _ _ (from_flag c.loop-sector.sector c.loop-sector.invariant.from) (c.loop-sector.invariant.confined told) (c.write.ensures.touches told)
+
+below_end : (n m : ℕ) → n < m → nat_lt n m ≡ true
+below_end n m h = grind (arith, nat_tests)
+
+pub returns-in_err-write-clause-inside : goal.returns-in_err-write-clause-inside
+returns-in_err-write-clause-inside g c told =
+    let s = c.loop-sector.sector in
+    confined_write (is_fresh c.args.layout.now.geometry) s _ _ _ (below_end s (fresh_end c.args.layout.now.geometry) (omega (arith, c.loop-sector-test.true))) (c.loop-sector.invariant.inside told) (c.write.ensures.touches told)
 
 pub loop-sector-preserved : goal.loop-sector-preserved
 loop-sector-preserved g c =
@@ -30,6 +38,7 @@ loop-sector-preserved g c =
         | inr over ↦ c.loop-sector.invariant.kept (omega arith)
       ];
       confined = λ told. confined_write (nat_le sweep_flag) s _ _ _ (from_flag s c.loop-sector.invariant.from) (c.loop-sector.invariant.confined told) (c.write.ensures.touches told);
+      inside = λ told. confined_write (is_fresh c.args.layout.now.geometry) s _ _ _ (below_end s (fresh_end c.args.layout.now.geometry) (omega (arith, c.loop-sector-test.true))) (c.loop-sector.invariant.inside told) (c.write.ensures.touches told);
       uses = uses_and (s - 131) 1 (s + 1 - 131) _ _ _ (omega (arith, c.loop-sector.invariant.from)) c.loop-sector.invariant.uses c.write.ensures.uses;
       faultless = c.in_ok-write.ensures.faults ∙ c.loop-sector.invariant.faultless;
     }

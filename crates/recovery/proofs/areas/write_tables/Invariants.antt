@@ -4,7 +4,7 @@ use Rattle.cap_store.specs.Store.{AreRecords}
 use Rattle.image_device.specs.Calls.{Uses}
 use Rattle.image_device.specs.Runs.{IsConfined}
 use Rattle.image_layout.specs.Areas.{sweep_flag, caps_start}
-use Rattle.recovery.specs.Areas.{fresh_bytes}
+use Rattle.recovery.specs.Areas.{fresh_bytes, is_fresh}
 use Rattle.recovery.proofs.areas.write_tables.Given as goal
 
 abbrev pub invariant-loop-sector : goal.invariant-loop-sector
@@ -15,6 +15,7 @@ invariant-loop-sector g l =
       fresh : g.D.Device.told → (n : ℕ) → sweep_flag ≤ n → n < l.sector → (view l.dev).reads n ≡ fresh_bytes l.layout.geometry l.caps n;
       kept : caps_start < l.sector → AreRecords 1 (fresh_records l.caps);
       confined : g.D.Device.told → IsConfined (nat_le sweep_flag) (view l.fn.dev) (view l.dev);
+      inside : g.D.Device.told → IsConfined (is_fresh l.layout.geometry) (view l.fn.dev) (view l.dev);
       uses : Uses (l.sector - sweep_flag) (view l.fn.dev) (view l.dev);
       faultless : (view l.dev).faults ≡ (view l.fn.dev).faults;
     }

@@ -2,6 +2,7 @@ use Rattle.std.proofs.Common.{◌∙◌, ap}
 use Rattle.image_layout.specs.Image.{is_open}
 use Rattle.image_device.proofs.Outcomes.{on_ok}
 use Rattle.image_world.proofs.FreshLaws.{fresh_stands}
+use Rattle.recovery.proofs.AreaRuns.{gate_inside, inside_joined}
 use Rattle.recovery.proofs.Formatted.{formatted_moments}
 use Rattle.recovery.proofs.FreshQuiet.{fresh_quiet}
 use Rattle.volume_laws.proofs.Committed.{ok_map}
@@ -27,3 +28,14 @@ returns-clause-any_moment g c told =
     formatted_moments c.args.geometry.now c.args.caps.now (view c.args.dev.now) (view c.write_through.new.dev) (view c.write_areas.new.dev) (view c.write_through-2.new.dev) c.requires.lawful c.requires.each
     (c.write_through.ensures.confined told) (ap is_open (c.in_ok-write_through.ensures.written told) ∙ c.gate_bytes.ensures.reads_back) (c.in_ok-write_through.ensures.firm told)
     (c.write_areas.ensures.confined told) (c.in_ok-write_areas.ensures.written told) (c.in_ok-write_areas.ensures.firm told) (c.write_through-2.ensures.confined told)
+
+pub returns-in_err-write_through-clause-inside : goal.returns-in_err-write_through-clause-inside
+returns-in_err-write_through-clause-inside g c told = gate_inside c.args.geometry.now _ _ (c.write_through.ensures.confined told)
+
+pub returns-in_err-write_areas-clause-inside : goal.returns-in_err-write_areas-clause-inside
+returns-in_err-write_areas-clause-inside g c told = inside_joined c.args.geometry.now _ _ _ (gate_inside c.args.geometry.now _ _ (c.write_through.ensures.confined told)) (c.write_areas.ensures.inside told)
+
+pub returns-clause-inside : goal.returns-clause-inside
+returns-clause-inside g c told =
+    inside_joined c.args.geometry.now _ _ _ (inside_joined c.args.geometry.now _ _ _ (gate_inside c.args.geometry.now _ _ (c.write_through.ensures.confined told)) (c.write_areas.ensures.inside told))
+    (gate_inside c.args.geometry.now _ _ (c.write_through-2.ensures.confined told))

@@ -3,7 +3,7 @@ use Rattle.std.specs.Prelude.{Err}
 use Rattle.image_device.proofs.Moments.{uses_and}
 use Rattle.image_layout.specs.Image.{Image, is_open}
 use Rattle.recovery.proofs.OpenRuns.{synced, read_still, opened_start, opened_sync, opened_head, opened_replay, replayed, loaded, opened_load, stood, opened_finish, opened_err, opened_device, is_device, quiet_uses, quiet_finish, quiet_paid, unwritten, owed_start, owed_sync, owed_head, owed_replay, owed_load, owed_finish, right_head}
-use Rattle.recovery.proofs.SparedLaws.{by_image, by_other, by_replay, spared_head, spared_bad, spared_load}
+use Rattle.recovery.proofs.SparedLaws.{by_image, by_other, by_replay, spared_head, spared_bad, spared_load, data_start_of, data_sync, data_head, data_replay, data_load, data_finish}
 use Rattle.recovery.specs.declared.fault.OpenFault.TheVariants as fault
 use Rattle.volume_laws.proofs.StepOps.{either_same}
 use Rattle.recovery.specs.Opening.{HasHead}
@@ -211,3 +211,40 @@ returns-in_err-volume-clause-spared g c told =
 
 pub returns-in_err-finish-clause-spared : goal.returns-in_err-finish-clause-spared
 returns-in_err-finish-clause-spared g c told = by_other c.from_residual-in_err-finish.result fault.Device _ c.from_residual-in_err-finish.ensures.1 (λ h. h)
+
+pub returns-in_err-ring-clause-data_kept : goal.returns-in_err-ring-clause-data_kept
+returns-in_err-ring-clause-data_kept g c told firm = data_start_of _ (g.met.D.Device.sound c.args.dev.now told) firm
+
+pub returns-in_err-sync-clause-data_kept : goal.returns-in_err-sync-clause-data_kept
+returns-in_err-sync-clause-data_kept g c told firm = data_sync _ _ (g.met.D.Device.sound c.args.dev.now told) firm (c.sync.ensures.settles told)
+
+pub returns-in_err-header-clause-data_kept : goal.returns-in_err-header-clause-data_kept
+returns-in_err-header-clause-data_kept g c told firm =
+    data_head _ _ _ (g.met.D.Device.sound c.args.dev.now told) firm (c.in_ok-sync.ensures.firm told) (c.sync.ensures.settles told) (c.read_head.ensures.rests told)
+
+pub returns-in_err-replay-clause-data_kept : goal.returns-in_err-replay-clause-data_kept
+returns-in_err-replay-clause-data_kept g c told firm =
+    data_replay _ _ _ _ (g.met.D.Device.sound c.args.dev.now told) firm (c.in_ok-sync.ensures.firm told) (c.sync.ensures.settles told) (c.read_head.ensures.rests told) (c.replay.ensures.any_moment told)
+
+pub returns-in_err-volume-clause-data_kept : goal.returns-in_err-volume-clause-data_kept
+returns-in_err-volume-clause-data_kept g c told firm =
+    data_load _ _ firm
+    (spared_load _ _ _ _ _ (g.met.D.Device.sound c.args.dev.now told) (c.in_ok-sync.ensures.firm told) (c.sync.ensures.settles told) (c.read_head.ensures.rests told) (c.replay.ensures.any_moment told)
+    (c.in_ok-replay.ensures.at told) (c.in_ok-replay.ensures.done told) (c.in_ok-replay.ensures.valid told) (c.in_ok-replay.ensures.firm told) (c.load.ensures.rests told)
+    (uses_and 0 0 0 _ _ _ (omega arith) c.sync.ensures.uses c.read_head.ensures.uses) (c.replay.ensures.needed told) c.load.ensures.uses)
+
+pub returns-in_err-finish-clause-data_kept : goal.returns-in_err-finish-clause-data_kept
+returns-in_err-finish-clause-data_kept g c told firm =
+    data_finish c.finish.result _ _ _ c.in_ok-volume.volume firm
+    (spared_load _ _ _ _ _ (g.met.D.Device.sound c.args.dev.now told) (c.in_ok-sync.ensures.firm told) (c.sync.ensures.settles told) (c.read_head.ensures.rests told) (c.replay.ensures.any_moment told)
+    (c.in_ok-replay.ensures.at told) (c.in_ok-replay.ensures.done told) (c.in_ok-replay.ensures.valid told) (c.in_ok-replay.ensures.firm told) (c.load.ensures.rests told)
+    (uses_and 0 0 0 _ _ _ (omega arith) c.sync.ensures.uses c.read_head.ensures.uses) (c.replay.ensures.needed told) c.load.ensures.uses)
+    (c.in_ok-volume.ensures.at told) (c.finish.ensures.operation.data_kept told)
+
+pub returns-clause-data_kept : goal.returns-clause-data_kept
+returns-clause-data_kept g c told firm =
+    data_finish c.finish.result _ _ _ c.in_ok-volume.volume firm
+    (spared_load _ _ _ _ _ (g.met.D.Device.sound c.args.dev.now told) (c.in_ok-sync.ensures.firm told) (c.sync.ensures.settles told) (c.read_head.ensures.rests told) (c.replay.ensures.any_moment told)
+    (c.in_ok-replay.ensures.at told) (c.in_ok-replay.ensures.done told) (c.in_ok-replay.ensures.valid told) (c.in_ok-replay.ensures.firm told) (c.load.ensures.rests told)
+    (uses_and 0 0 0 _ _ _ (omega arith) c.sync.ensures.uses c.read_head.ensures.uses) (c.replay.ensures.needed told) c.load.ensures.uses)
+    (c.in_ok-volume.ensures.at told) (c.finish.ensures.operation.data_kept told)

@@ -1,4 +1,4 @@
-use Rattle.std.proofs.Common.{inl, inr, refl, sym, subst}
+use Rattle.std.proofs.Common.{inl, inr, refl, sym, subst, arith}
 use Rattle.std.specs.Prelude.{Ok, Result}
 use Rattle.tsd_model.specs.ReplyForm.{HasForm}
 use Rattle.tsd_model.specs.World.{free_count}
@@ -19,7 +19,7 @@ returns-in-GetFree-clause-carried_out g c =
     let v = g.D.Device.view c.args.dev.now in
     subst (λ (q : Request). IsCarriedOut g.D.Device.told c.args.place.now.kind q c.args.self.now c.args.self.now v v c.free.result) (sym c.in-GetFree.is)
     (subst (λ (r : Result Reply Failed). IsCarriedOut g.D.Device.told c.args.place.now.kind ask.GetFree c.args.self.now c.args.self.now v v r) (sym c.free.ensures)
-    (quiet g.D.Device.told c.args.place.now.kind ask.GetFree c.args.self.now c.args.self.now v (reply.Free (free_count (told_world c.args.self.now))) (λ w. refl) (g.met.D.Device.sound c.args.dev.now) c.requires.at c.requires.ready
+    (quiet g.D.Device.told c.args.place.now.kind ask.GetFree c.args.self.now c.args.self.now v (reply.Free (free_count (told_world c.args.self.now))) (λ w. refl) (record { none = refl; owes = omega arith }) (g.met.D.Device.sound c.args.dev.now) c.requires.at c.requires.ready
     refl (inl (record { table = refl; reply = λ e. refl; read = λ e. absurd (cc) }))
     refl
     (record { body = tt; numbers = free_fits (told_world c.args.self.now) c.check.ensures.volume.sized })))
@@ -30,10 +30,10 @@ returns-in-Begin-clause-carried_out g c =
     subst (λ (q : Request). IsCarriedOut g.D.Device.told c.args.place.now.kind q c.args.self.now c.begin.new.self v v c.begin.result) (sym c.in-Begin.is)
     (elim c.begin.ensures.answer [
       | inl done ↦ subst (λ (r : Result Reply Failed). IsCarriedOut g.D.Device.told c.args.place.now.kind (ask.Begin c.in-Begin.session) c.args.self.now c.begin.new.self v v r) (sym done.0)
-          (quiet g.D.Device.told c.args.place.now.kind (ask.Begin c.in-Begin.session) c.args.self.now c.begin.new.self v reply.Done (λ w. refl) (g.met.D.Device.sound c.args.dev.now) c.requires.at c.requires.ready
+          (quiet g.D.Device.told c.args.place.now.kind (ask.Begin c.in-Begin.session) c.args.self.now c.begin.new.self v reply.Done (λ w. refl) (record { none = refl; owes = omega arith }) (g.met.D.Device.sound c.args.dev.now) c.requires.at c.requires.ready
           c.begin.ensures.volume (inl (record { table = done.1; reply = λ e. refl; read = λ e. absurd (cc) })) refl (record { body = tt; numbers = tt }))
       | inr none ↦ subst (λ (r : Result Reply Failed). IsCarriedOut g.D.Device.told c.args.place.now.kind (ask.Begin c.in-Begin.session) c.args.self.now c.begin.new.self v v r) (sym none.0)
-          (quiet g.D.Device.told c.args.place.now.kind (ask.Begin c.in-Begin.session) c.args.self.now c.begin.new.self v reply.NoMemory (λ w. refl) (g.met.D.Device.sound c.args.dev.now) c.requires.at c.requires.ready
+          (quiet g.D.Device.told c.args.place.now.kind (ask.Begin c.in-Begin.session) c.args.self.now c.begin.new.self v reply.NoMemory (λ w. refl) (record { none = refl; owes = omega arith }) (g.met.D.Device.sound c.args.dev.now) c.requires.at c.requires.ready
           c.begin.ensures.volume (inr (record { begin = refl; reply = refl; table = none.1 })) refl (record { body = tt; numbers = tt }))
     ])
 
@@ -42,7 +42,7 @@ returns-in-End-clause-carried_out g c =
     let v = g.D.Device.view c.args.dev.now in
     subst (λ (q : Request). IsCarriedOut g.D.Device.told c.args.place.now.kind q c.args.self.now c.end.new.self v v c.end.result) (sym c.in-End.is)
     (subst (λ (r : Result Reply Failed). IsCarriedOut g.D.Device.told c.args.place.now.kind (ask.End c.in-End.session) c.args.self.now c.end.new.self v v r) (sym c.end.ensures.answer.0)
-    (quiet g.D.Device.told c.args.place.now.kind (ask.End c.in-End.session) c.args.self.now c.end.new.self v reply.Done (λ w. refl) (g.met.D.Device.sound c.args.dev.now) c.requires.at c.requires.ready
+    (quiet g.D.Device.told c.args.place.now.kind (ask.End c.in-End.session) c.args.self.now c.end.new.self v reply.Done (λ w. refl) (record { none = refl; owes = omega arith }) (g.met.D.Device.sound c.args.dev.now) c.requires.at c.requires.ready
     c.end.ensures.volume (inl (record { table = c.end.ensures.answer.1; reply = λ e. refl; read = λ e. absurd (cc) }))
     refl
     (record { body = tt; numbers = tt })))
@@ -52,7 +52,7 @@ returns-in-List-clause-carried_out g c =
     let v = g.D.Device.view c.args.dev.now in
     subst (λ (q : Request). IsCarriedOut g.D.Device.told c.args.place.now.kind q c.args.self.now c.args.self.now v v c.list.result) (sym c.in-List.is)
     (subst (λ (r : Result Reply Failed). IsCarriedOut g.D.Device.told c.args.place.now.kind (ask.List c.in-List.session c.in-List.source c.in-List.shown c.in-List.start) c.args.self.now c.args.self.now v v r) (sym c.list.ensures)
-    (quiet g.D.Device.told c.args.place.now.kind (ask.List c.in-List.session c.in-List.source c.in-List.shown c.in-List.start) c.args.self.now c.args.self.now v (reply.Targets (targets_from (told_world c.args.self.now).pairs c.in-List.source c.in-List.start)) (λ w. refl) (g.met.D.Device.sound c.args.dev.now) c.requires.at c.requires.ready
+    (quiet g.D.Device.told c.args.place.now.kind (ask.List c.in-List.session c.in-List.source c.in-List.shown c.in-List.start) c.args.self.now c.args.self.now v (reply.Targets (targets_from (told_world c.args.self.now).pairs c.in-List.source c.in-List.start)) (λ w. refl) (record { none = refl; owes = omega arith }) (g.met.D.Device.sound c.args.dev.now) c.requires.at c.requires.ready
     refl (inl (record { table = refl; reply = λ e. refl; read = λ e. absurd (cc) }))
     refl
     (targets_fit (told_world c.args.self.now) c.in-List.source c.in-List.start c.check.ensures.volume.sized (λ a b held. (c.check.ensures.volume.ends a b held).1))))

@@ -1,5 +1,5 @@
 use Rattle.std.proofs.Common.{◌≡◌, [], sym, ◌∙◌, ap, subst, arith}
-use Rattle.std.specs.Prelude.{Result, Ok, Err, OnOk}
+use Rattle.std.specs.Prelude.{Result, Ok, Err, OnOk, IsErrAnd}
 use Rattle.image_device.proofs.Outcomes.{on_ok}
 use Rattle.volume_laws.specs.Volume.{IsVolumeAt, IsVolumeReady, Volume, told_by, world_on}
 use Rattle.image_world.specs.Debt.{owed}
@@ -10,6 +10,12 @@ use Rattle.tsd_core.specs.Core.{Core, IsCoreAt, told_world}
 use Rattle.tsd_core.proofs.AtLaws.{at_volume}
 use Rattle.tsd_core.proofs.Operations.{then_ok}
 use Rattle.tsd_core.proofs.Settling.{owes_no_more, owing_joined, ready_still, state_still, told_still, worlds_joined}
+use Rattle.volume_laws.specs.Data.{HasSameData, KeepsData}
+use Rattle.volume_laws.proofs.DataLaws.{data_then}
+use Rattle.image_device.specs.Runs.{LeavesOnly}
+use Rattle.image_device.specs.declared.device.Failed.{Failed}
+use Rattle.image_device.specs.View.{View}
+use Rattle.tsd_model.specs.declared.geometry.Geometry.{Geometry}
 use Rattle.tsd_core.proofs.disk.Core.close.Goals as goal
 
 all_ok : {T E A B C P : Type 0} (r : Result T E) → (A → B → C → P) → OnOk r A → OnOk r B → OnOk r C → OnOk r P
@@ -109,3 +115,29 @@ returns-clause-any_moment g c told =
     let w = g.D.Device.view c.empty_ring.new.dev in
     let first = c.in_ok-settle_all.ensures.operation in
     worlds_joined v m w (either_same v m (first.any_moment told)) (either_same m w (c.empty_ring.ensures.operation.any_moment told)) (first.done told) (first.sent told)
+
+-- the same of the core as it was
+kept_data : {T : Type 0} (r : Result T Failed) (old was : Core) (v w : View) → old ≡ was → KeepsData old.volume.tables.geometry [] v w r → KeepsData was.volume.tables.geometry [] v w r
+kept_data r old was v w same keeps = subst (λ (x : Core). KeepsData x.volume.tables.geometry [] v w r) same keeps
+
+failed_data : {U : Type 0} (g : Geometry) (v w : View) (Q : Failed → Type 0) (r : Result U Failed) → IsErrAnd r Q → LeavesOnly v w (λ x f. HasSameData g [] v.reads x) → KeepsData g [] v w r
+failed_data g v w Q (Ok y) is left = absurd is
+failed_data g v w Q (Err f) is left = record { reads = tt; left = left }
+
+pub returns-in_err-settle_all-clause-data_kept : goal.returns-in_err-settle_all-clause-data_kept
+returns-in_err-settle_all-clause-data_kept g c told =
+    let old : Core = record { volume = c.self.inside.volume; grants = c.self.inside.grants } in
+    let v = g.D.Device.view c.args.dev.now in
+    let m = g.D.Device.view c.settle_all.new.dev in
+    let keeps = (c.settle_all.ensures.operation.data_kept told).left in
+    kept_data c.from_residual.result old c.args.self.now v m c.self.view_is (failed_data c.self.inside.volume.tables.geometry v m _ c.from_residual.result c.from_residual.ensures.1 keeps)
+
+pub returns-clause-data_kept : goal.returns-clause-data_kept
+returns-clause-data_kept g c told =
+    let old : Core = record { volume = c.self.inside.volume; grants = c.self.inside.grants } in
+    let v = g.D.Device.view c.args.dev.now in
+    let m = g.D.Device.view c.settle_all.new.dev in
+    let w = g.D.Device.view c.empty_ring.new.dev in
+    let first = c.in_ok-settle_all.ensures.operation in
+    kept_data c.empty_ring.result old c.args.self.now v w c.self.view_is
+    (data_then c.self.inside.volume.tables.geometry c.settle_all.new.self.tables.geometry [] v m w _ c.empty_ring.result first.geometry (first.data_kept told) (c.empty_ring.ensures.operation.data_kept told))

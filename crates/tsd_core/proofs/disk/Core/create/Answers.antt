@@ -1,4 +1,4 @@
-use Rattle.std.proofs.Common.{ℕ, ◌+◌, ◌*◌, refl, sym, subst, arith}
+use Rattle.std.proofs.Common.{ℕ, ◌+◌, ◌*◌, length, refl, sym, subst, arith}
 use Rattle.tsd_model.specs.declared.replies.Reply.TheVariants as reply
 use Rattle.tsd_model.specs.declared.requests.Request.TheVariants as ask
 use Rattle.disk_laws.specs.Bytes.{AreLike}
@@ -13,6 +13,8 @@ use Rattle.tsd_core.specs.Carrying.{DoesRequest, IsKnown, IsCarriedOut}
 use Rattle.tsd_core.proofs.AtLaws.{at_volume, like_at}
 use Rattle.tsd_core.proofs.Likes.{like_as}
 use Rattle.tsd_core.proofs.Operations.{then_ok, if_ok, at_most, most_due, paid_more, carried_out}
+use Rattle.tsd_core.proofs.Created.{some_slot, then_owed}
+use Rattle.image_world.specs.Tables.{pairs_of}
 use Rattle.tsd_core.proofs.disk.Core.create.Goals as goal
 
 pub returns : goal.returns
@@ -31,6 +33,10 @@ returns g c = λ kind session shown.
     let does : DoesRequest g.D.Device.told kind q old.volume new.volume v w c.add_pointer.result = record {
       like = then_ok c.add_pointer.result (like_as (told_by new.volume) (world_after kind t q)) e.told;
       ready = e.ready;
+      once = λ b. e.once (some_slot (length (pairs_of old.volume.tables)) old.volume.tables.geometry.slots b);
+      owes = then_owed c.add_pointer.result (length (pairs_of old.volume.tables)) old.volume.tables.geometry.slots (owed old.volume.tables) (owed new.volume.tables) e.settled e.unsettled;
+      grown = λ b. absurd (cc);
+      rests = λ told b. absurd (cc);
       version = e.version;
       operation = e.operation;
       any_owed = λ told b. subst (λ m. LeavesOwed v w m) (omega arith) (e.cost.any_owed told);

@@ -18,6 +18,7 @@ use Rattle.tsd_core.specs.Carrying.{DoesRequest, IsKnown, IsCarriedOut}
 use Rattle.tsd_core.proofs.AtLaws.{at_volume, like_at}
 use Rattle.tsd_core.proofs.Likes.{like_as}
 use Rattle.tsd_core.proofs.Operations.{then_ok, if_ok, if_both, at_most, most_due, paid_more, carried_out}
+use Rattle.image_world.specs.Debt.{owed}
 use Rattle.tsd_core.proofs.disk.Core.delete.Goals as goal
 
 pub returns : goal.returns
@@ -38,6 +39,10 @@ returns g c = λ kind session shown.
     let does : DoesRequest g.D.Device.told kind q old.volume new.volume v w c.drop_pointer.result = record {
       like = then_ok c.drop_pointer.result (like_as (told_by new.volume) (world_after kind t q)) e.told;
       ready = e.ready;
+      once = λ b. e.once;
+      owes = then_ok c.drop_pointer.result (λ (less : owed new.volume.tables + 1 ≡ owed old.volume.tables + made t c.args.source c.args.target). omega (arith, less)) e.owed;
+      grown = λ b. absurd (cc);
+      rests = λ told b. absurd (cc);
       version = e.version;
       operation = e.operation;
       any_owed = λ told b. e.cost.any_owed told;

@@ -1,4 +1,4 @@
-use Rattle.std.proofs.Common.{◌≡◌, ℕ, ◌+◌, ◌*◌, ◌≤◌, sym, ◌∙◌, ap, subst, arith}
+use Rattle.std.proofs.Common.{◌≡◌, ℕ, List, ◌+◌, ◌*◌, ◌≤◌, sym, ◌∙◌, ap, subst, arith}
 use Rattle.std.specs.Prelude.{length}
 use Rattle.tsd_model.specs.Geometry.{IsLawful}
 use Rattle.tsd_model.specs.Placing.{chosen, chosen_run}
@@ -18,11 +18,13 @@ use Rattle.tsd_core.specs.Work.{cost_of}
 use Rattle.tsd_core.specs.Carrying.{DoesRequest, IsKnown, IsCarriedOut}
 use Rattle.tsd_core.proofs.AtLaws.{at_volume, like_at}
 use Rattle.tsd_core.proofs.Likes.{like_as, sectors_of_blocks}
-use Rattle.tsd_core.proofs.Operations.{then_ok, if_ok, at_most, most_due, paid_more, carried_out, same_change}
+use Rattle.tsd_core.proofs.Operations.{then_ok, if_ok, at_most, most_due, paid_more, carried_out, same_change, other_names}
 use Rattle.tsd_model.specs.ReplyForm.{AreNumbers}
 use Rattle.disk_laws.proofs.ByteLaws.{chosen_like, chosen_run_like}
 use Rattle.disk_laws.proofs.ChangeLaws.{chosen_are_free, chosen_run_is_free}
 use Rattle.tsd_core.specs.Seen.{dropped_each}
+use Rattle.intent_journal.specs.Records.{Record}
+use Rattle.volume_laws.specs.Rings.{HasBatches, HasNewBlocks}
 use Rattle.tsd_core.proofs.disk.Core.grow.Goals as goal
 
 pub returns-clause-alloc : goal.returns-clause-alloc
@@ -47,8 +49,12 @@ returns-clause-alloc g c = λ kind session shown h count picked.
     let does : DoesRequest g.D.Device.told kind q old.volume new.volume v w c.allocate-outcome.result = record {
       like = then_ok c.allocate-outcome.result (λ (same : told_by new.volume ≡ with_new_blocks t c.args.source bs). like_as (told_by new.volume) (world_after kind t q) (same ∙ ap (with_new_blocks t c.args.source) pick)) e.told;
       ready = e.ready;
+      once = λ b. absurd (cc);
+      owes = e.settled;
+      grown = λ b. then_ok c.allocate-outcome.result (λ ring. subst (λ (ns : List ℕ). (mid : List Record) × HasBatches (owed old.volume.tables) 33 old.volume.ring mid × HasNewBlocks old.volume.tables.geometry ns mid new.volume.ring) pick ring) e.ring;
+      rests = λ told b. absurd (cc);
       version = e.version;
-      operation = same_change g.D.Device.told _ _ old.volume new.volume v w c.allocate-outcome.result (λ told. ap (with_new_blocks (world_on v) c.args.source) (there told)) e.operation;
+      operation = other_names bs _ pick (same_change g.D.Device.told _ _ old.volume new.volume v w c.allocate-outcome.result (λ told. ap (with_new_blocks (world_on v) c.args.source) (there told)) e.operation);
       any_owed = λ told b. subst (λ m. LeavesOwed v w m) (omega arith) (e.cost.any_owed told);
       paid = λ b. then_ok c.allocate-outcome.result (paid_more (size + batch_cost (3 * length bs)) (cost_of t q) old.volume new.volume v w (omega (arith, bounds))) e.cost.paid;
       most = λ b. most_due n (cost_of t q) old.volume v w e.cost.uses (omega (arith, bounds));
@@ -81,8 +87,12 @@ returns-clause-contig g c = λ kind session shown h count picked.
     let does : DoesRequest g.D.Device.told kind q old.volume new.volume v w c.allocate-outcome.result = record {
       like = then_ok c.allocate-outcome.result (λ (same : told_by new.volume ≡ with_new_blocks t c.args.source bs). like_as (told_by new.volume) (world_after kind t q) (same ∙ ap (with_new_blocks t c.args.source) pick)) e.told;
       ready = e.ready;
+      once = λ b. absurd (cc);
+      owes = e.settled;
+      grown = λ b. then_ok c.allocate-outcome.result (λ ring. subst (λ (ns : List ℕ). (mid : List Record) × HasBatches (owed old.volume.tables) 33 old.volume.ring mid × HasNewBlocks old.volume.tables.geometry ns mid new.volume.ring) pick ring) e.ring;
+      rests = λ told b. absurd (cc);
       version = e.version;
-      operation = same_change g.D.Device.told _ _ old.volume new.volume v w c.allocate-outcome.result (λ told. ap (with_new_blocks (world_on v) c.args.source) (there told)) e.operation;
+      operation = other_names bs _ pick (same_change g.D.Device.told _ _ old.volume new.volume v w c.allocate-outcome.result (λ told. ap (with_new_blocks (world_on v) c.args.source) (there told)) e.operation);
       any_owed = λ told b. subst (λ m. LeavesOwed v w m) (omega arith) (e.cost.any_owed told);
       paid = λ b. then_ok c.allocate-outcome.result (paid_more (size + batch_cost (3 * length bs)) (cost_of t q) old.volume new.volume v w (omega (arith, bounds))) e.cost.paid;
       most = λ b. most_due n (cost_of t q) old.volume v w e.cost.uses (omega (arith, bounds));

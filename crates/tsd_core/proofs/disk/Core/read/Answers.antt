@@ -14,6 +14,8 @@ use Rattle.tsd_core.specs.Carrying.{DoesRequest, IsKnown, IsCarriedOut}
 use Rattle.tsd_core.proofs.AtLaws.{at_volume, like_at}
 use Rattle.tsd_core.proofs.Likes.{like_as, block_size_of}
 use Rattle.tsd_core.proofs.Operations.{then_ok, if_ok, ok_if, if_map, at_most, most_due, carried_out}
+use Rattle.volume_laws.proofs.RingLaws.{commits_none}
+use Rattle.image_world.specs.Debt.{owed}
 use Rattle.tsd_core.proofs.disk.Core.read.Goals as goal
 
 pub returns : goal.returns
@@ -32,6 +34,10 @@ returns g c = λ kind session shown.
     let does : DoesRequest g.D.Device.told kind q old.volume new.volume v w c.read_block-outcome.result = record {
       like = then_ok c.read_block-outcome.result (λ (same : new.volume ≡ old.volume). like_as (told_by new.volume) t (ap told_by same)) e.same;
       ready = then_ok c.read_block-outcome.result (λ (same : new.volume ≡ old.volume). subst (λ (x : Volume). IsVolumeReady x) (sym same) (subst (λ (x : Core). IsVolumeReady x.volume) (sym c.self.view_is) c.requires.ready.volume)) e.same;
+      once = λ b. commits_none c.read_block-outcome.result old.volume new.volume v w (then_ok c.read_block-outcome.result (λ (same : new.volume ≡ old.volume). ap (λ (x : Volume). x.ring) same) e.same) (omega (arith, e.cost.uses.most));
+      owes = then_ok c.read_block-outcome.result (λ (same : new.volume ≡ old.volume). let less = ap (λ (x : Volume). owed x.tables) same in omega (arith, less)) e.same;
+      grown = λ b. absurd (cc);
+      rests = λ told b. e.rests told;
       version = e.version;
       operation = e.operation;
       any_owed = λ told b. subst (λ m. LeavesOwed v w m) (omega arith) (e.cost.any_owed told);

@@ -16,6 +16,7 @@ use Rattle.tsd_core.specs.Carrying.{DoesRequest, IsKnown, IsCarriedOut}
 use Rattle.tsd_core.proofs.AtLaws.{at_volume, like_at}
 use Rattle.tsd_core.proofs.Likes.{like_as}
 use Rattle.tsd_core.proofs.Operations.{then_ok, if_ok, at_most, most_due, paid_more, carried_out, same_change}
+use Rattle.image_device.proofs.Outcomes.{on_ok}
 use Rattle.tsd_core.proofs.disk.Core.set_caps.Goals as goal
 
 pub returns : goal.returns
@@ -36,6 +37,10 @@ returns g c = λ kind session shown.
     let does : DoesRequest g.D.Device.told kind q old.volume new.volume v w c.set_caps.result = record {
       like = then_ok c.set_caps.result (λ (same : told_by new.volume ≡ with_caps t c.args.block (kept old.volume.tables.version c.args.caps.now)). like_as (told_by new.volume) (with_caps t c.args.block (kept t.version c.args.caps.now)) (same ∙ ap (λ n. with_caps t c.args.block (kept n c.args.caps.now)) (sym known.version))) e.told;
       ready = e.ready;
+      once = λ b. e.once;
+      owes = on_ok c.set_caps.result (let less = e.owes in omega (arith, less));
+      grown = λ b. absurd (cc);
+      rests = λ told b. absurd (cc);
       version = e.version;
       operation = same_change g.D.Device.told _ _ old.volume new.volume v w c.set_caps.result (λ told. ap (λ n. with_caps (world_on v) c.args.block (kept n c.args.caps.now)) (version told)) e.operation;
       any_owed = λ told b. subst (λ m. LeavesOwed v w m) (omega arith) (e.cost.any_owed told);

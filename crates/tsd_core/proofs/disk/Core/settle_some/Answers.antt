@@ -1,4 +1,4 @@
-use Rattle.std.proofs.Common.{◌≡◌, ◌+◌, ◌≤◌, ◌∙◌, sym, ap, subst, arith}
+use Rattle.std.proofs.Common.{◌≡◌, [], length, ◌+◌, ◌≤◌, ◌∙◌, sym, ap, subst, arith}
 use Rattle.std.specs.Prelude.{Result, Ok, Err, OnOk}
 use Rattle.volume_laws.specs.Writes.{due, IsPaid}
 use Rattle.volume_laws.proofs.StepOps.{either_same}
@@ -7,6 +7,10 @@ use Rattle.tsd_core.specs.Core.{Core, IsCoreAt, told_world}
 use Rattle.tsd_core.proofs.AtLaws.{at_volume}
 use Rattle.tsd_core.proofs.Operations.{then_ok}
 use Rattle.tsd_core.proofs.Settling.{owes_no_more, owes_less, ready_still, state_still, told_still}
+use Rattle.volume_laws.specs.Data.{KeepsData}
+use Rattle.volume_laws.specs.Rings.{HasBatches}
+use Rattle.tsd_model.specs.Doomed.{doomed}
+use Rattle.image_world.specs.Debt.{graph_in, owed}
 use Rattle.tsd_core.proofs.disk.Core.settle_some.Goals as goal
 
 also_ok : {T E A B P : Type 0} (r : Result T E) → (A → B → P) → OnOk r A → OnOk r B → OnOk r P
@@ -68,3 +72,17 @@ returns-clause-paid g c =
 
 pub returns-clause-any_moment : goal.returns-clause-any_moment
 returns-clause-any_moment g c told = either_same (g.D.Device.view c.args.dev.now) (g.D.Device.view c.settle_some.new.dev) (c.settle_some.ensures.operation.any_moment told)
+
+pub returns-clause-data_kept : goal.returns-clause-data_kept
+returns-clause-data_kept g c told =
+    subst (λ (x : Core). KeepsData x.volume.tables.geometry [] (g.D.Device.view c.args.dev.now) (g.D.Device.view c.settle_some.new.dev) c.settle_some.result) c.self.view_is (c.settle_some.ensures.operation.data_kept told)
+
+pub returns-clause-few : goal.returns-clause-few
+returns-clause-few g c = subst (λ (x : Core). OnOk c.settle_some.result (owed x.volume.tables ≤ owed c.settle_some.new.self.tables + 68)) c.self.view_is c.settle_some.ensures.few
+
+pub returns-clause-few_blocks : goal.returns-clause-few_blocks
+returns-clause-few_blocks g c =
+    subst (λ (x : Core). OnOk c.settle_some.result (length (doomed (graph_in x.volume.tables)) ≤ length (doomed (graph_in c.settle_some.new.self.tables)) + 4)) c.self.view_is c.settle_some.ensures.few_blocks
+
+pub returns-clause-ring : goal.returns-clause-ring
+returns-clause-ring g c = subst (λ (x : Core). OnOk c.settle_some.result (HasBatches 4 33 x.volume.ring c.settle_some.new.self.ring)) c.self.view_is c.settle_some.ensures.ring

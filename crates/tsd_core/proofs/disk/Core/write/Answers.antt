@@ -1,4 +1,4 @@
-use Rattle.std.proofs.Common.{◌≡◌, ℕ, ◌+◌, ◌≤◌, true, false, refl, sym, subst, arith}
+use Rattle.std.proofs.Common.{◌≡◌, ℕ, ◌+◌, ◌≤◌, true, false, refl, sym, ap, subst, arith}
 use Rattle.tsd_model.specs.Geometry.{block_len, IsLawful}
 use Rattle.tsd_model.specs.World.{is_live}
 use Rattle.tsd_model.specs.Step.{filled, with_contents}
@@ -17,6 +17,7 @@ use Rattle.tsd_core.proofs.AtLaws.{at_volume, like_at}
 use Rattle.volume_laws.proofs.BlockLaws.{sectors_most}
 use Rattle.tsd_core.proofs.Likes.{like_back}
 use Rattle.tsd_core.proofs.Operations.{then_ok, if_ok, at_most, most_due, paid_more, carried_out}
+use Rattle.image_world.specs.Debt.{owed}
 use Rattle.tsd_core.proofs.disk.Core.write.Goals as goal
 
 pub returns : goal.returns
@@ -37,6 +38,10 @@ returns g c = λ kind session shown.
     let does : DoesRequest g.D.Device.told kind q old.volume new.volume v w c.write_block.result = record {
       like = then_ok c.write_block.result (λ (same : new.volume ≡ record old.volume { ring = new.volume.ring }). subst (λ (x : Volume). AreLike (told_by x) (with_contents t c.args.block full)) (sym same) (like_back (with_contents t c.args.block full) t (contents_like t c.args.block full live))) e.same;
       ready = then_ok c.write_block.result (λ (same : new.volume ≡ record old.volume { ring = new.volume.ring }). subst (λ (x : Volume). IsVolumeReady x) (sym same) (subst (λ (x : Core). IsVolumeReady x.volume) (sym c.self.view_is) c.requires.ready.volume)) e.same;
+      once = λ b. e.once;
+      owes = then_ok c.write_block.result (λ (same : new.volume ≡ record old.volume { ring = new.volume.ring }). let less = ap (λ (x : Volume). owed x.tables) same in omega (arith, less)) e.same;
+      grown = λ b. absurd (cc);
+      rests = λ told b. absurd (cc);
       version = e.version;
       operation = e.operation;
       any_owed = λ told b. subst (λ m. LeavesOwed v w m) (omega arith) (e.cost.any_owed told);

@@ -20,6 +20,8 @@ use Rattle.std.proofs.Common.{Bool, true}
 use Rattle.reclaim.specs.Ahead.{Kept, is_gone, IsAheadOf}
 use Rattle.image_world.specs.Debt.{graph_in}
 use Rattle.volume_laws.proofs.AheadKept.{growing, none_gone, hides_none, none_hides}
+use Rattle.volume_laws.proofs.DataLaws.{data_committed}
+use Rattle.volume_laws.proofs.RingLaws.{batch_ok}
 use Rattle.volume_laws.proofs.OwedLaws.{zeroed_owed}
 use Rattle.image_device.proofs.Outcomes.{on_ok}
 use Rattle.volume.proofs.volume.Volume.add_blocks.Given
@@ -148,6 +150,10 @@ returns-clause-operation g c = record {
       (op_world (has_zeros c.args.self.now.tables c.args.blocks.now) c.args.self.now (now g c).tables c.put_new.new.batch (3 * length c.args.blocks.now) 0 (λ w. with_new_blocks w c.args.source c.args.blocks.now) (firmed (g.D.Device.view c.args.dev.now)) (this g c) z.at (zeroed_bytes c.args.self.now (g.D.Device.view c.args.dev.now) c.args.blocks.now z))
       (c.commit-outcome.ensures.any_moment told);
   sent = c.commit-outcome.ensures.sent;
+  data_kept = λ told.
+      let z = c.requires.at told in
+      data_committed c.commit-outcome.result c.args.self.now.tables.geometry c.args.blocks.now (g.D.Device.view c.args.dev.now) (g.D.Device.view c.commit-outcome.new.dev) c.put_new.new.batch (λ n from out. z.loose n out)
+      (λ y n from out. (these g c).turns.contents y n from) (c.commit-outcome.ensures.done told) (c.commit-outcome.ensures.any_moment told);
   unspent = spent_unless_ok c.commit-outcome.result c.is_err-self-inside.result c.is_err-self-inside.ensures.value;
   spent = spent_on_err c.commit-outcome.result c.is_err-self-inside.result c.is_err-self-inside.ensures.value;
   faults = c.commit-outcome.ensures.faults;
@@ -168,3 +174,7 @@ returns-clause-cost g c = record {
       (ap (λ (w : Volume). w.ring) c.self.view_is) c.commit-outcome.ensures.uses c.commit-outcome.ensures.records);
   uses = committed_uses c.args.self.now c.self.inside.ring (g.D.Device.view c.args.dev.now) (g.D.Device.view c.commit-outcome.new.dev) c.put_new.new.batch (3 * length c.args.blocks.now) (this g c).few (ap (λ (w : Volume). w.ring) c.self.view_is) c.commit-outcome.ensures.uses;
 }
+
+pub returns-clause-ring : goal.returns-clause-ring
+returns-clause-ring g c =
+    batch_ok c.commit-outcome.result (3 * length c.args.blocks.now) c.self.inside.ring c.args.self.now.ring c.commit-outcome.new.self c.put_new.new.batch (this g c).few (ap (λ (w : Volume). w.ring) c.self.view_is) c.commit-outcome.ensures.records

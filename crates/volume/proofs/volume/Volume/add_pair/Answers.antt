@@ -17,6 +17,7 @@ use Rattle.image_world.specs.Tables.{Tables}
 use Rattle.image_world.specs.Raw.{left_of, world_with}
 use Rattle.volume_laws.specs.Volume.{Volume, tables_in, told_by}
 use Rattle.image_world.specs.Debt.{owed, graph_in}
+use Rattle.volume_laws.proofs.RingLaws.{commits_once}
 use Rattle.volume_laws.proofs.Ops.{any_bytes, IsOp, op_told}
 use Rattle.volume_laws.proofs.Pointed.{IsOpenTo, IsAdded, raw_absent, ends_within, count_room, left_pointer, owed_pointer, added}
 use Rattle.std.proofs.lemmas.Bool.{both_ways}
@@ -164,3 +165,8 @@ returns-clause-cost g c =
     let e = c.commit-outcome.ensures in
     committed_within g.D.Device.told c.commit-outcome.result any_bytes c.args.self.now (now g c) c.self.inside.ring (g.D.Device.view c.args.dev.now) (g.D.Device.view c.commit-outcome.new.dev) c.put-2.new.self 2 0 (owed c.args.self.now.tables) (batch_cost 2) (λ w. with_pointer w c.args.source c.args.target) (this g c) c.requires.at (ap (λ (w : Volume). w.ring) c.self.view_is)
     e.any_moment e.uses e.records (omega arith) (omega arith)
+
+pub returns-clause-once : goal.returns-clause-once
+returns-clause-once g c =
+    commits_once c.commit-outcome.result c.args.self.now (now g c) c.self.inside.ring (g.D.Device.view c.args.dev.now) (g.D.Device.view c.commit-outcome.new.dev) c.put-2.new.self 2 (this g c).few (ap (λ (w : Volume). w.ring) c.self.view_is)
+    c.commit-outcome.ensures.uses c.commit-outcome.ensures.records

@@ -2,8 +2,9 @@ use Rattle.volume_laws.proofs.Committed.{ok_map}
 use Rattle.tsd_model.specs.Step.{with_pointer}
 use Rattle.intent_journal.specs.Ring.{checkpoint_writes}
 use Rattle.volume_laws.specs.Operations.{IsOperation, IsWithin}
+use Rattle.volume_laws.specs.Rings.{CommitsOnce}
 use Rattle.volume_laws.proofs.OperationLaws.{kept_then, kept_fails, within_then, within_more, within_fails}
-use Rattle.std.proofs.Common.{◌≡◌, ◌+◌, ◌<◌, ℕ, List, length, sym, ◌∙◌, ap, subst, arith}
+use Rattle.std.proofs.Common.{[], ◌≡◌, ◌+◌, ◌<◌, ℕ, List, length, sym, ◌∙◌, ap, subst, arith}
 use Rattle.image_world.specs.Tables.{pairs_of}
 use Rattle.tsd_model.specs.World.{World}
 use Rattle.tsd_model.specs.declared.geometry.Geometry.{Geometry}
@@ -49,7 +50,7 @@ returns-clause-unsettled g c few = elim c.if-len-self.branch [
       let size = ap (λ (k : Geometry). k.slots) c.self.invariant.pointers in
       let value = c.len.ensures.value in
       let full = w.if-len-self.true in
-      absurd (omega (arith, few, slots, long, size, value, full))
+      absurd (few (omega (arith, slots, long, size, value, full)))
   | else-len-self w ↦ on_ok c.add_pair.result (c.add_pair.ensures.owes ∙ ap (λ (v : Volume). owed v.tables) w.self-is)
 ]
 
@@ -59,10 +60,10 @@ returns-clause-operation g c =
     let view = g.D.Device.view in
     elim c.if-len-self.branch [
       | then-len-self+in_ok-settle_all w ↦ kept_then told (λ z. with_pointer z c.args.source c.args.target) c.args.self.now w.settle_all.new.self c.add_pair.new.self (view c.args.dev.now) (view w.settle_all.new.dev) (view c.add_pair.new.dev) _ c.add_pair.result w.in_ok-settle_all.ensures.operation
-          (subst (λ (x : Volume). IsOperation told (λ z. with_pointer z c.args.source c.args.target) x c.add_pair.new.self (view w.settle_all.new.dev) (view c.add_pair.new.dev) c.add_pair.result) w.self-is
-          (subst (λ (z : View). IsOperation told (λ z. with_pointer z c.args.source c.args.target) c.if-len-self.self c.add_pair.new.self z (view c.add_pair.new.dev) c.add_pair.result) (ap view w.dev-is) c.add_pair.ensures.operation))
-      | else-len-self w ↦ subst (λ (x : Volume). IsOperation told (λ z. with_pointer z c.args.source c.args.target) x c.add_pair.new.self (view c.args.dev.now) (view c.add_pair.new.dev) c.add_pair.result) w.self-is
-          (subst (λ (z : View). IsOperation told (λ z. with_pointer z c.args.source c.args.target) c.if-len-self.self c.add_pair.new.self z (view c.add_pair.new.dev) c.add_pair.result) (ap view w.dev-is) c.add_pair.ensures.operation)
+          (subst (λ (x : Volume). IsOperation told [] (λ z. with_pointer z c.args.source c.args.target) x c.add_pair.new.self (view w.settle_all.new.dev) (view c.add_pair.new.dev) c.add_pair.result) w.self-is
+          (subst (λ (z : View). IsOperation told [] (λ z. with_pointer z c.args.source c.args.target) c.if-len-self.self c.add_pair.new.self z (view c.add_pair.new.dev) c.add_pair.result) (ap view w.dev-is) c.add_pair.ensures.operation))
+      | else-len-self w ↦ subst (λ (x : Volume). IsOperation told [] (λ z. with_pointer z c.args.source c.args.target) x c.add_pair.new.self (view c.args.dev.now) (view c.add_pair.new.dev) c.add_pair.result) w.self-is
+          (subst (λ (z : View). IsOperation told [] (λ z. with_pointer z c.args.source c.args.target) c.if-len-self.self c.add_pair.new.self z (view c.add_pair.new.dev) c.add_pair.result) (ap view w.dev-is) c.add_pair.ensures.operation)
     ]
 
 pub returns-clause-cost : goal.returns-clause-cost
@@ -113,3 +114,28 @@ returns-clause-settled g c full = elim c.if-len-self.branch [
       let all : length (pairs_of c.args.self.now.tables) ≡ c.args.self.now.tables.geometry.slots = full in
       absurd (grind (arith, slots, long, size, value, some, all))
 ]
+
+pub returns-clause-once : goal.returns-clause-once
+returns-clause-once g c few = elim c.if-len-self.branch [
+  | then-len-self+in_ok-settle_all w ↦
+      let slots = ap (λ (v : Volume). v.tables.geometry.slots) c.self.view_is in
+      let long = ap (λ (v : Volume). length (pairs_of v.tables)) c.self.view_is in
+      let size = ap (λ (k : Geometry). k.slots) c.self.invariant.pointers in
+      let value = c.len.ensures.value in
+      let full = w.if-len-self.true in
+      absurd (few (omega (arith, slots, long, size, value, full)))
+  | else-len-self w ↦
+      let view = g.D.Device.view in
+      subst (λ (x : Volume). CommitsOnce 2 x c.add_pair.new.self (view c.args.dev.now) (view c.add_pair.new.dev) c.add_pair.result) w.self-is
+      (subst (λ (z : View). CommitsOnce 2 c.if-len-self.self c.add_pair.new.self z (view c.add_pair.new.dev) c.add_pair.result) (ap view w.dev-is) c.add_pair.ensures.once)
+]
+
+-- where it had to settle first, the slots were full
+pub returns-in_err-settle_all-clause-once : goal.returns-in_err-settle_all-clause-once
+returns-in_err-settle_all-clause-once g c few =
+    let slots = ap (λ (v : Volume). v.tables.geometry.slots) c.self.view_is in
+    let long = ap (λ (v : Volume). length (pairs_of v.tables)) c.self.view_is in
+    let size = ap (λ (k : Geometry). k.slots) c.self.invariant.pointers in
+    let value = c.len.ensures.value in
+    let full = c.if-len-self.true in
+    absurd (few (omega (arith, slots, long, size, value, full)))

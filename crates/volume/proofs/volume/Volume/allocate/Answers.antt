@@ -7,6 +7,9 @@ use Rattle.volume_laws.specs.Growing.{AreFree}
 use Rattle.image_world.specs.Debt.{owed}
 use Rattle.volume_laws.specs.Operations.{IsOperation}
 use Rattle.volume_laws.specs.Writes.{due, zeroed_cost}
+use Rattle.volume_laws.specs.Rings.{HasNewBlocks, HasBatches}
+use Rattle.intent_journal.specs.Records.{Record}
+use Rattle.volume_laws.proofs.Committed.{ok_map}
 use Rattle.volume_laws.proofs.Allocated.{told_free, told_room}
 use Rattle.volume.proofs.volume.Volume.allocate.Goals as goal
 
@@ -41,7 +44,7 @@ returns-clause-operation g c =
     let told = g.D.Device.told in
     let view = g.D.Device.view in
     kept_then told (λ w. with_new_blocks w c.args.source c.args.blocks.now) c.args.self.now c.settle_all.new.self c.grow.new.self (view c.args.dev.now) (view c.settle_all.new.dev) (view c.grow.new.dev) _ c.grow.result c.in_ok-settle_all.ensures.operation
-    (subst (λ (bs : List ℕ). IsOperation told (λ w. with_new_blocks w c.args.source bs) c.settle_all.new.self c.grow.new.self (view c.settle_all.new.dev) (view c.grow.new.dev) c.grow.result) c.as_slice.ensures.value c.grow.ensures.operation)
+    (subst (λ (bs : List ℕ). IsOperation told bs (λ w. with_new_blocks w c.args.source bs) c.settle_all.new.self c.grow.new.self (view c.settle_all.new.dev) (view c.grow.new.dev) c.grow.result) c.as_slice.ensures.value c.grow.ensures.operation)
 
 pub returns-clause-cost : goal.returns-clause-cost
 returns-clause-cost g c =
@@ -54,3 +57,15 @@ returns-clause-cost g c =
     ap (λ (k : Geometry). zeroed_cost k (length c.as_slice.result.now)) ok.operation.geometry ∙ ap (λ (bs : List ℕ). zeroed_cost c.args.self.now.tables.geometry (length bs)) c.as_slice.ensures.value in
     within_then told c.args.self.now c.settle_all.new.self c.grow.new.self (view c.args.dev.now) (view c.settle_all.new.dev) (view c.grow.new.dev) _ c.grow.result _ _ _ _ _ _ (owed c.args.self.now.tables) (zeroed_cost c.args.self.now.tables.geometry (length c.args.blocks.now)) (due c.args.self.now + zeroed_cost c.args.self.now.tables.geometry (length c.args.blocks.now)) ok.cost then
     (omega arith) (omega (arith, none)) (omega (arith, cost)) (omega (arith, cost))
+
+pub returns-clause-ring : goal.returns-clause-ring
+returns-clause-ring g c =
+    let mid = c.settle_all.new.self in
+    let now = c.grow.new.self in
+    let here = λ (k : Geometry) (bs : List ℕ). HasNewBlocks k bs mid.ring now.ring in
+    ok_map c.grow.result _ _ (λ (new : here mid.tables.geometry c.as_slice.result.now). (
+      mid.ring,
+      c.in_ok-settle_all.ensures.ring,
+      subst (λ (k : Geometry). here k c.args.blocks.now) c.in_ok-settle_all.ensures.operation.geometry (subst (here mid.tables.geometry) c.as_slice.ensures.value new),
+    ))
+    c.grow.ensures.ring

@@ -2,7 +2,7 @@ use Rattle.std.proofs.Common.{arith}
 use Rattle.volume_laws.specs.Writes.{batch_cost}
 use Rattle.image_world.specs.Debt.{owed}
 use Rattle.volume_laws.proofs.OperationLaws.{committed_op, committed_within}
-use Rattle.std.proofs.Common.{◌≡◌, inl, inr, List, refl, sym, ◌∙◌, ap, subst, Ok}
+use Rattle.std.proofs.Common.{◌≡◌, ◌≤◌, inl, inr, List, length, refl, sym, ◌∙◌, ap, subst, Ok}
 use Rattle.std.specs.Prelude.{map}
 use Rattle.std.proofs.lemmas.Bool.{cases_eq}
 use Rattle.tsd_model.specs.Records.{upgraded, upgraded_record}
@@ -17,7 +17,9 @@ use Rattle.image_world.specs.Changes.{upgraded_tables}
 use Rattle.image_world.specs.Sound.{AreSound}
 use Rattle.image_world.specs.Tables.{Tables}
 use Rattle.image_world.specs.Turns.{Turns}
+use Rattle.image_layout.specs.declared.place.Patch.{Patch}
 use Rattle.volume_laws.specs.Volume.{Volume, tables_in}
+use Rattle.volume_laws.proofs.RingLaws.{commits_once}
 use Rattle.volume_laws.proofs.Ops.{any_bytes, IsOp, op_told}
 use Rattle.volume_laws.proofs.UpgradeLaws.{upgrade_turn, no_upgrade, upgraded_in, upgrade_op}
 use Rattle.volume.proofs.volume.Volume.change_version.Given
@@ -69,3 +71,10 @@ returns-clause-cost g c =
     let e = c.commit-outcome.ensures in
     committed_within g.D.Device.told c.commit-outcome.result any_bytes c.args.self.now (now g c) c.self.inside.ring (g.D.Device.view c.args.dev.now) (g.D.Device.view c.commit-outcome.new.dev) c.put_upgrade.new.batch 3 0 (owed c.args.self.now.tables) (batch_cost 3) upgraded (this g c) c.requires.at (ap (λ (w : Volume). w.ring) c.self.view_is)
     e.any_moment e.uses e.records (omega arith) (omega arith)
+
+pub returns-clause-none : goal.returns-clause-none
+returns-clause-none g c two =
+    let version = ap (λ (w : Volume). w.tables.version) c.self.view_is ∙ two in
+    let empty = ap (λ (ps : List Patch). length ps) (c.put_upgrade.ensures.none version) in
+    commits_once c.commit-outcome.result c.args.self.now (now g c) c.self.inside.ring (g.D.Device.view c.args.dev.now) (g.D.Device.view c.commit-outcome.new.dev) c.put_upgrade.new.batch 0 (omega (arith, empty)) (ap (λ (w : Volume). w.ring) c.self.view_is)
+    c.commit-outcome.ensures.uses c.commit-outcome.ensures.records

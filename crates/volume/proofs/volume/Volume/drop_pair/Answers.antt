@@ -16,6 +16,7 @@ use Rattle.image_world.specs.Tables.{Tables}
 use Rattle.image_world.specs.Raw.{left_of, world_with}
 use Rattle.volume_laws.specs.Volume.{Volume, tables_in, told_by}
 use Rattle.image_world.specs.Debt.{owed, graph_in}
+use Rattle.volume_laws.proofs.RingLaws.{commits_once}
 use Rattle.volume_laws.proofs.Ops.{any_bytes, IsOp, op_told}
 use Rattle.volume_laws.proofs.Dropped.{HoldsPair, IsDropped, less_slots, held_within, count_some, raw_held, left_dropped, dropped}
 use Rattle.image_device.proofs.Outcomes.{on_ok}
@@ -214,3 +215,8 @@ returns-clause-cost g c = record {
       (ap (λ (w : Volume). w.ring) c.self.view_is) c.commit-outcome.ensures.uses c.commit-outcome.ensures.records;
   uses = committed_uses c.args.self.now c.self.inside.ring (g.D.Device.view c.args.dev.now) (g.D.Device.view c.commit-outcome.new.dev) c.put-2.new.self 2 (these g c).few (ap (λ (w : Volume). w.ring) c.self.view_is) c.commit-outcome.ensures.uses;
 }
+
+pub returns-clause-once : goal.returns-clause-once
+returns-clause-once g c =
+    commits_once c.commit-outcome.result c.args.self.now (now g c) c.self.inside.ring (g.D.Device.view c.args.dev.now) (g.D.Device.view c.commit-outcome.new.dev) c.put-2.new.self 2 (this g c).few (ap (λ (w : Volume). w.ring) c.self.view_is)
+    c.commit-outcome.ensures.uses c.commit-outcome.ensures.records

@@ -5,6 +5,7 @@ use Rattle.std.proofs.Common.{◌≡◌, ℕ, [], refl, ap, subst, arith}
 use Rattle.image_device.specs.Calls.{Uses}
 use Rattle.intent_journal.specs.Ring.{checkpoint_writes}
 use Rattle.volume_laws.specs.Volume.{Volume}
+use Rattle.volume_laws.proofs.DataLaws.{data_emptied}
 use Rattle.volume_laws.proofs.Committed.{emptied_ok, before_moments, ok_map}
 use Rattle.volume_laws.proofs.OwedLaws.{kept_owed}
 use Rattle.volume.proofs.volume.Volume.empty_ring.Given
@@ -29,6 +30,9 @@ returns-clause-operation g c = record {
       c.checkpoint-outcome.ensures.empty refl);
   any_moment = λ t. as_either _ _ _ (kept_now g c t);
   sent = c.checkpoint-outcome.ensures.sent;
+  data_kept = λ told.
+      data_emptied c.checkpoint-outcome.result c.args.self.now.tables.geometry [] (g.D.Device.view c.args.dev.now) (g.D.Device.view c.checkpoint-outcome.new.dev) (c.requires.at told).firm
+      (c.checkpoint-outcome.ensures.done told) (c.checkpoint-outcome.ensures.at told) (c.checkpoint-outcome.ensures.any_moment told);
   unspent = spent_unless_ok c.checkpoint-outcome.result c.is_err-self-inside.result c.is_err-self-inside.ensures.value;
   spent = spent_on_err c.checkpoint-outcome.result c.is_err-self-inside.result c.is_err-self-inside.ensures.value;
   faults = c.checkpoint-outcome.ensures.faults;

@@ -7,7 +7,7 @@ use Rattle.std.proofs.Common.{◌∙◌, ap}
 use Rattle.image_device.proofs.Outcomes.{on_ok}
 use Rattle.volume_laws.specs.Volume.{Volume}
 use Rattle.volume_laws.proofs.Committed.{ok_map}
-use Rattle.volume_laws.proofs.ErasedLaws.{erased_ok, erased_moments, erased_owed, erased_closed}
+use Rattle.volume_laws.proofs.ErasedLaws.{erased_ok, erased_moments, erased_owed, erased_closed, erased_data}
 use Rattle.volume.proofs.volume.Volume.erase.Given
 use Rattle.volume.proofs.volume.Volume.erase.Goals as goal
 
@@ -31,6 +31,8 @@ returns-clause-operation g c = record {
       c.requires.emptied (λ i. c.args.self.now.tables) (c.erase_bodies-outcome.ensures.confined told) (c.erase_bodies-outcome.ensures.firm told));
   any_moment = λ t. as_either _ _ _ (kept_now g c t);
   sent = λ t. (c.erase_bodies-outcome.ensures.confined t).sent;
+  data_kept = λ told.
+      erased_data c.erase_bodies-outcome.result c.args.self.now (g.D.Device.view c.args.dev.now) (g.D.Device.view c.erase_bodies-outcome.new.dev) (c.requires.at told) c.requires.emptied (c.erase_bodies-outcome.ensures.confined told);
   unspent = spent_unless_ok c.erase_bodies-outcome.result c.is_err-self-inside.result c.is_err-self-inside.ensures.value;
   spent = spent_on_err c.erase_bodies-outcome.result c.is_err-self-inside.result c.is_err-self-inside.ensures.value;
   faults = c.erase_bodies-outcome.ensures.faults;

@@ -1,4 +1,4 @@
-use Rattle.std.proofs.Common.{◌≡◌, ◌+◌, ◌*◌, ◌≤◌, length, ◌∙◌, ap, arith, Err}
+use Rattle.std.proofs.Common.{◌≡◌, ℕ, List, ◌+◌, ◌*◌, ◌≤◌, length, sym, subst, ◌∙◌, ap, arith, Ok, Err}
 use Rattle.tsd_model.specs.Step.{with_new_blocks}
 use Rattle.tsd_model.specs.World.{World}
 use Rattle.tsd_model.specs.declared.geometry.Geometry.{Geometry}
@@ -9,8 +9,12 @@ use Rattle.volume_laws.specs.Operations.{IsOperation, IsWithin}
 use Rattle.volume_laws.specs.Volume.{Volume}
 use Rattle.volume_laws.specs.Writes.{due, zeroed_cost}
 use Rattle.volume_laws.proofs.Committed.{ok_map}
+use Rattle.volume_laws.specs.Data.{KeepsData}
+use Rattle.volume_laws.specs.Rings.{HasBatch, HasNewBlocks}
+use Rattle.volume_laws.proofs.DataLaws.{data_then, data_both}
+use Rattle.intent_journal.specs.Records.{Record}
 use Rattle.volume_laws.proofs.Idle.{world_joined, owed_joined}
-use Rattle.volume_laws.proofs.OperationLaws.{as_either, kept_moments, kept_fails, within_fails, works_of, works_joined, faults_after}
+use Rattle.volume_laws.proofs.OperationLaws.{as_either, kept_moments, kept_fails, kept_failed, within_fails, works_of, works_joined, faults_after}
 use Rattle.volume_laws.proofs.ZeroedLaws.{grow_moments}
 use Rattle.volume.proofs.volume.Volume.grow.Goals as goal
 
@@ -28,6 +32,12 @@ returns-clause-operation g c =
       any_moment = λ t. grow_moments (view c.args.dev.now) (view c.make_way.new.dev) (view c.zero_new.new.dev) (view c.add_blocks.new.dev) change
           (kept_moments told (λ w. w) c.args.self.now c.make_way.new.self (view c.args.dev.now) (view c.make_way.new.dev) _ way t) (way.done t) (way.sent t) (zero.any_moment t) (zero.done t) (zero.sent t) (add.any_moment t);
       sent = λ t. add.sent t ∙ (zero.sent t ∙ way.sent t);
+      data_kept = λ t.
+          let k = c.args.self.now.tables.geometry in
+          let bs = c.args.blocks.now in
+          data_both {T = Unit {0}} k c.zero_new.new.self.tables.geometry bs (view c.args.dev.now) (view c.zero_new.new.dev) (view c.add_blocks.new.dev) tt c.add_blocks.result (zero.size.0 ∙ way.geometry)
+          (data_then {T = Unit {0}} {U = Unit {0}} k c.make_way.new.self.tables.geometry bs (view c.args.dev.now) (view c.make_way.new.dev) (view c.zero_new.new.dev) tt (Ok tt) way.geometry (way.data_kept t) (zero.data_kept t))
+          (add.data_kept t);
       unspent = add.unspent;
       spent = add.spent;
       faults = faults_after c.add_blocks.result _ _ _ (zero.faults ∙ way.faults) add.faults;
@@ -53,18 +63,20 @@ returns-in_err-zero_new-clause-operation g c =
     let view = g.D.Device.view in
     let way = c.in_ok-make_way.ensures.operation in
     let zero = c.in_err-zero_new.ensures in
-    let this : IsOperation {T = Unit {0}} told (λ w. w) c.args.self.now c.zero_new.new.self (view c.args.dev.now) (view c.zero_new.new.dev) (Err c.in_err-zero_new.field-0.0) = record {
+    let this : IsOperation {T = Unit {0}} told c.args.blocks.now (λ w. w) c.args.self.now c.zero_new.new.self (view c.args.dev.now) (view c.zero_new.new.dev) (Err c.in_err-zero_new.field-0.0) = record {
       at = λ t. tt;
       done = λ t. tt;
       any_moment = λ t. as_either (view c.args.dev.now) (view c.zero_new.new.dev) _ (world_joined (view c.args.dev.now) (view c.make_way.new.dev) (view c.zero_new.new.dev) (kept_moments told (λ w. w) c.args.self.now c.make_way.new.self (view c.args.dev.now) (view c.make_way.new.dev) _ way t) (zero.any_moment t) (way.done t) (way.sent t));
       sent = λ t. zero.sent t ∙ way.sent t;
+      data_kept = λ t. data_then {T = Unit {0}} {U = Unit {0}} c.args.self.now.tables.geometry c.make_way.new.self.tables.geometry c.args.blocks.now (view c.args.dev.now) (view c.make_way.new.dev) (view c.zero_new.new.dev) tt (Err c.in_err-zero_new.field-0.0) way.geometry
+          (way.data_kept t) (zero.data_kept t);
       unspent = tt;
       spent = zero.spent;
       faults = faults_after {T = Unit {0}} (Err c.in_err-zero_new.field-0.0) _ _ _ way.faults zero.faults;
       works = works_joined _ _ _ way.works (works_of _ _ _ zero.uses);
       geometry = zero.size.0 ∙ way.geometry;
     } in
-    kept_fails told (λ w. with_new_blocks w c.args.source c.args.blocks.now) c.args.self.now c.zero_new.new.self (view c.args.dev.now) (view c.zero_new.new.dev) _ _ c.from_residual-in_err-zero_new.result c.from_residual-in_err-zero_new.ensures.1 this
+    kept_failed told (λ w. with_new_blocks w c.args.source c.args.blocks.now) c.args.self.now c.zero_new.new.self (view c.args.dev.now) (view c.zero_new.new.dev) _ _ c.from_residual-in_err-zero_new.result c.from_residual-in_err-zero_new.ensures.1 this
 
 pub returns-in_err-zero_new-clause-cost : goal.returns-in_err-zero_new-clause-cost
 returns-in_err-zero_new-clause-cost g c =
@@ -114,3 +126,12 @@ returns-clause-cost g c =
         most = omega (arith, before, one, ring, zero.uses.most, size, add.uses.most);
       };
     }
+
+pub returns-clause-ring : goal.returns-clause-ring
+returns-clause-ring g c =
+    let k = c.args.self.now.tables.geometry in
+    let bs = c.args.blocks.now in
+    let same : c.zero_new.new.self.ring ≡ c.make_way.new.self.ring = ap (λ (v : Volume). v.ring) c.in_ok-zero_new.ensures.same in
+    ok_map c.add_blocks.result _ _ (λ (new : HasBatch (3 * length bs) c.zero_new.new.self.ring c.add_blocks.new.self.ring).
+    (c.make_way.new.self.ring, c.in_ok-make_way.ensures.way, subst (λ (rs : List Record). HasBatch (3 * length bs) rs c.add_blocks.new.self.ring) same new))
+    c.add_blocks.ensures.ring

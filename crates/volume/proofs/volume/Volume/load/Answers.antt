@@ -1,4 +1,4 @@
-use Rattle.std.proofs.Common.{List, false, ap, sym, ◌∙◌, subst}
+use Rattle.std.proofs.Common.{rules, Err, List, false, ap, sym, ◌∙◌, subst}
 use Rattle.std.proofs.lemmas.Result.{err_from_is_err_and}
 use Rattle.image_device.proofs.Resting.{rests_joined}
 use Rattle.intent_journal.specs.Records.{Record}
@@ -78,3 +78,14 @@ returns-in_err-guesses-clause-read g c told = let is = err_from_is_err_and c.fro
 
 pub returns-in_err-marks-clause-read : goal.returns-in_err-marks-clause-read
 returns-in_err-marks-clause-read g c told = let is = err_from_is_err_and c.from_residual-in_err-marks.result c.from_residual-in_err-marks.ensures.1 in rw (is.1, is.2) tt
+
+pub returns-in_err-batch-clause-read : goal.returns-in_err-batch-clause-read
+returns-in_err-batch-clause-read g c told = let is = err_from_is_err_and c.from_residual-in_err-batch.result c.from_residual-in_err-batch.ensures.1 in rw (is.1, is.2) tt
+
+pub returns-in_err-is_sweeping-clause-read : goal.returns-in_err-is_sweeping-clause-read
+returns-in_err-is_sweeping-clause-read g c told = let is = err_from_is_err_and c.from_residual-in_err-is_sweeping.result c.from_residual-in_err-is_sweeping.ensures.1 in rw (is.1, is.2) tt
+
+pub returns-in_err-is_sweeping-clause-faults : goal.returns-in_err-is_sweeping-clause-faults
+returns-in_err-is_sweeping-clause-faults g c =
+    let is = err_from_is_err_and c.from_residual-in_err-is_sweeping.result c.from_residual-in_err-is_sweeping.ensures.1 in
+    (λ device. search rules, λ other. absurd (other (is.1 ∙ ap (λ y. Err y) is.2)))

@@ -12,6 +12,7 @@ use Rattle.volume_laws.proofs.TableWorlds.{graph_laid_out}
 use Rattle.volume_laws.specs.Steps.{MayPut, IsPut, IsStepped, with_all}
 use Rattle.volume_laws.specs.Volume.{Volume, tables_in}
 use Rattle.volume_laws.proofs.Ops.{any_bytes, op_told}
+use Rattle.volume_laws.proofs.RingLaws.{batch_ok}
 use Rattle.volume_laws.proofs.StepOps.{IsStepOf, step_of, step_paid, step_used, step_uses, step_most, owed_moments}
 use Rattle.volume.proofs.volume.Volume.make_step.Given
 use Rattle.volume.proofs.volume.Volume.make_step.Goals as goal
@@ -120,3 +121,13 @@ returns-clause-cost g c = record {
   uses =
       step_uses c.args.self.now (now g c).tables c.args.step.now c.self.inside.ring (g.D.Device.view c.args.dev.now) (g.D.Device.view c.commit-outcome.new.dev) c.put_step.new.batch (this g c) (ring_is g c) c.commit-outcome.ensures.uses;
 }
+
+pub returns-clause-ring : goal.returns-clause-ring
+returns-clause-ring g c =
+    batch_ok c.commit-outcome.result 33 c.self.inside.ring c.args.self.now.ring c.commit-outcome.new.self c.put_step.new.batch (this g c).op.few (ring_is g c) c.commit-outcome.ensures.records
+
+pub returns-clause-few : goal.returns-clause-few
+returns-clause-few g c = on_ok c.commit-outcome.result (this g c).most
+
+pub returns-clause-few_blocks : goal.returns-clause-few_blocks
+returns-clause-few_blocks g c = on_ok c.commit-outcome.result (this g c).blocks

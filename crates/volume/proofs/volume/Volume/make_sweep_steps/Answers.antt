@@ -1,4 +1,4 @@
-use Rattle.std.proofs.Common.{Bool, List, refl, sym, ◌∙◌, subst, length}
+use Rattle.std.proofs.Common.{[], Bool, List, refl, sym, ◌∙◌, subst, length}
 use Rattle.image_world.specs.Debt.{owed}
 use Rattle.volume_laws.specs.Operations.{IsOperation}
 use Rattle.volume_laws.specs.Steps.{IsPut}
@@ -68,7 +68,7 @@ this g c =
     step_op i.header i.pointers i.counts i.live i.caps i.is_sweeping i.marks i.ahead i.is_ready c.loop-step.invariant.parts c.in-Some.step c.in-Some.ensures.step c.in-Some.ensures.kept
     c.put_step.new.pointers c.put_step.new.counts c.put_step.new.live c.put_step.new.batch (put g c) e.slots e.counts e.live e.shown run.unready (was g c) (now g c) run.sweeping refl refl
 
-operation : (g : Given.Over) (c : goal.In_ok-outcome g) → IsOperation g.D.Device.told (λ w. w) (was g c) (now g c) (g.D.Device.view c.loop-step.dev) (g.D.Device.view c.commit-outcome.new.dev) c.commit-outcome.result
+operation : (g : Given.Over) (c : goal.In_ok-outcome g) → IsOperation g.D.Device.told [] (λ w. w) (was g c) (now g c) (g.D.Device.view c.loop-step.dev) (g.D.Device.view c.commit-outcome.new.dev) c.commit-outcome.result
 operation g c =
     let e = c.commit-outcome.ensures in
     committed_op g.D.Device.told c.commit-outcome.result any_bytes (was g c) (now g c) (g.D.Device.view c.loop-step.dev) (g.D.Device.view c.commit-outcome.new.dev) c.put_step.new.batch 33 (owed (now g c).tables) _ (λ w. w) (this g c)
@@ -125,7 +125,7 @@ this-failed g c =
     step_op i.header i.pointers i.counts i.live i.caps i.is_sweeping i.marks i.ahead i.is_ready c.loop-step.invariant.parts c.in-Some.step c.in-Some.ensures.step c.in-Some.ensures.kept
     c.put_step.new.pointers c.put_step.new.counts c.put_step.new.live c.put_step.new.batch (put-failed g c) e.slots e.counts e.live e.shown run.unready (was-failed g c) (now-failed g c) run.sweeping refl refl
 
-operation-failed : (g : Given.Over) (c : goal.After-from_residual g) → IsOperation g.D.Device.told (λ w. w) (was-failed g c) (now-failed g c) (g.D.Device.view c.loop-step.dev) (g.D.Device.view c.commit-outcome.new.dev) c.commit-outcome.result
+operation-failed : (g : Given.Over) (c : goal.After-from_residual g) → IsOperation g.D.Device.told [] (λ w. w) (was-failed g c) (now-failed g c) (g.D.Device.view c.loop-step.dev) (g.D.Device.view c.commit-outcome.new.dev) c.commit-outcome.result
 operation-failed g c =
     let e = c.commit-outcome.ensures in
     committed_op g.D.Device.told c.commit-outcome.result any_bytes (was-failed g c) (now-failed g c) (g.D.Device.view c.loop-step.dev) (g.D.Device.view c.commit-outcome.new.dev) c.put_step.new.batch 33 (owed (now-failed g c).tables) _ (λ w. w) (this-failed g c)

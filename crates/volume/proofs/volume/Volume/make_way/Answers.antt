@@ -1,8 +1,11 @@
 use Rattle.intent_journal.specs.Ring.{checkpoint_writes}
 use Rattle.volume_laws.proofs.OperationLaws.{no_op, none_within}
-use Rattle.std.proofs.Common.{◌<◌, ◌∙◌, ap, sym, subst}
+use Rattle.std.proofs.Common.{◌≡◌, List, [], inr, ◌<◌, ◌∙◌, ap, sym, subst}
 use Rattle.tsd_model.specs.declared.geometry.Geometry.{Geometry}
 use Rattle.volume_laws.specs.Volume.{Volume}
+use Rattle.intent_journal.specs.Records.{Record, patches_of}
+use Rattle.volume_laws.specs.Zeroed.{AreMissed}
+use Rattle.volume_laws.proofs.Committed.{ok_map}
 use Rattle.volume_laws.proofs.ZeroedLaws.{free_inside}
 use Rattle.volume.proofs.volume.Volume.make_way.Goals as goal
 
@@ -23,3 +26,12 @@ returns-else-holds_data-clause-cost g c =
     let told = g.D.Device.told in
     let view = g.D.Device.view in
     none_within told c.args.self.now (view c.args.dev.now) tt (checkpoint_writes c.args.self.now.ring) (g.met.D.Device.sound c.args.dev.now) c.requires.at
+
+pub returns-then-holds_data-clause-way : goal.returns-then-holds_data-clause-way
+returns-then-holds_data-clause-way g c =
+    let size = c.of.ensures ∙ ap (λ (w : Volume). w.tables.geometry) c.self.view_is in
+    let ring = ap (λ (w : Volume). w.ring) c.self.view_is in
+    let held : ¬ AreMissed c.args.self.now.tables.geometry (patches_of c.args.self.now.ring) c.args.blocks.now =
+    subst (λ (k : Geometry). ¬ AreMissed k (patches_of c.args.self.now.ring) c.args.blocks.now) size
+    (subst (λ (rs : List Record). ¬ AreMissed c.of.result.geometry (patches_of rs) c.args.blocks.now) ring (c.holds_data.ensures.held c.if-holds_data.true)) in
+    ok_map c.empty_ring.result _ _ (λ (same : c.empty_ring.new.self ≡ record c.args.self.now { ring = [] }). inr (ap (λ (w : Volume). w.ring) same, held)) c.empty_ring.ensures.same

@@ -3,7 +3,7 @@ use Rattle.volume_laws.specs.Moments.{LeavesWorld}
 use Rattle.image_world.specs.Debt.{owed}
 use Rattle.intent_journal.specs.Ring.{checkpoint_writes}
 use Rattle.volume_laws.proofs.OperationLaws.{as_either, spent_unless_ok, spent_on_err, works_of}
-use Rattle.std.proofs.Common.{◌<◌, List, sym, ◌∙◌, ap, subst, Some}
+use Rattle.std.proofs.Common.{◌<◌, List, [], sym, ◌∙◌, ap, subst, Some}
 use Rattle.tsd_model.specs.declared.geometry.Geometry.{Geometry}
 use Rattle.tsd_model.specs.Geometry.{IsLawful, block_len}
 use Rattle.image_device.proofs.Outcomes.{on_ok}
@@ -14,6 +14,7 @@ use Rattle.intent_journal.specs.Ring.{IsRingAt}
 use Rattle.image_world.specs.Sound.{AreSound}
 use Rattle.image_world.specs.Tables.{Tables}
 use Rattle.volume_laws.specs.Volume.{Volume}
+use Rattle.volume_laws.proofs.DataLaws.{data_rested}
 use Rattle.volume_laws.proofs.Committed.{ok_map, told_inside}
 use Rattle.volume_laws.proofs.ReadLaws.{rested_at, rested_world, rested_moments, rested_owed, read_bytes}
 use Rattle.volume.proofs.volume.Volume.read_block.Given
@@ -52,6 +53,7 @@ returns-clause-operation g c = record {
   done = λ told. on_ok c.read_parts-outcome.result (rested_world (g.D.Device.view c.args.dev.now) (g.D.Device.view c.read_parts-outcome.new.dev) (c.read_parts-outcome.ensures.rests told));
   any_moment = λ t. as_either _ _ _ (kept_now g c t);
   sent = λ t. (c.read_parts-outcome.ensures.rests t).sent;
+  data_kept = λ told. data_rested c.read_parts-outcome.result c.args.self.now.tables.geometry [] (g.D.Device.view c.args.dev.now) (g.D.Device.view c.read_parts-outcome.new.dev) (g.met.D.Device.sound c.args.dev.now told) (c.requires.at told).firm (c.read_parts-outcome.ensures.rests told);
   unspent = spent_unless_ok c.read_parts-outcome.result c.is_err-self-inside.result c.is_err-self-inside.ensures.value;
   spent = spent_on_err c.read_parts-outcome.result c.is_err-self-inside.result c.is_err-self-inside.ensures.value;
   faults = c.read_parts-outcome.ensures.faults;

@@ -19,6 +19,7 @@ use Rattle.volume_laws.specs.Volume.{Volume, tables_in}
 use Rattle.image_world.specs.Debt.{owed}
 use Rattle.volume_laws.proofs.BlockLaws.{put_ok}
 use Rattle.image_world.specs.Turns.{Turns}
+use Rattle.volume_laws.proofs.RingLaws.{commits_once}
 use Rattle.volume_laws.proofs.Ops.{any_bytes, IsOp, op_told}
 use Rattle.volume_laws.proofs.Kept.{caps_set, left_with_caps, owed_kept}
 use Rattle.image_world.specs.Sound.{AreSound}
@@ -81,3 +82,15 @@ returns-clause-cost g c =
     let e = c.commit-outcome.ensures in
     committed_within g.D.Device.told c.commit-outcome.result any_bytes c.args.self.now (now g c) c.self.inside.ring (g.D.Device.view c.args.dev.now) (g.D.Device.view c.commit-outcome.new.dev) c.put.new.self 1 0 (owed c.args.self.now.tables) (batch_cost 1) (λ w. with_caps w c.args.block (kept c.args.self.now.tables.version c.args.caps.now)) (this g c) c.requires.at (ap (λ (w : Volume). w.ring) c.self.view_is)
     e.any_moment e.uses e.records (omega arith) (omega arith)
+
+pub returns-clause-once : goal.returns-clause-once
+returns-clause-once g c =
+    commits_once c.commit-outcome.result c.args.self.now (now g c) c.self.inside.ring (g.D.Device.view c.args.dev.now) (g.D.Device.view c.commit-outcome.new.dev) c.put.new.self 1 (this g c).few (ap (λ (w : Volume). w.ring) c.self.view_is)
+    c.commit-outcome.ensures.uses c.commit-outcome.ensures.records
+
+pub returns-clause-owes : goal.returns-clause-owes
+returns-clause-owes g c =
+    let i = c.self.inside in
+    let t = c.args.self.now.tables in
+    ap owed (now_tables i.header i.pointers i.counts i.live i.caps c.set.new.self i.is_sweeping t c.args.block c.args.caps.now c.self.invariant.kept_version c.set.ensures.set (ap (λ (w : Volume). w.tables) c.self.view_is))
+    ∙ owed_kept t (slice_set t.records c.args.block (kept t.version c.args.caps.now))

@@ -1,11 +1,14 @@
-use Rattle.std.proofs.Common.{arith}
+use Rattle.std.proofs.Common.{◌+◌, refl, arith}
 use Rattle.volume_laws.proofs.OperationLaws.{op_answers, op_fails, within_answers, within_fails}
 use Rattle.volume_laws.proofs.SettlingLaws.{settling_none, settling_more, settling_op, settling_cost}
+use Rattle.volume_laws.proofs.RingLaws.{batches_step, batches_same, batches_within}
+use Rattle.image_world.specs.Debt.{owed}
 use Rattle.volume.proofs.volume.Volume.settle_doomed.Goals as goal
 
 pub loop-init : goal.loop-init
 loop-init g c = record {
   settling = settling_none g.D.Device.told c.args.self.now (g.D.Device.view c.args.dev.now) (g.met.D.Device.sound c.args.dev.now) c.requires.still c.requires.unspent c.requires.at;
+  ring = (0, omega arith, refl);
 }
 
 pub loop-preserved : goal.loop-preserved
@@ -16,6 +19,7 @@ loop-preserved g c =
     record {
       settling = settling_more g.D.Device.told c.args.self.now (g.D.Device.view c.args.dev.now) c.loop.self (g.D.Device.view c.loop.dev) inv.settling c.settle_step.new.self (g.D.Device.view c.settle_step.new.dev) _
           e.operation e.cost e.told e.version e.still e.same_ready (omega (arith, less));
+      ring = (inv.ring.0 + 1, (let b = inv.ring.1 in omega (arith, b, less)), batches_step inv.ring.0 33 c.args.self.now.ring c.loop.self.ring c.settle_step.new.self.ring inv.ring.2 e.ring);
     }
 
 pub returns-in_err-settle_step-clause-operation : goal.returns-in_err-settle_step-clause-operation
@@ -41,3 +45,10 @@ returns-clause-cost g c =
     let told = g.D.Device.told in
     let view = g.D.Device.view in
     within_answers told _ _ _ c.args.self.now c.settle_step.new.self (view c.args.dev.now) (view c.settle_step.new.dev) _ tt (settling_cost told c.args.self.now (view c.args.dev.now) c.loop.self (view c.loop.dev) c.loop.invariant.settling c.settle_step.new.self (view c.settle_step.new.dev) _ c.in_ok-settle_step.ensures.cost)
+
+pub returns-clause-ring : goal.returns-clause-ring
+returns-clause-ring g c =
+    let r = c.loop.invariant.ring in
+    let few = r.1 in
+    batches_within r.0 (owed c.args.self.now.tables) 33 c.args.self.now.ring c.settle_step.new.self.ring (omega (arith, few))
+    (batches_same r.0 33 c.args.self.now.ring c.loop.self.ring c.settle_step.new.self.ring r.2 (c.in_ok-settle_step.ensures.idle c.if-branch.false))

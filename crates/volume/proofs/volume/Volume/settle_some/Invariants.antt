@@ -1,6 +1,9 @@
 use Rattle.std.proofs.Common.{◌+◌, ◌*◌, ◌≤◌}
 use Rattle.intent_journal.specs.Ring.{checkpoint_writes}
-use Rattle.image_world.specs.Debt.{owed}
+use Rattle.std.proofs.Common.{length}
+use Rattle.tsd_model.specs.Doomed.{doomed}
+use Rattle.image_world.specs.Debt.{graph_in, owed}
+use Rattle.volume_laws.specs.Rings.{HasBatches}
 use Rattle.volume_laws.proofs.SettlingLaws.{IsSettling}
 use Rattle.volume.proofs.volume.Volume.settle_some.Given as goal
 
@@ -8,6 +11,9 @@ use Rattle.volume.proofs.volume.Volume.settle_some.Given as goal
 abbrev pub invariant-loop-step : goal.invariant-loop-step
 invariant-loop-step g l = record {
   settling : IsSettling g.D.Device.told l.fn.self (g.D.Device.view l.fn.dev) l.self (g.D.Device.view l.dev);
+  most : owed l.fn.self.tables ≤ owed l.self.tables + l._step * 17;
+  blocks : length (doomed (graph_in l.fn.self.tables)) ≤ length (doomed (graph_in l.self.tables)) + l._step;
+  ring : HasBatches l._step 33 l.fn.self.ring l.self.ring;
   steps : owed l.self.tables + l._step ≤ owed l.fn.self.tables;
   used : (g.D.Device.view l.dev).writes + checkpoint_writes l.self.ring ≤ (g.D.Device.view l.fn.dev).writes + checkpoint_writes l.fn.self.ring + l._step * 69;
 }

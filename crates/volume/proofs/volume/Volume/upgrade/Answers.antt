@@ -5,6 +5,7 @@ use Rattle.image_world.specs.Debt.{owed}
 use Rattle.volume_laws.specs.Volume.{Volume}
 use Rattle.volume_laws.specs.Writes.{batch_cost}
 use Rattle.volume_laws.proofs.OperationLaws.{then_kept, op_fails, within_then, within_fails}
+use Rattle.volume_laws.proofs.RingLaws.{batch_of_none}
 use Rattle.volume.proofs.volume.Volume.upgrade.Goals as goal
 
 pub returns-in_err-change_version-clause-cost : goal.returns-in_err-change_version-clause-cost
@@ -44,3 +45,23 @@ returns-clause-cost g c =
     within_then told c.args.self.now c.empty_ring.new.self c.erase.new.self (view c.args.dev.now) (view c.empty_ring.new.dev) (view c.erase.new.dev) _ c.erase.result _ _ _ _ _ _ (owed c.args.self.now.tables) (batch_cost 3 + 113) (checkpoint_writes c.args.self.now.ring + batch_cost 3 + 113)
     (within_then told c.args.self.now c.change_version.new.self c.empty_ring.new.self (view c.args.dev.now) (view c.change_version.new.dev) (view c.empty_ring.new.dev) _ _ _ _ _ _ _ _ (owed c.args.self.now.tables) (batch_cost 3) (checkpoint_writes c.args.self.now.ring + batch_cost 3) c.in_ok-change_version.ensures.cost c.in_ok-empty_ring.ensures.cost (omega arith) (omega (arith, one)) (omega arith) (omega (arith, one)))
     c.erase.ensures.cost (omega arith) (omega (arith, one, two)) (omega arith) (omega (arith, one, two, ring))
+
+pub returns-in_err-change_version-clause-none : goal.returns-in_err-change_version-clause-none
+returns-in_err-change_version-clause-none g c two = let few = (c.in_err-change_version.ensures.none two).most in omega (arith, few)
+
+pub returns-in_err-empty_ring-clause-none : goal.returns-in_err-empty_ring-clause-none
+returns-in_err-empty_ring-clause-none g c two =
+    let once = c.in_ok-change_version.ensures.none two in
+    let few = once.most in
+    let ring = ap checkpoint_writes (batch_of_none c.args.self.now.ring c.change_version.new.self.ring once.ring) in
+    let then = c.in_err-empty_ring.ensures.cost.uses.most in
+    omega (arith, few, ring, then)
+
+pub returns-clause-none : goal.returns-clause-none
+returns-clause-none g c two =
+    let once = c.in_ok-change_version.ensures.none two in
+    let few = once.most in
+    let ring = ap checkpoint_writes (batch_of_none c.args.self.now.ring c.change_version.new.self.ring once.ring) in
+    let then = c.in_ok-empty_ring.ensures.cost.uses.most in
+    let last = c.erase.ensures.cost.uses.most in
+    omega (arith, few, ring, then, last)

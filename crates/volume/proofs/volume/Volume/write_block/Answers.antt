@@ -1,5 +1,5 @@
 use Rattle.volume_laws.proofs.OperationLaws.{spent_unless_ok, spent_on_err, works_of, committed_uses}
-use Rattle.std.proofs.Common.{◌≡◌, ◌<◌, ◌≤◌, List, length, refl, sym, ◌∙◌, ap, subst, arith}
+use Rattle.std.proofs.Common.{◌≡◌, ◌<◌, ◌≤◌, List, [], ◌∷◌, length, refl, sym, ◌∙◌, ap, subst, arith}
 use Rattle.std.specs.Prelude.{ℕ, OnOk}
 use Rattle.tsd_model.specs.declared.geometry.Geometry.{Geometry}
 use Rattle.tsd_model.specs.Geometry.{block_len}
@@ -16,6 +16,9 @@ use Rattle.volume_laws.proofs.BlockLaws.{length-filled}
 use Rattle.volume_laws.proofs.Costs.{paid}
 use Rattle.volume_laws.proofs.Committed.{written_ok, written_moments, told_geometry, told_inside, ok_map}
 use Rattle.volume_laws.proofs.OwedLaws.{written_owed}
+use Rattle.volume_laws.proofs.DataLaws.{data_committed, written_keeps}
+use Rattle.volume_laws.proofs.RingLaws.{commits_once}
+use Rattle.volume_laws.specs.Data.{KeepsData}
 use Rattle.volume.proofs.volume.Volume.write_block.Goals as goal
 
 -- the bytes as the body has them are those of the clause
@@ -72,6 +75,16 @@ returns-clause-operation g c = record {
       (c.requires.at told) size c.requires.live long c.put_block.ensures.written (c.commit-outcome.ensures.any_moment told) in
       subst (λ (f : List ℕ). LeavesEither old new (with_contents (world_on old) c.args.block f)) all then;
   sent = c.commit-outcome.ensures.sent;
+  data_kept = λ told.
+      let old = g.D.Device.view c.args.dev.now in
+      let new = g.D.Device.view c.commit-outcome.new.dev in
+      let k = c.of.result.geometry in
+      let size = c.of.ensures ∙ ap (λ (w : Volume). w.tables.geometry) c.self.view_is in
+      let at = c.requires.at told in
+      subst (λ (h : Geometry). KeepsData h (c.args.block ∷ []) old new c.commit-outcome.result) size
+      (data_committed c.commit-outcome.result k (c.args.block ∷ []) old new c.put_block.new.batch (λ n from out. at.firm n)
+      (written_keeps k c.args.block (filled (block_len k) c.as_slice.result.now) c.put_block.new.batch c.put_block.ensures.written)
+      (c.commit-outcome.ensures.done told) (c.commit-outcome.ensures.any_moment told));
   unspent = spent_unless_ok c.commit-outcome.result c.is_err-self-inside.result c.is_err-self-inside.ensures.value;
   spent = spent_on_err c.commit-outcome.result c.is_err-self-inside.result c.is_err-self-inside.ensures.value;
   faults = c.commit-outcome.ensures.faults;
@@ -100,3 +113,10 @@ returns-clause-cost g c = record {
       let few : length c.put_block.new.batch ≤ c.args.self.now.tables.geometry.sectors = let most = c.put_block.ensures.homes in let e = ap (λ (k : Geometry). k.sectors) size in omega (arith, most, e) in
       committed_uses c.args.self.now c.self.inside.ring (g.D.Device.view c.args.dev.now) (g.D.Device.view c.commit-outcome.new.dev) c.put_block.new.batch c.args.self.now.tables.geometry.sectors few (ap (λ (w : Volume). w.ring) c.self.view_is) c.commit-outcome.ensures.uses;
 }
+
+pub returns-clause-once : goal.returns-clause-once
+returns-clause-once g c =
+    let size = c.of.ensures ∙ ap (λ (w : Volume). w.tables.geometry) c.self.view_is in
+    let few : length c.put_block.new.batch ≤ c.args.self.now.tables.geometry.sectors = let most = c.put_block.ensures.homes in let e = ap (λ (k : Geometry). k.sectors) size in omega (arith, most, e) in
+    commits_once c.commit-outcome.result c.args.self.now _ c.self.inside.ring (g.D.Device.view c.args.dev.now) (g.D.Device.view c.commit-outcome.new.dev) c.put_block.new.batch c.args.self.now.tables.geometry.sectors few (ap (λ (w : Volume). w.ring) c.self.view_is)
+    c.commit-outcome.ensures.uses c.commit-outcome.ensures.records

@@ -6,9 +6,10 @@ use Rattle.image_device.specs.Runs.{IsConfined}
 use Rattle.image_layout.specs.Places.{data_sector}
 use Rattle.volume_laws.specs.Volume.{Volume}
 use Rattle.volume_laws.specs.Zeroed.{is_data}
+use Rattle.volume_laws.proofs.DataLaws.{data_confined}
 use Rattle.volume_laws.proofs.Committed.{ok_map}
 use Rattle.volume_laws.proofs.Loose.{unused_moments}
-use Rattle.volume_laws.proofs.ZeroedLaws.{free_inside, data_unused, zero_done, zeroed_at}
+use Rattle.volume_laws.proofs.ZeroedLaws.{free_inside, data_unused, zero_done, zeroed_at, journal_low}
 use Rattle.volume_laws.proofs.OwedLaws.{unused_owed}
 use Rattle.image_device.proofs.Outcomes.{on_ok}
 use Rattle.volume.proofs.volume.Volume.zero_new.Goals as goal
@@ -57,4 +58,14 @@ returns-clause-any_owed g c told =
     let old = view c.args.dev.now in
     let new = view c.zero_blocks-outcome.new.dev in
     unused_owed c.args.self.now old new (is_data c.args.self.now.tables.geometry c.args.blocks.now) (c.requires.at told) (data_unused c.args.self.now old c.args.blocks.now (c.requires.at told) c.requires.free)
+    (subst (λ (k : Geometry). IsConfined (is_data k c.args.blocks.now) old new) size (c.zero_blocks-outcome.ensures.confined told))
+
+pub returns-clause-data_kept : goal.returns-clause-data_kept
+returns-clause-data_kept g c told =
+    let view = g.D.Device.view in
+    let size = c.of.ensures ∙ ap (λ (w : Volume). w.tables.geometry) c.self.view_is in
+    let old = view c.args.dev.now in
+    let new = view c.zero_blocks-outcome.new.dev in
+    let k = c.args.self.now.tables.geometry in
+    data_confined c.zero_blocks-outcome.result k c.args.blocks.now (is_data k c.args.blocks.now) old new (c.requires.at told).firm (journal_low k c.args.blocks.now) (λ n from out. out)
     (subst (λ (k : Geometry). IsConfined (is_data k c.args.blocks.now) old new) size (c.zero_blocks-outcome.ensures.confined told))
