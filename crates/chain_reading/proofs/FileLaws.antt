@@ -9,7 +9,7 @@ use Rattle.fs_trees.specs.Tree.{nothing, a_file, entry, with_entry}
 use Rattle.fs_trees.specs.ChainTree.{ChainFile, chain_bytes, tree_of_files}
 use Rattle.chain_reading.specs.Chained.{AreOthers}
 use Rattle.chain_reading.specs.Changed.{file_names}
-use Rattle.chain_reading.proofs.ListingLaws.{clash, with_entry-commutes, with_entry-again, without_absent, entry-same, entry-other}
+use Rattle.fs_laws.proofs.OrderLaws.{clash, with_entry-commutes, with_entry-again, without_absent, entry-same, entry-other}
 
 -- ---- names that stand once
 

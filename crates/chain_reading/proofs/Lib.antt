@@ -7,7 +7,6 @@ pub mod KnownLaws
 pub mod RefusalLaws
 pub mod NextLaws
 pub mod ToldLaws
-pub mod ListingLaws
 pub mod FileLaws
 pub mod ChainedLaws
 pub mod ChangeLaws

@@ -8,7 +8,7 @@ use Rattle.fs_trees.specs.ChainTree.{ChainFile, chain_bytes, tree_of_files}
 use Rattle.chain_layout.specs.Listed.{is_among, lesser, if_above, least_above}
 use Rattle.chain_layout.proofs.PlaceLaws.{lesser-none}
 use Rattle.chain_reading.specs.Changed.{file_names}
-use Rattle.chain_reading.proofs.ListingLaws.{clash, lt_trans, below_only}
+use Rattle.fs_laws.proofs.OrderLaws.{clash, lt_trans, below_only}
 use Rattle.chain_reading.proofs.FileLaws.{others_tested, tree_lacks}
 
 abbrev FileEntries : Type 0

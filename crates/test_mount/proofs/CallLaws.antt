@@ -16,7 +16,7 @@ use Rattle.fs_trees.specs.declared.refusal.FsRefusal.TheVariants as no
 use Rattle.fs_trees.specs.Layouts.{tree_at}
 use Rattle.fs_port.specs.View.{View}
 use Rattle.fs_port.specs.Files.{FilesView, Answers, HasTree, TellsPart, mounted_now}
-use Rattle.chain_reading.proofs.ListingLaws.{lt_irreflexive}
+use Rattle.fs_laws.proofs.OrderLaws.{lt_irreflexive}
 
 -- the entry of a name that stands alone
 alone : (n : Name) (x : List ℕ) → ◌≡◌ {A = Tree} (entry n (file n x none)) (a_file x)
