@@ -24,3 +24,4 @@ pub mod ChainLaws
 pub mod WriteLaws
 pub mod PartLaws
 pub mod FileLaws
+pub mod TakenLaws

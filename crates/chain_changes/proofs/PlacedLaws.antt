@@ -13,7 +13,7 @@ use Rattle.fs_trees.specs.Fields.{Entry}
 use Rattle.fs_trees.specs.Cluster.{entries_room, directory_bytes}
 use Rattle.fs_trees.specs.ChainTree.{ChainFile, chain_bytes, Chains, chains_under, as_tree, has_room, names_max, tree_of_files}
 use Rattle.fs_trees.specs.Layouts.{tree_at}
-use Rattle.fs_trees.specs.Needs.{clusters_for, chain_need, need_of}
+use Rattle.fs_trees.specs.Needs.{need, clusters_for, chain_need, need_of}
 use Rattle.fs_trees.specs.Refusals.{when, first_of, no_room, refusal}
 use Rattle.fs_trees.specs.declared.ask.ShellAsk.{ShellAsk}
 use Rattle.fs_trees.specs.declared.ask.ShellAsk.TheVariants as ask
@@ -25,7 +25,7 @@ use Rattle.fs_laws.proofs.ChainLaws.{found}
 use Rattle.fs_laws.proofs.ListLaws.{any-append, first_in}
 use Rattle.fs_port.specs.View.{View}
 use Rattle.fs_port.specs.Calls.{IsValidNow}
-use Rattle.fs_port.specs.Files.{FilesView}
+use Rattle.fs_port.specs.Files.{FilesView, need_on}
 use Rattle.fs_client.specs.declared.client.Client.{Client}
 use Rattle.fs_client.specs.May.{Looked}
 use Rattle.fs_client.specs.Steps.{no_room_in}
@@ -206,6 +206,17 @@ module _ (c : Client) (old : View) (n : Name) (cs : Chains) (under : chains_unde
 
   abbrev many : ℕ
   many = clusters_for old.world.geometry (length body)
+
+  needed_there : need_on (mounted_by c) old (ask.Put (n ∷ []) body) ≡ chain_need old.world.geometry (as_tree (Some cs)) (has_room old.world cs) (ask.Put (n ∷ []) body)
+  needed_there = ap (λ o. chain_need old.world.geometry (as_tree o) (option_map_or (has_room old.world) o true) (ask.Put (n ∷ []) body)) under
+
+  -- what it needs
+  pub needed_over : (y : List ℕ) → entry n (tree_of_files cs.files) ≡ a_file y → need_on (mounted_by c) old (ask.Put (n ∷ []) body) ≡ need (clusters_for old.world.geometry (length body) + 0) (clusters_for old.world.geometry (length body) + 0)
+  needed_over y e = needed_there ∙ need_over old.world.geometry (tree_of_files cs.files) (has_room old.world cs) body n y e
+
+  pub needed_new : entry n (tree_of_files cs.files) ≡ nothing → (extra : ℕ) → cond {A = ℕ} (not (has_room old.world cs) && true) 1 0 ≡ extra
+      → need_on (mounted_by c) old (ask.Put (n ∷ []) body) ≡ need (clusters_for old.world.geometry (length body) + extra) (clusters_for old.world.geometry (length body) + extra)
+  needed_new e extra is = needed_there ∙ need_new old.world.geometry (tree_of_files cs.files) (has_room old.world cs) body n e extra is
 
   pub refused_over : (y : List ℕ) → entry n (tree_of_files cs.files) ≡ a_file y → refused_on (mounted_by c) old (ask.Put (n ∷ []) body) ≡ no_room_in old.world (clusters_for old.world.geometry (length body) + 0) (clusters_for old.world.geometry (length body) + 0)
   refused_over y e =

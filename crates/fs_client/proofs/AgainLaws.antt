@@ -5,16 +5,17 @@ use Rattle.tsd_model.specs.Valid.{IsValid}
 use Rattle.fs_trees.specs.Tree.{nothing}
 use Rattle.fs_trees.specs.Answer.{Answer}
 use Rattle.fs_trees.specs.Layouts.{tree_at, IsTidy, step_in}
+use Rattle.fs_trees.specs.Needs.{need_of}
 use Rattle.fs_trees.specs.Outside.{OthersStay}
 use Rattle.fs_trees.specs.Step.{Outcome}
 use Rattle.fs_trees.specs.declared.ask.ShellAsk.{ShellAsk}
 use Rattle.fs_trees.specs.declared.refusal.FsRefusal.{FsRefusal}
 use Rattle.fs_port.specs.View.{View}
-use Rattle.fs_port.specs.Files.{FilesView, Answers, IsEitherTree, LeavesTidyWorld, step_on, unless_refused}
+use Rattle.fs_port.specs.Files.{FilesView, Answers, IsEitherTree, KeepsRoom, LeavesTidyWorld, need_on, step_on, unless_refused}
 use Rattle.fs_client.specs.May.{OnlyLooks}
 use Rattle.fs_port.specs.Runs.{Changes, Runs}
 use Rattle.fs_port.proofs.RunLaws.{both_leave, leaves_more, on_answer}
-use Rattle.fs_client.proofs.RunLaws.{runs_look, runs_more, then_runs, changes_so, as_before}
+use Rattle.fs_client.proofs.RunLaws.{on_ok, runs_look, runs_more, then_runs, changes_so, as_before}
 
 module _ (f : FilesView) (first rd : View) (a : ShellAsk) (same : rd.world ≡ first.world) where
   -- the step there, by the world
@@ -36,6 +37,9 @@ module _ (f : FilesView) (first rd : View) (a : ShellAsk) (same : rd.world ≡ f
     taken = λ b free. h.taken b (ap (λ w. is_free w b) same ∙ free);
   }
 
+  room_again : (fin : View) → KeepsRoom (need_on f rd a) rd.world fin.world → KeepsRoom (need_on f first a) first.world fin.world
+  room_again fin = subst (λ w. KeepsRoom (need_of f.kind w f.root (cond f.mounted (tree_at f.kind w f.root) nothing) a) w fin.world) same
+
   either_again : (w : World) → IsEitherTree f rd a w → IsEitherTree f first a w
   either_again w h = (
     elim h.0 [
@@ -47,7 +51,8 @@ module _ (f : FilesView) (first rd : View) (a : ShellAsk) (same : rd.world ≡ f
 
 pub changes_again : {X Y : Type 0} (told : Type 0) (f : FilesView) (first rd fin : View) (a : ShellAsk) (x : X) (result : Result Y FsRefusal) → (told → IsValid first.world) → OnlyLooks told first rd (Ok x) → Changes told f rd fin a result → Changes told f first fin a result
 changes_again {X} {Y} told f first rd fin a x result valid looks h =
-    changes_so told f first fin a result (λ t. on_answer (LeavesTidyWorld f rd fin) (LeavesTidyWorld f first fin) result (leaves_again f first rd a (looks.looked t).0.world fin) (h.world t))
+    changes_so told f first fin a result (λ t. on_ok (KeepsRoom (need_on f rd a) rd.world fin.world) (KeepsRoom (need_on f first a) first.world fin.world) result (room_again f first rd a (looks.looked t).0.world fin) (h.room t))
+    (λ t. on_answer (LeavesTidyWorld f rd fin) (LeavesTidyWorld f first fin) result (leaves_again f first rd a (looks.looked t).0.world fin) (h.world t))
     (λ t off. both_leave first rd fin (λ w. w ≡ first.world) (looks.crash t) (leaves_more rd fin (λ w. w ≡ rd.world) (λ w. w ≡ first.world) (λ w e. e ∙ (looks.looked t).0.world) (h.unmounted t off)))
     (then_runs told first rd fin (IsEitherTree f first a) x result
     (runs_look told first rd (IsEitherTree f first a) (Ok x) (λ t w is. as_before f first a w (valid t) is) looks)

@@ -26,7 +26,7 @@ module _ {X : Type 0} (told : Type 0) (v : View) (e : FsRefusal) (ne : e ≢ no.
   unasked_looks = record { world = λ t. (tt, λ _. refl); runs = unasked told v (λ w. w ≡ v.world) e ne unspent sound valid (λ t. refl) }
 
   pub unasked_changes : (f : FilesView) (a : ShellAsk) → Changes {X = X} told f v v a (Err e)
-  unasked_changes f a = changes_so told f v v a (Err e) (λ t. (tt, λ _. leaves_same f v v refl unspent)) (λ t off. unasked_looks.runs.crash t)
+  unasked_changes f a = changes_so told f v v a (Err e) (λ t. tt) (λ t. (tt, λ _. leaves_same f v v refl unspent)) (λ t off. unasked_looks.runs.crash t)
       (unasked told v (IsEitherTree f v a) e ne unspent sound valid (λ t. as_before f v a v.world (valid t).valid refl))
 
 -- ---- of the same file system, where a tree is mounted or where none is
@@ -42,7 +42,7 @@ module _ (f : FilesView) (m : Bool) (old new : View) where
   deletes_as w h = record { pairs = h.pairs; bytes = h.bytes; named = h.named; none = h.none }
 
   pub made_as : IsMade f old new → IsMade (record f { mounted = m }) old new
-  made_as h = record { tree = h.tree; tidy = h.tidy; left = tidy_as h.left }
+  made_as h = record { tree = h.tree; tidy = h.tidy; left = tidy_as h.left; room = h.room }
 
   module _ {X : Type 0} (told : Type 0) (result : Result X FsRefusal) where
     pub make_as : Runs told old new (IsEitherTree f old ask.Make) result → Runs told old new (IsEitherTree (record f { mounted = m }) old ask.Make) result

@@ -24,6 +24,7 @@ pub mod GoingLaws
 pub mod TargetLaws
 pub mod TidyLaws
 pub mod WriteLaws
+pub mod KeepLaws
 pub mod MakeLaws
 pub mod MountLaws
 pub mod AgainLaws

@@ -4,6 +4,7 @@ use Rattle.std.proofs.lemmas.Bool.{and_from, or_cases, or_left, eq-eqb, eqb-true
 use Rattle.tsd_model.specs.World.{World, is_live, has_number}
 use Rattle.tsd_model.specs.Pairs.{holds}
 use Rattle.fs_trees.specs.Tree.{is_there}
+use Rattle.fs_trees.specs.Needs.{need}
 use Rattle.fs_trees.specs.Step.{empty_tree}
 use Rattle.fs_trees.specs.Layouts.{tree_at, named_at, IsTidy}
 use Rattle.fs_trees.specs.Outside.{is_under, OthersStay}
@@ -28,6 +29,7 @@ use Rattle.fs_client.proofs.RunLaws.{as_before}
 use Rattle.fs_client.proofs.TidyLaws.{is_tidy}
 use Rattle.fs_client.proofs.TrimLaws.{freed}
 use Rattle.fs_client.proofs.WriteLaws.{written_free}
+use Rattle.fs_client.proofs.KeepLaws.{takes_none, no_more_room, write_takes}
 
 module _ (kind : ShellKind) (c : Client) (first : View) (bytes : List ℕ) (now : IsValidNow first) (primary : c.root < first.world.geometry.primaries) (empty : IsEmptied kind (written first.world c.root bytes) c.root) where
   abbrev w : World
@@ -90,6 +92,8 @@ module _ (kind : ShellKind) (c : Client) (first : View) (bytes : List ℕ) (now 
       made = record {
         tree = tree_fin;
         tidy = tidy_fin;
+        room = no_more_room (need 0 0) first.world wr.world fin.world (write_takes c first wr now (write_by c c.root bytes) c.root bytes (now.valid.raw.primaries c.root primary) went)
+            (takes_none wr.world fin.world went.valid.valid l.valid.valid l.keeps.geometry (freed c (root_alone c.root) wr fin l) l.fewer);
         left = record {
           unspent = unspent;
           tidy = λ _. tidy_fin;

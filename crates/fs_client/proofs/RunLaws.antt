@@ -1,5 +1,5 @@
 -- Calls one after the other, whatever they answer.
-use Rattle.std.proofs.Common.{◌≡◌, ◌≢◌, ℕ, Bool, true, false, ◌&&◌, nat_lt, refl, sym, ◌∙◌, ap, subst, inl, inr, ◌⊎◌, ◌<◌, length, List, [], Option, Some, None, Result, Ok, Err}
+use Rattle.std.proofs.Common.{◌≡◌, ◌≢◌, ℕ, Bool, true, false, ◌&&◌, nat_lt, refl, sym, ◌∙◌, ap, subst, arith, inl, inr, ◌⊎◌, ◌<◌, length, List, [], Option, Some, None, Result, Ok, Err}
 use Rattle.std.specs.Prelude.{IfErr, OnOk, is_some, is_none, slice_get}
 use Rattle.image_device.specs.Counts.{Rose}
 use Rattle.tsd_model.specs.World.{World, contents, is_live, is_free}
@@ -10,12 +10,13 @@ use Rattle.tsd_model.specs.Valid.{IsValid}
 use Rattle.tsd_model.specs.declared.requests.Request.{Request}
 use Rattle.fs_trees.specs.Layouts.{IsTidy}
 use Rattle.fs_trees.specs.Outside.{OthersStay}
+use Rattle.fs_trees.specs.Refusals.{Need}
 use Rattle.fs_trees.specs.declared.ask.ShellAsk.{ShellAsk}
 use Rattle.fs_trees.specs.declared.refusal.FsRefusal.{FsRefusal}
 use Rattle.fs_trees.specs.declared.refusal.FsRefusal.TheVariants as no
 use Rattle.fs_port.specs.View.{View, state_of}
 use Rattle.fs_port.specs.Calls.{Counts, IsLedTo, IsValidNow, LeavesWorldsOnly, Stays}
-use Rattle.fs_port.specs.Files.{FilesView, IsClientReady, IsEitherTree, IsTreeAlone, IsLeft, LeavesTidyWorld, OnAnswer}
+use Rattle.fs_port.specs.Files.{FilesView, IsClientReady, IsEitherTree, IsTreeAlone, IsLeft, KeepsRoom, LeavesTidyWorld, OnAnswer, need_on}
 use Rattle.fs_port.proofs.RunLaws.{both_leave, leaves_more, on_answer, if_fault, both_stay, both_count, led_both}
 use Rattle.fs_client.specs.declared.client.Client.{Client}
 use Rattle.fs_client.specs.May.{Looked, OnlyLooks}
@@ -142,11 +143,12 @@ runs_more told old new P Q result on h = record {
 
 -- ---- what a file system's calls leave
 
--- a call that ran so, and left the world so, changes no more than its ask does
-pub changes_so : {X : Type 0} (told : Type 0) (f : FilesView) (old new : View) (a : ShellAsk) (result : Result X FsRefusal) → (told → OnAnswer result (LeavesTidyWorld f old new))
+-- a call that ran so, took no more and left the world so, changes no more than its ask does
+pub changes_so : {X : Type 0} (told : Type 0) (f : FilesView) (old new : View) (a : ShellAsk) (result : Result X FsRefusal) → (told → OnOk result (KeepsRoom (need_on f old a) old.world new.world)) → (told → OnAnswer result (LeavesTidyWorld f old new))
     → (told → f.mounted ≡ false → LeavesWorldsOnly old new (λ w. w ≡ old.world)) → Runs told old new (IsEitherTree f old a) result → Changes told f old new a result
-changes_so told f old new a result world unmounted h = record {
+changes_so told f old new a result room world unmounted h = record {
   world = world;
+  room = room;
   crash = h.crash;
   unmounted = unmounted;
   valid = h.valid;
@@ -160,8 +162,8 @@ changes_so told f old new a result world unmounted h = record {
 }
 
 -- where a tree is mounted
-pub changes_of : {X : Type 0} (told : Type 0) (f : FilesView) → f.mounted ≡ true → (old new : View) (a : ShellAsk) (result : Result X FsRefusal) → (told → OnAnswer result (LeavesTidyWorld f old new)) → Runs told old new (IsEitherTree f old a) result → Changes told f old new a result
-changes_of told f is old new a result world h = changes_so told f old new a result world (λ t off. absurd (clash f.mounted is off)) h
+pub changes_of : {X : Type 0} (told : Type 0) (f : FilesView) → f.mounted ≡ true → (old new : View) (a : ShellAsk) (result : Result X FsRefusal) → (told → OnOk result (KeepsRoom (need_on f old a) old.world new.world)) → (told → OnAnswer result (LeavesTidyWorld f old new)) → Runs told old new (IsEitherTree f old a) result → Changes told f old new a result
+changes_of told f is old new a result room world h = changes_so told f old new a result room world (λ t off. absurd (clash f.mounted is off)) h
   where
     clash : (m : Bool) → m ≡ true → m ≡ false → ⊥
     clash m p q = cc
@@ -183,6 +185,9 @@ others_same root w = record { records = refl; bytes = λ b live away. refl; pair
 
 left_same : (f : FilesView) (old : View) → IsValid old.world → IsLeft f old old.world
 left_same f old valid = record { valid = valid; geometry = refl; others = others_same f.root old.world }
+
+pub same_room : (n : Need) (w next : World) → next ≡ w → KeepsRoom n w next
+same_room n w next e = subst (KeepsRoom n w) (sym e) (record { blocks = omega arith; pairs = omega arith })
 
 pub as_before : (f : FilesView) (old : View) (a : ShellAsk) (w : World) → IsValid old.world → w ≡ old.world → IsEitherTree f old a w
 as_before f old a w valid e = subst (IsEitherTree f old a) (sym e) (inl refl, left_same f old valid)
@@ -209,7 +214,8 @@ leaves_same f old new e unspent = record {
 
 -- a call that only looked
 pub looks_change : {X : Type 0} (told : Type 0) (f : FilesView) (old new : View) (a : ShellAsk) (result : Result X FsRefusal) → (told → IsValid old.world) → OnlyLooks told old new result → Changes told f old new a result
-looks_change {X} told f old new a result valid looks = changes_so told f old new a result (λ t. left result (looks.looked t) looks.unspent) (λ t off. looks.crash t)
+looks_change {X} told f old new a result valid looks = changes_so told f old new a result (λ t. ok_of (Looked old new) (KeepsRoom (need_on f old a) old.world new.world) result (λ l. same_room (need_on f old a) old.world new.world l.world) (looks.looked t))
+    (λ t. left result (looks.looked t) looks.unspent) (λ t off. looks.crash t)
     (runs_look told old new (IsEitherTree f old a) result (λ t w e. as_before f old a w (valid t) e) looks)
   where
     left : (r : Result X FsRefusal) → OnAnswer r (Looked old new) → OnAnswer r (new.spent ≡ false) → OnAnswer r (LeavesTidyWorld f old new)

@@ -1,6 +1,6 @@
 -- What a call of a file system does.
-use Rattle.std.specs.Prelude.{◌≡◌, ◌≢◌, ℕ, ◌<◌, ◌≤◌, ◌⊎◌, Bool, true, false, cond, List, length, take, drop, find, slice_get, Option, Result, IfOk, IfErr, OnOk, IsTrue}
-use Rattle.tsd_model.specs.World.{World, contents, is_live, is_free, has_number}
+use Rattle.std.specs.Prelude.{◌≡◌, ◌≢◌, ℕ, ◌+◌, ◌<◌, ◌≤◌, ◌⊎◌, Bool, true, false, cond, List, length, take, drop, find, slice_get, Option, Result, IfOk, IfErr, OnOk, IsTrue}
+use Rattle.tsd_model.specs.World.{World, contents, is_live, is_free, free_count, has_number}
 use Rattle.tsd_model.specs.Pairs.{holds}
 use Rattle.tsd_model.specs.Records.{kept_of}
 use Rattle.tsd_model.specs.Sessions.{sessions_max, is_open}
@@ -12,6 +12,8 @@ use Rattle.fs_trees.specs.Names.{Name, name_lt}
 use Rattle.fs_trees.specs.Tree.{Tree, nothing, is_there}
 use Rattle.fs_trees.specs.Answer.{Answer, bytes, listed, refused}
 use Rattle.fs_trees.specs.Step.{Outcome}
+use Rattle.fs_trees.specs.Needs.{need_of}
+use Rattle.fs_trees.specs.Refusals.{Need}
 use Rattle.fs_trees.specs.Outside.{OthersStay}
 use Rattle.fs_trees.specs.Layouts.{tree_at, named_at, IsTidy, step_in}
 use Rattle.fs_trees.specs.declared.ask.ShellAsk.{ShellAsk}
@@ -59,6 +61,10 @@ tree_on f v = cond f.mounted (tree_at f.kind v.world f.root) nothing
 abbrev pub step_on : FilesView → View → ShellAsk → Outcome
 step_on f v a = step_in f.kind v.world f.root (tree_on f v) a
 
+-- the blocks and pairs that it needs there
+abbrev pub need_on : FilesView → View → ShellAsk → Need
+need_on f v a = need_of f.kind v.world f.root (tree_on f v) a
+
 -- The answer is that of the step, and so is the tree afterwards. A refusal leaves the disk as it was, also where nothing
 -- is mounted. Nothing is said of Device.
 pub record Answers {X : Type 0} (f : FilesView) (old new : View) (a : ShellAsk) (result : Result X FsRefusal) (tells : X → Answer → Type 0) : Type 0 where
@@ -77,6 +83,11 @@ pub record LeavesTidyWorld (f : FilesView) (old new : View) : Type 0 where
   pub tidy : IsTidy f.kind old.world f.root → IsTidy f.kind new.world f.root
   pub others : OthersStay f.root old.world new.world
   pub taken : (b : ℕ) → IsTrue (is_free old.world b) → IsTrue (is_live new.world b) → IsTrue (has_number (named_at f.kind new.world f.root).blocks b)
+
+-- Room is kept to: no more blocks are taken than this, and no more pairs are added.
+pub record KeepsRoom (need : Need) (w next : World) : Type 0 where
+  pub blocks : free_count w ≤ free_count next + need.blocks
+  pub pairs : length next.pairs ≤ length w.pairs + need.pairs
 
 -- the tree of a step, or the tree that was there before where the step refuses
 abbrev pub unless_refused : Answer → Tree → Tree → Tree

@@ -3,6 +3,7 @@ use Rattle.std.specs.Prelude.{◌≡◌, ◌⊎◌, true, false, Result, IfErr, 
 use Rattle.image_device.specs.Counts.{Rose}
 use Rattle.tsd_model.specs.World.{World}
 use Rattle.fs_trees.specs.Layouts.{tree_at, IsTidy}
+use Rattle.fs_trees.specs.Needs.{need}
 use Rattle.fs_trees.specs.Step.{empty_tree}
 use Rattle.fs_trees.specs.Tree.{is_there, nothing}
 use Rattle.fs_trees.specs.declared.ask.ShellAsk.{ShellAsk}
@@ -10,7 +11,7 @@ use Rattle.fs_trees.specs.declared.refusal.FsRefusal.{FsRefusal}
 use Rattle.fs_trees.specs.declared.refusal.FsRefusal.TheVariants as no
 use Rattle.fs_port.specs.View.{View}
 use Rattle.fs_port.specs.Calls.{Counts, IsLedTo, IsValidNow, LeavesWorldsOnly, Stays}
-use Rattle.fs_port.specs.Files.{FilesView, IsEitherTree, LeavesTidyWorld, OnAnswer, OnlyDeletes}
+use Rattle.fs_port.specs.Files.{FilesView, IsEitherTree, KeepsRoom, LeavesTidyWorld, OnAnswer, OnlyDeletes, need_on}
 
 -- Asks one after the other, of a disk that may tell its world, where a stop leaves P. An answer other than Device leaves
 -- the count of faults as it was; Device comes only where that count rose, and then the disk is spent.
@@ -33,6 +34,8 @@ pub record Looks {X : Type 0} (told : Type 0) (old new : View) (result : Result 
 -- a call that may change the tree, as this ask does
 pub record Changes {X : Type 0} (told : Type 0) (f : FilesView) (old new : View) (a : ShellAsk) (result : Result X FsRefusal) : Type 0 where
   pub world : told → OnAnswer result (LeavesTidyWorld f old new)
+  -- no more blocks and pairs are held than before and the ask's need
+  pub room : told → OnOk result (KeepsRoom (need_on f old a) old.world new.world)
   pub crash : told → LeavesWorldsOnly old new (IsEitherTree f old a)
   -- where nothing is mounted, a stop leaves the world as it was
   pub unmounted : told → f.mounted ≡ false → LeavesWorldsOnly old new (λ w. w ≡ old.world)
@@ -47,11 +50,12 @@ pub record Changes {X : Type 0} (told : Type 0) (f : FilesView) (old new : View)
 
 -- ---- making and mounting
 
--- the tree is empty and the world tidy, and what the root didn't reach is as it was
+-- the tree is empty and the world tidy, what the root didn't reach is as it was, and nothing is taken
 pub record IsMade (f : FilesView) (old new : View) : Type 0 where
   pub tree : tree_at f.kind new.world f.root ≡ empty_tree
   pub tidy : IsTidy f.kind new.world f.root
   pub left : LeavesTidyWorld f old new
+  pub room : KeepsRoom (need 0 0) old.world new.world
 
 -- The tree that is there is mounted, as it was, and the world is tidy: pairs are deleted alone, with what they held. Or
 -- none is there, and nothing has changed.

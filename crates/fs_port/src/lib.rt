@@ -5,8 +5,9 @@
 //!
 //! What it promises: `Blocks` is the whole contract of a disk as a file system sees it: each ask answers by the rules
 //! of the disk, a crash inside leaves the world before or the one after, and `Failed` comes only where a count rose.
-//! `Files` is the contract of a file system over any such disk: each call answers and changes the tree by `tree_step`, a
-//! refusal leaves the disk, a crash inside leaves the tree before or the one after, and what its root doesn't reach stays.
+//! `Files` is the contract of a file system over any such disk: each call answers and changes the tree by `tree_step`,
+//! a refusal leaves the disk, a crash inside leaves the tree before or the one after, and what its root doesn't reach
+//! stays.
 //! `what_is_held_stays` is a law of the requests that it may ask.
 //! `PlainBlocks` is such a disk in memory, by the plain program.
 #![tactic(auto)]

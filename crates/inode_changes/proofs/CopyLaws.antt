@@ -16,7 +16,7 @@ use Rattle.fs_trees.specs.Tree.{Tree, a_file, at, is_there, bytes_in, with_at}
 use Rattle.fs_trees.specs.Fields.{numbers}
 use Rattle.fs_trees.specs.Inode as tree
 use Rattle.fs_trees.specs.Inode.{entries_room, data_room, are_apart}
-use Rattle.fs_trees.specs.Needs.{need_of}
+use Rattle.fs_trees.specs.Needs.{need, inode_need, need_of}
 use Rattle.fs_trees.specs.Refusals.{Need, first_of, lost_on_the_way, missing, no_file, taken, dir_full, no_room, refusal}
 use Rattle.fs_trees.specs.Step.{change}
 use Rattle.fs_trees.specs.declared.ask.ShellAsk.TheVariants as ask
@@ -275,13 +275,17 @@ module _ (c : Client) (v : View) (path : Path) (file : Found) (new : Path) (plac
   size_is : length (bytes_in (at (tree_of c v) path)) ≡ content.size
   size_is = ap (λ y. length (bytes_in y)) file_at ∙ (length-take-le size (bytes_said v.world (inode_of file.inode)) (row_is_long c v x.found.more file x.found.stands no_dir now whole) ∙ sym k.size)
 
+  -- what it needs
+  pub need_is : inode_need v.world.geometry (tree_of c v) (ask.Copy path new) ≡ need (1 + new_count content) (1 + all_count content)
+  need_is =
+      copy_need v.world.geometry (tree_of c v) path new content.size size_is
+      ∙ (ap (λ n. need 1 (1 + n)) (ap (div_ceil content.size) (sym same_len) ∙ sym count) ∙ ap (λ n. need n (1 + all_count content)) one_more)
+    where
+      one_more : 1 ≡ 1 + new_count content
+      one_more = let some = no_new file.inode no_dir whole content k in omega (arith, some)
+
   -- what is refused for want of room
   pub room_refuses : entering.HasRoom place.directory.inode place.name.now → refused_on (mounted_by c) v (ask.Copy path new) ≡ no_room_in v.world (1 + new_count content) (1 + all_count content)
   room_refuses room =
       roomy_asks c v path file new place x dir now room
-      ∙ (ap (λ n. first_of (no_room v.world.geometry (free_count v.world) (length v.world.pairs) n)) (copy_need v.world.geometry (tree_of c v) path new content.size size_is)
-      ∙ (ap (λ n. no_room_in v.world 1 (1 + n)) (ap (div_ceil content.size) (sym same_len) ∙ sym count)
-      ∙ ap (λ n. no_room_in v.world n (1 + all_count content)) one_more))
-    where
-      one_more : 1 ≡ 1 + new_count content
-      one_more = let some = no_new file.inode no_dir whole content k in omega (arith, some)
+      ∙ ap (λ n. first_of (no_room v.world.geometry (free_count v.world) (length v.world.pairs) n)) need_is

@@ -227,6 +227,7 @@ module _ (c : Client) (old vs v1 v2 : View) (i n : ℕ) (shared bytes blocks : L
         fresh = blocks;
         making = made_by_one c (i ∷ []) i among_inode v2.world x went.leads first d i shared blocks at m2 inode_only;
         says = says_so;
+        many = enough ∙ ap (λ g. div_ceil size (block_len g)) (sym same_size);
         bytes_are = bytes_so;
       }
 

@@ -15,7 +15,7 @@ use Rattle.fs_trees.specs.Inode as tree
 use Rattle.fs_trees.specs.Inode.{data_room, are_apart}
 use Rattle.fs_trees.specs.InodeTree as inodes
 use Rattle.fs_trees.specs.InodeTree.{inode_at, inodes_under, inode_tree}
-use Rattle.fs_trees.specs.Needs.{need, need_of}
+use Rattle.fs_trees.specs.Needs.{need, inode_need, need_of}
 use Rattle.fs_trees.specs.Refusals.{when, first_of, no_room}
 use Rattle.fs_trees.specs.declared.ask.ShellAsk.TheVariants as ask
 use Rattle.fs_trees.specs.declared.ask.ShellKind.TheVariants as kind
@@ -300,7 +300,14 @@ module _ (c : Client) (v : View) (path : Path) (place : Place) (file : Found) (x
         ∙ (grown f len blocks block_full full size few within enough_in_row y
         ∙ (ap (λ xs. take size xs ++ y) (sym row) ∙ ap (λ xs. xs ++ y) (sym bytes_is)))))))
 
-    -- what refuses it, in the numbers of what is made
+    -- what it needs, in the numbers of what is made
+    pub need_is : 1 ≤ length y → inode_need v.world.geometry (tree_of c v) (ask.Append path y) ≡ need (1 + new_count content) (1 + all_count content)
+    need_is least =
+        append_need v.world.geometry (tree_of c v) path y size (subst (λ n. 0 < n) same_len some) least size_is
+        ∙ (ap (λ n. need (1 + div_ceil (size % n + length y) n) (1 + (size / n + div_ceil (size % n + length y) n))) (sym same_len)
+        ∙ (ap (λ n. need (1 + n) (1 + (full + div_ceil (size % len + length y) len))) (sym new_is) ∙ ap (λ n. need (1 + new_count content) (1 + n)) (sym all_is)))
+
+    -- what refuses it
     pub room_is : 1 ≤ length y → nat_lt (data_room (block_len_of file.inode)) (div_ceil (amount_said (inode_of file.inode) + length y) (block_len_of file.inode)) ≡ false
         → refused_on (mounted_by c) v (ask.Append path y) ≡ no_room_in v.world (1 + new_count content) (1 + all_count content)
     room_is least fits = room_refuses y least fits ∙ (ap (λ n. no_room_in v.world (1 + n) (1 + (full + div_ceil (size % len + length y) len))) (sym new_is) ∙ ap (λ n. no_room_in v.world (1 + new_count content) (1 + n)) (sym all_is))

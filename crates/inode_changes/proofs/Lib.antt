@@ -19,6 +19,7 @@ pub mod EnterLaws
 pub mod DirectoryLaws
 pub mod MakeLaws
 pub mod MadeLaws
+pub mod TakenLaws
 pub mod AppendLaws
 pub mod NeedLaws
 pub mod GrownLaws

@@ -1,5 +1,6 @@
 -- The functions that make a file, one after the other.
 use Rattle.std.specs.Prelude.{◌≡◌, ◌+◌, ◌<◌, ℕ, false, List, [], ◌∷◌, ◌++◌, length, take, drop, flat_map, Some, IsTrue}
+use Rattle.std.specs.Int.{div_ceil}
 use Rattle.tsd_model.specs.Geometry.{block_len}
 use Rattle.tsd_model.specs.World.{World, contents, has_number}
 use Rattle.tsd_model.specs.Valid.{IsValid}
@@ -100,11 +101,13 @@ pub record Stopped (c : Client) (old new : View) (i : ℕ) (blocks : List ℕ) :
 abbrev pub joined : World → List ℕ → List ℕ → List ℕ
 joined w blocks bytes = flat_map (bytes_at w) blocks ++ bytes
 
--- In block i the inode of a file of this size stands, which shares these blocks; its fresh blocks hold the bytes behind theirs.
+-- In block i the inode of a file of this size stands, which shares these blocks; its fresh blocks hold the bytes behind theirs. All are
+-- as many as its size takes.
 pub record IsFile (root : ℕ) (first : World) (d i size : ℕ) (shared bytes : List ℕ) (w : World) : Type 0 where
   pub fresh : List ℕ
   pub making : Making root first d i shared fresh w
   pub says : inode_at w i ≡ Some (regular size (shared ++ fresh))
+  pub many : length (shared ++ fresh) ≡ div_ceil size (block_len w.geometry)
   pub bytes_are : file_bytes w (record { block = i; size = size; blocks = shared ++ fresh }) ≡ take size (joined first shared bytes)
 
 pub record Filled (c : Client) (old new : View) (i size : ℕ) (shared bytes : List ℕ) : Type 0 where

@@ -3,11 +3,12 @@
 ghost use Rattle.std.specs.Prelude.{◌≡◌, ◌≢◌, ◌≤◌, ℕ, length, false, None, Some, IsTrue, IfOk, IfErr, OnOk};
 ghost use Rattle.fs_trees.specs.Names.{Path, name_max, is_path};
 ghost use Rattle.fs_trees.specs.Answer.{done};
+ghost use Rattle.fs_trees.specs.Needs.{need};
 ghost use Rattle.fs_trees.specs.Step.{empty_tree};
 ghost use Rattle.fs_trees.specs.declared.ask.ShellAsk.TheVariants as ask;
 ghost use Rattle.fs_trees.specs.declared.refusal.FsRefusal.TheVariants as no;
 ghost use Rattle.fs_port.specs.Calls.{IsValidNow};
-ghost use Rattle.fs_port.specs.Files.{Answers};
+ghost use Rattle.fs_port.specs.Files.{Answers, KeepsRoom};
 ghost use Rattle.fs_port.specs.Runs.{Changes, Runs};
 ghost use Rattle.fs_client.specs.May.{MayWrite};
 ghost use Rattle.fs_client.specs.Steps.{no_room_in};
@@ -38,6 +39,7 @@ fn new_directory<K: Blocks>(client: &Client, disk: &mut K, directory: u32) -> Re
     ensures may { K.told → OnOk result ((b : ℕ) → MayWrite client.now (K.view disk.old) b
         → MayWrite client.now (K.view disk.new) b) }
     ensures room { K.told → OnOk result (no_room_in (K.view disk.old).world 1 1 ≡ None) }
+    ensures keeps { K.told → OnOk result (KeepsRoom (need 1 1) (K.view disk.old).world (K.view disk.new).world) }
     ensures full { K.told → IfErr result (λ e. e ≢ no.Device → no_room_in (K.view disk.old).world 1 1 ≡ Some e) }
     ensures same { K.told → IfErr result (λ e. e ≢ no.Device → (K.view disk.new).world
         ≡ (K.view disk.old).world) }

@@ -2,9 +2,11 @@
 
 ghost use Rattle.std.specs.Prelude.{◌≡◌, ◌≤◌, nat_le, length, false, None, IsTrue, IfErr, OnOk, OnErr};
 ghost use Rattle.fs_trees.specs.Names.{name_max};
+ghost use Rattle.fs_trees.specs.Needs.{need};
 ghost use Rattle.fs_trees.specs.Inode.{entries_room};
 ghost use Rattle.fs_trees.specs.declared.refusal.FsRefusal.TheVariants as no;
 ghost use Rattle.fs_port.specs.Calls.{IsValidNow};
+ghost use Rattle.fs_port.specs.Files.{KeepsRoom};
 ghost use Rattle.fs_client.specs.May.{MayWrite};
 ghost use Rattle.fs_port.specs.Runs.{Runs};
 ghost use Rattle.inode_layout.specs.Block.{inode_of, block_len_of};
@@ -50,6 +52,7 @@ pub fn enter<K: Blocks>(
     requires made { K.told → MayEnter client.now.root place.now inode (K.view disk.old).world }
     ensures entered { K.told → OnOk result (Enters client.now.root place.now inode (K.view disk.old).world
         (K.view disk.new).world) }
+    ensures keeps { K.told → OnOk result (KeepsRoom (need 0 0) (K.view disk.old).world (K.view disk.new).world) }
     ensures only { K.told → IfErr result (λ e. e ≡ no.Device) }
     ensures runs { Runs K.told (K.view disk.old) (K.view disk.new) (EntersOrNot client.now.root place.now inode
         (K.view disk.old).world) result }

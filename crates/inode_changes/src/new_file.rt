@@ -2,8 +2,10 @@
 
 ghost use Rattle.std.specs.Prelude.{◌≡◌, ◌≢◌, ◌+◌, ℕ, false, None, Some, IfOk, IfErr, OnOk};
 ghost use Rattle.fs_trees.specs.Tree.{a_file};
+ghost use Rattle.fs_trees.specs.Needs.{need};
 ghost use Rattle.fs_trees.specs.declared.refusal.FsRefusal.TheVariants as no;
 ghost use Rattle.fs_port.specs.Calls.{IsValidNow};
+ghost use Rattle.fs_port.specs.Files.{KeepsRoom};
 ghost use Rattle.fs_client.specs.May.{MayWrite};
 ghost use Rattle.fs_client.specs.Steps.{no_room_in};
 ghost use Rattle.fs_port.specs.Runs.{Runs};
@@ -41,6 +43,8 @@ pub fn make_file<K: Blocks>(
         → MayWrite client.now (K.view disk.new) b) }
     ensures room { K.told → OnOk result (no_room_in (K.view disk.old).world (1 + new_count content.now)
         (1 + all_count content.now) ≡ None) }
+    ensures keeps { K.told → OnOk result (KeepsRoom (need (1 + new_count content.now) (1 + all_count content.now))
+        (K.view disk.old).world (K.view disk.new).world) }
     ensures full { K.told → IfErr result (λ e. e ≢ no.Device
         → no_room_in (K.view disk.old).world (1 + new_count content.now) (1 + all_count content.now) ≡ Some e) }
     ensures same { K.told → IfErr result (λ e. e ≢ no.Device → (K.view disk.new).world

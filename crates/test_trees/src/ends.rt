@@ -59,7 +59,8 @@ fn appends_end_beside_the_end_of_a_cluster(rt: HostRuntime) {
     }
 }
 
-/// The word of an ask and what it has behind its path, the names of which it is asked, and how many blocks are free then.
+/// The word of an ask and what it has behind its path, the names of which it is asked, and how many blocks are free
+/// then.
 const STEPS: [(&str, &str, &[u8], u32); 8] = [
     ("put", " -", b"abcdefghijklmno", 24),
     ("put", " -", b"p", 22),

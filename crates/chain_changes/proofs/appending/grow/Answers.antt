@@ -4,12 +4,14 @@ use Rattle.tsd_model.specs.Geometry.{block_len}
 use Rattle.fs_trees.specs.Cluster.{bytes_room, link_field, part_bytes}
 use Rattle.fs_trees.specs.Answer.{done}
 use Rattle.fs_trees.specs.Names.{Path}
+use Rattle.fs_trees.specs.Needs.{need}
 use Rattle.fs_trees.specs.declared.ask.ShellAsk.TheVariants as ask
 use Rattle.fs_trees.specs.declared.refusal.FsRefusal.TheVariants as no
-use Rattle.fs_port.specs.Files.{IsEitherTree}
+use Rattle.fs_port.specs.Files.{IsEitherTree, KeepsRoom}
 use Rattle.fs_client.specs.Client.{write_by}
 use Rattle.fs_client.proofs.LookLaws.{no_look, looks_but_refuses}
 use Rattle.fs_client.specs.Steps.{Steps, written, no_room_in}
+use Rattle.fs_client.proofs.KeepLaws.{no_more_room, write_takes}
 use Rattle.fs_client.proofs.AskLaws.{ask_refuses}
 use Rattle.fs_client.proofs.RunLaws.{runs_step, runs_more, runs_refused, then_runs, changes_of, looks_change, leaves_same}
 use Rattle.chain_layout.specs.Block.{block_len_of}
@@ -20,8 +22,9 @@ use Rattle.chain_changes.specs.Filling.{first_block}
 use Rattle.chain_changes.proofs.FileLaws.{long_room}
 use Rattle.chain_changes.proofs.WriteLaws.{first_linked}
 use Rattle.chain_changes.specs.Growing.{IsLastOf, clusters_more, NewTail}
+use Rattle.chain_changes.proofs.TakenLaws.{tail_takes}
 use Rattle.chain_changes.proofs.AfterLaws.{Decided, None_loose, decided_answers, decided_leaves}
-use Rattle.chain_changes.proofs.GrowthLaws.{aside_either, stage, refused_is, grow_fits, grow_may, grow_decided, grow_stop}
+use Rattle.chain_changes.proofs.GrowthLaws.{aside_either, stage, more_is, refused_is, grow_fits, grow_may, grow_decided, grow_stop}
 use Rattle.chain_changes.proofs.appending.grow.Goals as goal
 
 pub bytes_room-requires : goal.bytes_room-requires
@@ -91,7 +94,7 @@ returns-in-Err g c =
       changes = λ path last.
           let a = ask.Append path x in
           let P = IsEitherTree (mounted_by me) first a in
-          changes_of told (mounted_by me) refl first mid a (Err r) (λ t. (tt, λ ne. leaves_same (mounted_by me) first mid (e.same t ne) (e.runs.unspent.1 ne)))
+          changes_of told (mounted_by me) refl first mid a (Err r) (λ t. tt) (λ t. (tt, λ ne. leaves_same (mounted_by me) first mid (e.same t ne) (e.runs.unspent.1 ne)))
           (runs_refused told first mid P r (runs_more told first mid (IsAside me.root first.world) P (Err r) (λ t w aside. aside_either me first a w aside) e.runs));
     }
 
@@ -172,12 +175,17 @@ returns-in-Ok-write_block g c =
     let roomy = λ (t : told) (path : Path) (last : IsLastOf me first path part). ap (λ n. no_room_in first.world n n) (sym (more path last)) ∙ e.room t in
     let decided = λ (t : told) (path : Path) (last : IsLastOf me first path part). subst (λ w. Decided me first (ask.Append path x) w None_loose) (sym (steps.went t).world)
     (grow_decided me first path x part last (valid t) (primary t) taken (is path last) c.requires.some mid blocks e.linkable (tail t) (roomy t path last) (steps.went t).leads) in
+    let most = clusters_more (block_len first.world.geometry) (drop taken x) in
+    let kept = λ (t : told) (path : Path) (last : IsLastOf me first path part).
+    subst (λ n. KeepsRoom (need n n) first.world fin.world) (sym (more_is me first path x part last (valid t) (primary t) taken (is path last) c.requires.some))
+    (no_more_room (need most most) first.world mid.world fin.world (tail_takes me first mid d (drop taken x) blocks (valid t) (tail t))
+    (write_takes me mid fin (e.runs.valid t).0 (write_by me d bytes) d bytes ((tail t).may d last.last.may).live (steps.went t))) in
     record {
       answer = λ t path last. decided_answers me first (ask.Append path x) fin None_loose (decided t path last);
       changes = λ path last.
           let a = ask.Append path x in
           let P = IsEitherTree (mounted_by me) first a in
-          changes_of told (mounted_by me) refl first fin a (Ok tt) (λ t. (decided_leaves me first a fin (decided t path (last t)) steps.unspent.0, tt))
+          changes_of told (mounted_by me) refl first fin a (Ok tt) (λ t. kept t path (last t)) (λ t. (decided_leaves me first a fin (decided t path (last t)) steps.unspent.0, tt))
           (then_runs told first mid fin P blocks (Ok tt) (runs_more told first mid (IsAside me.root first.world) P (Ok blocks) (λ t w aside. aside_either me first a w aside) e.runs)
           (runs_step told me mid fin (write_by me d bytes) d (written mid.world d bytes) P (Ok tt) (λ t. (e.runs.valid t).0)
           (λ t. grow_stop me first path x part (last t) (valid t) (primary t) taken (is path (last t)) c.requires.some mid blocks e.linkable (tail t) (roomy t path (last t))) steps));
@@ -216,7 +224,7 @@ returns-in-Err-write_block g c =
       changes = λ path last.
           let a = ask.Append path x in
           let P = IsEitherTree (mounted_by me) first a in
-          changes_of told (mounted_by me) refl first fin a (Err r) (λ t. (tt, λ ne. absurd (ne (h.only t))))
+          changes_of told (mounted_by me) refl first fin a (Err r) (λ t. tt) (λ t. (tt, λ ne. absurd (ne (h.only t))))
           (then_runs told first mid fin P blocks (Err r) (runs_more told first mid (IsAside me.root first.world) P (Ok blocks) (λ t w aside. aside_either me first a w aside) e.runs)
           (runs_step told me mid fin (write_by me d bytes) d (written mid.world d bytes) P (Err r) (λ t. (e.runs.valid t).0)
           (λ t. grow_stop me first path x part (last t) (valid t) (primary t) taken (is path (last t)) c.requires.some mid blocks e.linkable (tail t) (roomy t path (last t))) steps));

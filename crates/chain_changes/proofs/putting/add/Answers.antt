@@ -5,14 +5,15 @@ use Rattle.tsd_model.specs.World.{World}
 use Rattle.fs_trees.specs.Answer.{done}
 use Rattle.fs_trees.specs.ChainTree.{names_max}
 use Rattle.fs_trees.specs.Cluster.{entries_room, directory_bytes}
-use Rattle.fs_trees.specs.Needs.{clusters_for}
+use Rattle.fs_trees.specs.Needs.{need, clusters_for}
 use Rattle.fs_trees.specs.declared.ask.ShellAsk.TheVariants as ask
 use Rattle.fs_trees.specs.declared.refusal.FsRefusal.{FsRefusal}
-use Rattle.fs_port.specs.Files.{IsEitherTree}
+use Rattle.fs_port.specs.Files.{IsEitherTree, KeepsRoom, need_on}
 use Rattle.fs_client.specs.Client.{write_by}
 use Rattle.fs_client.specs.Steps.{Leads, Steps, written, no_room_in}
 use Rattle.fs_client.specs.Changing.{refused_on}
 use Rattle.fs_port.specs.Runs.{Runs}
+use Rattle.fs_client.proofs.KeepLaws.{no_more_room, write_takes}
 use Rattle.fs_client.proofs.AskLaws.{ask_refuses}
 use Rattle.fs_client.proofs.RunLaws.{runs_step, runs_more, then_runs, runs_refused, changes_of, leaves_same}
 use Rattle.chain_layout.specs.Block.{cluster_of, block_len_of}
@@ -22,9 +23,10 @@ use Rattle.chain_reading.specs.Chained.{AreOthers}
 use Rattle.chain_reading.specs.Changed.{file_names}
 use Rattle.chain_changes.specs.Making.{IsAside}
 use Rattle.chain_reading.specs.Asking.{mounted_by}
+use Rattle.chain_changes.proofs.TakenLaws.{file_takes}
 use Rattle.chain_changes.proofs.AfterLaws.{Decided, None_loose, decided_answers, decided_leaves}
 use Rattle.chain_changes.proofs.PuttingLaws.{Putting, stage, aside_either, stop_either}
-use Rattle.chain_changes.proofs.PlacedLaws.{putting_new, new_name, new_count, new_entry, roomy_there, refused_new, add_bytes}
+use Rattle.chain_changes.proofs.PlacedLaws.{putting_new, new_name, new_count, new_entry, roomy_there, needed_new, refused_new, add_bytes}
 use Rattle.chain_changes.proofs.AddLaws.{add_fits, add_decided}
 use Rattle.chain_changes.proofs.putting.add.Goals as goal
 
@@ -84,7 +86,7 @@ returns-in-Err g c =
     let r = c.in-Err.refusal in
     record {
       answer = λ t. ask_refuses (mounted_by me) old new a (λ _ answer. answer ≡ done) r (λ ne. refused t ∙ e.full t ne) (e.same t);
-      changes = changes_of told (mounted_by me) refl old new a (Err r) (λ t. (tt, λ ne. leaves_same (mounted_by me) old new (e.same t ne) (e.runs.unspent.1 ne)))
+      changes = changes_of told (mounted_by me) refl old new a (Err r) (λ t. tt) (λ t. (tt, λ ne. leaves_same (mounted_by me) old new (e.same t ne) (e.runs.unspent.1 ne)))
           (runs_refused told old new P r (runs_more told old new (IsAside me.root old.world) P (Err r) (λ t w aside. aside_either me old n page (x t) body w aside) e.runs));
     }
 
@@ -188,7 +190,7 @@ returns-in-Err-write_block g c =
     let steps = subst (λ bs. Steps {X = Unit {0}} told me mid wr (write_by me d bs) d (written mid.world d bs) (Err r)) is h.steps in
     record {
       answer = λ t. ask_refuses (mounted_by me) old wr a (λ _ answer. answer ≡ done) r (λ ne. absurd (ne (h.only t))) (λ ne. absurd (ne (h.only t)));
-      changes = changes_of told (mounted_by me) refl old wr a (Err r) (λ t. (tt, λ ne. absurd (ne (h.only t)))) (then_runs told old mid wr P blocks (Err r) before (runs_step told me mid wr (write_by me d bytes) d (written mid.world d bytes) P (Err r) now stop steps));
+      changes = changes_of told (mounted_by me) refl old wr a (Err r) (λ t. tt) (λ t. (tt, λ ne. absurd (ne (h.only t)))) (then_runs told old mid wr P blocks (Err r) before (runs_step told me mid wr (write_by me d bytes) d (written mid.world d bytes) P (Err r) now stop steps));
     }
 
 pub returns-in-Ok-write_block : goal.returns-in-Ok-write_block
@@ -232,8 +234,14 @@ returns-in-Ok-write_block g c =
     let h = c.in-Ok-write_block.ensures in
     let steps = subst (λ bs. Steps {X = Unit {0}} told me mid wr (write_by me d bs) d (written mid.world d bs) (Ok tt)) is h.steps in
     let done_now : told → Decided me old a wr.world None_loose = λ t. subst (λ v. Decided me old a v None_loose) (sym (steps.went t).world) (decide t (steps.went t).leads) in
+    let kept : told → KeepsRoom (need_on (mounted_by me) old a) old.world wr.world = λ t.
+    subst (λ k. KeepsRoom k old.world wr.world)
+    (sym (needed_new me old n (c.requires.found t).chains (c.requires.found t).under body (new_entry me old n page (c.requires.may.valid t) (c.requires.may.tree t) (primary t) c.requires.named count (c.requires.found t)) 0
+    (ap (λ b. cond {A = ℕ} (not b && true) 1 0) (roomy_there me old n page (c.requires.may.valid t) (c.requires.may.tree t) (primary t) c.requires.named count (c.requires.found t) c.requires.room))))
+    (no_more_room (need want want) old.world mid.world wr.world (file_takes me old mid d 0 body blocks (c.requires.may.valid t).valid (e.made t))
+    (write_takes me mid wr (now t) (write_by me d bytes) d bytes ((e.made t).may d (x t).may).live (steps.went t))) in
     record {
       answer = λ t. decided_answers me old a wr None_loose (done_now t);
-      changes = changes_of told (mounted_by me) refl old wr a (Ok tt) (λ t. (decided_leaves me old a wr (done_now t) steps.unspent.0, tt))
+      changes = changes_of told (mounted_by me) refl old wr a (Ok tt) kept (λ t. (decided_leaves me old a wr (done_now t) steps.unspent.0, tt))
           (then_runs told old mid wr P blocks (Ok tt) before (runs_step told me mid wr (write_by me d bytes) d (written mid.world d bytes) P (Ok tt) now stop steps));
     }

@@ -6,15 +6,16 @@ use Rattle.disk_laws.proofs.ChangeLaws.{live-with_contents}
 use Rattle.fs_trees.specs.Answer.{done}
 use Rattle.fs_trees.specs.ChainTree.{names_max}
 use Rattle.fs_trees.specs.Cluster.{directory_bytes}
-use Rattle.fs_trees.specs.Needs.{clusters_for}
+use Rattle.fs_trees.specs.Needs.{need, clusters_for}
 use Rattle.fs_trees.specs.declared.ask.ShellAsk.TheVariants as ask
 use Rattle.fs_trees.specs.declared.refusal.FsRefusal.{FsRefusal}
-use Rattle.fs_port.specs.Files.{IsEitherTree}
+use Rattle.fs_port.specs.Files.{IsEitherTree, KeepsRoom, need_on}
 use Rattle.fs_client.specs.Client.{write_by}
 use Rattle.fs_client.specs.May.{MayWrite}
 use Rattle.fs_client.specs.Steps.{Leads, Steps, written, no_room_in}
 use Rattle.fs_client.specs.Changing.{refused_on}
 use Rattle.fs_port.specs.Runs.{Runs}
+use Rattle.fs_client.proofs.KeepLaws.{no_more_room, write_takes}
 use Rattle.fs_client.proofs.AskLaws.{ask_refuses}
 use Rattle.fs_client.proofs.RunLaws.{runs_step, runs_more, then_runs, runs_refused, changes_of, leaves_same}
 use Rattle.fs_client.proofs.MayLaws.{may_after}
@@ -24,9 +25,10 @@ use Rattle.chain_reading.specs.Chained.{AreOthers}
 use Rattle.chain_reading.specs.Changed.{file_names}
 use Rattle.chain_changes.specs.Making.{Making, IsAside}
 use Rattle.chain_reading.specs.Asking.{mounted_by}
+use Rattle.chain_changes.proofs.TakenLaws.{file_takes}
 use Rattle.chain_changes.proofs.AfterLaws.{Decided, None_loose, decided_answers, decided_leaves}
 use Rattle.chain_changes.proofs.PuttingLaws.{Putting, stage, aside_either, stop_either}
-use Rattle.chain_changes.proofs.PlacedLaws.{putting_new, new_name, new_count, new_entry, none_behind, full_there, refused_new, first_there}
+use Rattle.chain_changes.proofs.PlacedLaws.{putting_new, new_name, new_count, new_entry, none_behind, full_there, needed_new, refused_new, first_there}
 use Rattle.chain_changes.proofs.ExtendLaws.{one_fits, first_among, making_one, stop_new, linked_fits, extend_decided}
 use Rattle.chain_changes.proofs.putting.extend.Goals as goal
 
@@ -86,7 +88,7 @@ returns-in-Err g c =
     let r = c.in-Err.refusal in
     record {
       answer = λ t. ask_refuses (mounted_by me) old new a (λ _ answer. answer ≡ done) r (λ ne. refused t ∙ e.full t ne) (e.same t);
-      changes = changes_of told (mounted_by me) refl old new a (Err r) (λ t. (tt, λ ne. leaves_same (mounted_by me) old new (e.same t ne) (e.runs.unspent.1 ne)))
+      changes = changes_of told (mounted_by me) refl old new a (Err r) (λ t. tt) (λ t. (tt, λ ne. leaves_same (mounted_by me) old new (e.same t ne) (e.runs.unspent.1 ne)))
           (runs_refused told old new P r (runs_more told old new (IsAside me.root old.world) P (Err r) (λ t w aside. aside_either me old n page (x t) body w aside) e.runs));
     }
 
@@ -197,7 +199,7 @@ returns-in-Err-write_block g c =
     (subst (λ bs. Steps {X = Unit {0}} told me mid wr (write_by me (slice_index_or c.as_slice.result.now 0 0) bs) (slice_index_or c.as_slice.result.now 0 0) (written mid.world (slice_index_or c.as_slice.result.now 0 0) bs) (Err r)) one_is h.steps) in
     record {
       answer = λ t. ask_refuses (mounted_by me) old wr a (λ _ answer. answer ≡ done) r (λ ne. absurd (ne (h.only t))) (λ ne. absurd (ne (h.only t)));
-      changes = changes_of told (mounted_by me) refl old wr a (Err r) (λ t. (tt, λ ne. absurd (ne (h.only t)))) (then_runs told old mid wr P blocks (Err r) before (runs_step told me mid wr (write_by me p one) p (written mid.world p one) P (Err r) now stop_one steps));
+      changes = changes_of told (mounted_by me) refl old wr a (Err r) (λ t. tt) (λ t. (tt, λ ne. absurd (ne (h.only t)))) (then_runs told old mid wr P blocks (Err r) before (runs_step told me mid wr (write_by me p one) p (written mid.world p one) P (Err r) now stop_one steps));
     }
 
 pub directory_linked-requires : goal.directory_linked-requires
@@ -312,9 +314,18 @@ returns-in-Ok-write_block-2 g c =
     let j = c.in-Ok-write_block-2.ensures in
     let later : Steps {X = Unit {0}} told me wr fin (write_by me d bytes) d (written wr.world d bytes) (Ok tt) = subst (λ bs. Steps {X = Unit {0}} told me wr fin (write_by me d bs) d (written wr.world d bs) (Ok tt)) two_is j.steps in
     let done_now : told → Decided me old a fin.world None_loose = λ t. subst (λ v. Decided me old a v None_loose) (sym (later.went t).world) (decide t (later.went t).leads) in
+    let kept : told → KeepsRoom (need_on (mounted_by me) old a) old.world fin.world = λ t.
+    subst (λ k. KeepsRoom k old.world fin.world)
+    (sym (needed_new me old n (c.requires.found t).chains (c.requires.found t).under body (new_entry me old n page (c.requires.may.valid t) (c.requires.may.tree t) (primary t) c.requires.named count (c.requires.found t)) 1
+    (ap (λ b. cond {A = ℕ} (not b && true) 1 0) (full_there me old n page (c.requires.may.valid t) (c.requires.may.tree t) (primary t) c.requires.named count (c.requires.found t) c.requires.full))))
+    (no_more_room (need want want) old.world wr.world fin.world
+    (no_more_room (need want want) old.world mid.world wr.world (file_takes me old mid d 1 body blocks (c.requires.may.valid t).valid (e.made t))
+    (write_takes me mid wr (now t) (write_by me p one) p one ((e.made t).own p (first_among me old n page (x t) body blocks mid (e.made t) (e.room t) e.linkable e.some)).live (steps.went t)))
+    (write_takes me wr fin (steps.went t).valid (write_by me d bytes) d bytes
+    (may_after me mid wr (write_by me p one) p (written mid.world p one) (steps.went t) (now t) refl refl (λ k y h. h) (λ k h. live-with_contents mid.world p k _ h) steps.stays.0 d ((e.made t).may d (x t).may)).live (later.went t))) in
     record {
       answer = λ t. decided_answers me old a fin None_loose (done_now t);
-      changes = changes_of told (mounted_by me) refl old fin a (Ok tt) (λ t. (decided_leaves me old a fin (done_now t) later.unspent.0, tt))
+      changes = changes_of told (mounted_by me) refl old fin a (Ok tt) kept (λ t. (decided_leaves me old a fin (done_now t) later.unspent.0, tt))
           (then_runs told old wr fin P tt (Ok tt) so_far (runs_step told me wr fin (write_by me d bytes) d (written wr.world d bytes) P (Ok tt) (λ t. (steps.went t).valid) stop later));
     }
 
@@ -374,5 +385,5 @@ returns-in-Err-write_block-2 g c =
     let later : Steps {X = Unit {0}} told me wr fin (write_by me d bytes) d (written wr.world d bytes) (Err r) = subst (λ bs. Steps {X = Unit {0}} told me wr fin (write_by me d bs) d (written wr.world d bs) (Err r)) two_is h.steps in
     record {
       answer = λ t. ask_refuses (mounted_by me) old fin a (λ _ answer. answer ≡ done) r (λ ne. absurd (ne (h.only t))) (λ ne. absurd (ne (h.only t)));
-      changes = changes_of told (mounted_by me) refl old fin a (Err r) (λ t. (tt, λ ne. absurd (ne (h.only t)))) (then_runs told old wr fin P tt (Err r) so_far (runs_step told me wr fin (write_by me d bytes) d (written wr.world d bytes) P (Err r) (λ t. (steps.went t).valid) stop later));
+      changes = changes_of told (mounted_by me) refl old fin a (Err r) (λ t. tt) (λ t. (tt, λ ne. absurd (ne (h.only t)))) (then_runs told old wr fin P tt (Err r) so_far (runs_step told me wr fin (write_by me d bytes) d (written wr.world d bytes) P (Err r) (λ t. (steps.went t).valid) stop later));
     }

@@ -5,14 +5,15 @@ use Rattle.tsd_model.specs.World.{World}
 use Rattle.disk_laws.proofs.ChangeLaws.{live-with_contents}
 use Rattle.fs_trees.specs.Answer.{done}
 use Rattle.fs_trees.specs.Cluster.{directory_bytes}
-use Rattle.fs_trees.specs.Needs.{clusters_for}
+use Rattle.fs_trees.specs.Needs.{need, clusters_for}
 use Rattle.fs_trees.specs.declared.ask.ShellAsk.TheVariants as ask
 use Rattle.fs_trees.specs.declared.refusal.FsRefusal.{FsRefusal}
-use Rattle.fs_port.specs.Files.{IsEitherTree}
-use Rattle.fs_client.specs.Client.{write_by}
+use Rattle.fs_port.specs.Files.{IsEitherTree, KeepsRoom, need_on}
+use Rattle.fs_client.specs.Client.{write_by, unlink_by}
 use Rattle.fs_client.specs.Steps.{Leads, Went, written, no_room_in}
 use Rattle.fs_client.specs.Changing.{refused_on}
 use Rattle.fs_port.specs.Runs.{Runs}
+use Rattle.fs_client.proofs.KeepLaws.{no_more_room, write_takes, drop_takes}
 use Rattle.fs_client.proofs.AskLaws.{ask_refuses}
 use Rattle.fs_client.proofs.RunLaws.{runs_step, runs_more, then_runs, runs_as, runs_refused, changes_of, leaves_same}
 use Rattle.fs_client.proofs.MayLaws.{may_after}
@@ -23,9 +24,10 @@ use Rattle.chain_changes.specs.Making.{IsAside}
 use Rattle.chain_reading.specs.Asking.{mounted_by}
 use Rattle.chain_reading.specs.Finding.{IsEntry}
 use Rattle.chain_reading.proofs.KnownLaws.{is_known}
+use Rattle.chain_changes.proofs.TakenLaws.{file_takes}
 use Rattle.chain_changes.proofs.AfterLaws.{LetsGo, None_loose, This_loose, decided_answers, decided_leaves, loose_gone, loose_runs}
 use Rattle.chain_changes.proofs.PuttingLaws.{Putting, stage, aside_either, stop_either}
-use Rattle.chain_changes.proofs.PlacedLaws.{putting_over, the_taken, over_entry, refused_over, set_bytes, entries_used}
+use Rattle.chain_changes.proofs.PlacedLaws.{putting_over, the_taken, over_entry, needed_over, refused_over, set_bytes, entries_used}
 use Rattle.chain_changes.proofs.AddLaws.{set_fits, set_lets}
 use Rattle.chain_changes.proofs.putting.replace.Goals as goal
 
@@ -85,7 +87,7 @@ returns-in-Err g c =
     let r = c.in-Err.refusal in
     record {
       answer = λ t. ask_refuses (mounted_by me) old new a (λ _ answer. answer ≡ done) r (λ ne. refused t ∙ e.full t ne) (e.same t);
-      changes = changes_of told (mounted_by me) refl old new a (Err r) (λ t. (tt, λ ne. leaves_same (mounted_by me) old new (e.same t ne) (e.runs.unspent.1 ne)))
+      changes = changes_of told (mounted_by me) refl old new a (Err r) (λ t. tt) (λ t. (tt, λ ne. leaves_same (mounted_by me) old new (e.same t ne) (e.runs.unspent.1 ne)))
           (runs_refused told old new P r (runs_more told old new (IsAside me.root old.world) P (Err r) (λ t w aside. aside_either me old n page (x t) body w aside) e.runs));
     }
 
@@ -194,7 +196,7 @@ returns-in-Err-write_block g c =
     let r = c.in-Err-write_block.refusal in
     record {
       answer = λ t. ask_refuses (mounted_by me) old wr a (λ _ answer. answer ≡ done) r (λ ne. absurd (ne (h.only t))) (λ ne. absurd (ne (h.only t)));
-      changes = changes_of told (mounted_by me) refl old wr a (Err r) (λ t. (tt, λ ne. absurd (ne (h.only t)))) (then_runs told old mid wr P blocks (Err r) before (runs_step told me mid wr (write_by me d wr_bytes) d (written mid.world d wr_bytes) P (Err r) now stop h.steps));
+      changes = changes_of told (mounted_by me) refl old wr a (Err r) (λ t. tt) (λ t. (tt, λ ne. absurd (ne (h.only t)))) (then_runs told old mid wr P blocks (Err r) before (runs_step told me mid wr (write_by me d wr_bytes) d (written mid.world d wr_bytes) P (Err r) now stop h.steps));
     }
 
 pub drop_pointer-requires : goal.drop_pointer-requires
@@ -295,9 +297,17 @@ returns-in-Ok-drop_pointer g c =
     let fin = g.K.Blocks.view c.drop_pointer.new.disk in
     let j = c.in-Ok-drop_pointer.ensures in
     let gone = c.in-Ok-drop_pointer._gone in
+    let kept : told → KeepsRoom (need_on (mounted_by me) old a) old.world fin.world = λ t.
+    let known = is_known told me old t c.requires.may (g.met.K.Blocks.sound c.args.disk.now t c.requires.may.ready.unspent) in
+    let o = over_entry me old n page (c.requires.may.valid t) (c.requires.may.tree t) (primary t) c.requires.named known place first (c.requires.found t) in
+    subst (λ k. KeepsRoom k old.world fin.world) (sym (needed_over me old n (c.requires.found t).chains (c.requires.found t).under body o.0 o.1))
+    (no_more_room (need want want) old.world wr.world fin.world
+    (no_more_room (need want want) old.world mid.world wr.world (file_takes me old mid d 0 body blocks (c.requires.may.valid t).valid (e.made t))
+    (write_takes me mid wr (now t) (write_by me d wr_bytes) d wr_bytes ((e.made t).may d (x t).may).live (h.steps.went t)))
+    (drop_takes me wr fin (went t).valid (unlink_by me d first) d first (j.steps.went t))) in
     record {
       answer = λ t. decided_answers me old a fin None_loose (loose_gone me old a wr d first (went t).valid (lets t) fin (j.steps.went t));
-      changes = changes_of told (mounted_by me) refl old fin a (Ok tt)
+      changes = changes_of told (mounted_by me) refl old fin a (Ok tt) kept
           (λ t. (decided_leaves me old a fin (loose_gone me old a wr d first (went t).valid (lets t) fin (j.steps.went t)) j.steps.unspent.0, tt))
           (then_runs told old wr fin P tt (Ok tt) so_far (runs_as told wr fin P gone tt (loose_runs told me old a wr fin d first (Ok gone) (λ t. (went t).valid) lets j.only j.steps)));
     }
@@ -353,6 +363,6 @@ returns-in-Err-drop_pointer g c =
     let r = c.in-Err-drop_pointer.refusal in
     record {
       answer = λ t. ask_refuses (mounted_by me) old fin a (λ _ answer. answer ≡ done) r (λ ne. absurd (ne (j.only t))) (λ ne. absurd (ne (j.only t)));
-      changes = changes_of told (mounted_by me) refl old fin a (Err r) (λ t. (tt, λ ne. absurd (ne (j.only t))))
+      changes = changes_of told (mounted_by me) refl old fin a (Err r) (λ t. tt) (λ t. (tt, λ ne. absurd (ne (j.only t))))
           (then_runs told old wr fin P tt (Err r) so_far (runs_refused told wr fin P r (loose_runs told me old a wr fin d first (Err r) (λ t. (went t).valid) lets j.only j.steps)));
     }

@@ -2,18 +2,19 @@ use Rattle.std.proofs.Common.{◌≡◌, ◌<◌, ◌≤◌, length, refl, sym, 
 use Rattle.tsd_model.specs.Geometry.{block_len}
 use Rattle.tsd_model.specs.World.{free_count}
 use Rattle.fs_trees.specs.Cluster.{directory_bytes}
-use Rattle.fs_trees.specs.Needs.{need_of}
+use Rattle.fs_trees.specs.Needs.{need, need_of}
 use Rattle.fs_trees.specs.Tree.{is_there}
 use Rattle.fs_trees.specs.Answer.{done}
 use Rattle.fs_trees.specs.declared.ask.ShellAsk.TheVariants as ask
 use Rattle.fs_trees.specs.declared.ask.ShellKind.TheVariants as kind
 use Rattle.fs_trees.specs.declared.refusal.FsRefusal.TheVariants as no
-use Rattle.fs_port.specs.Files.{IsEitherTree}
-use Rattle.fs_client.specs.Client.{write_by}
+use Rattle.fs_port.specs.Files.{IsEitherTree, KeepsRoom}
+use Rattle.fs_client.specs.Client.{write_by, unlink_by}
 use Rattle.fs_client.proofs.LookLaws.{looks_refused, looks_but_refuses}
 use Rattle.fs_client.specs.Steps.{Steps, written}
+use Rattle.fs_client.proofs.KeepLaws.{no_more_room, write_takes, drop_takes}
 use Rattle.fs_client.proofs.AskLaws.{ask_refuses, rm_lost, rm_missing}
-use Rattle.fs_client.proofs.RunLaws.{runs_look, runs_step, then_runs, runs_as, runs_refused, changes_of, looks_change, as_before}
+use Rattle.fs_client.proofs.RunLaws.{runs_look, runs_step, then_runs, runs_as, runs_refused, changes_of, looks_change, as_before, same_room}
 use Rattle.chain_layout.specs.Block.{cluster_of}
 use Rattle.chain_layout.specs.Held.{cluster_in, entries_in}
 use Rattle.chain_layout.specs.Listed.{unlisted_at}
@@ -130,7 +131,7 @@ returns-in-Err-write_block g c =
     let steps = subst (λ x. Steps {X = Unit {0}} told me mid wr (write_by me d x) d (written mid.world d x) (Err r)) c.directory_without-bytes.ensures h.steps in
     record {
       answer = λ t. ask_refuses (mounted_by me) first wr a (λ _ answer. answer ≡ done) r (λ ne. absurd (ne (h.only t))) (λ ne. absurd (ne (h.only t)));
-      changes = changes_of told (mounted_by me) refl first wr a (Err r) (λ t. (tt, λ ne. absurd (ne (h.only t))))
+      changes = changes_of told (mounted_by me) refl first wr a (Err r) (λ t. tt) (λ t. (tt, λ ne. absurd (ne (h.only t))))
           (then_runs told first mid wr P c.in-Ok.found (Err r) before
           (runs_step told me mid wr (write_by me d bytes) d (written mid.world d bytes) P (Err r) (λ t. (e.looks.looked t).0.valid) (λ t. stop_at_write me first mid path n page place b (taking t)) steps));
     }
@@ -202,9 +203,13 @@ returns-in-Ok-drop_pointer g c =
     let j = c.in-Ok-drop_pointer.ensures in
     let gone = c.in-Ok-drop_pointer._gone in
     let lets = λ (t : told). lets_go_now me first mid path n page place b (taking t) wr (steps.went t) steps.stays.0 in
+    let kept : told → KeepsRoom (need 0 0) first.world fin.world = λ t. no_more_room (need 0 0) first.world wr.world fin.world
+    (no_more_room (need 0 0) first.world mid.world wr.world (same_room (need 0 0) first.world mid.world (e.looks.looked t).0.world)
+    (write_takes me mid wr (e.looks.looked t).0.valid (write_by me d bytes) d bytes (may_write me first mid path n page place b (taking t)).live (steps.went t)))
+    (drop_takes me wr fin (steps.went t).valid (unlink_by me d b) d b (j.steps.went t)) in
     record {
       answer = λ t. decided_answers me first a fin None_loose (loose_gone me first a wr d b (steps.went t).valid (lets t) fin (j.steps.went t));
-      changes = changes_of told (mounted_by me) refl first fin a (Ok tt)
+      changes = changes_of told (mounted_by me) refl first fin a (Ok tt) kept
           (λ t. (decided_leaves me first a fin (loose_gone me first a wr d b (steps.went t).valid (lets t) fin (j.steps.went t)) j.steps.unspent.0, tt))
           (then_runs told first wr fin P tt (Ok tt) so_far
           (runs_as told wr fin P gone tt (loose_runs told me first a wr fin d b (Ok gone) (λ t. (steps.went t).valid) lets j.only j.steps)));
@@ -247,7 +252,7 @@ returns-in-Err-drop_pointer g c =
     let lets = λ (t : told). lets_go_now me first mid path n page place b (taking t) wr (steps.went t) steps.stays.0 in
     record {
       answer = λ t. ask_refuses (mounted_by me) first fin a (λ _ answer. answer ≡ done) r (λ ne. absurd (ne (j.only t))) (λ ne. absurd (ne (j.only t)));
-      changes = changes_of told (mounted_by me) refl first fin a (Err r) (λ t. (tt, λ ne. absurd (ne (j.only t))))
+      changes = changes_of told (mounted_by me) refl first fin a (Err r) (λ t. tt) (λ t. (tt, λ ne. absurd (ne (j.only t))))
           (then_runs told first wr fin P tt (Err r) so_far
           (runs_refused told wr fin P r (loose_runs told me first a wr fin d b (Err r) (λ t. (steps.went t).valid) lets j.only j.steps)));
     }

@@ -3,26 +3,29 @@ use Rattle.std.specs.Int.{div_ceil}
 use Rattle.fs_trees.specs.Names.{Path}
 use Rattle.fs_trees.specs.Tree.{a_file, at, bytes_in}
 use Rattle.fs_trees.specs.Inode.{data_room}
+use Rattle.fs_trees.specs.Needs.{need}
 use Rattle.fs_trees.specs.Answer.{done}
 use Rattle.fs_trees.specs.declared.ask.ShellAsk.TheVariants as ask
 use Rattle.fs_trees.specs.declared.refusal.FsRefusal.{FsRefusal}
 use Rattle.fs_trees.specs.declared.refusal.FsRefusal.TheVariants as no
 use Rattle.fs_port.specs.Calls.{IsValidNow}
-use Rattle.fs_port.specs.Files.{IsEitherTree}
+use Rattle.fs_port.specs.Files.{IsEitherTree, KeepsRoom, need_on}
 use Rattle.fs_client.proofs.LookLaws.{no_look, looks_refused, looks_but_refuses}
 use Rattle.fs_client.specs.Changing.{refused_on}
 use Rattle.fs_client.proofs.RunLaws.{looks_change, then_runs, runs_refused, changes_of, leaves_same, runs_more}
+use Rattle.fs_client.proofs.KeepLaws.{no_more_room}
 use Rattle.fs_client.proofs.AskLaws.{ask_refuses}
 use Rattle.fs_client.proofs.AgainLaws.{answers_again, changes_again}
 use Rattle.inode_layout.specs.Block.{inode_of, block_len_of}
 use Rattle.inode_layout.specs.Said.{amount_said}
 use Rattle.inode_walks.specs.Asking.{tree_of, mounted_by}
 use Rattle.inode_walks.specs.Reading.{part, bytes_said}
+use Rattle.inode_changes.specs.Content.{new_count, all_count}
 use Rattle.inode_changes.specs.Filling.{IsAside}
 use Rattle.inode_changes.specs.Entering.{IsMade, EntersOrNot}
 use Rattle.inode_changes.proofs.EntryLaws.{stage_of}
 use Rattle.inode_changes.specs.Growing.{Grows}
-use Rattle.inode_changes.proofs.GrowLaws.{size_is_small, big_refuses, has_room, is_for, of_files, made_bytes, room_is}
+use Rattle.inode_changes.proofs.GrowLaws.{size_is_small, big_refuses, has_room, is_for, of_files, made_bytes, need_is, room_is}
 use Rattle.inode_changes.proofs.StillLaws.{grows_still}
 use Rattle.inode_changes.proofs.EndLaws.{either_aside, either_entered, answers_entered, left_entered}
 use Rattle.inode_changes.proofs.appending.grow.Goals as goal
@@ -148,7 +151,7 @@ returns-in-Err-make_file g c =
           (λ ne. room_is me lb path place file (still t path x) no_dir (now t) front y content h (front_is t) c.requires.some (big ∙ c.if-is_too_big.false) ∙ m.full t ne)
           (λ ne. m.same t ne));
       changes = λ path x. changes_again told (mounted_by me) old lb mk (ask.Append path y) front (Err r) (λ t. (c.requires.valid t).valid) e.looks
-          (changes_of told (mounted_by me) refl lb mk (ask.Append path y) (Err r) (λ t. (tt, λ ne. leaves_same (mounted_by me) lb mk (m.same t ne) (m.runs.unspent.1 ne)))
+          (changes_of told (mounted_by me) refl lb mk (ask.Append path y) (Err r) (λ t. tt) (λ t. (tt, λ ne. leaves_same (mounted_by me) lb mk (m.same t ne) (m.runs.unspent.1 ne)))
           (runs_refused told lb mk (IsEitherTree (mounted_by me) lb (ask.Append path y)) r
           (runs_more told lb mk (IsAside me.root lb.world) (IsEitherTree (mounted_by me) lb (ask.Append path y)) (Err r) (λ t w k. either_aside me lb (ask.Append path y) w k) m.runs)));
     }
@@ -221,12 +224,15 @@ returns-in-Ok-enter g c =
     λ t path x. subst (λ xs. IsMade me.root lb.world place.directory.block new (a_file xs) mk.world) (made_bytes me lb path place file (still t path x) no_dir (now t) front y content h (front_is t)) (m.made t) in
     let none : (t : told) (path : Path) (x : Grows me old path place file) → ◌≡◌ {A = Option FsRefusal} (refused_on (mounted_by me) lb (ask.Append path y)) None =
     λ t path x. room_is me lb path place file (still t path x) no_dir (now t) front y content h (front_is t) c.requires.some (big ∙ c.if-is_too_big.false) ∙ m.room t in
+    let kept : (t : told) (path : Path) (x : Grows me old path place file) → KeepsRoom (need_on (mounted_by me) lb (ask.Append path y)) lb.world fin.world = λ t path x.
+    subst (λ w. KeepsRoom w lb.world fin.world) (sym (need_is me lb path place file (still t path x) no_dir (now t) front y content h (front_is t) c.requires.some))
+    (no_more_room (need (1 + new_count content) (1 + all_count content)) lb.world mk.world fin.world (m.keeps t) (n.keeps t)) in
     record {
       answer = λ t path x. answers_again (mounted_by me) old lb (ask.Append path y) (e.looks.looked t).0.world fin (Ok tt) (λ _ answer. answer ≡ done)
           (answers_entered me lb (ask.Append path y) path (none t path x) refl fin (a_file (bytes_in (at (tree_of me lb) path) ++ y)) refl
           (n.entered t lb.world path (a_file (bytes_in (at (tree_of me lb) path) ++ y)) (still t path x).grounds (made t path x)));
       changes = λ path x. changes_again told (mounted_by me) old lb fin (ask.Append path y) front (Ok tt) (λ t. (c.requires.valid t).valid) e.looks
-          (changes_of told (mounted_by me) refl lb fin (ask.Append path y) (Ok tt) (λ t. (
+          (changes_of told (mounted_by me) refl lb fin (ask.Append path y) (Ok tt) (λ t. kept t path (x t)) (λ t. (
             left_entered me lb fin path (a_file (bytes_in (at (tree_of me lb) path) ++ y))
                 (n.entered t lb.world path (a_file (bytes_in (at (tree_of me lb) path) ++ y)) (still t path (x t)).grounds (made t path (x t))) n.runs.unspent.0,
             tt,
@@ -270,7 +276,7 @@ returns-in-Err-enter g c =
     record {
       answer = λ t path x. ask_refuses (mounted_by me) old fin (ask.Append path y) (λ _ answer. answer ≡ done) r (λ ne. absurd (ne (n.only t))) (λ ne. absurd (ne (n.only t)));
       changes = λ path x. changes_again told (mounted_by me) old lb fin (ask.Append path y) front (Err r) (λ t. (c.requires.valid t).valid) e.looks
-          (changes_of told (mounted_by me) refl lb fin (ask.Append path y) (Err r) (λ t. (tt, λ ne. absurd (ne (n.only t))))
+          (changes_of told (mounted_by me) refl lb fin (ask.Append path y) (Err r) (λ t. tt) (λ t. (tt, λ ne. absurd (ne (n.only t))))
           (then_runs told lb mk fin (IsEitherTree (mounted_by me) lb (ask.Append path y)) new (Err r)
           (runs_more told lb mk (IsAside me.root lb.world) (IsEitherTree (mounted_by me) lb (ask.Append path y)) (Ok new) (λ t w k. either_aside me lb (ask.Append path y) w k) m.runs)
           (runs_more told mk fin (EntersOrNot me.root place new mk.world) (IsEitherTree (mounted_by me) lb (ask.Append path y)) (Err r)

@@ -1,23 +1,26 @@
-use Rattle.std.proofs.Common.{◌≡◌, ◌≤◌, refl, ◌∙◌, subst, Option, None, Ok, Err}
+use Rattle.std.proofs.Common.{◌≡◌, ◌+◌, ◌≤◌, refl, sym, ◌∙◌, subst, Option, None, Ok, Err}
 use Rattle.fs_trees.specs.Names.{Path}
 use Rattle.fs_trees.specs.Tree.{a_file}
+use Rattle.fs_trees.specs.Needs.{need}
 use Rattle.fs_trees.specs.Answer.{done}
 use Rattle.fs_trees.specs.declared.ask.ShellAsk.TheVariants as ask
 use Rattle.fs_trees.specs.declared.refusal.FsRefusal.{FsRefusal}
 use Rattle.fs_port.specs.Calls.{IsValidNow}
-use Rattle.fs_port.specs.Files.{IsEitherTree}
+use Rattle.fs_port.specs.Files.{IsEitherTree, KeepsRoom}
 use Rattle.fs_port.specs.Runs.{Runs}
 use Rattle.fs_client.specs.Changing.{refused_on}
 use Rattle.fs_client.proofs.RunLaws.{then_runs, runs_as, runs_refused, changes_of, leaves_same, runs_more}
+use Rattle.fs_client.proofs.KeepLaws.{no_more_room}
 use Rattle.fs_client.proofs.AskLaws.{ask_refuses}
 use Rattle.inode_walks.specs.Asking.{mounted_by}
+use Rattle.inode_changes.specs.Content.{new_count, all_count}
 use Rattle.inode_changes.specs.Filling.{IsAside}
 use Rattle.inode_changes.specs.Entering.{EntersOrNot}
 use Rattle.inode_changes.specs.NewFile.{bytes_of}
 use Rattle.inode_changes.proofs.EntryLaws.{stage_of}
 use Rattle.inode_changes.specs.Copying.{Copies}
 use Rattle.inode_changes.proofs.EndLaws.{either_aside, either_entered, answers_entered, left_entered}
-use Rattle.inode_changes.proofs.CopyLaws.{grounds, has_room, is_for, of_files, changed, room_refuses}
+use Rattle.inode_changes.proofs.CopyLaws.{grounds, has_room, is_for, of_files, changed, need_is, room_refuses}
 use Rattle.inode_changes.proofs.copying.copy_to.Goals as goal
 
 pub shared_whole-content-requires : goal.shared_whole-content-requires
@@ -64,7 +67,7 @@ returns-in-Err g c =
     let e = c.in-Err.ensures in
     record {
       answer = λ t path new x. ask_refuses (mounted_by me) v m (ask.Copy path new) (λ _ answer. answer ≡ done) r (λ ne. room_refuses me v path file new place x no_dir dir (now t) content k room ∙ e.full t ne) (e.same t);
-      changes = λ path new x. changes_of told (mounted_by me) refl v m (ask.Copy path new) (Err r) (λ t. (tt, λ ne. leaves_same (mounted_by me) v m (e.same t ne) (e.runs.unspent.1 ne)))
+      changes = λ path new x. changes_of told (mounted_by me) refl v m (ask.Copy path new) (Err r) (λ t. tt) (λ t. (tt, λ ne. leaves_same (mounted_by me) v m (e.same t ne) (e.runs.unspent.1 ne)))
           (runs_refused told v m (IsEitherTree (mounted_by me) v (ask.Copy path new)) r (runs_more told v m (IsAside me.root v.world) (IsEitherTree (mounted_by me) v (ask.Copy path new)) (Err r) (λ t w h. either_aside me v (ask.Copy path new) w h) e.runs));
     }
 
@@ -117,6 +120,7 @@ returns-in-Ok-enter g c =
       answer = λ t path new x. answers_entered me v (ask.Copy path new) new (none t path new x) refl n (a_file (bytes_of v.world content)) (changed me v path file new place x no_dir dir (now t) content k)
           (h.entered t v.world new (a_file (bytes_of v.world content)) (grounds me v path file new place x dir (now t) room) (made.made t));
       changes = λ path new x. changes_of told (mounted_by me) refl v n (ask.Copy path new) (Ok tt)
+          (λ t. subst (λ w. KeepsRoom w v.world n.world) (sym (need_is me v path file new place (x t) no_dir dir (now t) content k)) (no_more_room (need (1 + new_count content) (1 + all_count content)) v.world m.world n.world (made.keeps t) (h.keeps t)))
           (λ t. (left_entered me v n new (a_file (bytes_of v.world content)) (h.entered t v.world new (a_file (bytes_of v.world content)) (grounds me v path file new place (x t) dir (now t) room) (made.made t)) h.runs.unspent.0, tt))
           (then_runs told v m n (IsEitherTree (mounted_by me) v (ask.Copy path new)) tt (Ok tt) (aside path new)
           (runs_more told m n (EntersOrNot me.root place i m.world) (IsEitherTree (mounted_by me) v (ask.Copy path new)) (Ok tt)
@@ -148,7 +152,7 @@ returns-in-Err-enter g c =
     let r = c.in-Err-enter.refusal in
     record {
       answer = λ t path new x. ask_refuses (mounted_by me) v n (ask.Copy path new) (λ _ answer. answer ≡ done) r (λ ne. absurd (ne (h.only t))) (λ ne. absurd (ne (h.only t)));
-      changes = λ path new x. changes_of told (mounted_by me) refl v n (ask.Copy path new) (Err r) (λ t. (tt, λ ne. absurd (ne (h.only t))))
+      changes = λ path new x. changes_of told (mounted_by me) refl v n (ask.Copy path new) (Err r) (λ t. tt) (λ t. (tt, λ ne. absurd (ne (h.only t))))
           (then_runs told v m n (IsEitherTree (mounted_by me) v (ask.Copy path new)) tt (Err r) (aside path new)
           (runs_more told m n (EntersOrNot me.root place i m.world) (IsEitherTree (mounted_by me) v (ask.Copy path new)) (Err r)
           (λ t w j. either_entered me v (ask.Copy path new) new (none t path new (x t)) refl w (a_file (bytes_of v.world content)) (changed me v path file new place (x t) no_dir dir (now t) content k)

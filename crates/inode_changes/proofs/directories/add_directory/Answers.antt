@@ -1,5 +1,6 @@
 use Rattle.std.proofs.Common.{◌≡◌, refl, sym, ◌∙◌, ap, Option, Some, None, Ok, Err}
 use Rattle.fs_trees.specs.Names.{Path}
+use Rattle.fs_trees.specs.Needs.{need}
 use Rattle.fs_trees.specs.Step.{empty_tree}
 use Rattle.fs_trees.specs.Answer.{done}
 use Rattle.fs_trees.specs.declared.ask.ShellAsk.TheVariants as ask
@@ -9,6 +10,7 @@ use Rattle.fs_port.specs.Files.{IsEitherTree}
 use Rattle.fs_client.specs.Changing.{refused_on}
 use Rattle.fs_client.proofs.LookLaws.{no_look, looks_but_refuses}
 use Rattle.fs_client.proofs.RunLaws.{looks_change, then_runs, runs_refused, changes_of, leaves_same, runs_more}
+use Rattle.fs_client.proofs.KeepLaws.{no_more_room}
 use Rattle.fs_client.proofs.AskLaws.{ask_refuses}
 use Rattle.inode_walks.specs.Asking.{mounted_by}
 use Rattle.inode_changes.specs.Filling.{IsAside}
@@ -62,7 +64,7 @@ returns-in-Err-new_directory g c =
     record {
       answer = λ t path x. ask_refuses (mounted_by me) old mk (ask.MakeDir path) (λ _ answer. answer ≡ done) r
           (λ ne. room_refuses me old path place x c.requires.dir c.in-Ok.ensures.room ∙ e.full t ne) (e.same t);
-      changes = λ path x. changes_of told (mounted_by me) refl old mk (ask.MakeDir path) (Err r) (λ t. (tt, λ ne. leaves_same (mounted_by me) old mk (e.same t ne) (e.runs.unspent.1 ne)))
+      changes = λ path x. changes_of told (mounted_by me) refl old mk (ask.MakeDir path) (Err r) (λ t. tt) (λ t. (tt, λ ne. leaves_same (mounted_by me) old mk (e.same t ne) (e.runs.unspent.1 ne)))
           (runs_refused told old mk (IsEitherTree (mounted_by me) old (ask.MakeDir path)) r
           (runs_more told old mk (IsAside me.root old.world) (IsEitherTree (mounted_by me) old (ask.MakeDir path)) (Err r) (λ t w k. either_aside me old (ask.MakeDir path) w k) e.runs));
     }
@@ -100,7 +102,7 @@ returns-in-Ok-enter g c =
       answer = λ t path x. answers_entered me old (ask.MakeDir path) path (none t path x) refl fin empty_tree refl (h.entered t old.world path empty_tree (ground t path x) (e.made t));
       changes = λ path x.
           let P = IsEitherTree (mounted_by me) old (ask.MakeDir path) in
-          changes_of told (mounted_by me) refl old fin (ask.MakeDir path) (Ok tt) (λ t. (left_entered me old fin path empty_tree (h.entered t old.world path empty_tree (ground t path (x t)) (e.made t)) h.runs.unspent.0, tt))
+          changes_of told (mounted_by me) refl old fin (ask.MakeDir path) (Ok tt) (λ t. no_more_room (need 1 1) old.world mk.world fin.world (e.keeps t) (h.keeps t)) (λ t. (left_entered me old fin path empty_tree (h.entered t old.world path empty_tree (ground t path (x t)) (e.made t)) h.runs.unspent.0, tt))
           (then_runs told old mk fin P i (Ok tt) (runs_more told old mk (IsAside me.root old.world) P (Ok i) (λ t w k. either_aside me old (ask.MakeDir path) w k) e.runs)
           (runs_more told mk fin (EntersOrNot me.root place i mk.world) P (Ok tt)
           (λ t w k. either_entered me old (ask.MakeDir path) path (none t path (x t)) refl w empty_tree refl (k old.world path empty_tree (ground t path (x t)) (e.made t))) h.runs));
@@ -124,7 +126,7 @@ returns-in-Err-enter g c =
       answer = λ t path x. ask_refuses (mounted_by me) old fin (ask.MakeDir path) (λ _ answer. answer ≡ done) r (λ ne. absurd (ne (h.only t))) (λ ne. absurd (ne (h.only t)));
       changes = λ path x.
           let P = IsEitherTree (mounted_by me) old (ask.MakeDir path) in
-          changes_of told (mounted_by me) refl old fin (ask.MakeDir path) (Err r) (λ t. (tt, λ ne. absurd (ne (h.only t))))
+          changes_of told (mounted_by me) refl old fin (ask.MakeDir path) (Err r) (λ t. tt) (λ t. (tt, λ ne. absurd (ne (h.only t))))
           (then_runs told old mk fin P i (Err r) (runs_more told old mk (IsAside me.root old.world) P (Ok i) (λ t w k. either_aside me old (ask.MakeDir path) w k) e.runs)
           (runs_more told mk fin (EntersOrNot me.root place i mk.world) P (Err r)
           (λ t w k. either_entered me old (ask.MakeDir path) path (none t path (x t)) refl w empty_tree refl (k old.world path empty_tree (ground t path (x t)) (e.made t))) h.runs));

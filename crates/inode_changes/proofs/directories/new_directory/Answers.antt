@@ -3,11 +3,14 @@ use Rattle.tsd_model.specs.Geometry.{block_len}
 use Rattle.tsd_model.specs.Step.{filled}
 use Rattle.disk_laws.proofs.ChangeLaws.{live-with_contents}
 use Rattle.fs_trees.specs.Inode.{directory, inode_bytes}
+use Rattle.fs_trees.specs.Needs.{need}
 use Rattle.fs_client.specs.Client.{write_by}
 use Rattle.fs_client.specs.Steps.{Steps, written}
 use Rattle.fs_client.proofs.RunLaws.{then_runs, runs_as, runs_refused, runs_step}
+use Rattle.fs_client.proofs.KeepLaws.{no_more_room, write_takes}
 use Rattle.fs_client.proofs.MayLaws.{may_after}
 use Rattle.inode_changes.specs.Filling.{IsAside}
+use Rattle.inode_changes.proofs.TakenLaws.{begun_takes}
 use Rattle.inode_changes.proofs.DirectoryLaws.{empty_fits, stop_at_inode, made_so}
 use Rattle.inode_changes.proofs.directories.new_directory.Goals as goal
 
@@ -17,7 +20,7 @@ new_inode-requires g c = record { unspent = c.requires.unspent; valid = c.requir
 pub returns-in-Err : goal.returns-in-Err
 returns-in-Err g c =
     let e = c.in-Err.ensures in
-    record { made = λ t. tt; may = λ t. tt; room = λ t. tt; full = e.full; same = λ t ne. ap (λ st. st.world) (e.same t ne); runs = e.runs }
+    record { made = λ t. tt; may = λ t. tt; room = λ t. tt; keeps = λ t. tt; full = e.full; same = λ t ne. ap (λ st. st.world) (e.same t ne); runs = e.runs }
 
 pub write_block-requires : goal.write_block-requires
 write_block-requires g c =
@@ -51,6 +54,7 @@ returns-in-Ok-write_block g c =
       may = λ t b h. may_after me mid new (write_by me i zero) i (written mid.world i zero) (steps.went t) (e.runs.valid t).0 refl refl (λ p q j. j)
           (λ k j. live-with_contents mid.world i k (filled (block_len mid.world.geometry) zero) j) steps.stays.0 b ((e.began t).may b h);
       room = e.room;
+      keeps = λ t. no_more_room (need 1 1) old.world mid.world new.world (begun_takes me old mid d i (e.began t)) (write_takes me mid new (e.runs.valid t).0 (write_by me i zero) i zero (e.began t).inode.live (steps.went t));
       full = λ t. tt;
       same = λ t. tt;
       runs = then_runs told old mid new P i (Ok i) e.runs (runs_as told mid new P tt i
@@ -76,6 +80,7 @@ returns-in-Err-write_block g c =
       made = λ t. tt;
       may = λ t. tt;
       room = λ t. tt;
+      keeps = λ t. tt;
       full = λ t ne. absurd (ne (h.only t));
       same = λ t ne. absurd (ne (h.only t));
       runs = then_runs told old mid new P i (Err r) e.runs (runs_refused told mid new P r

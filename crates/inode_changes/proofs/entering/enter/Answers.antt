@@ -3,10 +3,12 @@ use Rattle.tsd_model.specs.Geometry.{block_len}
 use Rattle.tsd_model.specs.Step.{filled}
 use Rattle.disk_laws.proofs.ChangeLaws.{live-with_contents}
 use Rattle.fs_trees.specs.Inode.{directory, with_listed, inode_bytes}
+use Rattle.fs_trees.specs.Needs.{need}
 use Rattle.fs_client.specs.Client.{write_by, unlink_by}
 use Rattle.fs_client.specs.Steps.{Steps, written, dropped}
 use Rattle.fs_port.specs.Runs.{Runs}
 use Rattle.fs_client.proofs.RunLaws.{runs_step, runs_as, runs_refused, then_runs}
+use Rattle.fs_client.proofs.KeepLaws.{no_more_room, write_takes, drop_takes}
 use Rattle.fs_client.proofs.MayLaws.{may_after}
 use Rattle.inode_layout.specs.Block.{inode_of}
 use Rattle.inode_layout.specs.Said.{entries_said}
@@ -47,6 +49,7 @@ returns-in-Err g c =
     let steps = subst (λ y. Steps {X = Unit {0}} told me old new (write_by me d y) d (written old.world d y) (Err r)) c.directory_with-bytes.ensures h.steps in
     record {
       entered = λ t. tt;
+      keeps = λ t. tt;
       only = h.only;
       runs = runs_step told me old new (write_by me d x) d (written old.world d x) (EntersOrNot me.root place i old.world) (Err r) c.requires.valid (λ t. stop_at_write me place i old.world) steps;
     }
@@ -64,6 +67,7 @@ returns-in-None g c =
     let steps = subst (λ y. Steps {X = Unit {0}} told me old new (write_by me d y) d (written old.world d y) (Ok tt)) c.directory_with-bytes.ensures c.in-Ok.ensures.steps in
     record {
       entered = λ t. enters_new me place i old.world new.world (steps.went t).world (steps.went t).leads c.in-None.is;
+      keeps = λ t. write_takes me old new (c.requires.valid t) (write_by me d x) d x (c.requires.may t).live (steps.went t);
       only = λ t. tt;
       runs = runs_step told me old new (write_by me d x) d (written old.world d x) (EntersOrNot me.root place i old.world) (Ok tt) c.requires.valid (λ t. stop_at_write me place i old.world) steps;
     }
@@ -106,6 +110,8 @@ returns-in-Ok-drop_pointer g c =
     let gone = c.in-Ok-drop_pointer._gone in
     record {
       entered = λ t. enters_old me place i old.world mid.world (steps.went t).world (steps.went t).leads b c.in-Some.is new.world (h.steps.went t).world (h.steps.went t).leads;
+      keeps = λ t. no_more_room (need 0 0) old.world mid.world new.world (write_takes me old mid (c.requires.valid t) (write_by me d x) d x (c.requires.may t).live (steps.went t))
+          (drop_takes me mid new (steps.went t).valid (unlink_by me d b) d b (h.steps.went t));
       only = λ t. tt;
       runs = then_runs told old mid new P tt (Ok tt) wrote (runs_as told mid new P gone tt
           (runs_step told me mid new (unlink_by me d b) d (dropped mid.world d b) P (Ok gone) (λ t. (steps.went t).valid)
@@ -131,6 +137,7 @@ returns-in-Err-drop_pointer g c =
     let r = c.in-Err-drop_pointer.refusal in
     record {
       entered = λ t. tt;
+      keeps = λ t. tt;
       only = h.only;
       runs = then_runs told old mid new P tt (Err r) wrote (runs_refused told mid new P r
           (runs_step told me mid new (unlink_by me d b) d (dropped mid.world d b) P (Err r) (λ t. (steps.went t).valid)

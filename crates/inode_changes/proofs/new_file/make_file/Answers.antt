@@ -10,6 +10,7 @@ use Rattle.inode_changes.specs.Making.{Making}
 use Rattle.inode_changes.specs.Filling.{Stage, IsAside, AsideOf}
 use Rattle.inode_changes.specs.Beginning.{AsideOr}
 use Rattle.inode_changes.proofs.BeginLaws.{as_it_was}
+use Rattle.inode_changes.proofs.TakenLaws.{file_takes}
 use Rattle.inode_changes.proofs.MadeLaws.{runs_on, files_reached, making_first, size_first, pairs_first, blocks_first, may_first, still_for, enough_left, points_nowhere, made_so, left_making, still_pointed}
 use Rattle.inode_changes.proofs.new_file.make_file.Goals as goal
 
@@ -41,6 +42,7 @@ returns-in-Err g c =
       made = λ t. tt;
       may = λ t. tt;
       room = λ t. tt;
+      keeps = λ t. tt;
       full = λ t ne. subst (λ n. no_room_in old.world (1 + n) (1 + all_count content) ≡ Some r) c.new_count.ensures (e.full t ne (1 + all_count content));
       same = λ t ne. ((e.looks.looked t).1 ne).world;
       runs = runs_refused told old v1 P r (runs_look told old v1 P (Err r) (λ t w is. subst P (sym is) (as_it_was me.root old.world d (c.requires.stage t))) e.looks);
@@ -81,6 +83,7 @@ returns-in-Err-new_inode g c =
       made = λ t. tt;
       may = λ t. tt;
       room = λ t. tt;
+      keeps = λ t. tt;
       full = λ t ne. refused_at_once old.world n p r (enough t) (subst (λ w. no_room_in w 1 1 ≡ Some r) (e.looks.looked t).0.world (h.full t ne));
       same = λ t ne. ap (λ st. st.world) (h.same t ne) ∙ (e.looks.looked t).0.world;
       runs = then_runs told old v1 v2 P tt (Err r) before (runs_more told v1 v2 (IsAside me.root v1.world) P (Err r) (λ t w k. subst (λ x. IsAside me.root x w) (e.looks.looked t).0.world k) h.runs);
@@ -139,6 +142,7 @@ returns-in-Ok-fill g c =
           (size_first me old v1 v2 d i (c.requires.stage t) (c.requires.valid t) (e.looks.looked t).0 e.looks.stays.0 (h.began t))
           (blocks_first me old v1 v2 d i (c.requires.stage t) (c.requires.valid t) (e.looks.looked t).0 e.looks.stays.0 (h.began t))
           (pairs_first me old v1 v2 d i (c.requires.stage t) (c.requires.valid t) (e.looks.looked t).0 e.looks.stays.0 (h.began t)) (enough t) (f.room t);
+      keeps = λ t. file_takes me old v2 v3 d i (c.requires.stage t) (making t) content (c.requires.suits t) (reached t) (f.filled t);
       full = λ t. tt;
       same = λ t. tt;
       runs = then_runs told old v2 v3 P i (Ok i) begun (runs_as told v2 v3 P tt i
@@ -192,6 +196,7 @@ returns-in-Device g c =
       made = λ t. tt;
       may = λ t. tt;
       room = λ t. tt;
+      keeps = λ t. tt;
       full = λ t ne. absurd (ne refl);
       same = λ t ne. absurd (ne refl);
       runs = subst (λ x. Runs {X = ℕ} told old v3 P (Err x)) c.in-Device.is (then_runs told old v2 v3 P i (Err r) begun (runs_refused told v2 v3 P r
@@ -232,6 +237,7 @@ returns-in_default g c =
       made = λ t. tt;
       may = λ t. tt;
       room = λ t. tt;
+      keeps = λ t. tt;
       full = λ t ne. refused_later old.world v2.world n p
           (size_first me old v1 v2 d i (c.requires.stage t) (c.requires.valid t) (e.looks.looked t).0 e.looks.stays.0 (h.began t))
           (blocks_first me old v1 v2 d i (c.requires.stage t) (c.requires.valid t) (e.looks.looked t).0 e.looks.stays.0 (h.began t))

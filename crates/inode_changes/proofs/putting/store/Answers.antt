@@ -3,15 +3,17 @@ use Rattle.std.specs.Int.{div_ceil}
 use Rattle.fs_trees.specs.Names.{Path}
 use Rattle.fs_trees.specs.Tree.{a_file, with_at}
 use Rattle.fs_trees.specs.Inode.{data_room}
+use Rattle.fs_trees.specs.Needs.{need}
 use Rattle.fs_trees.specs.Answer.{done}
 use Rattle.fs_trees.specs.declared.ask.ShellAsk.TheVariants as ask
 use Rattle.fs_trees.specs.declared.refusal.FsRefusal.{FsRefusal}
 use Rattle.fs_trees.specs.declared.refusal.FsRefusal.TheVariants as no
-use Rattle.fs_port.specs.Files.{IsEitherTree}
+use Rattle.fs_port.specs.Files.{IsEitherTree, KeepsRoom, need_on}
 use Rattle.fs_client.proofs.LookLaws.{no_look, looks_but_refuses}
 use Rattle.fs_client.specs.Steps.{no_room_in}
 use Rattle.fs_client.specs.Changing.{refused_on}
 use Rattle.fs_client.proofs.RunLaws.{looks_change, then_runs, runs_refused, changes_of, leaves_same, runs_more}
+use Rattle.fs_client.proofs.KeepLaws.{no_more_room}
 use Rattle.fs_client.proofs.AskLaws.{ask_refuses}
 use Rattle.inode_layout.specs.Block.{block_len_of}
 use Rattle.inode_walks.specs.Asking.{tree_of, mounted_by}
@@ -112,7 +114,7 @@ returns-in-Err-make_file g c =
           (λ ne. room_refuses me old path place c.requires.dir (c.requires.valid t) s x c.in-Ok.ensures.room (is_big ∙ c.if-is_too_big.false)
           ∙ subst (λ n. no_room_in old.world (1 + div_ceil (length x) inner) (1 + n) ≡ Some r) all (subst (λ n. no_room_in old.world (1 + n) (1 + all_count content) ≡ Some r) new (e.full t ne)))
           (λ ne. e.same t ne);
-      changes = λ path s. changes_of told (mounted_by me) refl old mk (ask.Put path x) (Err r) (λ t. (tt, λ ne. leaves_same (mounted_by me) old mk (e.same t ne) (e.runs.unspent.1 ne)))
+      changes = λ path s. changes_of told (mounted_by me) refl old mk (ask.Put path x) (Err r) (λ t. tt) (λ t. (tt, λ ne. leaves_same (mounted_by me) old mk (e.same t ne) (e.runs.unspent.1 ne)))
           (runs_refused told old mk (IsEitherTree (mounted_by me) old (ask.Put path x)) r
           (runs_more told old mk (IsAside me.root old.world) (IsEitherTree (mounted_by me) old (ask.Put path x)) (Err r) (λ t w k. either_aside me old (ask.Put path x) w k) e.runs));
     }
@@ -162,11 +164,17 @@ returns-in-Ok-enter g c =
     room_refuses me old path place c.requires.dir (c.requires.valid t) s x c.in-Ok.ensures.room (is_big ∙ c.if-is_too_big.false)
     ∙ subst (λ n. ◌≡◌ {A = Option FsRefusal} (no_room_in old.world (1 + div_ceil (length x) inner) (1 + n)) None) all (subst (λ n. ◌≡◌ {A = Option FsRefusal} (no_room_in old.world (1 + n) (1 + all_count content)) None) new (e.room t)) in
     let is : (path : Path) → with_at path (a_file x) (tree_of me old) ≡ with_at path (a_file all_bytes) (tree_of me old) = λ path. ap (λ y. with_at path (a_file y) (tree_of me old)) (sym (made_bytes x len content of old.world)) in
+    let want = need (1 + new_count content) (1 + all_count content) in
+    let kept : told → (path : Path) → PutsFile me old path place → KeepsRoom (need_on (mounted_by me) old (ask.Put path x)) old.world fin.world = λ t path s.
+    subst (λ n. KeepsRoom n old.world fin.world)
+    (ap (λ n. need (1 + n) (1 + all_count content)) new ∙ (ap (λ n. need (1 + div_ceil (length x) inner) (1 + n)) all
+    ∙ ap (λ n. need (1 + div_ceil (length x) n) (1 + div_ceil (length x) n)) s.found.above.stands.whole))
+    (no_more_room want old.world mk.world fin.world (e.keeps t) (h.keeps t)) in
     record {
       answer = λ t path s. answers_entered me old (ask.Put path x) path (none t path s) refl fin (a_file all_bytes) (is path) (h.entered t old.world path (a_file all_bytes) (ground t path s) (e.made t));
       changes = λ path s.
           let P = IsEitherTree (mounted_by me) old (ask.Put path x) in
-          changes_of told (mounted_by me) refl old fin (ask.Put path x) (Ok tt) (λ t. (left_entered me old fin path (a_file all_bytes) (h.entered t old.world path (a_file all_bytes) (ground t path (s t)) (e.made t)) h.runs.unspent.0, tt))
+          changes_of told (mounted_by me) refl old fin (ask.Put path x) (Ok tt) (λ t. kept t path (s t)) (λ t. (left_entered me old fin path (a_file all_bytes) (h.entered t old.world path (a_file all_bytes) (ground t path (s t)) (e.made t)) h.runs.unspent.0, tt))
           (then_runs told old mk fin P i (Ok tt) (runs_more told old mk (IsAside me.root old.world) P (Ok i) (λ t w k. either_aside me old (ask.Put path x) w k) e.runs)
           (runs_more told mk fin (EntersOrNot me.root place i mk.world) P (Ok tt)
           (λ t w k. either_entered me old (ask.Put path x) path (none t path (s t)) refl w (a_file all_bytes) (is path) (k old.world path (a_file all_bytes) (ground t path (s t)) (e.made t))) h.runs));
@@ -203,7 +211,7 @@ returns-in-Err-enter g c =
       answer = λ t path s. ask_refuses (mounted_by me) old fin (ask.Put path x) (λ _ answer. answer ≡ done) r (λ ne. absurd (ne (h.only t))) (λ ne. absurd (ne (h.only t)));
       changes = λ path s.
           let P = IsEitherTree (mounted_by me) old (ask.Put path x) in
-          changes_of told (mounted_by me) refl old fin (ask.Put path x) (Err r) (λ t. (tt, λ ne. absurd (ne (h.only t))))
+          changes_of told (mounted_by me) refl old fin (ask.Put path x) (Err r) (λ t. tt) (λ t. (tt, λ ne. absurd (ne (h.only t))))
           (then_runs told old mk fin P i (Err r) (runs_more told old mk (IsAside me.root old.world) P (Ok i) (λ t w k. either_aside me old (ask.Put path x) w k) e.runs)
           (runs_more told mk fin (EntersOrNot me.root place i mk.world) P (Err r)
           (λ t w k. either_entered me old (ask.Put path x) path (none t path (s t)) refl w (a_file all_bytes) (is path) (k old.world path (a_file all_bytes) (ground t path (s t)) (e.made t))) h.runs));

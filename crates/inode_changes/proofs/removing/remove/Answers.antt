@@ -3,13 +3,13 @@ use Rattle.tsd_model.specs.Geometry.{block_len}
 use Rattle.tsd_model.specs.World.{free_count}
 use Rattle.fs_trees.specs.Inode.{directory, without_listed, inode_bytes}
 use Rattle.fs_trees.specs.InodeTree.{inode_tree}
-use Rattle.fs_trees.specs.Needs.{need_of}
+use Rattle.fs_trees.specs.Needs.{need, need_of}
 use Rattle.fs_trees.specs.Tree.{at, is_there, names_in}
 use Rattle.fs_trees.specs.Answer.{done}
 use Rattle.fs_trees.specs.declared.ask.ShellAsk.TheVariants as ask
 use Rattle.fs_trees.specs.declared.ask.ShellKind.TheVariants as kind
 use Rattle.fs_trees.specs.declared.refusal.FsRefusal.TheVariants as no
-use Rattle.fs_port.specs.Files.{IsEitherTree}
+use Rattle.fs_port.specs.Files.{IsEitherTree, KeepsRoom}
 use Rattle.fs_client.specs.Client.{write_by, unlink_by}
 use Rattle.fs_client.specs.May.{OnlyLooks}
 use Rattle.fs_client.proofs.LookLaws.{looks_as, looks_refused, looks_but_refuses, then_looks}
@@ -18,7 +18,8 @@ use Rattle.inode_layout.specs.Block.{inode_of}
 use Rattle.inode_layout.specs.Said.{is_directory, blocks_said, entries_said}
 use Rattle.inode_walks.specs.Asking.{tree_of, mounted_by}
 use Rattle.inode_walks.proofs.FurtherLaws.{may_read, has_inode, child_there}
-use Rattle.fs_client.proofs.RunLaws.{runs_look, runs_step, then_runs, runs_as, runs_refused, changes_of, looks_change, as_before}
+use Rattle.fs_client.proofs.RunLaws.{runs_look, runs_step, then_runs, runs_as, runs_refused, changes_of, looks_change, as_before, same_room}
+use Rattle.fs_client.proofs.KeepLaws.{no_more_room, write_takes, drop_takes}
 use Rattle.fs_client.proofs.AskLaws.{ask_refuses, ask_done, rm_lost, rm_missing, rm_full}
 use Rattle.inode_changes.proofs.PlaceLaws.{none_at, said_place, old_there, entries_at}
 use Rattle.inode_changes.proofs.RemoveLaws.{Taking, may_write, fits, none_refuses, stop_at_write, may_drop, pair_held, stop_at_drop, tree_fin, left_fin}
@@ -203,7 +204,7 @@ returns-in-Err-write_block g c =
     let steps = subst (λ x. Steps {X = Unit {0}} told me rd wr (write_by me d x) d (written rd.world d x) (Err r)) c.directory_without-bytes.ensures h.steps in
     record {
       answer = λ t. ask_refuses (mounted_by me) first wr a (λ _ answer. answer ≡ done) r (λ ne. absurd (ne (h.only t))) (λ ne. absurd (ne (h.only t)));
-      changes = changes_of told (mounted_by me) refl first wr a (Err r) (λ t. (tt, λ ne. absurd (ne (h.only t))))
+      changes = changes_of told (mounted_by me) refl first wr a (Err r) (λ t. tt) (λ t. (tt, λ ne. absurd (ne (h.only t))))
           (then_runs told first rd wr P tt (Err r) before
           (runs_step told me rd wr (write_by me d bytes) d (written rd.world d bytes) P (Err r) (λ t. (f.looks.looked t).0.valid) (λ t.
           let there = child_there me mid (e.found t).above.more place.directory (e.found t).above.stands place.name.now b (said_place me mid path place e.dir (e.found t) b c.in-Some.is) in
@@ -298,12 +299,16 @@ returns-in-Ok-drop_pointer g c =
     let so_far = then_runs told first rd wr P tt (Ok tt) before written_so in
     let j = c.in-Ok-drop_pointer.ensures in
     let gone = c.in-Ok-drop_pointer._gone in
+    let kept : told → KeepsRoom (need 0 0) first.world fin.world = λ t. no_more_room (need 0 0) first.world wr.world fin.world
+    (no_more_room (need 0 0) first.world rd.world wr.world (same_room (need 0 0) first.world rd.world (looks.looked t).0.world)
+    (write_takes me rd wr (f.looks.looked t).0.valid (write_by me d bytes) d bytes (may_write me first mid rd path place b (taking t)).live (steps.went t)))
+    (drop_takes me wr fin (steps.went t).valid (unlink_by me d b) d b (j.steps.went t)) in
     record {
       answer = λ t.
           let there = child_there me mid (e.found t).above.more place.directory (e.found t).above.stands place.name.now b (said_place me mid path place e.dir (e.found t) b c.in-Some.is) in
           ask_done (mounted_by me) first fin a tt (none_refuses me first mid rd path place b (taking t) there k (f.says t) empty) refl
           (tree_fin me first mid rd path place b (taking t) there k (f.says t) empty wr (steps.went t) steps.stays.0 fin (j.steps.went t) j.steps.unspent.0);
-      changes = changes_of told (mounted_by me) refl first fin a (Ok tt) (λ t.
+      changes = changes_of told (mounted_by me) refl first fin a (Ok tt) kept (λ t.
           let there = child_there me mid (e.found t).above.more place.directory (e.found t).above.stands place.name.now b (said_place me mid path place e.dir (e.found t) b c.in-Some.is) in
           (left_fin me first mid rd path place b (taking t) there k (f.says t) empty wr (steps.went t) steps.stays.0 fin (j.steps.went t) j.steps.unspent.0, tt))
           (then_runs told first wr fin P tt (Ok tt) so_far
@@ -356,7 +361,7 @@ returns-in-Err-drop_pointer g c =
     let r = c.in-Err-drop_pointer.refusal in
     record {
       answer = λ t. ask_refuses (mounted_by me) first fin a (λ _ answer. answer ≡ done) r (λ ne. absurd (ne (j.only t))) (λ ne. absurd (ne (j.only t)));
-      changes = changes_of told (mounted_by me) refl first fin a (Err r) (λ t. (tt, λ ne. absurd (ne (j.only t))))
+      changes = changes_of told (mounted_by me) refl first fin a (Err r) (λ t. tt) (λ t. (tt, λ ne. absurd (ne (j.only t))))
           (then_runs told first wr fin P tt (Err r) so_far
           (runs_refused told wr fin P r (runs_step told me wr fin (unlink_by me d b) d (dropped wr.world d b) P (Err r) (λ t. (steps.went t).valid) (λ t.
           let there = child_there me mid (e.found t).above.more place.directory (e.found t).above.stands place.name.now b (said_place me mid path place e.dir (e.found t) b c.in-Some.is) in

@@ -1,0 +1,40 @@
+-- What is taken for a new chain, counted.
+use Rattle.std.proofs.Common.{◌≡◌, ℕ, suc, ◌+◌, true, false, ◌||◌, List, [], ◌∷◌, length, refl, sym, ◌∙◌, ap, subst}
+use Rattle.std.proofs.lemmas.Bool.{or_left, or_right}
+use Rattle.std.specs.Prelude.{is_some}
+use Rattle.tsd_model.specs.Geometry.{block_len}
+use Rattle.tsd_model.specs.World.{World, is_live, has_number}
+use Rattle.tsd_model.specs.Valid.{IsValid}
+use Rattle.fs_trees.specs.ChainTree.{links}
+use Rattle.fs_trees.specs.Needs.{need, clusters_for}
+use Rattle.fs_port.specs.View.{View}
+use Rattle.fs_port.specs.Files.{KeepsRoom}
+use Rattle.fs_client.specs.declared.client.Client.{Client}
+use Rattle.fs_client.proofs.KeepLaws.{takes_these}
+use Rattle.chain_changes.specs.Making.{Making}
+use Rattle.chain_changes.specs.Filling.{NewFile}
+use Rattle.chain_changes.specs.Growing.{clusters_more, NewTail}
+
+-- a pair to each block of a chain
+length-links : (b : ℕ) (bs : List ℕ) → length (links (b ∷ bs)) ≡ length bs
+length-links b [] = refl
+length-links b (c ∷ bs) = ap suc (length-links c bs)
+
+making_takes : (root : ℕ) (first : World) (source : ℕ) (blocks : List ℕ) (w : World) → IsValid first → Making root first source blocks w → KeepsRoom (need (length blocks) (length blocks)) first w
+making_takes root first source blocks w valid m =
+    subst (λ n. KeepsRoom (need (length blocks) n) first w) (length-links source blocks)
+    (takes_these first w valid m.valid m.geometry blocks (links (source ∷ blocks)) lives (λ a b h. sym (m.pairs a b) ∙ h))
+  where
+    lives : (b : ℕ) → is_live w b ≡ true → (is_live first b || has_number blocks b) ≡ true
+    lives b h = elim (has_number blocks b) as (λ t. has_number blocks b ≡ t → (is_live first b || t) ≡ true) [
+      | true ↦ λ e. or_right (is_live first b) true refl
+      | false ↦ λ e. or_left (is_live first b) false (ap is_some (sym (m.bytes b e)) ∙ h)
+    ] refl
+
+pub file_takes : (c : Client) (old new : View) (source ahead : ℕ) (bytes blocks : List ℕ) → IsValid old.world → NewFile c old new source ahead bytes blocks
+    → KeepsRoom (need (clusters_for old.world.geometry (length bytes) + ahead) (clusters_for old.world.geometry (length bytes) + ahead)) old.world new.world
+file_takes c old new source ahead bytes blocks valid made = subst (λ n. KeepsRoom (need n n) old.world new.world) made.many (making_takes c.root old.world source blocks new.world valid made.making)
+
+pub tail_takes : (c : Client) (old new : View) (source : ℕ) (bytes blocks : List ℕ) → IsValid old.world → NewTail c old new source bytes blocks
+    → KeepsRoom (need (clusters_more (block_len old.world.geometry) bytes) (clusters_more (block_len old.world.geometry) bytes)) old.world new.world
+tail_takes c old new source bytes blocks valid made = subst (λ n. KeepsRoom (need n n) old.world new.world) made.many (making_takes c.root old.world source blocks new.world valid made.making)
