@@ -1,0 +1,156 @@
+-- What the source answers of its tree.
+use Rattle.std.proofs.Common.{◌≡◌, ◌≢◌, ℕ, true, false, cond, not, List, [], ◌∷◌, length, take, drop, refl, sym, ◌∙◌, ap, inl, inr, ◌⊎◌, Result, Ok, Err, Option, None}
+use Rattle.std.specs.Prelude.{IfErr}
+use Rattle.tsd_model.specs.World.{free_count}
+use Rattle.tsd_model.specs.declared.geometry.Geometry.{Geometry}
+use Rattle.fs_trees.specs.Answer.{Answer, bytes, listed, refused}
+use Rattle.fs_trees.specs.Layouts.{step_in}
+use Rattle.fs_trees.specs.Names.{Name, Path}
+use Rattle.fs_trees.specs.Needs.{need_of}
+use Rattle.fs_trees.specs.Refusals.{Need, when, first_of, lost_on_the_way, not_mounted, missing, no_file, no_dir}
+use Rattle.fs_trees.specs.Step.{judged, tree_step}
+use Rattle.fs_trees.specs.Tree.{nothing, a_file, a_dir, Tree, at, entry, is_dir, is_file, is_there, names_in, bytes_in}
+use Rattle.fs_trees.specs.declared.ask.ShellAsk.{ShellAsk}
+use Rattle.fs_trees.specs.declared.ask.ShellAsk.TheVariants as ask
+use Rattle.fs_trees.specs.declared.ask.ShellKind.{ShellKind}
+use Rattle.fs_trees.specs.declared.refusal.FsRefusal.{FsRefusal}
+use Rattle.fs_trees.specs.declared.refusal.FsRefusal.TheVariants as no
+use Rattle.fs_port.specs.View.{View}
+use Rattle.fs_port.specs.Files.{FilesView, Answers, TellsNext, TellsPart, TellsSize, above, step_on}
+use Rattle.fs_copy.specs.Going.{tree_under, IsFileAt}
+
+-- ---- where something stands at a path
+
+nowhere : (p : Path) → is_there (at {D = Unit {0}} {F = List ℕ} nothing p) ≡ true → ⊥
+nowhere [] h = absurd (cc)
+nowhere (n ∷ ns) h = nowhere ns h
+
+way_there : (t : Tree) (p : Path) → is_there (at t p) ≡ true → lost_on_the_way t p ≡ None
+way_there t [] h = refl
+way_there nothing (n ∷ ns) h = absurd (nowhere ns h)
+way_there (a_file x) (n ∷ ns) h = absurd (nowhere ns h)
+way_there (a_dir d es) (n ∷ ns) h = way_there (entry n es) ns h
+
+root_there : (t : Tree) (p : Path) → is_there (at t p) ≡ true → is_there t ≡ true
+root_there nothing p h = absurd (nowhere p h)
+root_there (a_file x) p h = refl
+root_there (a_dir d es) p h = refl
+
+pub dir_there : (t : Tree) → is_dir t ≡ true → is_there t ≡ true
+dir_there nothing h = absurd (cc)
+dir_there (a_file x) h = absurd (cc)
+dir_there (a_dir d es) h = refl
+
+module _ (t : Tree) (p : Path) (there : is_there (at t p) ≡ true) where
+  none_mounted : not_mounted t ≡ None
+  none_mounted = ap (λ b. when (not b) no.NotThisFs) (root_there t p there)
+
+  none_missing : missing t p ≡ None
+  none_missing = ap (λ b. when (not b) no.NoEntry) there
+
+  cat_first : first_of (not_mounted t ∷ lost_on_the_way t p ∷ missing t p ∷ no_file t p ∷ []) ≡ first_of (no_file t p ∷ [])
+  cat_first =
+      ap (λ o. first_of (o ∷ lost_on_the_way t p ∷ missing t p ∷ no_file t p ∷ [])) none_mounted
+      ∙ (ap (λ o. first_of (o ∷ missing t p ∷ no_file t p ∷ [])) (way_there t p there) ∙ ap (λ o. first_of (o ∷ no_file t p ∷ [])) none_missing)
+
+  ls_first : first_of (not_mounted t ∷ lost_on_the_way t p ∷ missing t p ∷ no_dir t p ∷ []) ≡ first_of (no_dir t p ∷ [])
+  ls_first =
+      ap (λ o. first_of (o ∷ lost_on_the_way t p ∷ missing t p ∷ no_dir t p ∷ [])) none_mounted
+      ∙ (ap (λ o. first_of (o ∷ missing t p ∷ no_dir t p ∷ [])) (way_there t p there) ∙ ap (λ o. first_of (o ∷ no_dir t p ∷ [])) none_missing)
+
+-- ---- the answers
+
+module _ (kind : ShellKind) (g : Geometry) (free held : ℕ) (need : Need) (t : Tree) (p : Path) where
+  cat_file : (x : List ℕ) → at t p ≡ a_file x → (tree_step kind g t (ask.Cat p) free held need).answer ≡ bytes x
+  cat_file x is =
+      let first = cat_first t p (ap is_there is) ∙ ap (λ y. first_of (when (is_dir y) no.IsDir ∷ [])) is in
+      ap (λ o. (judged t free (ask.Cat p) o).answer) first ∙ ap (λ y. bytes (bytes_in y)) is
+
+  cat_dir : is_dir (at t p) ≡ true → (tree_step kind g t (ask.Cat p) free held need).answer ≡ refused no.IsDir
+  cat_dir is =
+      let first = cat_first t p (dir_there (at t p) is) ∙ ap (λ b. first_of (when b no.IsDir ∷ [])) is in
+      ap (λ o. (judged t free (ask.Cat p) o).answer) first
+
+  ls_dir : is_dir (at t p) ≡ true → (tree_step kind g t (ask.Ls p) free held need).answer ≡ listed (names_in (at t p))
+  ls_dir is =
+      let first = ls_first t p (dir_there (at t p) is) ∙ ap (λ b. first_of (when b no.NotDir ∷ [])) (no_file_there (at t p) is) in
+      ap (λ o. (judged t free (ask.Ls p) o).answer) first
+    where
+      no_file_there : (y : Tree) → is_dir y ≡ true → is_file y ≡ false
+      no_file_there nothing h = absurd (cc)
+      no_file_there (a_file x) h = absurd (cc)
+      no_file_there (a_dir d es) h = refl
+
+-- a file, or a directory
+file_or_dir : (x : Tree) → is_there x ≡ true → ((y : List ℕ) × (x ≡ a_file y)) ⊎ (is_dir x ≡ true)
+file_or_dir nothing h = absurd (cc)
+file_or_dir (a_file y) h = inl (y, refl)
+file_or_dir (a_dir d es) h = inr refl
+
+bytes_same : (x y : List ℕ) → bytes x ≡ bytes y → x ≡ y
+bytes_same x y e = cc
+
+never_bytes : (x : List ℕ) (e : FsRefusal) → bytes x ≡ refused e → ⊥
+never_bytes x e h = cc
+
+never_listed : (ns : List Name) (e : FsRefusal) → listed ns ≡ refused e → ⊥
+never_listed ns e h = cc
+
+same_refusal : (d e : FsRefusal) → refused d ≡ refused e → d ≡ e
+same_refusal d e h = cc
+
+listed_same : (ms ns : List Name) → listed ms ≡ listed ns → ms ≡ ns
+listed_same ms ns e = cc
+
+module _ (f : FilesView) (v : View) (mounted : f.mounted ≡ true) (p : Path) where
+  abbrev t : Tree
+  t = tree_under f v
+
+  at_view : (a : ShellAsk) → (step_on f v a).answer ≡ (step_in f.kind v.world f.root t a).answer
+  at_view a = ap (λ m. (step_in f.kind v.world f.root (cond m t nothing) a).answer) mounted
+
+  says_file : (x : List ℕ) → at t p ≡ a_file x → (step_on f v (ask.Cat p)).answer ≡ bytes x
+  says_file x is = at_view (ask.Cat p) ∙ cat_file f.kind v.world.geometry (free_count v.world) (length v.world.pairs) (need_of f.kind v.world f.root t (ask.Cat p)) t p x is
+
+  says_dir : is_dir (at t p) ≡ true → (step_on f v (ask.Cat p)).answer ≡ refused no.IsDir
+  says_dir is = at_view (ask.Cat p) ∙ cat_dir f.kind v.world.geometry (free_count v.world) (length v.world.pairs) (need_of f.kind v.world f.root t (ask.Cat p)) t p is
+
+  says_names : is_dir (at t p) ≡ true → (step_on f v (ask.Ls p)).answer ≡ listed (names_in (at t p))
+  says_names is = at_view (ask.Ls p) ∙ ls_dir f.kind v.world.geometry (free_count v.world) (length v.world.pairs) (need_of f.kind v.world f.root t (ask.Ls p)) t p is
+
+  -- the size is that of a file
+  pub size_tells : is_there (at t p) ≡ true → (n : ℕ) → TellsSize n (step_on f v (ask.Cat p)).answer → (x : List ℕ) × (at t p ≡ a_file x) × (n ≡ length x)
+  size_tells there n tells = elim (file_or_dir (at t p) there) [
+    | inl file ↦ (file.0, file.1, tells.2 ∙ ap length (bytes_same tells.0 file.0 (sym tells.1 ∙ says_file file.0 file.1)))
+    | inr dir ↦ absurd (never_bytes tells.0 no.IsDir (sym tells.1 ∙ says_dir dir))
+  ]
+
+  -- only a directory has none
+  pub size_refused : is_there (at t p) ≡ true → (e : FsRefusal) → (step_on f v (ask.Cat p)).answer ≡ refused e → (is_dir (at t p) ≡ true) × (e ≡ no.IsDir)
+  size_refused there e is = elim (file_or_dir (at t p) there) [
+    | inl file ↦ absurd (never_bytes file.0 e (sym (says_file file.0 file.1) ∙ is))
+    | inr dir ↦ (dir, sym (same_refusal no.IsDir e (sym (says_dir dir) ∙ is)))
+  ]
+
+  pub part_tells : IsFileAt t p → (start : ℕ) (part : List ℕ) → TellsPart start part (step_on f v (ask.Cat p)).answer → part ≡ take 4096 (drop start (bytes_in (at t p)))
+  part_tells file start part tells = tells.2 ∙ ap (λ y. take 4096 (drop start y)) (bytes_same tells.0 file.0 (sym tells.1 ∙ says_file file.0 file.1) ∙ sym (ap bytes_in file.1))
+
+  pub part_refused : IsFileAt t p → (e : FsRefusal) → (step_on f v (ask.Cat p)).answer ≡ refused e → ⊥
+  part_refused file e is = never_bytes file.0 e (sym (says_file file.0 file.1) ∙ is)
+
+  pub next_tells : is_dir (at t p) ≡ true → (after : Name) (next : Option Name) → TellsNext after next (step_on f v (ask.Ls p)).answer → next ≡ above after (names_in (at t p))
+  next_tells dir after next tells = tells.2 ∙ ap (above after) (listed_same tells.0 (names_in (at t p)) (sym tells.1 ∙ says_names dir))
+
+  pub next_refused : is_dir (at t p) ≡ true → (e : FsRefusal) → (step_on f v (ask.Ls p)).answer ≡ refused e → ⊥
+  next_refused dir e is = never_listed (names_in (at t p)) e (sym (says_names dir) ∙ is)
+
+-- a call that no tree refuses
+pub never_refused : {X : Type 0} (f : FilesView) (v new : View) (a : ShellAsk) (r : Result X FsRefusal) (tells : X → Answer → Type 0) → ((e : FsRefusal) → (step_on f v a).answer ≡ refused e → ⊥) → Answers f v new a r tells → IfErr r (λ e. e ≢ no.Device → ⊥)
+never_refused f v new a (Ok x) tells never h = tt
+never_refused f v new a (Err e) tells never h = λ ne. never e (h.err ne).0
+
+pub dir_no_fault : (e : FsRefusal) → e ≡ no.IsDir → e ≢ no.Device
+dir_no_fault e is same = let both : no.IsDir ≡ no.Device = sym is ∙ same in absurd (cc)
+
+pub other_fault : no.NotThisFs ≢ no.Device
+other_fault e = cc

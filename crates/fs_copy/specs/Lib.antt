@@ -1,0 +1,5 @@
+pub mod Counted
+pub mod Nesting
+pub mod Going
+pub mod Walk
+pub mod Copies

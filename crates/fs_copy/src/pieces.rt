@@ -1,0 +1,94 @@
+//! The bytes of a file, piece by piece.
+
+ghost use Rattle.std.specs.Prelude.{◌≡◌, ◌<◌, ◌*◌, take, drop, length, [], ◌∷◌, IsTrue};
+ghost use Rattle.fs_trees.specs.Copying.{file_steps, piece_max};
+ghost use Rattle.fs_trees.specs.Names.{is_path};
+ghost use Rattle.fs_trees.specs.Tree.{at, bytes_in};
+ghost use Rattle.fs_trees.specs.declared.ask.ShellAsk.TheVariants as ask;
+ghost use Rattle.fs_copy.specs.Going.{AreSet, Goes, IsFileAt, tree_under};
+
+use fs_port::{Blocks, Files};
+use fs_trees::{FsRefusal, Path};
+use tsd_model::Data;
+
+/// How many bytes one ask carries.
+const PIECE_BYTES: u64 = 4096;
+
+/// Puts the first piece of a file, also where it has no bytes.
+fn put_piece<K: Blocks, A: Files, B: Files>(
+    disk: &mut K,
+    from: &mut A,
+    into: &mut B,
+    path: &Path,
+) -> Result<(), FsRefusal>
+    requires set { AreSet K.told (A.view from.old) (B.view into.old) (K.view disk.old) }
+    requires named { IsTrue (is_path path.now) }
+    requires file { K.told → IsFileAt (tree_under (A.view from.old) (K.view disk.old)) path.now }
+    ensures goes { Goes K.told (B.view into.old) (K.view disk.old) (K.view disk.new) (ask.Put path.now
+        (take piece_max (bytes_in (at (tree_under (A.view from.old) (K.view disk.old)) path.now))) ∷ []) result }
+    ensures from_same { A.view from.new ≡ A.view from.old }
+    ensures into_same { B.view into.new ≡ B.view into.old }
+{
+    let mut piece = Data::new();
+    match from.read_part(disk, path, 0, &mut piece) {
+        Ok(()) => into.put(disk, path, &piece),
+        Err(why) => Err(why),
+    }
+}
+
+/// Appends the piece of a file that begins at a place.
+fn append_piece<K: Blocks, A: Files, B: Files>(
+    disk: &mut K,
+    from: &mut A,
+    into: &mut B,
+    path: &Path,
+    start: u64,
+) -> Result<(), FsRefusal>
+    requires set { AreSet K.told (A.view from.old) (B.view into.old) (K.view disk.old) }
+    requires named { IsTrue (is_path path.now) }
+    requires file { K.told → IsFileAt (tree_under (A.view from.old) (K.view disk.old)) path.now }
+    ensures goes { Goes K.told (B.view into.old) (K.view disk.old) (K.view disk.new) (ask.Append path.now
+        (take piece_max (drop start (bytes_in (at (tree_under (A.view from.old) (K.view disk.old)) path.now)))) ∷ [])
+        result }
+    ensures from_same { A.view from.new ≡ A.view from.old }
+    ensures into_same { B.view into.new ≡ B.view into.old }
+{
+    let mut piece = Data::new();
+    match from.read_part(disk, path, start, &mut piece) {
+        Ok(()) => into.append(disk, path, &piece),
+        Err(why) => Err(why),
+    }
+}
+
+/// Copies a file of so many bytes.
+pub fn copy_file<K: Blocks, A: Files, B: Files>(
+    disk: &mut K,
+    from: &mut A,
+    into: &mut B,
+    path: &Path,
+    size: u64,
+) -> Result<(), FsRefusal>
+    requires set { AreSet K.told (A.view from.old) (B.view into.old) (K.view disk.old) }
+    requires named { IsTrue (is_path path.now) }
+    requires file { K.told → IsFileAt (tree_under (A.view from.old) (K.view disk.old)) path.now }
+    requires sized { K.told → size ≡ length (bytes_in (at (tree_under (A.view from.old) (K.view disk.old)) path.now)) }
+    ensures goes { Goes K.told (B.view into.old) (K.view disk.old) (K.view disk.new) (file_steps path.now
+        (bytes_in (at (tree_under (A.view from.old) (K.view disk.old)) path.now))) result }
+    ensures from_same { A.view from.new ≡ A.view from.old }
+    ensures into_same { B.view into.new ≡ B.view into.old }
+{
+    match put_piece(disk, from, into, path) {
+        Ok(()) => {}
+        Err(why) => return Err(why),
+    }
+    let pieces = size.div_ceil(PIECE_BYTES);
+    let mut i: u64 = 1;
+    while i < pieces {
+        match append_piece(disk, from, into, path, i * PIECE_BYTES) {
+            Ok(()) => {}
+            Err(why) => return Err(why),
+        }
+        i += 1;
+    }
+    Ok(())
+}
