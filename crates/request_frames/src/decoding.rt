@@ -1,19 +1,23 @@
 //! The request that a body spells.
 
-ghost use Rattle.std.specs.Prelude.{◌≡◌, ◌<◌, ◌⊎◌, length};
+ghost use Rattle.std.specs.Prelude.{◌≡◌, ◌<◌, ◌⊎◌, length, unwrap_or};
 ghost use Rattle.tsd_model.specs.declared.requests.Request.{Request};
+ghost use Rattle.tsd_model.specs.declared.requests.Request.TheVariants as ask;
 ghost use Rattle.request_frames.specs.Requests.{IsBody};
 ghost use Rattle.request_frames.specs.Reading.{begin_of, end_of, read_of, write_of, alloc_of, contig_of, free_of};
 ghost use Rattle.request_frames.specs.Reading.{create_of, delete_of, set_cap_of, sweep_of, list_of, coded, asked};
-ghost use Rattle.request_frames.specs.Reading.{request_of, ends};
+ghost use Rattle.request_frames.specs.Reading.{request_of};
+ghost use Rattle.request_frames.specs.Parsing.{ended, request_parsed, request_said};
 
 use crate::codes::{
     ALLOC, BEGIN, CONTIG, CREATE, DELETE, END, GET_FREE, LIST, READ, SET_CAP, SWEEP, WRITE,
 };
+use crate::parsed::{Parsed, request};
 use crate::reader::BodyReader;
 use tsd_model::{CapPair, Request};
 
 /// The request that a body spells, and Bad where it spells none.
+#[inline(never)]
 pub fn decode_body(body: &[u8]) -> Request
     // What is read is spelled so, from the first byte to the last.
     ensures spelled { (result ≡ Request.Bad) ⊎ IsBody body.now result }
@@ -24,22 +28,24 @@ pub fn decode_body(body: &[u8]) -> Request
     // As a function that computes.
     ensures value { result ≡ request_of body.now }
 {
-    read_body(body)
+    request(read_body(body))
 }
 
+/// What a body says. It stays a call, so that the room of the request is cleared once and beside no other.
+#[inline(never)]
 #[tactic(auto, unfolding(crate::specs::Reading::request_of))]
-fn read_body(body: &[u8]) -> Request
-    ensures { result ≡ request_of body.now }
+fn read_body(body: &[u8]) -> Parsed<'_>
+    ensures { unwrap_or (request_parsed result) ask.Bad ≡ request_of body.now }
 {
     match asked(BodyReader::of(body)) {
-        Some(request) => request,
-        None => Request::Bad,
+        Some(parsed) => parsed,
+        None => Parsed::Bad,
     }
 }
 
 #[tactic(auto, unfolding(crate::specs::Reading::asked))]
-fn asked(mut reader: BodyReader) -> Option<Request>
-    ensures { result ≡ asked reader.entry }
+fn asked(mut reader: BodyReader<'_>) -> Option<Parsed<'_>>
+    ensures { request_said result ≡ asked reader.entry }
 {
     let code = reader.byte()?;
     coded(code, reader)
@@ -47,8 +53,8 @@ fn asked(mut reader: BodyReader) -> Option<Request>
 
 /// The request by its code.
 #[tactic(auto, unfolding(crate::specs::Reading::coded))]
-fn coded(code: u8, reader: BodyReader) -> Option<Request>
-    ensures { result ≡ coded code reader.entry }
+fn coded(code: u8, reader: BodyReader<'_>) -> Option<Parsed<'_>>
+    ensures { request_said result ≡ coded code reader.entry }
 {
     match code {
         BEGIN => begin(reader),
@@ -67,183 +73,121 @@ fn coded(code: u8, reader: BodyReader) -> Option<Request>
     }
 }
 
-/// The value, where no byte is left.
-fn done(reader: BodyReader, request: Request) -> Option<Request>
-    ensures { result ≡ ends reader.entry request }
+/// What was read, where no byte is left.
+fn done<'a>(reader: BodyReader<'a>, parsed: Parsed<'a>) -> Option<Parsed<'a>>
+    ensures { request_said result ≡ ended reader.entry (request_parsed parsed.entry) }
 {
     if reader.is_empty() {
-        Some(request)
+        Some(parsed)
     } else {
         None
     }
 }
 
 #[tactic(auto, unfolding(crate::specs::Reading::begin_of))]
-fn begin(mut reader: BodyReader) -> Option<Request>
-    ensures { result ≡ begin_of reader.entry }
+fn begin(mut reader: BodyReader<'_>) -> Option<Parsed<'_>>
+    ensures { request_said result ≡ begin_of reader.entry }
 {
     let session = reader.number()?;
-    done(reader, Request::Begin { session })
+    done(reader, Parsed::Begin { session })
 }
 
 #[tactic(auto, unfolding(crate::specs::Reading::end_of))]
-fn end(mut reader: BodyReader) -> Option<Request>
-    ensures { result ≡ end_of reader.entry }
+fn end(mut reader: BodyReader<'_>) -> Option<Parsed<'_>>
+    ensures { request_said result ≡ end_of reader.entry }
 {
     let session = reader.number()?;
-    done(reader, Request::End { session })
+    done(reader, Parsed::End { session })
 }
 
 #[tactic(auto, unfolding(crate::specs::Reading::read_of))]
-fn read(mut reader: BodyReader) -> Option<Request>
-    ensures { result ≡ read_of reader.entry }
+fn read(mut reader: BodyReader<'_>) -> Option<Parsed<'_>>
+    ensures { request_said result ≡ read_of reader.entry }
 {
     let place = reader.place()?;
-    done(
-        reader,
-        Request::Read {
-            session: place.session,
-            block: place.block,
-            shown: place.shown,
-        },
-    )
+    done(reader, Parsed::Read { place })
 }
 
 #[tactic(auto, unfolding(crate::specs::Reading::write_of))]
-fn write(mut reader: BodyReader) -> Option<Request>
-    ensures { result ≡ write_of reader.entry }
+fn write(mut reader: BodyReader<'_>) -> Option<Parsed<'_>>
+    ensures { request_said result ≡ write_of reader.entry }
 {
     let place = reader.place()?;
-    let bytes = reader.data()?;
-    done(
-        reader,
-        Request::Write {
-            session: place.session,
-            block: place.block,
-            shown: place.shown,
-            bytes,
-        },
-    )
+    Some(Parsed::Write {
+        place,
+        bytes: reader.left(),
+    })
 }
 
 #[tactic(auto, unfolding(crate::specs::Reading::alloc_of))]
-fn alloc(mut reader: BodyReader) -> Option<Request>
-    ensures { result ≡ alloc_of reader.entry }
+fn alloc(mut reader: BodyReader<'_>) -> Option<Parsed<'_>>
+    ensures { request_said result ≡ alloc_of reader.entry }
 {
     let place = reader.place()?;
     let hint = reader.hint()?;
     let count = reader.number()?;
-    done(
-        reader,
-        Request::Alloc {
-            session: place.session,
-            source: place.block,
-            shown: place.shown,
-            hint,
-            count,
-        },
-    )
+    done(reader, Parsed::Alloc { place, hint, count })
 }
 
 #[tactic(auto, unfolding(crate::specs::Reading::contig_of))]
-fn contig(mut reader: BodyReader) -> Option<Request>
-    ensures { result ≡ contig_of reader.entry }
+fn contig(mut reader: BodyReader<'_>) -> Option<Parsed<'_>>
+    ensures { request_said result ≡ contig_of reader.entry }
 {
     let place = reader.place()?;
     let hint = reader.hint()?;
     let count = reader.number()?;
-    done(
-        reader,
-        Request::Contig {
-            session: place.session,
-            source: place.block,
-            shown: place.shown,
-            hint,
-            count,
-        },
-    )
+    done(reader, Parsed::Contig { place, hint, count })
 }
 
-fn free(reader: BodyReader) -> Option<Request>
-    ensures { result ≡ free_of reader.entry }
+fn free(reader: BodyReader<'_>) -> Option<Parsed<'_>>
+    ensures { request_said result ≡ free_of reader.entry }
 {
-    done(reader, Request::GetFree)
+    done(reader, Parsed::GetFree)
 }
 
 #[tactic(auto, unfolding(crate::specs::Reading::create_of))]
-fn create(mut reader: BodyReader) -> Option<Request>
-    ensures { result ≡ create_of reader.entry }
+fn create(mut reader: BodyReader<'_>) -> Option<Parsed<'_>>
+    ensures { request_said result ≡ create_of reader.entry }
 {
     let place = reader.place()?;
     let target = reader.number()?;
-    done(
-        reader,
-        Request::Create {
-            session: place.session,
-            source: place.block,
-            shown: place.shown,
-            target,
-        },
-    )
+    done(reader, Parsed::Create { place, target })
 }
 
 #[tactic(auto, unfolding(crate::specs::Reading::delete_of))]
-fn delete(mut reader: BodyReader) -> Option<Request>
-    ensures { result ≡ delete_of reader.entry }
+fn delete(mut reader: BodyReader<'_>) -> Option<Parsed<'_>>
+    ensures { request_said result ≡ delete_of reader.entry }
 {
     let place = reader.place()?;
     let target = reader.number()?;
-    done(
-        reader,
-        Request::Delete {
-            session: place.session,
-            source: place.block,
-            shown: place.shown,
-            target,
-        },
-    )
+    done(reader, Parsed::Delete { place, target })
 }
 
 #[tactic(auto, unfolding(crate::specs::Reading::set_cap_of))]
-fn set_cap(mut reader: BodyReader) -> Option<Request>
-    ensures { result ≡ set_cap_of reader.entry }
+fn set_cap(mut reader: BodyReader<'_>) -> Option<Parsed<'_>>
+    ensures { request_said result ≡ set_cap_of reader.entry }
 {
     let place = reader.place()?;
     let read = reader.cap()?;
     let write = reader.cap()?;
-    done(
-        reader,
-        Request::SetCap {
-            session: place.session,
-            block: place.block,
-            shown: place.shown,
-            caps: CapPair { read, write },
-        },
-    )
+    let caps = CapPair { read, write };
+    done(reader, Parsed::SetCap { place, caps })
 }
 
 #[tactic(auto, unfolding(crate::specs::Reading::sweep_of))]
-fn sweep(mut reader: BodyReader) -> Option<Request>
-    ensures { result ≡ sweep_of reader.entry }
+fn sweep(mut reader: BodyReader<'_>) -> Option<Parsed<'_>>
+    ensures { request_said result ≡ sweep_of reader.entry }
 {
     let session = reader.number()?;
     let shown = reader.shown()?;
-    done(reader, Request::Sweep { session, shown })
+    done(reader, Parsed::Sweep { session, shown })
 }
 
 #[tactic(auto, unfolding(crate::specs::Reading::list_of))]
-fn list(mut reader: BodyReader) -> Option<Request>
-    ensures { result ≡ list_of reader.entry }
+fn list(mut reader: BodyReader<'_>) -> Option<Parsed<'_>>
+    ensures { request_said result ≡ list_of reader.entry }
 {
     let place = reader.place()?;
     let start = reader.number()?;
-    done(
-        reader,
-        Request::List {
-            session: place.session,
-            source: place.block,
-            shown: place.shown,
-            start,
-        },
-    )
+    done(reader, Parsed::List { place, start })
 }

@@ -25,6 +25,7 @@ pub mod cutter;
 mod decoding;
 mod encoding;
 pub mod frame_buf;
+mod parsed;
 mod reader;
 mod reply_decoding;
 mod reply_encoding;

@@ -49,6 +49,13 @@ impl<'a> BodyReader<'a> {
         BodyReader { left: body }
     }
 
+    /// The bytes that are left.
+    pub fn left(&self) -> &'a [u8]
+        ensures { result.now ≡ self.now }
+    {
+        self.left
+    }
+
     /// Whether all are read.
     pub fn is_empty(&self) -> bool
         ensures { IsTrue result ↔ (self.now ≡ []) }

@@ -1,5 +1,5 @@
 -- The texts of requests and replies as they are printed.
-use Rattle.std.specs.Prelude.{ℕ, cond, ◌==◌, List, [], ◌∷◌, map, codes, decimal}
+use Rattle.std.specs.Prelude.{ℕ, Bool, true, false, cond, ◌==◌, List, [], ◌∷◌, map, codes, decimal}
 use Rattle.std.specs.List.{list_all, join_with_byte}
 use Rattle.hex.specs.Hex.{encode_lower}
 use Rattle.tsd_model.specs.declared.caps.Shown.TheVariants.{Nothing, Key}
@@ -83,3 +83,14 @@ reply_words (reply.Refused r) = codes "no" ∷ rule_words r
 -- the line of a reply, parted by single spaces, without its line feed
 abbrev pub reply_text : Reply → List ℕ
 reply_text r = join_with_byte 32 (reply_words r)
+
+-- it tells neither bytes nor blocks
+abbrev pub is_short : Reply → Bool
+is_short (reply.Bytes bytes) = false
+is_short (reply.Blocks blocks) = false
+is_short (reply.Targets blocks) = false
+is_short reply.Done = true
+is_short (reply.Free n) = true
+is_short (reply.Gone n) = true
+is_short reply.NoMemory = true
+is_short (reply.Refused r) = true

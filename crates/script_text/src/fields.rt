@@ -1,6 +1,8 @@
 //! What one word of a request line says.
 
-ghost use Rattle.std.specs.Prelude.{◌≡◌, [], cond, Some, None};
+ghost use Rattle.std.specs.Prelude.{◌≡◌, ◌≤◌, ◌*◌, ◌/◌, [], cond, length, Some, None};
+ghost use Rattle.std.specs.Result.{result_ok};
+ghost use Rattle.hex.specs.Hex.{decode_sized};
 ghost use Rattle.std.specs.List.{list_all};
 ghost use Rattle.std.specs.Char.{is_ascii_digit};
 ghost use Rattle.script_text.specs.Reading.{num_of, new_of, shown_of, hint_of, data_of};
@@ -15,6 +17,9 @@ pub const NUMBER_DIGITS: usize = 10;
 
 /// The most hexadecimal digits of a block's bytes.
 pub const DATA_DIGITS: usize = 2 * DATA_MAX;
+
+/// How many bytes are read in little room: the room of all that a block may have is cleared where there are more.
+const FEW_BYTES: usize = 1024;
 
 /// A number: one to ten decimal digits, at most 4,294,967,295.
 pub fn parse_number(word: &[u8]) -> Option<u32>
@@ -90,9 +95,24 @@ pub(crate) fn read_data(word: &[u8], room: &mut Data) -> bool
     if word.len() < 2 || word.len() > DATA_DIGITS {
         return false;
     }
-    let mut bytes = [0u8; DATA_MAX];
-    let half = &mut bytes[..word.len() / 2];
-    match hex::decode_to_slice(word, half) {
+    if word.len() <= 2 * FEW_BYTES {
+        return read_digits::<FEW_BYTES>(word, room);
+    }
+    read_digits::<DATA_MAX>(word, room)
+}
+
+/// Puts the bytes that the digits spell into `room`, which is empty, and answers whether they spell any. They are put
+/// together in room for `N` bytes.
+#[inline(never)]
+fn read_digits<const N: usize>(digits: &[u8], room: &mut Data) -> bool
+    requires few { length digits.now ≤ 2 * N }
+    requires most { N ≤ DATA_MAX }
+    requires empty { room.old ≡ [] }
+    ensures { result_ok (decode_sized digits.now (length digits.now / 2)) ≡ cond result (Some room.new) None }
+{
+    let mut bytes = [0u8; N];
+    let half = &mut bytes[..digits.len() / 2];
+    match hex::decode_to_slice(digits, half) {
         Ok(()) => room.extend_from_slice(half).is_ok(),
         Err(_) => false,
     }

@@ -28,6 +28,7 @@ mod parsed;
 pub mod printing;
 mod replies;
 mod requests;
+pub mod short;
 mod words;
 
 pub use cutter::{Fed, LineCutter};
@@ -35,3 +36,4 @@ pub use out_buf::OutBuf;
 pub use parse::parse_line;
 pub use replies::{print_reply, replies_part};
 pub use requests::print_request;
+pub use short::{ShortLine, short_line};

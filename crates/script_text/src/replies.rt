@@ -1,21 +1,19 @@
 //! Replies as they are printed.
 
 ghost use Rattle.std.specs.Prelude.{◌≡◌, ◌+◌, ◌*◌, ◌<◌, ◌≤◌, ℕ, List, [], ◌∷◌};
-ghost use Rattle.std.specs.Prelude.{◌++◌, length, decimal};
+ghost use Rattle.std.specs.Prelude.{◌++◌, length, true};
 ghost use Rattle.std.specs.List.{join_with_byte};
 ghost use Rattle.tsd_model.specs.ReplyForm.{HasNumbers};
 ghost use Rattle.tsd_model.specs.declared.replies.Reply.{Reply};
 ghost use Rattle.script_text.specs.Pieces.{line_feeds};
-ghost use Rattle.script_text.specs.Texts.{level_text, reply_text, rule_words, target_words, up_to_last};
+ghost use Rattle.script_text.specs.Texts.{is_short, reply_text, target_words, up_to_last};
 
 use crate::out_buf::OutBuf;
 use crate::parse::LINE_MAX;
-use crate::printing::{NUMBER_ROOM, put_data, put_number, put_numbers, put_word};
+use crate::printing::{NUMBER_ROOM, put_data, put_numbers, put_word};
+use crate::short::{ShortLine, put_short};
+use tsd_model::Reply;
 use tsd_model::lists::BLOCKS_MAX;
-use tsd_model::{Level, Reply, Rule};
-
-/// The most bytes of a rule's words with the spaces before them.
-const RULE_ROOM: usize = 40;
 
 /// Replaces the bytes by the text of a reply and a line feed.
 pub fn print_reply(reply: &Reply, into: &mut OutBuf)
@@ -33,7 +31,7 @@ fn reply_in_words(into: &mut OutBuf, reply: &Reply)
     ensures room { length into.new < LINE_MAX }
 {
     match reply {
-        Reply::Done => into.put(b"ok".as_slice()),
+        Reply::Done => short(into, reply),
         Reply::Bytes(all) => {
             into.put(b"data".as_slice());
             put_data(into, trimmed(all.as_slice()));
@@ -42,24 +40,27 @@ fn reply_in_words(into: &mut OutBuf, reply: &Reply)
             into.put(b"blocks".as_slice());
             put_numbers(into, blocks.as_slice());
         }
-        Reply::Free(count) => {
-            into.put(b"free".as_slice());
-            put_number(into, *count);
-        }
-        Reply::Gone(count) => {
-            into.put(b"gone".as_slice());
-            put_number(into, *count);
-        }
+        Reply::Free(_) => short(into, reply),
+        Reply::Gone(_) => short(into, reply),
         Reply::Targets(blocks) => {
             into.put(b"list".as_slice());
             targets(into, blocks.as_slice());
         }
-        Reply::NoMemory => into.put(b"no memory".as_slice()),
-        Reply::Refused(why) => {
-            into.put(b"no".as_slice());
-            rule(into, why);
-        }
+        Reply::NoMemory => short(into, reply),
+        Reply::Refused(_) => short(into, reply),
     }
+}
+
+/// The text of a short reply.
+fn short(into: &mut OutBuf, reply: &Reply)
+    requires short { is_short reply.now ≡ true }
+    requires empty { into.old ≡ [] }
+    ensures text { into.new ≡ reply_text reply.now }
+    ensures room { length into.new < LINE_MAX }
+{
+    let mut line = ShortLine::new();
+    let _is_short = put_short(reply, &mut line);
+    into.put(line.as_slice());
 }
 
 /// The bytes up to the last that isn't zero.
@@ -85,62 +86,6 @@ fn targets(into: &mut OutBuf, blocks: &[u32])
         put_word(into, b"-".as_slice());
     } else {
         put_numbers(into, blocks);
-    }
-}
-
-/// The words of a rule.
-fn rule(into: &mut OutBuf, rule: &Rule)
-    requires { length into.old + RULE_ROOM ≤ LINE_MAX }
-    ensures text { into.new ≡ into.old ++ 32 ∷ join_with_byte 32 (rule_words rule.now) }
-    ensures room { length into.new ≤ length into.old + RULE_ROOM }
-{
-    match rule {
-        Rule::BadRequest => put_word(into, b"bad-request".as_slice()),
-        Rule::BadSession => put_word(into, b"bad-session".as_slice()),
-        Rule::NotOpen => put_word(into, b"not-open".as_slice()),
-        Rule::AlreadyOpen => put_word(into, b"already-open".as_slice()),
-        Rule::BadCount => put_word(into, b"bad-count".as_slice()),
-        Rule::BadSize => put_word(into, b"bad-size".as_slice()),
-        Rule::NoSuchBlock => put_word(into, b"no-such-block".as_slice()),
-        Rule::FreeBlock => put_word(into, b"free-block".as_slice()),
-        Rule::NotPrimary => put_word(into, b"not-primary".as_slice()),
-        Rule::IsPrimary => put_word(into, b"is-primary".as_slice()),
-        Rule::Denied { attained, needed } => {
-            put_word(into, b"denied".as_slice());
-            level(into, *attained);
-            level(into, *needed);
-        }
-        Rule::PointerExists => put_word(into, b"pointer-exists".as_slice()),
-        Rule::NoPointer => put_word(into, b"no-pointer".as_slice()),
-        Rule::Full { free, wanted } => pair(into, b"full".as_slice(), *free, *wanted),
-        Rule::NoRun { free, wanted } => pair(into, b"run".as_slice(), *free, *wanted),
-        Rule::PointersFull { held, max } => pair(into, b"pointers-full".as_slice(), *held, *max),
-    }
-}
-
-/// A word and two numbers.
-fn pair(into: &mut OutBuf, name: &[u8], first: u32, second: u32)
-    requires short { length name.now < 14 }
-    requires room { length into.old + RULE_ROOM ≤ LINE_MAX }
-    ensures text { into.new ≡ into.old ++ 32 ∷ join_with_byte 32 (name.now ∷ decimal first ∷ decimal second ∷
-        []) }
-    ensures room { length into.new ≤ length into.old + RULE_ROOM }
-{
-    put_word(into, name);
-    put_number(into, first);
-    put_number(into, second);
-}
-
-/// A level.
-fn level(into: &mut OutBuf, level: Level)
-    requires { length into.old + 6 ≤ LINE_MAX }
-    ensures text { into.new ≡ into.old ++ 32 ∷ level_text level }
-    ensures room { length into.new ≤ length into.old + 6 }
-{
-    match level {
-        Level::Bare => put_word(into, b"none".as_slice()),
-        Level::Read => put_word(into, b"read".as_slice()),
-        Level::Write => put_word(into, b"write".as_slice()),
     }
 }
 
