@@ -16,14 +16,15 @@ use Rattle.serving.specs.Costs.{IsPaidFor}
 use Rattle.serving.specs.Debts.{HasDebt}
 use Rattle.serving.specs.Input.{Spelling}
 use Rattle.serving.specs.ModelRules.{Placed}
+use Rattle.serving.specs.Prompt.{Mark, Promptly, mark}
 use Rattle.serving.specs.Ran.{ByStatus, Moments, Taking}
 use Rattle.serving.specs.Runs.{IsAcknowledged}
 use Rattle.serving.specs.Service.{IsCounted}
 use Rattle.serving.specs.Voice.{Voice}
-use Rattle.image_runs.specs.Served.{disk_service, RunEnds, IsOwed, ImageRan}
+use Rattle.image_runs.specs.Served.{disk_service, RunEnds, IsOwed, ImageRan, IsPromptRun}
 use Rattle.image_runs.specs.Opened.{IsJudged}
 use Rattle.image_world.proofs.FaultLaws.{no_fault}
-use Rattle.image_runs.specs.Fresh.{fresh_start, format_writes, FreshEnds, FreshRan}
+use Rattle.image_runs.specs.Fresh.{fresh_start, format_writes, FreshEnds, FreshRan, IsPromptFresh}
 use Rattle.image_world.specs.Debt.{debt}
 use Rattle.volume_laws.specs.Quiet.{IsQuiet}
 use Rattle.image_runs.specs.Server.{disk_work}
@@ -85,15 +86,16 @@ ends_formatted r v kind w old mid new asked final counted done judged ends =
     let moments : LeavesOnly mid new (IsAcknowledged (disk_service v) (fresh_start kind w) old.sent asked) =
     subst (λ (b : List ℕ). LeavesOnly mid new (IsAcknowledged (disk_service v) (fresh_start kind w) b asked)) sent
     (subst (λ (u : World). LeavesOnly mid new (IsAcknowledged (disk_service v) (fresh_start kind u) mid.sent asked)) (sym stands.world) (ends.any_moment done.formatted.firm w stands)) in
-    let most : IsPaidFor (disk_service v) disk_work (fresh_start kind w) asked mid.writes new.writes =
-    subst (λ (u : World). IsPaidFor (disk_service v) disk_work (fresh_start kind u) asked mid.writes new.writes) (sym stands.world) (ends.writes done.formatted.quiet) in
+    let most : IsPaidFor (disk_service v) disk_work (fresh_start kind w) old.sent asked new.sent mid.writes new.writes =
+    subst (λ (b : List ℕ). IsPaidFor (disk_service v) disk_work (fresh_start kind w) b asked new.sent mid.writes new.writes) sent
+    (subst (λ (u : World). IsPaidFor (disk_service v) disk_work (fresh_start kind u) mid.sent asked new.sent mid.writes new.writes) (sym stands.world) (ends.writes done.formatted.quiet)) in
     record {
       sent = by;
       any_moment = joined old mid new (left_by v kind w old asked) _ (weakened old mid _ _ done.leaves (λ x f p. inl p)) moments (λ x f p. inr p);
-      formatted = λ other. (mid.clock, done.uses.clock, moments.later, moments.each);
+      formatted = inr (mid.clock, done.uses.clock, moments.later, moments.each);
       opens = λ why e. no_fault mid.reads why stands.good (subst (λ (t : Status). IsJudged mid.reads t) e judged);
       debt = λ bounded. joined old mid new (owed_by v kind w old asked) _ (weakened old mid _ _ done.leaves (λ x f p. inl p)) (ends.debt done.formatted.firm bounded) (λ x f p. inr (owed_fresh v kind w old mid asked x f counted done p));
-      writes = paid_from v (fresh_start kind w) asked mid.writes (old.writes + format_writes w.geometry) new.writes done.uses.most most;
+      writes = paid_from v (fresh_start kind w) old.sent asked new.sent mid.writes (old.writes + format_writes w.geometry) new.writes done.uses.most most;
       done = ends.done;
     }
 
@@ -103,10 +105,10 @@ pub ends_unformatted : (v : Voice) (kind : PlaceKind) (w : World) (old new : Vie
 ends_unformatted v kind w old new counted sent leaves uses = record {
   sent = inl (record { answered = []; rest = []; parts = refl; answers = []; state = fresh_start kind w; run = refl; sent = sent ∙ sym (append-nil old.sent); count = counted.nothing });
   any_moment = weakened old new _ (left_by v kind w old []) leaves (λ x f p. inl p);
-  formatted = λ other. absurd (other refl);
+  formatted = inl (record { failed = refl; none = refl; sent = sent; leaves = leaves });
   opens = λ why e. cc;
   debt = λ bounded. weakened old new _ (owed_by v kind w old []) leaves (λ x f p. inl p);
-  writes = paid_nothing v (fresh_start kind w) (old.writes + format_writes w.geometry) new.writes uses.most;
+  writes = paid_nothing v (fresh_start kind w) old.sent new.sent (old.writes + format_writes w.geometry) new.writes counted sent uses.most;
   done = λ e. absurd (cc);
 }
 
@@ -121,6 +123,16 @@ ran_formatted r v p kind w limit source tells same since old mid new counted don
   these = elim ran.these [ inl closed ↦ inl (record { why = closed.why; untouched = closed.untouched; none = closed.none; sent = λ told. closed.sent told ∙ (done told).formatted.sent }) | inr asked ↦ inr asked ];
   final = ran.final;
   ends = λ told. ends_formatted r v kind w old mid new ran.asked ran.final counted (done told) (judged told) (ran.ends told);
+}
+
+-- how promptly, from formatting on
+pub prompt_formatted : (r : Status) (v : Voice) (kind : PlaceKind) (w : World) (port : Mark → Type 0) (old mid new : View) → Formatted w old mid → IsPromptRun r v kind port mid new → IsPromptFresh r v kind w port old new
+prompt_formatted r v kind w port old mid new done p = record {
+  opened = p.opened;
+  of_port = p.of_port;
+  sent = p.sent ∙ done.formatted.sent;
+  writes = λ _. omega (arith, p.writes done.formatted.quiet, done.uses.most);
+  prompt = subst (λ (u : World). Promptly r (disk_service v) disk_work port (fresh_start kind u) p.opened (mark new)) (sym done.formatted.stands.world) p.prompt;
 }
 
 -- a run that ended in formatting

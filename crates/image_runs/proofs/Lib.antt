@@ -3,7 +3,7 @@ pub mod Serving
 pub mod Kept
 pub mod RunCosts
 pub mod Opened
-mod Started
+pub mod Started
 mod FreshRuns
 mod Saying
 mod Formatted

@@ -50,10 +50,10 @@ next_costs v s (q ∷ qs) valid = next_one (cost_in s.state q) (removed_by s.kin
 both : (now before cost next removed more count rest all : ℕ) → now ≤ before + cost + next → cost ≤ 460 * count + 12 * removed → next ≤ 460 * rest + 12 * more → all ≡ count + rest → now ≤ before + 460 * all + 12 * (removed + more)
 both now before cost next removed more count rest all paid first then same = omega (arith, paid, first, then, same)
 
-pub run_writes : (v : Voice) (s : Placed) (qs : List Request) (before now : ℕ) (run : IsPaidFor (spoken disk_rules v) disk_work s qs before now) → All disk_work.bounded qs → IsValid s.state.world
-    → now ≤ before + 460 * length qs + 12 * (removed_in v s run.answered run.answers run.state run.run + first_removed v run.state run.rest)
-run_writes v s qs before now run bounded valid =
+pub run_writes : (v : Voice) (s : Placed) (before : List ℕ) (qs : List Request) (sent : List ℕ) (start now : ℕ) (run : IsPaidFor (spoken disk_rules v) disk_work s before qs sent start now) → All disk_work.bounded qs → IsValid s.state.world
+    → now ≤ start + 460 * length qs + 12 * (removed_in v s run.answered run.answers run.state run.run + first_removed v run.state run.rest)
+run_writes v s before qs sent start now run bounded valid =
     let k = spoken disk_rules v in
-    both now before (costs k disk_work.cost s run.answered run.answers run.state run.run) (first_cost k disk_work.cost run.state run.rest) (removed_in v s run.answered run.answers run.state run.run) (first_removed v run.state run.rest)
+    both now start (costs k disk_work.cost s run.answered run.answers run.state run.run) (first_cost k disk_work.cost run.state run.rest) (removed_in v s run.answered run.answers run.state run.run) (first_removed v run.state run.rest)
     (length run.answered) (length run.rest) (length qs) (run.paid bounded) (run_costs v s run.answered run.answers run.state run.run valid)
     (next_costs v run.state run.rest (run_valid v s run.answered run.answers run.state run.run valid)) (ap length run.parts ∙ length-append run.answered run.rest)

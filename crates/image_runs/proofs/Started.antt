@@ -22,6 +22,7 @@ use Rattle.serving.specs.Costs.{IsPaidFor}
 use Rattle.serving.specs.Debts.{HasDebt}
 use Rattle.serving.specs.Input.{Spelling}
 use Rattle.serving.specs.ModelRules.{Placed}
+use Rattle.serving.specs.Prompt.{Mark, Promptly}
 use Rattle.serving.specs.Ran.{Ends as Served, ByStatus, AskedBy}
 use Rattle.serving.specs.Runs.{IsAcknowledged}
 use Rattle.serving.specs.Service.{IsCounted}
@@ -74,20 +75,40 @@ opening_debt v kind old mid qs leaves owes = go ((tables_of (home old.reads)).is
     go false e = weakened old mid _ (IsOwed v kind old qs) (leaves_both old mid _ _ leaves (owes e)) (λ x f p. inr (p.0.1, λ closed. p.1))
 
 -- what is paid from less is paid from more
-pub paid_from : (v : Voice) (s : Placed) (qs : List Request) (less more now : ℕ) → less ≤ more → IsPaidFor (disk_service v) disk_work s qs less now → IsPaidFor (disk_service v) disk_work s qs more now
-paid_from v s qs less more now le p = record {
+pub paid_from : (v : Voice) (s : Placed) (before : List ℕ) (qs : List Request) (sent : List ℕ) (less more now : ℕ) → less ≤ more → IsPaidFor (disk_service v) disk_work s before qs sent less now → IsPaidFor (disk_service v) disk_work s before qs sent more now
+paid_from v s before qs sent less more now le p = record {
   answered = p.answered;
   rest = p.rest;
   parts = p.parts;
   answers = p.answers;
   state = p.state;
   run = p.run;
+  front = p.front;
+  sent = p.sent;
+  count = p.count;
   paid = λ bounded. omega (arith, p.paid bounded, le);
 }
 
 -- nothing was asked, and nothing written
-pub paid_nothing : (v : Voice) (s : Placed) (before now : ℕ) → now ≤ before → IsPaidFor (disk_service v) disk_work s [] before now
-paid_nothing v s before now le = record { answered = []; rest = []; parts = refl; answers = []; state = s; run = refl; paid = λ bounded. omega (arith, le) }
+pub paid_nothing : (v : Voice) (s : Placed) (before sent : List ℕ) (start now : ℕ) → IsCounted (disk_service v) → sent ≡ before → now ≤ start → IsPaidFor (disk_service v) disk_work s before [] sent start now
+paid_nothing v s before sent start now counted same le =
+    record { answered = []; rest = []; parts = refl; answers = []; state = s; run = refl; front = []; sent = same ∙ sym (append-nil before); count = counted.nothing; paid = λ bounded. omega (arith, le) }
+
+-- nothing was answered since this moment
+pub prompt_nothing : (r : Status) (v : Voice) (port : Mark → Type 0) (s : Placed) (now : Mark) → IsCounted (disk_service v) → Promptly r (disk_service v) disk_work port s now now
+prompt_nothing r v port s now counted = record {
+  answered = [];
+  answers = [];
+  state = s;
+  run = refl;
+  rested = now;
+  each = refl;
+  front = [];
+  sent = sym (append-nil now.sent);
+  one_more = omega (arith, counted.nothing);
+  all = λ fine. counted.nothing;
+  as_it_was = λ cut. refl;
+}
 
 -- what is known of opening: what a crash leaves, and how often was written
 pub record OpenedBy (old mid : View) (owed : ℕ) : Type 0 where
@@ -111,13 +132,14 @@ ends_opened r v kind old mid new qs s final owed counted at settled opened serve
     subst (λ (n : ℕ). LeavesOnly mid new (HasDebt (disk_service v) disk_work start old.sent n qs)) settled
     (subst (λ (b : List ℕ). LeavesOnly mid new (HasDebt (disk_service v) disk_work start b (debt mid.reads) qs)) sent
     (subst (λ (p : Placed). LeavesOnly mid new (HasDebt (disk_service v) disk_work p mid.sent (debt mid.reads) qs)) at (served.debt bounded))) in
-    let most : IsPaidFor (disk_service v) disk_work start qs (used owed mid) new.writes =
-    subst (λ (p : Placed). IsPaidFor (disk_service v) disk_work p qs (used owed mid) new.writes) at served.most in
+    let most : IsPaidFor (disk_service v) disk_work start old.sent qs new.sent (used owed mid) new.writes =
+    subst (λ (b : List ℕ). IsPaidFor (disk_service v) disk_work start b qs new.sent (used owed mid) new.writes) sent
+    (subst (λ (p : Placed). IsPaidFor (disk_service v) disk_work p mid.sent qs new.sent (used owed mid) new.writes) at served.most) in
     record {
       sent = by;
       any_moment = λ firm w stands. joined old mid new _ _ (opening_moments v kind old mid qs counted (opened.any_moment firm) w stands) moments (λ x f acked. acked);
       debt = λ firm bounded. joined old mid new (IsOwed v kind old qs) _ (opening_debt v kind old mid qs (opened.any_moment firm) (opened.any_debt firm)) (debts bounded) (λ x f has. inl has);
-      writes = λ quiet. paid_from v start qs (used owed mid) old.writes new.writes (opened.writes quiet) most;
+      writes = λ quiet. paid_from v start old.sent qs new.sent (used owed mid) old.writes new.writes (opened.writes quiet) most;
       done = done;
     }
 
@@ -129,7 +151,7 @@ ends_unopened r v kind old new counted why opened =
       sent = by r why;
       any_moment = λ firm w stands. opening_moments v kind old new [] counted (opened.any_moment firm) w stands;
       debt = λ firm bounded. opening_debt v kind old new [] (opened.any_moment firm) (opened.any_debt firm);
-      writes = λ quiet. paid_nothing v (start_of kind old.reads) old.writes new.writes (omega (arith, opened.writes quiet));
+      writes = λ quiet. paid_nothing v (start_of kind old.reads) old.sent new.sent old.writes new.writes counted opened.sent (omega (arith, opened.writes quiet));
       done = λ e. absurd (subst IsUnopened e why);
     }
   where

@@ -33,5 +33,5 @@ first_removed v = first_cost (spoken disk_rules v) (λ s q. removed_by s.kind s.
 -- pair that the answered ones and the next one remove.
 abbrev pub RunsWriteByPairs : Type 0
 RunsWriteByPairs =
-    (v : Voice) (s : Placed) (qs : List Request) (before now : ℕ) (run : IsPaidFor (spoken disk_rules v) disk_work s qs before now) → All disk_work.bounded qs → IsValid s.state.world
-    → now ≤ before + 460 * length qs + 12 * (removed_in v s run.answered run.answers run.state run.run + first_removed v run.state run.rest)
+    (v : Voice) (s : Placed) (before : List ℕ) (qs : List Request) (sent : List ℕ) (start now : ℕ) (run : IsPaidFor (spoken disk_rules v) disk_work s before qs sent start now) → All disk_work.bounded qs → IsValid s.state.world
+    → now ≤ start + 460 * length qs + 12 * (removed_in v s run.answered run.answers run.state run.run + first_removed v run.state run.rest)

@@ -18,6 +18,7 @@ use Rattle.serving.specs.Costs.{IsPaidFor}
 use Rattle.serving.specs.Debts.{HasDebt}
 use Rattle.serving.specs.Input.{Spelling}
 use Rattle.serving.specs.ModelRules.{Placed}
+use Rattle.serving.specs.Prompt.{Mark, Promptly, mark}
 use Rattle.serving.specs.Ran.{AskedBy, ByStatus, Moments, Taking}
 use Rattle.serving.specs.Runs.{IsAcknowledged}
 use Rattle.serving.specs.Service.{Service}
@@ -64,8 +65,20 @@ pub record RunEnds (r : Status) (v : Voice) (kind : PlaceKind) (old new : View) 
   pub sent : ByStatus r (disk_service v) (start_of kind old.reads) old.sent asked final new.sent
   pub any_moment : IsFirm old → (w : World) → Stands old.reads w → LeavesOnly old new (IsAcknowledged (disk_service v) (start_of kind old.reads) old.sent asked)
   pub debt : IsFirm old → All disk_work.bounded asked → LeavesOnly old new (IsOwed v kind old asked)
-  pub writes : IsQuiet old.reads → IsPaidFor (disk_service v) disk_work (start_of kind old.reads) asked old.writes new.writes
+  pub writes : IsQuiet old.reads → IsPaidFor (disk_service v) disk_work (start_of kind old.reads) old.sent asked new.sent old.writes new.writes
   pub done : r ≡ status.Done → IsAtEase new final.state.world
+
+-- How promptly a run answered: from a moment at which the image was opened, with nothing sent and, where nothing was left to be done at
+-- the start, so often written at most.
+pub record IsPromptFrom (r : Status) (v : Voice) (port : Mark → Type 0) (s : Placed) (before : List ℕ) (quiet : Type 0) (most : ℕ) (new : Mark) : Type 0 where
+  pub opened : Mark
+  pub of_port : port opened
+  pub sent : opened.sent ≡ before
+  pub writes : quiet → opened.writes ≤ most
+  pub prompt : Promptly r (disk_service v) disk_work port s opened new
+
+abbrev pub IsPromptRun : Status → Voice → PlaceKind → (Mark → Type 0) → View → View → Type 0
+IsPromptRun r v kind port old new = IsPromptFrom r v port (start_of kind old.reads) old.sent (IsQuiet old.reads) old.writes (mark new)
 
 -- Bytes that came in, the requests that were asked by them, and how the run over these ended, where the port tells.
 pub record ImageRan (r : Status) (v : Voice) (p : Spelling Request) (kind : PlaceKind) (limit : ℕ) (source : Taking) (port : Moments) : Type 0 where

@@ -1,7 +1,10 @@
 -- The core with its placement as a disk by its rules.
-use Rattle.std.specs.Prelude.{◌≡◌, false}
+use Rattle.std.specs.Prelude.{◌≡◌, ℕ, ◌+◌, ◌*◌, false, cond}
 use Rattle.tsd_model.specs.declared.requests.PlaceKind.{PlaceKind}
+use Rattle.tsd_model.specs.Step.{State}
+use Rattle.tsd_model.specs.Verdict.{is_granted}
 use Rattle.tsd_model.specs.declared.requests.Request.{Request}
+use Rattle.tsd_model.specs.declared.requests.Request.TheVariants as ask
 use Rattle.image_layout.specs.Image.{Image}
 use Rattle.image_world.specs.Stands.{Stands}
 use Rattle.disk_laws.specs.Reclaiming.{is_sweep}
@@ -16,6 +19,19 @@ use Rattle.tsd_core.specs.Work.{made_in, cost_in}
 abbrev pub disk_rules : DiskRules
 disk_rules = model_rules Stands
 
+-- how often is written at most before the reply to a request that is granted, where so much is left to be done: new blocks and a new
+-- pointer may have to wait for that
+abbrev pub limit_with : ℕ → Request → ℕ
+limit_with owed (ask.Delete s a shown b) = 130
+limit_with owed (ask.Alloc s a shown h count) = 600 + 12 * owed
+limit_with owed (ask.Contig s a shown h count) = 600 + 12 * owed
+limit_with owed (ask.Create s a shown b) = 600 + 12 * owed
+limit_with owed q = 600
+
+-- nothing is written where it is refused
+abbrev pub writes_before : State → ℕ → Request → ℕ
+writes_before s owed q = cond (is_granted s.world s.sessions q) (limit_with owed q) 0
+
 -- how its work is counted; a sweep has no bound
 abbrev pub disk_work : Work Request Placed
 disk_work = record {
@@ -23,6 +39,8 @@ disk_work = record {
   cost = λ s q. cost_in s.state q;
   made = λ s q. made_in s.state q;
   debt = debt;
+  before_answer = λ s owed q. writes_before s.state owed q;
+  behind_answer = 400;
 }
 
 -- the state, where the device reads so

@@ -2,7 +2,8 @@
 
 ghost use Rattle.std.specs.Prelude.{◌≡◌, ◌≢◌, ◌≤◌, ◌∷◌, []};
 ghost use Rattle.image_device.specs.Counts.{Rose};
-ghost use Rattle.image_runs.specs.Fresh.{FreshRan, single_world};
+ghost use Rattle.image_runs.specs.Fresh.{FreshRan, IsPromptFresh, single_world};
+ghost use Rattle.serving.specs.Prompt.{IsOfPort};
 ghost use Rattle.serving.specs.Ran.{moments, taking};
 ghost use Rattle.tsd_model.specs.Geometry.{IsLawful};
 
@@ -38,6 +39,10 @@ pub fn serve_fresh<S: Source, P: Port, R: Protocol<Request = Request> + Replies>
     // Done.
     ensures ran { FreshRan result R.voice R.spelling place.now.kind (single_world geometry.now caps.now) limit
         (taking S.told S.taken S.left_bytes S.ended source.old source.new) (moments P.told P.view port.old port.new) }
+    // What is written before each reply has a bound, and what is written behind it; where the input was cut short,
+    // nothing is done behind the last one but that.
+    ensures prompt { P.told → IsPromptFresh result R.voice place.now.kind (single_world geometry.now caps.now)
+        (IsOfPort P.view) (P.view port.old) (P.view port.new) }
     // A count of faults rose only where the status is that fault's.
     ensures source_fault { result ≡ Status.SourceFault → Rose (S.faults source.old) (S.faults source.new) }
     ensures device_fault { result ≡ Status.DeviceFault → Rose (P.view port.old).faults (P.view port.new).faults }

@@ -3,9 +3,10 @@
 ghost use Rattle.std.specs.Prelude.{◌≡◌, ◌≢◌, ◌≤◌, []};
 ghost use Rattle.image_device.specs.Counts.{Rose};
 ghost use Rattle.recovery.specs.Opening.{IsForeign, IsSpared, IsUntouched};
+ghost use Rattle.serving.specs.Prompt.{IsOfPort};
 ghost use Rattle.serving.specs.Ran.{moments, taking};
 ghost use Rattle.image_runs.specs.Opened.{IsJudged, IsNotImage};
-ghost use Rattle.image_runs.specs.Served.{ImageRan};
+ghost use Rattle.image_runs.specs.Served.{ImageRan, IsPromptRun};
 
 use crate::opening::open_core;
 use crate::run::serve_core;
@@ -38,6 +39,10 @@ pub fn serve_image<S: Source, P: Port, R: Protocol<Request = Request> + Replies>
     // Done.
     ensures ran { ImageRan result R.voice R.spelling place.now.kind limit
         (taking S.told S.taken S.left_bytes S.ended source.old source.new) (moments P.told P.view port.old port.new) }
+    // What is written before each reply has a bound, and what is written behind it; where the input was cut short,
+    // nothing is done behind the last one but that.
+    ensures prompt { P.told → IsPromptRun result R.voice place.now.kind (IsOfPort P.view) (P.view port.old)
+        (P.view port.new) }
     // Where the image fails one of the tests that need no write, nothing is written, and the disk reads as before;
     // where it fails another, nothing is lost that a repair could use.
     ensures untouched { P.told → IsForeign (P.view port.old).reads

@@ -41,6 +41,6 @@ pub use laws::{
     runs_write_by_the_pairs_that_they_remove,
 };
 pub use load::load_image;
-pub use opening::open_core;
+pub use opening::{open_core, open_volume};
 pub use run::serve_core;
 pub use upgrade::upgrade_image;

@@ -2,6 +2,7 @@
 
 ghost use Rattle.std.specs.Prelude.{◌≡◌, ◌≢◌, ◌≤◌, [], true};
 ghost use Rattle.image_device.specs.Counts.{Rose};
+ghost use Rattle.serving.specs.Prompt.{IsOfPort, Promptly, mark};
 ghost use Rattle.serving.specs.Ran.{Ran, moments, taking};
 ghost use Rattle.serving.specs.Voice.{spoken};
 ghost use Rattle.tsd_core.specs.Core.{IsCoreAt, IsCoreReady};
@@ -35,6 +36,10 @@ pub fn serve_core<S: Source, P: Port, R: Protocol<Request = Request> + Replies>(
         (placed_on place.now.kind core.new (P.view port.new).reads) limit
         (taking S.told S.taken S.left_bytes S.ended source.old source.new) (due core.old.volume)
         (moments P.told P.view port.old port.new) }
+    // Each request was answered promptly; where the input was cut short, nothing is done behind the last answer and
+    // what is behind an answer.
+    ensures prompt { P.told → Promptly result (spoken disk_rules R.voice) disk_work (IsOfPort P.view)
+        (placed_on place.now.kind core.old (P.view port.old).reads) (mark (P.view port.old)) (mark (P.view port.new)) }
     // Unless the device failed, the core may be used again; else it is spent.
     ensures ready { result ≢ Status.DeviceFault → IsCoreReady core.new }
     ensures at { result ≢ Status.DeviceFault → P.told → IsCoreAt core.new (P.view port.new) }

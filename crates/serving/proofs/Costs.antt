@@ -1,11 +1,11 @@
 -- What one request more costs.
-use Rattle.std.proofs.Common.{◌≡◌, ℕ, ◌+◌, ◌≤◌, List, [], ◌∷◌, ◌++◌, All, length, get_or, length-append, refl, ◌∙◌, ap, subst, arith, append_assoc}
+use Rattle.std.proofs.Common.{◌≡◌, ℕ, ◌+◌, ◌≤◌, List, [], ◌∷◌, ◌++◌, All, length, get_or, length-append, refl, sym, ◌∙◌, ap, subst, arith, append_assoc, append-nil}
 use Rattle.std.proofs.lemmas.List.{get_or_append_left}
-use Rattle.serving.specs.Service.{Service}
+use Rattle.serving.specs.Service.{Service, IsCounted}
 use Rattle.serving.specs.Work.{Work}
-use Rattle.serving.specs.Runs.{Run}
+use Rattle.serving.specs.Runs.{Run, texts}
 use Rattle.serving.specs.Costs.{costs, first_cost, IsPaidFor}
-use Rattle.serving.proofs.Runs.{run_next}
+use Rattle.serving.proofs.Runs.{run_next, acked_run, sent_next, sent_front}
 
 -- each of the first
 pub front_all : {Q : Type 0} (P : Q → Type 0) (xs ys : List Q) → All P (xs ++ ys) → All P xs
@@ -34,8 +34,44 @@ module _ {Q : Type 0} (k : Service Q) (cost : k.States → Q → ℕ) where
   first_more s [] more = omega arith
   first_more s (q ∷ qs) more = omega arith
 
-module _ {Q : Type 0} (k : Service Q) (w : Work Q k.States) (s : k.States) (before : ℕ) where
-  pub paid_longer : (qs more : List Q) (later : ℕ) → IsPaidFor k w s qs before later → IsPaidFor k w s (qs ++ more) before later
+-- after a run of these requests, whose answers make `now`
+module _ {Q : Type 0} (k : Service Q) (counted : IsCounted k) (w : Work Q k.States) (s : k.States) (before : List ℕ) (start : ℕ) (qs : List Q) (m : k.States) (xs : List (List ℕ)) (run : Run k s qs xs m) (now : List ℕ) (sent : now ≡ before ++ texts xs) where
+  -- a proper front of the next answer is sent, or nothing of it
+  pub paid_front : (rest : List Q) (f front : List ℕ) (writes : ℕ) → f ≡ now ++ front → k.acked front ≡ 0
+      → (All w.bounded (qs ++ rest) → writes ≤ start + costs k w.cost s qs xs m run + first_cost k w.cost m rest) → IsPaidFor k w s before (qs ++ rest) f start writes
+  paid_front rest f front writes is none paid = record {
+    answered = qs;
+    rest = rest;
+    parts = refl;
+    answers = xs;
+    state = m;
+    run = run;
+    front = front;
+    sent = sent_front before now f xs front sent is;
+    count = omega (arith, acked_run k counted s m qs xs front run, none);
+    paid = paid;
+  }
+
+  -- the answer is sent whole
+  pub paid_whole : (q : Q) (a : List ℕ) (t : k.States) (f : List ℕ) (writes : ℕ) → k.gives m q a t → f ≡ now ++ a
+      → (All w.bounded (qs ++ q ∷ []) → writes ≤ start + costs k w.cost s qs xs m run + w.cost m q) → IsPaidFor k w s before (qs ++ q ∷ []) f start writes
+  paid_whole q a t f writes given is paid =
+      let next = run_next k s m t qs xs q a run given in
+      record {
+        answered = qs ++ q ∷ [];
+        rest = [];
+        parts = sym (append-nil (qs ++ q ∷ []));
+        answers = xs ++ a ∷ [];
+        state = t;
+        run = next;
+        front = [];
+        sent = sent_next before now f xs a sent is ∙ ap (λ l. before ++ l) (sym (append-nil (texts (xs ++ a ∷ []))));
+        count = omega (arith, acked_run k counted s t (qs ++ q ∷ []) (xs ++ a ∷ []) [] next, counted.nothing);
+        paid = λ all. omega (arith, paid all, costs_next k w.cost s m t qs xs q a run given);
+      }
+
+module _ {Q : Type 0} (k : Service Q) (w : Work Q k.States) (s : k.States) (before f : List ℕ) (start : ℕ) where
+  pub paid_longer : (qs more : List Q) (later : ℕ) → IsPaidFor k w s before qs f start later → IsPaidFor k w s before (qs ++ more) f start later
   paid_longer qs more later was = record {
     answered = was.answered;
     rest = was.rest ++ more;
@@ -43,5 +79,8 @@ module _ {Q : Type 0} (k : Service Q) (w : Work Q k.States) (s : k.States) (befo
     answers = was.answers;
     state = was.state;
     run = was.run;
+    front = was.front;
+    sent = was.sent;
+    count = was.count;
     paid = λ all. omega (arith, was.paid (front_all w.bounded qs more all), first_more k w.cost was.state was.rest more);
   }

@@ -8,7 +8,9 @@ use Rattle.tsd_words.specs.declared.status.Status.{Status}
 use Rattle.tsd_words.specs.declared.status.Status.TheVariants as status
 use Rattle.serving.specs.Service.{Service, IsCounted, IsAnswering, IsInAnswer, LeftBy}
 use Rattle.serving.specs.Work.{Work, used}
+use Rattle.serving.specs.Costs.{IsPaidFor, costs}
 use Rattle.serving.specs.Debts.{Debt, HasDebt, debt_of}
+use Rattle.serving.specs.Prompt.{IsCutShort, IsPrompt, Mark, Promptly, mark}
 use Rattle.serving.specs.Runs.{Run, Served, IsBroken, IsAcknowledged}
 use Rattle.serving.specs.Seen.{IsSeen, IsSeenRun, IsOfNext}
 use Rattle.serving.specs.Input.{Spelling}
@@ -16,16 +18,22 @@ use Rattle.serving.specs.Ran.{AskedBy, ByStatus, Ends, Ran, Taking, Moments}
 use Rattle.serving.specs.Goes.{Goes}
 use Rattle.serving.proofs.Seen.{are_seen_still, are_seen_next}
 use Rattle.serving.proofs.Runs.{run_next, sent_next, sent_front, broken, cut_off, served_next, at_rest, in_answer, longer, broken_longer, cut_off_longer, all_sent, some_or_none}
-use Rattle.serving.proofs.Costs.{front_all, next_all, costs_next, paid_longer}
+use Rattle.serving.proofs.Costs.{front_all, next_all, costs_next, paid_front, paid_longer, paid_whole}
+use Rattle.serving.proofs.Prompt.{prompt_next}
 use Rattle.serving.proofs.Debts.{debt_next, owing_answer, owing_rest, owing_longer}
 
-module _ {Q : Type 0} (k : Service Q) (w : Work Q k.States) (s : k.States) (due : ℕ) (v0 : View) where
+-- of what stops a request, none is that the input was cut short
+not_cut : (why : Status) → (why ≡ status.DeviceFault) ⊎ (why ≡ status.PutFault) → IsCutShort why → ⊥
+not_cut why (inl e) cut = subst IsCutShort e cut
+not_cut why (inr e) cut = subst IsCutShort e cut
+
+module _ {Q : Type 0} (k : Service Q) (w : Work Q k.States) (port : Mark → Type 0) (s : k.States) (due : ℕ) (v0 : View) where
   -- the replies so far
-  pub served_of : (qs : List Q) (m : k.States) (due1 : ℕ) (v : View) → Goes k w s due v0 qs m due1 v → Served k s v0.sent qs m v.sent
+  pub served_of : (qs : List Q) (m : k.States) (due1 : ℕ) (v : View) → Goes k w port s due v0 qs m due1 v → Served k s v0.sent qs m v.sent
   served_of qs m due1 v goes = record { answers = goes.answers; run = goes.run; sent = goes.sent }
 
   -- the states of these requests were seen, and of one more a front was sent
-  seen_run : (t : ℕ) → t ≤ v0.clock → (qs more : List Q) (m : k.States) (due1 : ℕ) (v new : View) (goes : Goes k w s due v0 qs m due1 v) → ((x : Image) (f : List ℕ) → v.left t x f → new.left t x f)
+  seen_run : (t : ℕ) → t ≤ v0.clock → (qs more : List Q) (m : k.States) (due1 : ℕ) (v new : View) (goes : Goes k w port s due v0 qs m due1 v) → ((x : Image) (f : List ℕ) → v.left t x f → new.left t x f)
       → (front : List ℕ) → new.sent ≡ v.sent ++ front → k.acked front ≤ 1 → IsOfNext k m more front → (seen : IsSeenRun k (new.left t) s v0.sent (qs ++ more) new.sent) × (seen.front ≡ front)
   seen_run t le qs more m due1 v new goes kept front is few of_next = (
     record {
@@ -45,26 +53,27 @@ module _ {Q : Type 0} (k : Service Q) (w : Work Q k.States) (s : k.States) (due 
   )
 
   -- of all requests, with no more sent
-  seen_whole : (t : ℕ) → t ≤ v0.clock → IsCounted k → (qs : List Q) (m : k.States) (due1 : ℕ) (v new : View) (goes : Goes k w s due v0 qs m due1 v) → ((x : Image) (f : List ℕ) → v.left t x f → new.left t x f)
+  seen_whole : (t : ℕ) → t ≤ v0.clock → IsCounted k → (qs : List Q) (m : k.States) (due1 : ℕ) (v new : View) (goes : Goes k w port s due v0 qs m due1 v) → ((x : Image) (f : List ℕ) → v.left t x f → new.left t x f)
       → new.sent ≡ v.sent → (seen : IsSeenRun k (new.left t) s v0.sent qs new.sent) × (k.acked seen.front ≡ 0)
   seen_whole t le counted qs m due1 v new goes kept same =
       let on = seen_run t le qs [] m due1 v new goes kept [] (same ∙ sym (append-nil v.sent)) (omega (arith, counted.nothing)) (inl refl) in
       subst (λ l. (seen : IsSeenRun k (new.left t) s v0.sent l new.sent) × (k.acked seen.front ≡ 0)) (append-nil qs) (on.0, ap k.acked on.1 ∙ counted.nothing)
 
   -- a run that ends as it stands
-  pub ends_now : IsCounted k → (r : Status) (qs : List Q) (m : k.States) (due1 : ℕ) (v : View) → Goes k w s due v0 qs m due1 v → ByStatus r k s v0.sent qs m v.sent → Ends r k w s m due v0 v qs
+  pub ends_now : IsCounted k → (r : Status) (qs : List Q) (m : k.States) (due1 : ℕ) (v : View) → Goes k w port s due v0 qs m due1 v → ByStatus r k s v0.sent qs m v.sent → Ends r k w s m due v0 v qs
   ends_now counted r qs m due1 v goes sent = record {
     seen = λ t le. (seen_whole t le counted qs m due1 v v goes (λ x f left. left) refl).0;
     all_seen = λ fine t le. (seen_whole t le counted qs m due1 v v goes (λ x f left. left) refl).1;
     sent = sent;
     any_moment = goes.any_moment;
-    most = record { answered = qs; rest = []; parts = sym (append-nil qs); answers = goes.answers; state = m; run = goes.run; paid = λ all. omega (arith, goes.paid all) };
+    most = subst (λ l. IsPaidFor k w s v0.sent l v.sent (used due v0) v.writes) (append-nil qs)
+        (paid_front k counted w s v0.sent (used due v0) qs m goes.answers goes.run v.sent goes.sent [] v.sent [] v.writes (sym (append-nil v.sent)) counted.nothing (λ all. omega (arith, goes.paid (front_all w.bounded qs [] all))));
     debt = goes.debt;
   }
 
-module _ {Q : Type 0} (k : Service Q) (counted : IsCounted k) (w : Work Q k.States) (s : k.States) (due : ℕ) (v0 : View) where
+module _ {Q : Type 0} (k : Service Q) (counted : IsCounted k) (w : Work Q k.States) (port : Mark → Type 0) (s : k.States) (due : ℕ) (v0 : View) where
   -- before the first request
-  pub goes_first : IsSound v0 → ((n : ℕ) → v0.loose n ≡ false) → k.stands s v0.reads → k.rests s v0.reads → Goes k w s due v0 [] s due v0
+  pub goes_first : IsSound v0 → ((n : ℕ) → v0.loose n ≡ false) → k.stands s v0.reads → k.rests s v0.reads → Goes k w port s due v0 [] s due v0
   goes_first sound firm stands rests =
       let served : Served k s v0.sent [] s v0.sent = record { answers = []; run = refl; sent = sym (append-nil v0.sent) } in
       record {
@@ -80,16 +89,17 @@ module _ {Q : Type 0} (k : Service Q) (counted : IsCounted k) (w : Work Q k.Stat
             (λ x f left.
             let e : w.debt x ≡ w.debt v0.reads = ap w.debt (firm_image v0 firm x f left) in
             owing_rest k counted w.made s v0.sent (w.debt v0.reads) [] s [] refl v0.sent (sym (append-nil v0.sent)) (w.debt v0.reads) (omega arith) f (w.debt x) left.1 (omega (arith, e)));
+        prompt = refl;
       }
 
-  module _ (qs : List Q) (m : k.States) (due1 : ℕ) (v : View) (goes : Goes k w s due v0 qs m due1 v) where
+  module _ (qs : List Q) (m : k.States) (due1 : ℕ) (v : View) (goes : Goes k w port s due v0 qs m due1 v) where
     module _ (q : Q) (new : View) (any : LeavesOnly v new (IsInAnswer k m q v.sent)) (debts : w.bounded q → LeavesOnly v new (λ x f. w.debt x ≤ w.debt v.reads + w.made m q)) where
       -- what a crash left while the request was answered
       any_next : LeavesOnly v0 new (IsAcknowledged k s v0.sent (qs ++ q ∷ []))
       any_next =
           joined v0 v new (IsAcknowledged k s v0.sent (qs ++ q ∷ [])) (IsInAnswer k m q v.sent)
           (weakened v0 v (IsAcknowledged k s v0.sent qs) (IsAcknowledged k s v0.sent (qs ++ q ∷ [])) goes.any_moment (longer k s v0.sent qs (q ∷ []))) any
-          (λ x f left. in_answer k counted s v0.sent qs m v.sent f q x (served_of k w s due v0 qs m due1 v goes) left)
+          (λ x f left. in_answer k counted s v0.sent qs m v.sent f q x (served_of k w port s due v0 qs m due1 v goes) left)
 
       debt_on : All w.bounded (qs ++ q ∷ []) → LeavesOnly v0 new (HasDebt k w s v0.sent (w.debt v0.reads) (qs ++ q ∷ []))
       debt_on all =
@@ -104,8 +114,8 @@ module _ {Q : Type 0} (k : Service Q) (counted : IsCounted k) (w : Work Q k.Stat
 
       -- the request was answered
       pub goes_next : IsSound new → (t : k.States) → k.rests t new.reads → (due2 : ℕ) (a : List ℕ) → k.gives m q a t → new.sent ≡ v.sent ++ a → (w.bounded q → w.debt new.reads ≤ w.debt v.reads + w.made m q - 4) → (w.bounded q → used due2 new ≤ used due1 v + w.cost m q)
-          → Goes k w s due v0 (qs ++ q ∷ []) t due2 new
-      goes_next sound t rests due2 a given sent less paid = record {
+          → port (mark new) → IsPrompt k w port m q (mark v) (mark new) → Goes k w port s due v0 (qs ++ q ∷ []) t due2 new
+      goes_next sound t rests due2 a given sent less paid here prompt = record {
         answers = goes.answers ++ a ∷ [];
         run = run_next k s m t qs goes.answers q a goes.run given;
         sent = sent_next v0.sent v.sent new.sent goes.answers a goes.sent sent;
@@ -117,17 +127,18 @@ module _ {Q : Type 0} (k : Service Q) (counted : IsCounted k) (w : Work Q k.Stat
         paid = λ all. omega (arith, goes.paid (front_all w.bounded qs (q ∷ []) all), paid (next_all w.bounded qs q all), costs_next k w.cost s m t qs goes.answers q a goes.run given);
         few = λ all. omega (arith, goes.few (front_all w.bounded qs (q ∷ []) all), less (next_all w.bounded qs q all), ap (λ (d : Debt). d.left) (debt_next k w.made s m t qs goes.answers q a goes.run given (debt_of (w.debt v0.reads))));
         debt = debt_on;
+        prompt = prompt_next k w port s m t qs goes.answers q a goes.run given (mark v0) (mark v) (mark new) goes.prompt here sent prompt;
       }
 
       device_stopped : (final : k.States) → (a : IsAnswering k m q v.sent new.sent) → (a.back ≡ []) ⊎ k.in_parts q a.answer → ByStatus status.DeviceFault k s v0.sent (qs ++ q ∷ []) final new.sent
       device_stopped final a how = elim (some_or_none a.back) [
         | inl none ↦
-            let all = served_next k counted s v0.sent qs m a.next v.sent new.sent q a.answer (served_of k w s due v0 qs m due1 v goes) a.given (all_sent a.answer v.sent new.sent a.front a.back a.whole a.sent none) in
+            let all = served_next k counted s v0.sent qs m a.next v.sent new.sent q a.answer (served_of k w port s due v0 qs m due1 v goes) a.given (all_sent a.answer v.sent new.sent a.front a.back a.whole a.sent none) in
             inl (subst (λ l. IsBroken k s v0.sent l new.sent) (append-nil (qs ++ q ∷ [])) (broken k counted s v0.sent (qs ++ q ∷ []) [] a.next new.sent all).0)
         | inr some ↦ elim how [
           | inl none ↦ absurd (omega (arith, some, ap length none))
           | inr parts ↦
-              let c = cut_off k counted s v0.sent qs m v.sent new.sent q (served_of k w s due v0 qs m due1 v goes) a some in
+              let c = cut_off k counted s v0.sent qs m v.sent new.sent q (served_of k w port s due v0 qs m due1 v goes) a some in
               inr (c.0, subst (λ r. k.in_parts r c.0.answer) (sym c.3) (subst (λ t. k.in_parts q t) (sym c.4) parts))
         ]
       ]
@@ -136,12 +147,12 @@ module _ {Q : Type 0} (k : Service Q) (counted : IsCounted k) (w : Work Q k.Stat
       sent_by why final (inr e) left =
           subst (λ r. ByStatus r k s v0.sent (qs ++ q ∷ []) final new.sent) (sym e)
           (let l = subst (λ r. LeftBy r k m q final v.sent new.sent) e left in
-          let c = cut_off k counted s v0.sent qs m v.sent new.sent q (served_of k w s due v0 qs m due1 v goes) l.0 l.1 in
+          let c = cut_off k counted s v0.sent qs m v.sent new.sent q (served_of k w port s due v0 qs m due1 v goes) l.0 l.1 in
           (c.0, l.2 ∙ sym c.2))
       sent_by why final (inl e) left =
           subst (λ r. ByStatus r k s v0.sent (qs ++ q ∷ []) final new.sent) (sym e)
           (elim (subst (λ r. LeftBy r k m q final v.sent new.sent) e left) [
-            | inl nothing ↦ inl (subst (λ f. IsBroken k s v0.sent (qs ++ q ∷ []) f) (sym nothing) (broken k counted s v0.sent qs (q ∷ []) m v.sent (served_of k w s due v0 qs m due1 v goes)).0)
+            | inl nothing ↦ inl (subst (λ f. IsBroken k s v0.sent (qs ++ q ∷ []) f) (sym nothing) (broken k counted s v0.sent qs (q ∷ []) m v.sent (served_of k w port s due v0 qs m due1 v goes)).0)
             | inr some ↦ device_stopped final some.0 some.1
           ])
 
@@ -179,8 +190,43 @@ module _ {Q : Type 0} (k : Service Q) (counted : IsCounted k) (w : Work Q k.Stat
           → (seen : IsSeenRun k (new.left t) s v0.sent (qs ++ q ∷ []) new.sent) × (why ≢ status.DeviceFault → k.acked seen.front ≡ 0)
       seen_stopped t le why final stops left =
           let f = front_of why final stops left in
-          let on = seen_run k w s due v0 t le qs (q ∷ []) m due1 v new goes (kept t le) f.0 f.1 f.2 f.4 in
+          let on = seen_run k w port s due v0 t le qs (q ∷ []) m due1 v new goes (kept t le) f.0 f.1 f.2 f.4 in
           (on.0, λ fine. ap k.acked on.1 ∙ f.3 fine)
+
+      -- what was used, where its answer wasn't sent whole, and where it was
+      paid_stopped : (why : Status) (final : k.States) → (why ≡ status.DeviceFault) ⊎ (why ≡ status.PutFault) → LeftBy why k m q final v.sent new.sent
+          → (All w.bounded (qs ++ q ∷ []) → new.writes ≤ used due v0 + costs k w.cost s qs goes.answers m goes.run + w.cost m q) → IsPaidFor k w s v0.sent (qs ++ q ∷ []) new.sent (used due v0) new.writes
+      paid_stopped why final (inr e) left paid =
+          let l = subst (λ r. LeftBy r k m q final v.sent new.sent) e left in
+          let a = l.0 in
+          paid_front k counted w s v0.sent (used due v0) qs m goes.answers goes.run v.sent goes.sent (q ∷ []) new.sent a.front new.writes a.sent (counted.part m q a.answer a.next a.front a.back a.given a.whole l.1) paid
+      paid_stopped why final (inl e) left paid = elim (subst (λ r. LeftBy r k m q final v.sent new.sent) e left) [
+        | inl nothing ↦ paid_front k counted w s v0.sent (used due v0) qs m goes.answers goes.run v.sent goes.sent (q ∷ []) new.sent [] new.writes (nothing ∙ sym (append-nil v.sent)) counted.nothing paid
+        | inr part ↦
+            let a = part.0 in
+            elim (some_or_none a.back) [
+              | inl none ↦ paid_whole k counted w s v0.sent (used due v0) qs m goes.answers goes.run v.sent goes.sent q a.answer a.next new.sent new.writes a.given (all_sent a.answer v.sent new.sent a.front a.back a.whole a.sent none) paid
+              | inr some ↦ paid_front k counted w s v0.sent (used due v0) qs m goes.answers goes.run v.sent goes.sent (q ∷ []) new.sent a.front new.writes a.sent (counted.part m q a.answer a.next a.front a.back a.given a.whole some) paid
+            ]
+      ]
+
+      -- how promptly, where this request stopped the run
+      pub prompt_stopped : (why : Status) (final : k.States) → (why ≡ status.DeviceFault) ⊎ (why ≡ status.PutFault) → LeftBy why k m q final v.sent new.sent → Promptly why k w port s (mark v0) (mark new)
+      prompt_stopped why final stops left =
+          let f = front_of why final stops left in
+          record {
+            answered = qs;
+            answers = goes.answers;
+            state = m;
+            run = goes.run;
+            rested = mark v;
+            each = goes.prompt;
+            front = f.0;
+            sent = f.1;
+            one_more = f.2;
+            all = f.3;
+            as_it_was = λ cut. absurd (not_cut why stops cut);
+          }
 
       -- the request stopped the run
       pub ends_stopped : (why : Status) (final : k.States) → (why ≡ status.DeviceFault) ⊎ (why ≡ status.PutFault) → LeftBy why k m q final v.sent new.sent → (w.bounded q → new.writes ≤ used due1 v + w.cost m q) → Ends why k w s final due v0 new (qs ++ q ∷ [])
@@ -189,15 +235,7 @@ module _ {Q : Type 0} (k : Service Q) (counted : IsCounted k) (w : Work Q k.Stat
         all_seen = λ fine t le. (seen_stopped t le why final stops left).1 fine;
         sent = sent_by why final stops left;
         any_moment = any_next;
-        most = record {
-          answered = qs;
-          rest = q ∷ [];
-          parts = refl;
-          answers = goes.answers;
-          state = m;
-          run = goes.run;
-          paid = λ all. omega (arith, goes.paid (front_all w.bounded qs (q ∷ []) all), most (next_all w.bounded qs q all));
-        };
+        most = paid_stopped why final stops left (λ all. omega (arith, goes.paid (front_all w.bounded qs (q ∷ []) all), most (next_all w.bounded qs q all)));
         debt = debt_on;
       }
 
@@ -205,12 +243,13 @@ module _ {Q : Type 0} (k : Service Q) (counted : IsCounted k) (w : Work Q k.Stat
     module _ (new : View) (any : LeavesOnly v new (λ x f. k.stands m x × (f ≡ v.sent))) (debts : LeavesOnly v new (λ x f. (w.debt x ≤ w.debt v.reads) × (f ≡ v.sent))) (sent : new.sent ≡ v.sent) (most : new.writes ≤ used due1 v) where
       ends_close : (r : Status) (final : k.States) → ByStatus r k s v0.sent qs final new.sent → Ends r k w s final due v0 new qs
       ends_close r final by = record {
-        seen = λ t le. (seen_whole k w s due v0 t le counted qs m due1 v new goes (λ x f left. any.keeps t x f (omega (arith, le, goes.any_moment.later)) left) sent).0;
-        all_seen = λ fine t le. (seen_whole k w s due v0 t le counted qs m due1 v new goes (λ x f left. any.keeps t x f (omega (arith, le, goes.any_moment.later)) left) sent).1;
+        seen = λ t le. (seen_whole k w port s due v0 t le counted qs m due1 v new goes (λ x f left. any.keeps t x f (omega (arith, le, goes.any_moment.later)) left) sent).0;
+        all_seen = λ fine t le. (seen_whole k w port s due v0 t le counted qs m due1 v new goes (λ x f left. any.keeps t x f (omega (arith, le, goes.any_moment.later)) left) sent).1;
         sent = by;
         any_moment = joined v0 v new (IsAcknowledged k s v0.sent qs) (λ x f. k.stands m x × (f ≡ v.sent)) goes.any_moment any
-            (λ x f left. subst (λ l. IsAcknowledged k s v0.sent l x f) (append-nil qs) (at_rest k counted s v0.sent qs [] m v.sent f x (served_of k w s due v0 qs m due1 v goes) left.0 left.1));
-        most = record { answered = qs; rest = []; parts = sym (append-nil qs); answers = goes.answers; state = m; run = goes.run; paid = λ all. omega (arith, goes.paid all, most) };
+            (λ x f left. subst (λ l. IsAcknowledged k s v0.sent l x f) (append-nil qs) (at_rest k counted s v0.sent qs [] m v.sent f x (served_of k w port s due v0 qs m due1 v goes) left.0 left.1));
+        most = subst (λ l. IsPaidFor k w s v0.sent l new.sent (used due v0) new.writes) (append-nil qs)
+            (paid_front k counted w s v0.sent (used due v0) qs m goes.answers goes.run v.sent goes.sent [] new.sent [] new.writes (sent ∙ sym (append-nil v.sent)) counted.nothing (λ all. omega (arith, goes.paid (front_all w.bounded qs [] all), most)));
         debt = λ all. joined v0 v new (HasDebt k w s v0.sent (w.debt v0.reads) qs) (λ x f. (w.debt x ≤ w.debt v.reads) × (f ≡ v.sent)) (goes.debt all) debts
             (λ x f left. owing_rest k counted w.made s v0.sent (w.debt v0.reads) qs m goes.answers goes.run v.sent goes.sent (w.debt v.reads) (goes.few all) f (w.debt x) left.1 left.0);
       }
@@ -220,7 +259,7 @@ module _ {Q : Type 0} (k : Service Q) (counted : IsCounted k) (w : Work Q k.Stat
 
       pub ends_close_fault : (final : k.States) → Ends status.DeviceFault k w s final due v0 new qs
       ends_close_fault final = ends_close status.DeviceFault final
-          (inl (subst (λ f. IsBroken k s v0.sent qs f) (sym sent) (subst (λ l. IsBroken k s v0.sent l v.sent) (append-nil qs) (broken k counted s v0.sent qs [] m v.sent (served_of k w s due v0 qs m due1 v goes)).0)))
+          (inl (subst (λ f. IsBroken k s v0.sent qs f) (sym sent) (subst (λ l. IsBroken k s v0.sent l v.sent) (append-nil qs) (broken k counted s v0.sent qs [] m v.sent (served_of k w port s due v0 qs m due1 v goes)).0)))
 
 -- more requests behind
 module _ {Q : Type 0} (k : Service Q) (w : Work Q k.States) (s final : k.States) (due : ℕ) (v0 v : View) (qs more : List Q) where
@@ -265,10 +304,27 @@ module _ {Q : Type 0} (k : Service Q) (w : Work Q k.States) (s final : k.States)
     all_seen = λ fine t le. ap k.acked (seen_longer t (ends.seen t le)).1 ∙ ends.all_seen fine t le;
     sent = by_longer why stops ends.sent;
     any_moment = weakened v0 v (IsAcknowledged k s v0.sent qs) (IsAcknowledged k s v0.sent (qs ++ more)) ends.any_moment (longer k s v0.sent qs more);
-    most = paid_longer k w s (used due v0) qs more v.writes ends.most;
+    most = paid_longer k w s v0.sent v.sent (used due v0) qs more v.writes ends.most;
     debt = λ all. weakened v0 v (HasDebt k w s v0.sent (w.debt v0.reads) qs) (HasDebt k w s v0.sent (w.debt v0.reads) (qs ++ more)) (ends.debt (front_all w.bounded qs more all))
         (λ x f left. owing_longer k w.made s v0.sent (w.debt v0.reads) qs more (w.debt x) f left);
   }
+
+-- how promptly, where nothing of a further answer was sent
+pub prompt_done : {Q : Type 0} (r : Status) (k : Service Q) (counted : IsCounted k) (w : Work Q k.States) (port : Mark → Type 0) (s : k.States) (due : ℕ) (v0 : View) (qs : List Q) (m : k.States) (due1 : ℕ) (v new : View)
+    → Goes k w port s due v0 qs m due1 v → new.sent ≡ v.sent → (IsCutShort r → mark new ≡ mark v) → Promptly r k w port s (mark v0) (mark new)
+prompt_done r k counted w port s due v0 qs m due1 v new goes same still = record {
+  answered = qs;
+  answers = goes.answers;
+  state = m;
+  run = goes.run;
+  rested = mark v;
+  each = goes.prompt;
+  front = [];
+  sent = same ∙ sym (append-nil v.sent);
+  one_more = omega (arith, counted.nothing);
+  all = λ fine. counted.nothing;
+  as_it_was = still;
+}
 
 -- a run as a whole
 pub ran_of : {Q : Type 0} (r : Status) (k : Service Q) (w : Work Q k.States) (p : Spelling Q) (s final : k.States) (limit counted : ℕ) (source : Taking) (due : ℕ) (port : Moments) (bytes : List ℕ) (qs : List Q)

@@ -72,7 +72,7 @@ ByStatus r k s before qs final now = Served k s before qs final now
 pub record Ends {Q : Type 0} (r : Status) (k : Service Q) (w : Work Q k.States) (s final : k.States) (due : ℕ) (old new : View) (qs : List Q) : Type 0 where
   pub sent : ByStatus r k s old.sent qs final new.sent
   pub any_moment : LeavesOnly old new (IsAcknowledged k s old.sent qs)
-  pub most : IsPaidFor k w s qs (used due old) new.writes
+  pub most : IsPaidFor k w s old.sent qs new.sent (used due old) new.writes
   pub debt : All w.bounded qs → LeavesOnly old new (HasDebt k w s old.sent (w.debt old.reads) qs)
   -- since the start, and so since any earlier moment
   pub seen : (t : ℕ) → t ≤ old.clock → IsSeenRun k (new.left t) s old.sent qs new.sent

@@ -13,6 +13,10 @@ pub record Work (Q States : Type 0) : Type 1 where
   pub made : States → Q → ℕ
   -- how much is left to be done in an image
   pub debt : Image → ℕ
+  -- how often is written at most before the answer to a request is sent, in a state, where so much is left to be done
+  pub before_answer : States → ℕ → Q → ℕ
+  -- how often at most behind an answer
+  pub behind_answer : ℕ
 
 -- the writes so far, and those that are still due
 abbrev pub used : ℕ → View → ℕ

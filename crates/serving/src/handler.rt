@@ -1,14 +1,14 @@
 //! What carries out requests.
 
 ghost use Rattle.std.specs.Prelude.{◌≡◌, ◌↔◌, ◌<◌, ◌≤◌, ◌+◌, ◌-◌, ℕ, OnOk, OnErr, IfOk};
-ghost use Rattle.std.specs.Prelude.{IsTrue};
+ghost use Rattle.std.specs.Prelude.{IsTrue, true};
 ghost use Rattle.image_device.specs.Counts.{CountsFault};
 ghost use Rattle.image_device.specs.Image.{Image};
 ghost use Rattle.image_device.specs.Runs.{LeavesOnly};
 ghost use Rattle.tsd_model.specs.ReplyForm.{HasForm};
 ghost use Rattle.tsd_model.specs.declared.requests.Request.{Request as Asked};
 ghost use Rattle.tsd_model.specs.declared.replies.Reply.{Reply as Answered};
-ghost use Rattle.serving.specs.Handling.{DiskRules, FitsDevice, StandsBeforeOrAfter, CountsRise};
+ghost use Rattle.serving.specs.Handling.{DiskRules, FitsDevice, StandsBeforeOrAfter, CountsRise, is_refusal};
 ghost use Rattle.serving.specs.Work.{Work, used};
 
 use image_device::{Device, Failed};
@@ -68,6 +68,11 @@ pub trait Handler {
         ensures most { D.told → work.bounded request.now → (D.view dev.new).writes
             ≤ used (due self.old (D.view dev.old).reads) (D.view dev.old) + work.cost
             (state self.old (D.view dev.old).reads) request.now }
+        // So often is written at most before the reply can be sent. A refusal asks nothing of the device.
+        ensures before { D.told → work.bounded request.now → OnOk result ((D.view dev.new).writes
+            ≤ (D.view dev.old).writes + work.before_answer (state self.old (D.view dev.old).reads)
+            (work.debt (D.view dev.old).reads) request.now) }
+        ensures refused { IfOk result (λ r. is_refusal r ≡ true → dev.new ≡ dev.old) }
         ensures works { CountsRise (D.view dev.old) (D.view dev.new) }
         ensures faults { CountsFault result (D.view dev.old).faults (D.view dev.new).faults };
 
@@ -95,6 +100,7 @@ pub trait Handler {
             ≤ used (due self.old (D.view dev.old).reads) (D.view dev.old)) }
         ensures most { D.told → (D.view dev.new).writes ≤ used (due self.old (D.view dev.old).reads)
             (D.view dev.old) }
+        ensures behind { (D.view dev.new).writes ≤ (D.view dev.old).writes + work.behind_answer }
         ensures works { CountsRise (D.view dev.old) (D.view dev.new) }
         ensures faults { CountsFault result (D.view dev.old).faults (D.view dev.new).faults };
 

@@ -1,13 +1,14 @@
 //! Lines as a protocol.
 
+ghost use Rattle.image_device.specs.Runs.{PutsAll};
 ghost use Rattle.script_text.specs.Lines.{WasFed};
-ghost use Rattle.serving.specs.LineSpelling.{line_spelling, line_voice};
+ghost use Rattle.serving.specs.LineSpelling.{line_of, line_spelling, line_voice};
 ghost use Rattle.serving.specs.LineLaws.{lines_lawful, lines_apart};
 
 use crate::protocol::{Ending, Fed, Protocol};
 use crate::replies::Replies;
 use image_device::{Failed, Port, put_all};
-use script_text::{LineCutter, OutBuf, parse_line, print_reply};
+use script_text::{LineCutter, OutBuf, parse_line, print_reply, short_line};
 use tsd_model::{Reply, Request};
 
 impl Protocol for LineCutter {
@@ -51,8 +52,19 @@ impl Replies for LineCutter {
     ghost apart = { lines_apart };
 
     fn put_reply<P: Port>(port: &mut P, reply: &Reply) -> Result<(), Failed> {
-        let mut text = OutBuf::new();
-        print_reply(reply, &mut text);
-        put_all(port, text.as_slice())
+        match short_line(reply) {
+            Some(line) => put_all(port, line.as_slice()),
+            None => put_long(port, reply),
+        }
     }
+}
+
+/// Sends a reply whole. It stays a call, so that a short reply pays for no room of a long one.
+#[inline(never)]
+fn put_long<P: Port>(port: &mut P, reply: &Reply) -> Result<(), Failed>
+    ensures { PutsAll P.told (line_of reply.now) (P.view port.old) (P.view port.new) result }
+{
+    let mut text = OutBuf::new();
+    print_reply(reply, &mut text);
+    put_all(port, text.as_slice())
 }

@@ -45,6 +45,8 @@ impl Intake {
             (more : List ℕ) × took.came more
             × Found R.spelling (λ x. R.was_fed x protocol.new) took.at_end self.new (bytes ++ more) qs result }
         ensures less { (q : R.Request) → result ≡ Next.Request q → left_in self.new < left_in self.old }
+        // Once the end has made the last request whole, nothing more is taken.
+        ensures over { self.old.over ≡ true → source.new ≡ source.old }
         ensures source_fault { result ≡ Next.Fault → Rose (S.faults source.old) (S.faults source.new) }
         ensures no_source_fault { result ≢ Next.Fault → S.faults source.new ≡ S.faults source.old }
     {

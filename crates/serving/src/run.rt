@@ -3,6 +3,7 @@
 ghost use Rattle.std.specs.Prelude.{◌≡◌, ◌≢◌, ◌≤◌, [], ℕ, List};
 ghost use Rattle.image_device.specs.Counts.{Rose};
 ghost use Rattle.serving.specs.Handling.{FitsDevice};
+ghost use Rattle.serving.specs.Prompt.{IsOfPort, Promptly, mark};
 ghost use Rattle.serving.specs.Ran.{Ran, moments, taking};
 
 use crate::intake::{INPUT_MAX, Intake, Next};
@@ -35,6 +36,10 @@ pub fn serve<S: Source, P: Port, R: Protocol, H: Server<R>>(
         (H.state server.new (P.view port.new).reads) limit
         (taking S.told S.taken S.left_bytes S.ended source.old source.new)
         (H.due server.old (P.view port.old).reads) (moments P.told P.view port.old port.new) }
+    // Each request was answered promptly; where the input was cut short, nothing is done behind the last answer and
+    // what is behind an answer.
+    ensures prompt { P.told → Promptly result H.service H.work (IsOfPort P.view) (H.state server.old
+        (P.view port.old).reads) (mark (P.view port.old)) (mark (P.view port.new)) }
     ensures lender { H.lender server.new ≡ H.lender server.old }
     // Unless the device failed, the server may be used again; else it is spent.
     ensures ready { result ≢ Status.DeviceFault → H.is_ready server.new }

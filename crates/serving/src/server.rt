@@ -6,6 +6,7 @@ ghost use Rattle.image_device.specs.Counts.{CountsFault, CountsFaultOf};
 ghost use Rattle.image_device.specs.Image.{Image};
 ghost use Rattle.image_device.specs.Runs.{LeavesOnly};
 ghost use Rattle.serving.specs.Handling.{FitsDevice, CountsRise};
+ghost use Rattle.serving.specs.Prompt.{IsOfPort, IsPrompt, mark};
 ghost use Rattle.serving.specs.Service.{Service, IsCounted, IsInAnswer, LeftBy};
 ghost use Rattle.serving.specs.Work.{Work, used};
 
@@ -74,6 +75,9 @@ pub trait Server<R: Protocol> {
         ensures most { P.told → work.bounded request.now → (P.view port.new).writes
             ≤ used (due self.old (P.view port.old).reads) (P.view port.old) + work.cost
             (state self.old (P.view port.old).reads) request.now }
+        // What is done before the answer is sent has a bound, and what is done behind it.
+        ensures prompt { P.told → OnOk result (IsPrompt service work (IsOfPort P.view)
+            (state self.old (P.view port.old).reads) request.now (mark (P.view port.old)) (mark (P.view port.new))) }
         ensures stops { IfErr result (λ why. (why ≡ Status.DeviceFault) ⊎ (why ≡ Status.PutFault)) }
         ensures faults { CountsFaultOf Status.DeviceFault result (P.view port.old).faults (P.view port.new).faults }
         ensures put_faults { CountsFaultOf Status.PutFault result (P.view port.old).put_faults

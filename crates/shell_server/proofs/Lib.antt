@@ -8,7 +8,6 @@ pub mod RefusalLaws
 pub mod SendLaws
 pub mod SpeakLaws
 pub mod ToldLaws
-pub mod ListingLaws
 pub mod LsLaws
 pub mod CopyLaws
 pub mod FreeLaws

@@ -24,7 +24,8 @@ use Rattle.fs_port.specs.Files.{TellsNext, above}
 use Rattle.shell_text.specs.Texts.{answer_text, names_head, is_empty}
 use Rattle.shell_text.proofs.AnswerLaws.{names_in_parts}
 use Rattle.shell_server.specs.Shell.{ShellState, AnswersByLine, IsInParts, IsKeptSince, files_after, heard, shell_step, tree_in}
-use Rattle.shell_server.proofs.ListingLaws.{IsNameListing, tree_lists, nothing_lists}
+use Rattle.fs_laws.specs.Small.{IsNameListing}
+use Rattle.fs_laws.proofs.ListingLaws.{tree_lists, nothing_lists}
 
 -- ---- names in order
 

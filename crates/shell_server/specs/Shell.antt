@@ -123,4 +123,4 @@ shell_service start = record {
 
 -- how its work is counted: no ask has a bound
 abbrev pub shell_work : Work ShellAsk ShellState
-shell_work = record { bounded = λ q. ⊥; cost = λ s q. 0; made = λ s q. 0; debt = debt }
+shell_work = record { bounded = λ q. ⊥; cost = λ s q. 0; made = λ s q. 0; debt = debt; before_answer = λ s owed q. 0; behind_answer = 0 }

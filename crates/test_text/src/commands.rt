@@ -6,7 +6,7 @@ use tsd_model::{Cap, CapPair, Geometry, PlaceKind};
 use tsd_words::{Command, Format, Fresh, Load, command};
 
 /// Words, and the command that they spell. R and W stand for 32 digits `a` and `b`, Z for 64 digits `0`.
-const SPELLED: [(&str, Command); 8] = [
+const SPELLED: [(&str, Command); 10] = [
     (
         "fresh 8 1 R W near",
         Command::Fresh(Fresh {
@@ -48,6 +48,8 @@ const SPELLED: [(&str, Command); 8] = [
         }),
     ),
     ("upgrade", Command::Upgrade),
+    ("audit", Command::Audit),
+    ("verify", Command::Verify),
 ];
 
 /// The words of a text.

@@ -29,8 +29,8 @@ struct Case {
 }
 
 /// Each request costs three calls: the sync that carries it out, the put of its reply, and the sync that settles. The
-/// end costs one. Three bytes come at a time.
-const LINE_CASES: [Case; 9] = [
+/// end costs one. Three bytes come at a time: takes 0 to 4 give them, take 5 finds the end, and none follows.
+const LINE_CASES: [Case; 10] = [
     Case {
         limit: 14,
         call: NEVER,
@@ -93,6 +93,13 @@ const LINE_CASES: [Case; 9] = [
         take: 4,
         status: Status::SourceFault,
         sent: b"ok\nok\n",
+    },
+    Case {
+        limit: 14,
+        call: NEVER,
+        take: 6,
+        status: Status::Done,
+        sent: b"ok\nok\nok\n",
     },
 ];
 

@@ -8,8 +8,28 @@ use Rattle.image_runs.specs.Server.{disk_rules}
 use Rattle.serving.specs.Voice.{spoken_counted}
 use Rattle.serving.specs.Ran.{moments, taking}
 use Rattle.image_runs.specs.Fresh.{single_world}
-use Rattle.image_runs.proofs.FreshRuns.{ran_formatted, ran_unformatted}
+use Rattle.serving.specs.Prompt.{IsOfPort, mark}
+use Rattle.image_runs.proofs.FreshRuns.{Formatted, prompt_formatted, ran_formatted, ran_unformatted}
+use Rattle.image_runs.proofs.Started.{prompt_nothing}
+use Rattle.image_runs.proofs.fresh.serve_fresh.Given as given
 use Rattle.image_runs.proofs.fresh.serve_fresh.Goals as goal
+
+-- what formatting did
+formatted_here : (g : given.Over) (c : goal.After-serve_image g) → g.P.Device.told → Formatted (single_world c.args.geometry.now c.args.caps.now) (g.P.Device.view c.args.port.now) (g.P.Device.view c.format.new.dev)
+formatted_here g c = λ told.
+    let old = g.P.Device.view c.args.port.now in
+    let mid = g.P.Device.view c.format.new.dev in
+    let geometry = c.args.geometry.now in
+    record {
+      formatted = record {
+        stands = subst (λ (l : List CapPair). Stands mid.reads (fresh_world geometry l)) c.one_pair.ensures (c.in-Ok.ensures.done told);
+        quiet = c.in-Ok.ensures.quiet told;
+        firm = c.in-Ok.ensures.firm told;
+        sent = c.format.ensures.sent told;
+      };
+      leaves = subst (λ (l : List CapPair). LeavesOnly old mid (λ x f. IsFormatting old (fresh_world geometry l) x f × (f ≡ old.sent))) c.one_pair.ensures (c.format.ensures.any_moment told);
+      uses = c.format.ensures.uses;
+    }
 
 pub returns-in-Ok-clause-ran : goal.returns-in-Ok-clause-ran
 returns-in-Ok-clause-ran g c =
@@ -20,16 +40,7 @@ returns-in-Ok-clause-ran g c =
     let geometry = c.args.geometry.now in
     ran_formatted c.serve_image.result g.R.Replies.voice g.R.Protocol.spelling c.args.place.now.kind (single_world geometry c.args.caps.now) c.args.limit took g.P.Device.told _ _ old mid new
     (spoken_counted disk_rules g.R.Replies.voice (λ s q r t given. given.1) g.met.R.Replies.apart)
-    (λ told. record {
-      formatted = record {
-        stands = subst (λ (l : List CapPair). Stands mid.reads (fresh_world geometry l)) c.one_pair.ensures (c.in-Ok.ensures.done told);
-        quiet = c.in-Ok.ensures.quiet told;
-        firm = c.in-Ok.ensures.firm told;
-        sent = c.format.ensures.sent told;
-      };
-      leaves = subst (λ (l : List CapPair). LeavesOnly old mid (λ x f. IsFormatting old (fresh_world geometry l) x f × (f ≡ old.sent))) c.one_pair.ensures (c.format.ensures.any_moment told);
-      uses = c.format.ensures.uses;
-    })
+    (formatted_here g c)
     c.serve_image.ensures.read
     c.serve_image.ensures.ran
 
@@ -46,3 +57,19 @@ returns-in-Err-clause-ran g c =
     c.format.ensures.sent
     (λ told. subst (λ (l : List CapPair). LeavesOnly old new (λ x f. IsFormatting old (fresh_world geometry l) x f × (f ≡ old.sent))) c.one_pair.ensures (c.format.ensures.any_moment told))
     c.format.ensures.uses
+
+pub returns-in-Ok-clause-prompt : goal.returns-in-Ok-clause-prompt
+returns-in-Ok-clause-prompt g c told =
+    prompt_formatted c.serve_image.result g.R.Replies.voice c.args.place.now.kind (single_world c.args.geometry.now c.args.caps.now) (IsOfPort g.P.Device.view)
+    (g.P.Device.view c.args.port.now) (g.P.Device.view c.format.new.dev) (g.P.Device.view c.serve_image.new.port) (formatted_here g c told) (c.serve_image.ensures.prompt told)
+
+pub returns-in-Err-clause-prompt : goal.returns-in-Err-clause-prompt
+returns-in-Err-clause-prompt g c told =
+    let new = g.P.Device.view c.format.new.dev in
+    record {
+      opened = mark new;
+      of_port = (c.format.new.dev, refl);
+      sent = c.format.ensures.sent told;
+      writes = λ _. c.format.ensures.uses.most;
+      prompt = prompt_nothing _ g.R.Replies.voice (IsOfPort g.P.Device.view) _ (mark new) (spoken_counted disk_rules g.R.Replies.voice (λ s q r t given. given.1) g.met.R.Replies.apart);
+    }

@@ -2,11 +2,13 @@ use Rattle.std.proofs.Common.{inl, inr, ℕ, [], refl, sym, ◌∙◌, ap, subst
 use Rattle.std.specs.Prelude.{Err}
 use Rattle.image_device.specs.Counts.{Rose}
 use Rattle.tsd_words.specs.declared.status.Status.{Status}
-use Rattle.image_runs.specs.Server.{disk_rules, placed_on}
-use Rattle.serving.specs.Voice.{spoken_counted}
+use Rattle.image_runs.specs.Server.{disk_rules, disk_work, placed_on}
+use Rattle.serving.specs.ModelRules.{Placed}
+use Rattle.serving.specs.Prompt.{IsOfPort, Promptly, mark}
+use Rattle.serving.specs.Voice.{spoken, spoken_counted}
 use Rattle.image_runs.specs.Served.{start_of}
 use Rattle.image_runs.proofs.Opened.{not_foreign}
-use Rattle.image_runs.proofs.Started.{asked_image, placed_at, ends_opened, ends_unopened, judged_by, not_of_source, not_of_put}
+use Rattle.image_runs.proofs.Started.{asked_image, placed_at, ends_opened, ends_unopened, judged_by, not_of_source, not_of_put, prompt_nothing}
 use Rattle.image_runs.proofs.image.serve_image.Goals as goal
 
 pub serve_core-requires-clause-few : goal.serve_core-requires-clause-few
@@ -132,3 +134,28 @@ returns-in-Ok-clause-spared g c told h =
 
 pub returns-in-Err-clause-spared : goal.returns-in-Err-clause-spared
 returns-in-Err-clause-spared g c told h = c.in-Err.ensures.spared told h
+
+pub returns-in-Ok-clause-prompt : goal.returns-in-Ok-clause-prompt
+returns-in-Ok-clause-prompt g c told =
+    let old = g.P.Device.view c.args.port.now in
+    let mid = g.P.Device.view c.open_core.new.dev in
+    let new = g.P.Device.view c.serve_core.new.port in
+    record {
+      opened = mark mid;
+      of_port = (c.open_core.new.dev, refl);
+      sent = c.open_core.ensures.sent told;
+      writes = λ quiet. omega (arith, c.open_core.ensures.unwritten told quiet);
+      prompt = subst (λ (s : Placed). Promptly c.serve_core.result (spoken disk_rules g.R.Replies.voice) disk_work (IsOfPort g.P.Device.view) s (mark mid) (mark new))
+          (placed_at c.args.place.now.kind c.in-Ok.core mid.reads _ (c.in-Ok.ensures.state told)) (c.serve_core.ensures.prompt told);
+    }
+
+pub returns-in-Err-clause-prompt : goal.returns-in-Err-clause-prompt
+returns-in-Err-clause-prompt g c told =
+    let new = g.P.Device.view c.open_core.new.dev in
+    record {
+      opened = mark new;
+      of_port = (c.open_core.new.dev, refl);
+      sent = c.open_core.ensures.sent told;
+      writes = λ quiet. omega (arith, c.open_core.ensures.unwritten told quiet);
+      prompt = prompt_nothing c.in-Err.why g.R.Replies.voice (IsOfPort g.P.Device.view) _ (mark new) (spoken_counted disk_rules g.R.Replies.voice (λ s q r t given. given.1) g.met.R.Replies.apart);
+    }

@@ -1,4 +1,4 @@
-use Rattle.std.proofs.Common.{◌≡◌, inl, sym, subst}
+use Rattle.std.proofs.Common.{◌∙◌, inl, sym, subst}
 use Rattle.std.specs.Prelude.{ℕ, IfOk}
 use Rattle.tsd_model.specs.World.{World}
 use Rattle.image_device.specs.Counts.{CountsFaultOf}
@@ -50,6 +50,9 @@ run-requires-clause-at g c told =
 pub returns-in-Ok-clause-faults : goal.returns-in-Ok-clause-faults
 returns-in-Ok-clause-faults g c =
     subst (λ (n : ℕ). CountsFaultOf status.DeviceFault c.run.result n (g.D.Device.view c.run.new.dev).faults) (c.in-Ok.ensures.faults.1 (λ e. cc)) c.run.ensures.faults
+
+pub returns-in-Ok-clause-sent : goal.returns-in-Ok-clause-sent
+returns-in-Ok-clause-sent g c told = c.run.ensures.sent told ∙ c.open_volume.ensures.sent told
 
 pub returns-in-Ok-clause-untouched : goal.returns-in-Ok-clause-untouched
 returns-in-Ok-clause-untouched g c told foreign = absurd (not_foreign _ (c.in-Ok.ensures.read told) foreign)

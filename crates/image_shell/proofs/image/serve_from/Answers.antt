@@ -1,5 +1,7 @@
 use Rattle.std.proofs.Common.{refl, sym, ◌∙◌, append-nil}
 use Rattle.image_runs.proofs.Opened.{not_foreign}
+use Rattle.image_world.proofs.CapsLaws.{loaded_is_no_fault}
+use Rattle.tsd_words.specs.declared.status.Status.TheVariants as status
 use Rattle.image_shell.proofs.StartLaws.{admitted_image, judged_start, ran_opened, ran_unopened, start_here}
 use Rattle.image_shell.proofs.image.serve_from.Goals as goal
 
@@ -22,7 +24,7 @@ pub returns-in-Ok-clause-no_source_fault : goal.returns-in-Ok-clause-no_source_f
 returns-in-Ok-clause-no_source_fault g c = c.serve_opened.ensures.faults.no_source_fault
 
 pub returns-in-Ok-clause-no_device_fault : goal.returns-in-Ok-clause-no_device_fault
-returns-in-Ok-clause-no_device_fault g c = λ other. c.serve_opened.ensures.faults.no_device_fault other ∙ c.in-Ok.ensures.faults.1 (λ e. cc)
+returns-in-Ok-clause-no_device_fault g c = λ other. c.serve_opened.ensures.faults.no_device_fault other ∙ c.in-Ok.ensures.faults.1 (loaded_is_no_fault c.in-Ok.core status.DeviceFault)
 
 pub returns-in-Ok-clause-no_put_fault : goal.returns-in-Ok-clause-no_put_fault
 returns-in-Ok-clause-no_put_fault g c = λ other. c.serve_opened.ensures.faults.no_put_fault other ∙ c.in-Ok.ensures.works.put_faults

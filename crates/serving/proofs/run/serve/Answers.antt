@@ -1,7 +1,8 @@
 use Rattle.std.proofs.Common.{◌≡◌, inr, [], ◌++◌, refl, ◌∙◌, arith}
 use Rattle.std.specs.Prelude.{Result, Ok, Err}
 use Rattle.serving.proofs.Inputs.{came_first, came_then, handed_first, asked_stopped}
-use Rattle.serving.proofs.Steps.{served_of, ends_now, goes_first, goes_next, ends_stopped, ends_done, ends_close_fault, ends_longer, ran_of}
+use Rattle.serving.proofs.Steps.{served_of, ends_now, goes_first, goes_next, ends_stopped, ends_done, ends_close_fault, ends_longer, prompt_done, prompt_stopped, ran_of}
+use Rattle.serving.specs.Prompt.{IsOfPort}
 use Rattle.serving.specs.Ran.{taking, moments}
 use Rattle.serving.proofs.run.serve.Goals as goal
 
@@ -24,7 +25,7 @@ loop-request-init g c = record {
     handed_first g.R.Protocol.spelling _ _ c.new-intake.result c.requires.fresh g.met.R.Protocol.lawful.none c.new-intake.ensures.taken c.new-intake.ensures.held c.new-intake.ensures.over,
     λ told.
         let at = c.requires.at told in
-        goes_first g.H.Server.service g.met.H.Server.counted g.H.Server.work _ _ (g.P.Device.view c.args.port.now) (g.met.P.Device.sound c.args.port.now told) at.0 (g.met.H.Server.stands_now c.args.server.now _ at.1) (g.met.H.Server.rests_now c.args.server.now _ at.1),
+        goes_first g.H.Server.service g.met.H.Server.counted g.H.Server.work (IsOfPort g.P.Device.view) _ _ (g.P.Device.view c.args.port.now) (g.met.P.Device.sound c.args.port.now told) at.0 (g.met.H.Server.stands_now c.args.server.now _ at.1) (g.met.H.Server.rests_now c.args.server.now _ at.1),
   );
 }
 
@@ -48,8 +49,8 @@ loop-request-preserved g c =
         found.2,
         λ told.
             let a = c.in-Ok.ensures.answered told in
-            goes_next g.H.Server.service g.met.H.Server.counted g.H.Server.work _ _ (g.P.Device.view c.args.port.now) was.1 _ _ (g.P.Device.view c.loop-request.port) (was.4 told) _ (g.P.Device.view c.answer.new.port) (c.answer.ensures.any_moment told) (c.answer.ensures.debt told)
-            (g.met.P.Device.sound c.answer.new.port told) _ (g.met.H.Server.rests_now c.answer.new.self _ (c.answer.ensures.at (ok_not_err c.answer.result _ _ c.in-Ok.is) told).1) _ a.0 a.1 a.2 (c.in-Ok.ensures.less told) (c.in-Ok.ensures.paid told),
+            goes_next g.H.Server.service g.met.H.Server.counted g.H.Server.work (IsOfPort g.P.Device.view) _ _ (g.P.Device.view c.args.port.now) was.1 _ _ (g.P.Device.view c.loop-request.port) (was.4 told) _ (g.P.Device.view c.answer.new.port) (c.answer.ensures.any_moment told) (c.answer.ensures.debt told)
+            (g.met.P.Device.sound c.answer.new.port told) _ (g.met.H.Server.rests_now c.answer.new.self _ (c.answer.ensures.at (ok_not_err c.answer.result _ _ c.in-Ok.is) told).1) _ a.0 a.1 a.2 (c.in-Ok.ensures.less told) (c.in-Ok.ensures.paid told) (c.answer.new.port, refl) (c.in-Ok.ensures.prompt told),
       );
     }
 
@@ -63,7 +64,7 @@ returns-in-Err-clause-ran g c =
     (came_then g.S.Source.told _ _ _ _ _ _ was.0 found.0 was.2 found.1) asked.1
     (λ told.
     ends_longer g.H.Server.service g.H.Server.work _ _ _ (g.P.Device.view c.args.port.now) (g.P.Device.view c.answer.new.port) _ asked.0 c.in-Err.why c.in-Err.ensures.stops
-    (ends_stopped g.H.Server.service g.met.H.Server.counted g.H.Server.work _ _ (g.P.Device.view c.args.port.now) was.1 _ _ (g.P.Device.view c.loop-request.port) (was.4 told) _ (g.P.Device.view c.answer.new.port) (c.answer.ensures.any_moment told) (c.answer.ensures.debt told)
+    (ends_stopped g.H.Server.service g.met.H.Server.counted g.H.Server.work (IsOfPort g.P.Device.view) _ _ (g.P.Device.view c.args.port.now) was.1 _ _ (g.P.Device.view c.loop-request.port) (was.4 told) _ (g.P.Device.view c.answer.new.port) (c.answer.ensures.any_moment told) (c.answer.ensures.debt told)
     c.in-Err.why _ c.in-Err.ensures.stops (c.in-Err.ensures.left told) (c.answer.ensures.most told)))
 
 pub returns-in-Ok-close-clause-ran : goal.returns-in-Ok-close-clause-ran
@@ -74,7 +75,7 @@ returns-in-Ok-close-clause-ran g c =
     ran_of _ g.H.Server.service g.H.Server.work g.R.Protocol.spelling _ _ c.args.limit c.next.new.self.limit (taking g.S.Source.told g.S.Source.taken g.S.Source.left_bytes g.S.Source.ended c.args.source.now c.next.new.source) _ (moments g.P.Device.told g.P.Device.view c.args.port.now c.close.new.dev) (was.0 ++ found.0) was.1 (c.next.ensures.limit ∙ i.limit)
     (came_then g.S.Source.told _ _ _ _ _ _ was.0 found.0 was.2 found.1) found.2
     (λ told.
-    ends_done g.H.Server.service g.met.H.Server.counted g.H.Server.work _ _ (g.P.Device.view c.args.port.now) was.1 _ _ (g.P.Device.view c.loop-request.port) (was.4 told) (g.P.Device.view c.close.new.dev) (c.close.ensures.any_moment told) (c.close.ensures.debt told) (c.close.ensures.sent told) (c.close.ensures.most told)
+    ends_done g.H.Server.service g.met.H.Server.counted g.H.Server.work (IsOfPort g.P.Device.view) _ _ (g.P.Device.view c.args.port.now) was.1 _ _ (g.P.Device.view c.loop-request.port) (was.4 told) (g.P.Device.view c.close.new.dev) (c.close.ensures.any_moment told) (c.close.ensures.debt told) (c.close.ensures.sent told) (c.close.ensures.most told)
     _ (c.in-Ok-close.ensures.state told))
 
 pub returns-in-Err-close-clause-ran : goal.returns-in-Err-close-clause-ran
@@ -85,7 +86,7 @@ returns-in-Err-close-clause-ran g c =
     ran_of _ g.H.Server.service g.H.Server.work g.R.Protocol.spelling _ _ c.args.limit c.next.new.self.limit (taking g.S.Source.told g.S.Source.taken g.S.Source.left_bytes g.S.Source.ended c.args.source.now c.next.new.source) _ (moments g.P.Device.told g.P.Device.view c.args.port.now c.close.new.dev) (was.0 ++ found.0) was.1 (c.next.ensures.limit ∙ i.limit)
     (came_then g.S.Source.told _ _ _ _ _ _ was.0 found.0 was.2 found.1) (inr (found.2.0, found.2.1, found.2.3))
     (λ told.
-    ends_close_fault g.H.Server.service g.met.H.Server.counted g.H.Server.work _ _ (g.P.Device.view c.args.port.now) was.1 _ _ (g.P.Device.view c.loop-request.port) (was.4 told) (g.P.Device.view c.close.new.dev) (c.close.ensures.any_moment told) (c.close.ensures.debt told) (c.close.ensures.sent told) (c.close.ensures.most told) _)
+    ends_close_fault g.H.Server.service g.met.H.Server.counted g.H.Server.work (IsOfPort g.P.Device.view) _ _ (g.P.Device.view c.args.port.now) was.1 _ _ (g.P.Device.view c.loop-request.port) (was.4 told) (g.P.Device.view c.close.new.dev) (c.close.ensures.any_moment told) (c.close.ensures.debt told) (c.close.ensures.sent told) (c.close.ensures.most told) _)
 
 pub returns-in-CutOff-clause-ran : goal.returns-in-CutOff-clause-ran
 returns-in-CutOff-clause-ran g c =
@@ -94,7 +95,7 @@ returns-in-CutOff-clause-ran g c =
     let found = c.in-CutOff.ensures.found was.0 was.1 was.3 in
     ran_of _ g.H.Server.service g.H.Server.work g.R.Protocol.spelling _ _ c.args.limit c.next.new.self.limit (taking g.S.Source.told g.S.Source.taken g.S.Source.left_bytes g.S.Source.ended c.args.source.now c.next.new.source) _ (moments g.P.Device.told g.P.Device.view c.args.port.now c.loop-request.port) (was.0 ++ found.0) was.1 (c.next.ensures.limit ∙ i.limit)
     (came_then g.S.Source.told _ _ _ _ _ _ was.0 found.0 was.2 found.1) found.2
-    (λ told. ends_now g.H.Server.service g.H.Server.work _ _ (g.P.Device.view c.args.port.now) g.met.H.Server.counted _ was.1 _ _ (g.P.Device.view c.loop-request.port) (was.4 told) (served_of g.H.Server.service g.H.Server.work _ _ (g.P.Device.view c.args.port.now) was.1 _ _ (g.P.Device.view c.loop-request.port) (was.4 told)))
+    (λ told. ends_now g.H.Server.service g.H.Server.work (IsOfPort g.P.Device.view) _ _ (g.P.Device.view c.args.port.now) g.met.H.Server.counted _ was.1 _ _ (g.P.Device.view c.loop-request.port) (was.4 told) (served_of g.H.Server.service g.H.Server.work (IsOfPort g.P.Device.view) _ _ (g.P.Device.view c.args.port.now) was.1 _ _ (g.P.Device.view c.loop-request.port) (was.4 told)))
 
 pub returns-in-Fault-clause-ran : goal.returns-in-Fault-clause-ran
 returns-in-Fault-clause-ran g c =
@@ -103,7 +104,7 @@ returns-in-Fault-clause-ran g c =
     let found = c.in-Fault.ensures.found was.0 was.1 was.3 in
     ran_of _ g.H.Server.service g.H.Server.work g.R.Protocol.spelling _ _ c.args.limit c.next.new.self.limit (taking g.S.Source.told g.S.Source.taken g.S.Source.left_bytes g.S.Source.ended c.args.source.now c.next.new.source) _ (moments g.P.Device.told g.P.Device.view c.args.port.now c.loop-request.port) (was.0 ++ found.0) was.1 (c.next.ensures.limit ∙ i.limit)
     (came_then g.S.Source.told _ _ _ _ _ _ was.0 found.0 was.2 found.1) found.2
-    (λ told. ends_now g.H.Server.service g.H.Server.work _ _ (g.P.Device.view c.args.port.now) g.met.H.Server.counted _ was.1 _ _ (g.P.Device.view c.loop-request.port) (was.4 told) (served_of g.H.Server.service g.H.Server.work _ _ (g.P.Device.view c.args.port.now) was.1 _ _ (g.P.Device.view c.loop-request.port) (was.4 told)))
+    (λ told. ends_now g.H.Server.service g.H.Server.work (IsOfPort g.P.Device.view) _ _ (g.P.Device.view c.args.port.now) g.met.H.Server.counted _ was.1 _ _ (g.P.Device.view c.loop-request.port) (was.4 told) (served_of g.H.Server.service g.H.Server.work (IsOfPort g.P.Device.view) _ _ (g.P.Device.view c.args.port.now) was.1 _ _ (g.P.Device.view c.loop-request.port) (was.4 told)))
 
 pub returns-in-TooLong-clause-ran : goal.returns-in-TooLong-clause-ran
 returns-in-TooLong-clause-ran g c =
@@ -112,4 +113,35 @@ returns-in-TooLong-clause-ran g c =
     let found = c.in-TooLong.ensures.found was.0 was.1 was.3 in
     ran_of _ g.H.Server.service g.H.Server.work g.R.Protocol.spelling _ _ c.args.limit c.next.new.self.limit (taking g.S.Source.told g.S.Source.taken g.S.Source.left_bytes g.S.Source.ended c.args.source.now c.next.new.source) _ (moments g.P.Device.told g.P.Device.view c.args.port.now c.loop-request.port) (was.0 ++ found.0) was.1 (c.next.ensures.limit ∙ i.limit)
     (came_then g.S.Source.told _ _ _ _ _ _ was.0 found.0 was.2 found.1) found.2
-    (λ told. ends_now g.H.Server.service g.H.Server.work _ _ (g.P.Device.view c.args.port.now) g.met.H.Server.counted _ was.1 _ _ (g.P.Device.view c.loop-request.port) (was.4 told) (served_of g.H.Server.service g.H.Server.work _ _ (g.P.Device.view c.args.port.now) was.1 _ _ (g.P.Device.view c.loop-request.port) (was.4 told)))
+    (λ told. ends_now g.H.Server.service g.H.Server.work (IsOfPort g.P.Device.view) _ _ (g.P.Device.view c.args.port.now) g.met.H.Server.counted _ was.1 _ _ (g.P.Device.view c.loop-request.port) (was.4 told) (served_of g.H.Server.service g.H.Server.work (IsOfPort g.P.Device.view) _ _ (g.P.Device.view c.args.port.now) was.1 _ _ (g.P.Device.view c.loop-request.port) (was.4 told)))
+
+pub returns-in-Err-clause-prompt : goal.returns-in-Err-clause-prompt
+returns-in-Err-clause-prompt g c told =
+    let was = c.loop-request.invariant.goes in
+    prompt_stopped g.H.Server.service g.met.H.Server.counted g.H.Server.work (IsOfPort g.P.Device.view) _ _ (g.P.Device.view c.args.port.now) was.1 _ _ (g.P.Device.view c.loop-request.port) (was.4 told) _ (g.P.Device.view c.answer.new.port) (c.answer.ensures.any_moment told) (c.answer.ensures.debt told)
+    c.in-Err.why _ c.in-Err.ensures.stops (c.in-Err.ensures.left told)
+
+pub returns-in-Ok-close-clause-prompt : goal.returns-in-Ok-close-clause-prompt
+returns-in-Ok-close-clause-prompt g c told =
+    let was = c.loop-request.invariant.goes in
+    prompt_done _ g.H.Server.service g.met.H.Server.counted g.H.Server.work (IsOfPort g.P.Device.view) _ _ (g.P.Device.view c.args.port.now) was.1 _ _ (g.P.Device.view c.loop-request.port) (g.P.Device.view c.close.new.dev) (was.4 told) (c.close.ensures.sent told) (λ cut. absurd cut)
+
+pub returns-in-Err-close-clause-prompt : goal.returns-in-Err-close-clause-prompt
+returns-in-Err-close-clause-prompt g c told =
+    let was = c.loop-request.invariant.goes in
+    prompt_done _ g.H.Server.service g.met.H.Server.counted g.H.Server.work (IsOfPort g.P.Device.view) _ _ (g.P.Device.view c.args.port.now) was.1 _ _ (g.P.Device.view c.loop-request.port) (g.P.Device.view c.close.new.dev) (was.4 told) (c.close.ensures.sent told) (λ cut. absurd cut)
+
+pub returns-in-CutOff-clause-prompt : goal.returns-in-CutOff-clause-prompt
+returns-in-CutOff-clause-prompt g c told =
+    let was = c.loop-request.invariant.goes in
+    prompt_done _ g.H.Server.service g.met.H.Server.counted g.H.Server.work (IsOfPort g.P.Device.view) _ _ (g.P.Device.view c.args.port.now) was.1 _ _ (g.P.Device.view c.loop-request.port) (g.P.Device.view c.loop-request.port) (was.4 told) refl (λ cut. refl)
+
+pub returns-in-Fault-clause-prompt : goal.returns-in-Fault-clause-prompt
+returns-in-Fault-clause-prompt g c told =
+    let was = c.loop-request.invariant.goes in
+    prompt_done _ g.H.Server.service g.met.H.Server.counted g.H.Server.work (IsOfPort g.P.Device.view) _ _ (g.P.Device.view c.args.port.now) was.1 _ _ (g.P.Device.view c.loop-request.port) (g.P.Device.view c.loop-request.port) (was.4 told) refl (λ cut. refl)
+
+pub returns-in-TooLong-clause-prompt : goal.returns-in-TooLong-clause-prompt
+returns-in-TooLong-clause-prompt g c told =
+    let was = c.loop-request.invariant.goes in
+    prompt_done _ g.H.Server.service g.met.H.Server.counted g.H.Server.work (IsOfPort g.P.Device.view) _ _ (g.P.Device.view c.args.port.now) was.1 _ _ (g.P.Device.view c.loop-request.port) (g.P.Device.view c.loop-request.port) (was.4 told) refl (λ cut. refl)

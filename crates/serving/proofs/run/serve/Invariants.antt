@@ -1,6 +1,7 @@
 use Rattle.std.proofs.Common.{◌≡◌, ℕ, List}
 use Rattle.serving.specs.Goes.{Goes, Handed, left_in}
 use Rattle.serving.specs.Handling.{FitsDevice}
+use Rattle.serving.specs.Prompt.{IsOfPort}
 use Rattle.serving.specs.Ran.{Came, IsAtEnd}
 use Rattle.serving.proofs.run.serve.Given as goal
 
@@ -20,7 +21,7 @@ invariant-loop-request g l =
       goes : (bytes : List ℕ) × (qs : List g.row.R-Request.Denot)
           × Came g.S.Source.told (g.S.Source.taken before) (g.S.Source.taken l.source) (g.S.Source.left_bytes before) (g.S.Source.left_bytes l.source) bytes
           × Handed g.R.Protocol.spelling (λ x. g.R.Protocol.was_fed x l.protocol) (IsAtEnd g.S.Source.told (g.S.Source.ended l.source) (g.S.Source.left_bytes l.source)) l.intake bytes qs
-          × (g.P.Device.told → Goes g.H.Server.service g.H.Server.work (g.H.Server.state l.initial.server start.reads) (g.H.Server.due l.initial.server start.reads) start qs (g.H.Server.state l.server (view l.port).reads) (g.H.Server.due l.server (view l.port).reads) (view l.port));
+          × (g.P.Device.told → Goes g.H.Server.service g.H.Server.work (IsOfPort view) (g.H.Server.state l.initial.server start.reads) (g.H.Server.due l.initial.server start.reads) start qs (g.H.Server.state l.server (view l.port).reads) (g.H.Server.due l.server (view l.port).reads) (view l.port));
     }
 
 abbrev pub decreases-loop-request : goal.decreases-loop-request

@@ -5,7 +5,7 @@ use Rattle.fs_port.specs.Files.{TellsNext}
 use Rattle.shell_text.specs.Texts.{names_head}
 use Rattle.shell_server.specs.Shell.{AnswersByLine, ShellState, shell_step}
 use Rattle.shell_server.specs.Kept.{shell_state}
-use Rattle.shell_server.proofs.ListingLaws.{IsNameListing}
+use Rattle.fs_laws.specs.Small.{IsNameListing}
 use Rattle.shell_server.proofs.LsLaws.{behind, first_is, lists, line_headed, ls_answers, ls_in_parts, ls_not_refused, next_is, no_names, said_all, said_most, said_next, said_none, said_piece, whole_line}
 use Rattle.shell_server.proofs.SendLaws.{line_served}
 use Rattle.shell_server.proofs.SpeakLaws.{speaks_none, speaks_put, speaks_look, speaks_lost, speaks_cut, speaks_end}

@@ -1,7 +1,8 @@
-use Rattle.std.proofs.Common.{◌≡◌, ◌+◌, ◌++◌, take, inl, inr, ◌∙◌, ap, subst, arith}
+use Rattle.std.proofs.Common.{◌≡◌, ◌+◌, ◌++◌, take, inl, inr, refl, sym, ◌∙◌, ap, subst, arith}
 use Rattle.image_device.specs.Runs.{LeavesOnly}
 use Rattle.image_device.proofs.Outcomes.{where_err, unless_err}
 use Rattle.serving.proofs.Answering.{any_applied, any_replied, any_settled, put_failed, all_put, debt_now, debt_replied, debt_settled}
+use Rattle.serving.specs.Prompt.{mark}
 use Rattle.serving.proofs.disk.AnyServer.answer.Goals as goal
 
 pub returns-in-Err-clause-any_moment : goal.returns-in-Err-clause-any_moment
@@ -83,3 +84,12 @@ returns-in-Err-settle_some-clause-left g c told =
     let sent2 = unless_err c.put_reply.result c.is_err.result c.if-is_err.false c.is_err.ensures.value (c.put_reply.ensures.sent told) in
     let all = all_put g.H.Handler.rules g.R.Replies.voice _ c.args.request.now _ _ c.in-Ok.reply _ (c.in-Ok.ensures.given told) (c.settle_some.ensures.sent told ∙ sent2 ∙ ap (λ l. l ++ g.R.Replies.voice.text c.in-Ok.reply) (c.apply.ensures.sent told)) in
     inr (all.0, inl all.1)
+
+pub returns-in-Ok-settle_some-clause-prompt : goal.returns-in-Ok-settle_some-clause-prompt
+returns-in-Ok-settle_some-clause-prompt g c told = record {
+  replied = mark (g.P.Device.view c.put_reply.new.port);
+  of_port = (c.put_reply.new.port, refl);
+  sent = sym (c.settle_some.ensures.sent told);
+  before = λ bounded. omega (arith, c.put_reply.ensures.puts.writes, c.in-Ok.ensures.before told bounded);
+  behind = c.settle_some.ensures.behind;
+}

@@ -1,0 +1,61 @@
+-- How promptly requests are answered: how often is written before an answer is sent, and behind it.
+use Rattle.std.specs.Prelude.{◌≡◌, ◌≢◌, ℕ, ◌+◌, ◌≤◌, List, [], ◌∷◌, ◌++◌, ⊤}
+use Rattle.image_device.specs.Image.{Image}
+use Rattle.image_device.specs.View.{View}
+use Rattle.tsd_words.specs.declared.status.Status.{Status}
+use Rattle.tsd_words.specs.declared.status.Status.TheVariants as status
+use Rattle.serving.specs.Service.{Service}
+use Rattle.serving.specs.Work.{Work}
+use Rattle.serving.specs.Runs.{Run}
+
+-- what is seen of a port between two calls
+pub record Mark : Type 0 where
+  pub reads : Image
+  pub sent : List ℕ
+  pub writes : ℕ
+
+abbrev pub mark : View → Mark
+mark v = record { reads = v.reads; sent = v.sent; writes = v.writes }
+
+-- there is a port of which this is seen
+abbrev pub IsOfPort : {P : Type 0} → (P → View) → Mark → Type 0
+IsOfPort {P = P} view m = (p : P) × (mark (view p) ≡ m)
+
+-- A request was answered from the one moment to the other. At a moment between, its answer was sent whole, and by then so often was
+-- written, where its work is bounded; behind it no more was written than is behind an answer.
+pub record IsPrompt {Q : Type 0} (k : Service Q) (w : Work Q k.States) (port : Mark → Type 0) (s : k.States) (q : Q) (old new : Mark) : Type 0 where
+  pub replied : Mark
+  pub of_port : port replied
+  pub sent : replied.sent ≡ new.sent
+  pub before : w.bounded q → replied.writes ≤ old.writes + w.before_answer s (w.debt old.reads) q
+  pub behind : new.writes ≤ replied.writes + w.behind_answer
+
+-- Each request of a run was answered so, one after another, from the one moment to the other.
+abbrev pub ArePrompt : {Q : Type 0} → (k : Service Q) → Work Q k.States → (Mark → Type 0) → (s : k.States) (qs : List Q) (xs : List (List ℕ)) (t : k.States) → Run k s qs xs t → Mark → Mark → Type 0
+ArePrompt k w port s [] xs t run old new = new ≡ old
+ArePrompt k w port s (q ∷ qs) [] t run old new = ⊥
+ArePrompt k w port s (q ∷ qs) (a ∷ xs) t run old new =
+    (next : Mark) × port next × (next.sent ≡ old.sent ++ a) × IsPrompt k w port s q old next × ArePrompt k w port run.0 qs xs t run.2 next new
+
+-- the input was cut short, or is longer than what is served
+abbrev pub IsCutShort : Status → Type 0
+IsCutShort status.SourceFault = ⊤
+IsCutShort status.TooLong = ⊤
+IsCutShort status.Truncated = ⊤
+IsCutShort r = ⊥
+
+-- How promptly a run answered that ended so. These requests were answered, each promptly. Behind their answers a front of one more may be
+-- sent, and all of that only where the device failed behind it. Where the input was cut short, nothing is done behind the last answer and
+-- what is behind an answer.
+pub record Promptly {Q : Type 0} (r : Status) (k : Service Q) (w : Work Q k.States) (port : Mark → Type 0) (s : k.States) (old new : Mark) : Type 0 where
+  pub answered : List Q
+  pub answers : List (List ℕ)
+  pub state : k.States
+  pub run : Run k s answered answers state
+  pub rested : Mark
+  pub each : ArePrompt k w port s answered answers state run old rested
+  pub front : List ℕ
+  pub sent : new.sent ≡ rested.sent ++ front
+  pub one_more : k.acked front ≤ 1
+  pub all : r ≢ status.DeviceFault → k.acked front ≡ 0
+  pub as_it_was : IsCutShort r → new ≡ rested

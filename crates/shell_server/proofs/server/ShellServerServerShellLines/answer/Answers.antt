@@ -1,0 +1,14 @@
+use Rattle.std.proofs.Common.{refl, arith}
+use Rattle.std.specs.Prelude.{Result, Ok, Err, OnOk}
+use Rattle.serving.specs.Prompt.{mark}
+use Rattle.shell_server.proofs.server.ShellServerServerShellLines.answer.Goals as goal
+
+on_ok : {T E : Type 0} (r : Result T E) (X : Type 0) → X → OnOk r X
+on_ok (Ok x) X h = h
+on_ok (Err e) X h = tt
+
+-- no ask has a bound
+pub returns-clause-prompt : goal.returns-clause-prompt
+returns-clause-prompt g c told =
+    let new = mark (g.P.Device.view c.answer_ask.new.port) in
+    on_ok c.answer_ask.result _ (record { replied = new; of_port = (c.answer_ask.new.port, refl); sent = refl; before = λ bounded. absurd bounded; behind = omega arith })
