@@ -5,3 +5,4 @@ pub mod RunIntegrity
 pub mod Confidentiality
 pub mod Region
 pub mod OutOfReach
+pub mod ByAccess
