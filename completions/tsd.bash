@@ -16,12 +16,12 @@ _tsd() {
         compopt -o filenames 2>/dev/null
     elif [ "${words[1]}" = help ]; then
         [ "$count" -gt 2 ] ||
-            mapfile -t COMPREPLY < <(compgen -W 'fresh format run serve shell check load upgrade mirror requests replies' -- "$word")
+            mapfile -t COMPREPLY < <(compgen -W 'fresh format run serve shell check load upgrade audit verify mirror requests replies' -- "$word")
     elif [ "${words[1]}" = mirror ]; then
         mapfile -t COMPREPLY < <(compgen -f -- "$word")
         compopt -o filenames 2>/dev/null
     elif [ "$count" -eq 2 ]; then
-        mapfile -t COMPREPLY < <(compgen -W 'fresh format run serve shell check load upgrade' -- "$word")
+        mapfile -t COMPREPLY < <(compgen -W 'fresh format run serve shell check load upgrade audit verify' -- "$word")
     elif [[ $word == @* ]]; then
         mapfile -t COMPREPLY < <(compgen -P @ -f -- "${word#@}")
     else

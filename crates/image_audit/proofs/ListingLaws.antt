@@ -1,9 +1,10 @@
 -- The line of a block in a certificate, read and spelled; and which block may follow.
-use Rattle.std.proofs.Common.{◌≡◌, ℕ, zero, suc, ◌<◌, ◌≤◌, true, false, not, cond, ◌==◌, List, [], ◌∷◌, length, refl, sym, ◌∙◌, ap, subst, arith, Option, Some, None}
-use Rattle.std.specs.Prelude.{codes, bytes_eq, option_map, unwrap_or}
-use Rattle.std.specs.List.{list_all}
+use Rattle.std.proofs.Common.{◌≡◌, ℕ, zero, suc, ◌+◌, ◌<◌, ◌≤◌, true, false, not, cond, ◌==◌, nat_lt, List, [], ◌∷◌, length, take, refl, sym, ◌∙◌, ap, subst, arith, Option, Some, None}
+use Rattle.std.specs.Prelude.{codes, bytes_eq, option_map, unwrap_or, Result, Ok, Err, OnOk, OnErr}
+use Rattle.std.specs.List.{list_all, join_with_byte}
 use Rattle.std.specs.Char.{is_ascii_digit}
-use Rattle.std.proofs.lemmas.Bool.{and_from}
+use Rattle.std.proofs.lemmas.Bool.{and_from, ltb-true, ltb-false}
+use Rattle.std.proofs.lemmas.List.{length-append, length-take}
 use Rattle.std.proofs.lemmas.Bool.Decides.{nat_tests}
 use Rattle.std.proofs.lemmas.Slice.Eq.{bytes_eq-Decides}
 use Rattle.tsd_model.specs.declared.requests.Hint.{Hint}
@@ -11,13 +12,13 @@ use Rattle.tsd_model.specs.declared.requests.Hint.TheVariants.{Null, At}
 use Rattle.script_text.specs.Grammar.{Field, Name, Number, Near, IsNumber, IsHint, IsField, AreFields}
 use Rattle.script_text.specs.Pieces.{pieces}
 use Rattle.script_text.specs.Reading.{reads, num_of, hint_of, Words, ◌>>=◌}
-use Rattle.script_text.proofs.PiecesLaws.{join-pieces, pieces-join, lacks}
+use Rattle.script_text.proofs.PiecesLaws.{join-pieces, pieces-join, lacks, take_all}
 use Rattle.script_text.proofs.SpellingLaws.{bind_some, weaker}
 use Rattle.script_text.proofs.WordLaws.{are_digits, num_is, num_back, hint_is, hint_back}
 use Rattle.image_audit.specs.declared.entry.Entry.{Entry}
 use Rattle.image_audit.specs.declared.listing.Listing.{Listing}
-use Rattle.image_audit.specs.Listing.{parent_word, listing_fields, IsListing, MayFollow, IsNextBlock}
-use Rattle.image_audit.specs.ListingReading.{name_of, block_in, parent_of, if_last, listing_in}
+use Rattle.image_audit.specs.Listing.{parent_word, listing_fields, IsListing, IsAdded, IsRefused, IsTaken, IsNotTaken, MayFollow, IsNextBlock}
+use Rattle.image_audit.specs.ListingReading.{name_of, block_in, parent_of, if_last, listing_in, listing_of}
 
 -- ---- what one word says
 
@@ -152,6 +153,60 @@ line_back line l h =
     let cut : pieces 32 line ≡ h.words = ap (pieces 32) h.parted ∙ pieces-join 32 h.words lack.0 lack.1 in
     ap listing_in cut ∙ listing_back h.words l h.spelled
 
+-- ---- a line that is cut
+
+-- a line that says something has few bytes
+name_long : (w name : List ℕ) → w ≡ name → length w ≡ length name
+name_long w name h = ap length h
+
+hint_long : (w : List ℕ) (p : Option ℕ) → IsHint w (parent_word p) → length w ≤ 10
+hint_long w None h = let one = name_long w (codes "-") h in omega (arith, one)
+hint_long w (Some a) h = h.few
+
+join_long : (x y : List ℕ) (ws : List (List ℕ)) → length (join_with_byte 32 (x ∷ y ∷ ws)) ≡ length x + suc (length (join_with_byte 32 (y ∷ ws)))
+join_long x y ws = length-append x (32 ∷ join_with_byte 32 (y ∷ ws))
+
+words_long : (l : Listing) (ws : Words) → AreFields (listing_fields l) ws → length (join_with_byte 32 ws) ≤ 51
+words_long l [] h = absurd h
+words_long l (a ∷ []) h = absurd h.1
+words_long l (a ∷ b ∷ []) h = absurd h.1.1
+words_long l (a ∷ b ∷ c ∷ []) h = absurd h.1.1.1
+words_long l (a ∷ b ∷ c ∷ d ∷ []) h = absurd h.1.1.1.1
+words_long l (a ∷ b ∷ c ∷ d ∷ e ∷ []) h = absurd h.1.1.1.1.1
+words_long l (a ∷ b ∷ c ∷ d ∷ e ∷ f ∷ []) h =
+    let j1 = join_long a b (c ∷ d ∷ e ∷ f ∷ []) in
+    let j2 = join_long b c (d ∷ e ∷ f ∷ []) in
+    let j3 = join_long c d (e ∷ f ∷ []) in
+    let j4 = join_long d e (f ∷ []) in
+    let j5 = join_long e f [] in
+    let la = name_long a (codes "block") h.0 in
+    let lb : length b ≤ 10 = h.1.0.few in
+    let lc = name_long c (codes "depth") h.1.1.0 in
+    let ld : length d ≤ 10 = h.1.1.1.0.few in
+    let le = name_long e (codes "parent") h.1.1.1.1.0 in
+    let lf = hint_long f l.entry.parent h.1.1.1.1.1.0 in
+    omega (arith, j1, j2, j3, j4, j5, la, lb, lc, ld, le, lf)
+words_long l (a ∷ b ∷ c ∷ d ∷ e ∷ f ∷ g ∷ ws) h = absurd h.1.1.1.1.1.1
+
+pub line_long : (line : List ℕ) (l : Listing) → IsListing line l → length line ≤ 51
+line_long line l h = subst (λ (x : List ℕ). length x ≤ 51) (sym h.parted) (words_long l h.words h.spelled)
+
+says_none : (line : List ℕ) → 8400 < length line → listing_of line ≡ None
+says_none line long = elim (listing_of line) as (λ o. listing_of line ≡ o → o ≡ None) [
+  | None ↦ λ _. refl
+  | Some l ↦ λ e. let few = line_long line l (line_is line l e) in absurd (omega (arith, long, few))
+] refl
+
+-- a line that is cut after 8,401 bytes says as little as the whole
+pub listing_of-cut : (line : List ℕ) → listing_of (take 8401 line) ≡ listing_of line
+listing_of-cut line = elim (nat_lt 8400 (length line)) as (λ t. nat_lt 8400 (length line) ≡ t → listing_of (take 8401 line) ≡ listing_of line) [
+  | true ↦ λ e.
+      let long = ltb-true 8400 (length line) e in
+      let cut = length-take 8401 line in
+      says_none (take 8401 line) (omega (arith, long, cut)) ∙ sym (says_none line long)
+  | false ↦ λ e. let short = ltb-false 8400 (length line) e in ap listing_of (take_all line 8401 (omega (arith, short)))
+] refl
+
 -- ---- which block may follow
 
 -- a block below the next one may not
@@ -161,3 +216,12 @@ too_low entries next b is below f = low next refl
     low : (k : ℕ) → next ≡ k → ⊥
     low zero e = omega (arith, e, below)
     low (suc p) e = let under = f.above p (is.last p e) in omega (arith, e, under, below)
+
+-- what a line says is taken, or it isn't
+pub added_line : {T E : Type 0} (r : Result T E) (line : List ℕ) (said : Option Listing) (old new : List (Option Entry)) → said ≡ listing_of line → OnOk r (IsTaken said old new) → OnOk r (IsAdded line old new)
+added_line (Ok x) line said old new is taken = record { listing = taken.listing; spelled = line_is line taken.listing (sym is ∙ taken.says); follows = taken.follows; entries = taken.entries }
+added_line (Err e) line said old new is taken = taken
+
+pub refused_line : {T E : Type 0} (r : Result T E) (line : List ℕ) (said : Option Listing) (old : List (Option Entry)) → said ≡ listing_of line → OnErr r (IsNotTaken said old) → OnErr r (IsRefused line old)
+refused_line (Ok x) line said old is not = not
+refused_line (Err e) line said old is not = λ l h follows. not l (is ∙ line_back line l h) follows

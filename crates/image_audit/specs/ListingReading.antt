@@ -2,6 +2,7 @@
 use Rattle.std.specs.Prelude.{ℕ, cond, List, [], ◌∷◌, Option, Some, None, codes, bytes_eq}
 use Rattle.tsd_model.specs.declared.requests.Hint.{Hint}
 use Rattle.tsd_model.specs.declared.requests.Hint.TheVariants.{Null, At}
+use Rattle.script_text.specs.Pieces.{pieces}
 use Rattle.script_text.specs.Reading.{◌>>=◌, reads, num_of, hint_of}
 use Rattle.image_audit.specs.declared.listing.Listing.{Listing}
 
@@ -29,3 +30,7 @@ listing_in ws = do
   o ← reads (name_of (codes "parent")) d.1
   p ← reads parent_of o.1
   if_last p.1 (record { block = b.0; entry = record { depth = d.0; parent = p.0 } })
+
+-- what a line says
+abbrev pub listing_of : List ℕ → Option Listing
+listing_of line = listing_in (pieces 32 line)

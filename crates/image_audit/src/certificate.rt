@@ -2,7 +2,7 @@
 
 ghost use Rattle.std.specs.Prelude.{◌≡◌, ◌↔◌, ◌+◌, ◌-◌, ◌^◌, min, cond, Some, None, length, replicate, slice_set};
 ghost use Rattle.std.specs.Prelude.{IfOk, OnOk, OnErr, IfErr, IsTrue};
-ghost use Rattle.image_audit.specs.Listing.{IsAdded, IsRefused, MayFollow};
+ghost use Rattle.image_audit.specs.Listing.{IsAdded, IsRefused, IsTaken, IsNotTaken, MayFollow};
 
 use crate::entry::Entry;
 use crate::listing::{Listing, parse_listing};
@@ -72,9 +72,22 @@ impl Certificate {
         ensures line { IfErr result (λ fault. fault.line ≡ self.new.lines) }
         ensures lines { self.new.lines ≡ min (self.old.lines + 1) (2 ^ 64 - 1) }
     {
+        self.take(parse_listing(line))
+    }
+
+    /// Takes what the next line says, None where it isn't of the form. It is refused as [`add`](Certificate::add) would
+    /// refuse the line.
+    pub fn take(&mut self, said: Option<Listing>) -> Result<(), FormFault>
+        ensures taken { OnOk result (IsTaken said self.old.entries self.new.entries) }
+        ensures refused { OnErr result (IsNotTaken said self.old.entries) }
+        ensures blocks { length self.new.entries ≡ length self.old.entries }
+        ensures kept { OnErr result (self.new.entries ≡ self.old.entries) }
+        ensures line { IfErr result (λ fault. fault.line ≡ self.new.lines) }
+        ensures lines { self.new.lines ≡ min (self.old.lines + 1) (2 ^ 64 - 1) }
+    {
         self.lines = self.lines.saturating_add(1);
         let fault = FormFault { line: self.lines };
-        let Some(listing) = parse_listing(line) else {
+        let Some(listing) = said else {
             return Err(fault);
         };
         if self.list(&listing) {

@@ -35,6 +35,6 @@ pub use entry::Entry;
 pub use laws::{listings_are_taken, reached_is_where_a_path_leads};
 pub use listing::{Listing, parse_listing};
 pub use reached::{Reached, primary_roots};
-pub use texts::{fault_line, listing_line, verdict_line};
+pub use texts::{LISTING_ROOM, fault_line, put_listing, verdict_line};
 pub use verdict::Verdict;
 pub use verifying::verify;

@@ -1,8 +1,8 @@
 //! A line of a certificate.
 
-ghost use Rattle.std.specs.Prelude.{◌≡◌, IfSome, Some};
+ghost use Rattle.std.specs.Prelude.{◌≡◌, ℕ, List, IfSome, Some, take};
 ghost use Rattle.image_audit.specs.Listing.{IsListing};
-ghost use Rattle.image_audit.specs.ListingReading.{listing_in};
+ghost use Rattle.image_audit.specs.ListingReading.{listing_in, listing_of};
 
 use crate::entry::Entry;
 use crate::words::Words;
@@ -18,6 +18,10 @@ pub struct Listing {
 pub fn parse_listing(line: &[u8]) -> Option<Listing>
     ensures spelled { IfSome result (IsListing line.now) }
     ensures only { (l : Listing) → IsListing line.now l → result ≡ Some l }
+    // A line of more than 8,400 bytes says none, whole or cut to one byte more than that.
+    ensures cut { (whole : List ℕ) → line.now ≡ take 8401 whole → result ≡ listing_of whole }
+    // As a function that computes.
+    ensures value { result ≡ listing_of line.now }
 {
     read_listing(Words::of(line))
 }

@@ -1,13 +1,15 @@
 //! Which blocks some roots lead to, and how.
 
-ghost use Rattle.std.specs.Prelude.{◌≡◌, ◌<◌, IfOk, IfSome, IsTrue};
+ghost use Rattle.std.specs.Prelude.{◌≡◌, ◌<◌, ◌^◌, length, IfOk, IfSome, IsTrue};
 ghost use Rattle.std.specs.List.{All};
 ghost use Rattle.tsd_model.specs.World.{primary_blocks};
 ghost use Rattle.volume_laws.specs.Volume.{IsVolumeReady, told_by};
 ghost use Rattle.image_audit.specs.Depths.{AreReached};
 ghost use Rattle.image_audit.specs.Entries.{entry_at, is_listed};
+ghost use Rattle.image_audit.specs.Listing.{listing_at};
 
 use crate::entry::Entry;
+use crate::listing::Listing;
 use crate::search::search;
 use std::alloc::Global;
 use std::marker::Model;
@@ -22,12 +24,14 @@ pub struct Reached {
 }
 
 impl Model for Reached {
-    ghost use Rattle.std.specs.Prelude.{List, Option};
+    ghost use Rattle.std.specs.Prelude.{List, Option, length, ◌<◌, ◌^◌};
     ghost use Rattle.image_audit.specs.declared.entry.Entry.{Entry};
 
     ghost Value = { List (Option Entry) };
 
     ghost view = { λ r. r.entries.items };
+
+    ghost invariant = { λ r. length r.entries.items < 2 ^ 32 };
 }
 
 impl Reached {
@@ -36,12 +40,28 @@ impl Reached {
     pub fn new(alloc: Global, volume: &Volume, roots: &BlockList) -> Result<Reached, NoMemory>
         requires ready { IsVolumeReady volume.now }
         requires inside { All (λ root. root < volume.now.tables.geometry.blocks) roots.now }
-        ensures { IfOk result (AreReached (told_by volume.now) roots.now) }
+        ensures reached { IfOk result (AreReached (told_by volume.now) roots.now) }
+        ensures blocks { IfOk result (λ r. length r ≡ volume.now.tables.geometry.blocks) }
     {
         let blocks = volume.geometry().blocks;
         let mut entries = vec![in alloc; None; blocks as usize]?;
         search(alloc, volume, roots.as_slice(), &mut entries)?;
         Ok(Reached { entries })
+    }
+
+    /// How many blocks the disk has.
+    pub fn blocks(&self) -> u32
+        ensures { result ≡ length self.now }
+    {
+        self.entries.len() as u32
+    }
+
+    /// What a certificate says of a block, if it is reached.
+    pub fn listing(&self, block: u32) -> Option<Listing>
+        ensures { result ≡ listing_at self.now block }
+    {
+        let entry = self.entry(block)?;
+        Some(Listing { block, entry })
     }
 
     /// Whether the roots lead to a block, or it is one.

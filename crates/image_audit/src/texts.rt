@@ -1,6 +1,7 @@
 //! The lines of an audit: of a certificate, and of what it shows.
 
-ghost use Rattle.std.specs.Prelude.{◌≡◌, ◌+◌, ◌≤◌, ◌++◌, ◌∷◌, [], ℕ, List, length, codes, decimal};
+ghost use Rattle.std.specs.List.{join_with_byte};
+ghost use Rattle.std.specs.Prelude.{◌≡◌, ◌+◌, ◌≤◌, ◌++◌, ◌∷◌, [], length, codes, decimal};
 ghost use Rattle.tsd_words.specs.Lines.{line_of};
 ghost use Rattle.script_text.specs.Grammar.{IsNumber, IsHint};
 ghost use Rattle.image_audit.specs.Listing.{IsListing, parent_word};
@@ -16,19 +17,22 @@ use script_text::printing::{put_number, put_word};
 /// The most bytes of a word and a number with the spaces before them.
 const COUNTED_ROOM: usize = 20;
 
+/// The most bytes of the line of a block.
+pub const LISTING_ROOM: usize = 60;
+
 /// The line of a block in a certificate, with its line feed.
-pub fn listing_line(listing: &Listing) -> OutBuf
-    ensures text { result ≡ line_of (listing_words listing.now) }
+pub fn put_listing(into: &mut OutBuf, listing: &Listing)
+    requires { length into.old + LISTING_ROOM ≤ LINE_MAX }
+    ensures text { into.new ≡ into.old ++ line_of (listing_words listing.now) }
     // It reads as what it was made of.
-    ensures read { (line : List ℕ) → result ≡ line ++ 10 ∷ [] → IsListing line listing.now }
+    ensures read { IsListing (join_with_byte 32 (listing_words listing.now)) listing.now }
+    ensures room { length into.new ≤ length into.old + LISTING_ROOM }
 {
-    let mut line = OutBuf::new();
-    line.put(b"block".as_slice());
-    put_number(&mut line, listing.block);
-    put_counted(&mut line, b"depth".as_slice(), listing.entry.depth);
-    put_parent(&mut line, listing.entry.parent);
-    line.put(b"\n".as_slice());
-    line
+    into.put(b"block".as_slice());
+    put_number(into, listing.block);
+    put_counted(into, b"depth".as_slice(), listing.entry.depth);
+    put_parent(into, listing.entry.parent);
+    into.put(b"\n".as_slice());
 }
 
 /// A word and a number.

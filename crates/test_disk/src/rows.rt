@@ -44,7 +44,8 @@ const ROWS: [Row<'static>; 21] = [
     Row {
         size: EIGHT,
         kind: PlaceKind::Near,
-        asked: "open 1/alloc 1 0 W - 7/delete 1 0 W 2/delete 1 0 W 4/delete 1 0 W 6/contig 1 0 W - 2/alloc 1 0 W 5 2/free",
+        asked: "open 1/alloc 1 0 W - 7/delete 1 0 W 2/delete 1 0 W 4/delete 1 0 W 6/contig 1 0 W - 2/alloc 1 0 W 5 \
+            2/free",
         told: "ok/blocks 1 2 3 4 5 6 7/gone 1/gone 1/gone 1/no run 3 2/blocks 6 4/free 1",
         again: "free/open 1/list 1 0 R 0",
         told_again: "free 1/ok/list 1 3 4 5 6 7",
@@ -98,7 +99,8 @@ const ROWS: [Row<'static>; 21] = [
     Row {
         size: EIGHT,
         kind: PlaceKind::Near,
-        asked: "open 1/alloc 1 0 W - 1/create 1 1 - 1/create 1 1 - 1/create 1 1 - 0/delete 1 0 W 1/read 1 1 -/sweep 1 W/read 1 1 -",
+        asked: "open 1/alloc 1 0 W - 1/create 1 1 - 1/create 1 1 - 1/create 1 1 - 0/delete 1 0 W 1/read 1 1 -/sweep \
+            1 W/read 1 1 -",
         told: "ok/blocks 1/ok/no pointer-exists/no is-primary/gone 0/data -/gone 1/no free-block",
         again: "free/open 1/read 1 1 -",
         told_again: "free 7/ok/no free-block",
@@ -107,7 +109,8 @@ const ROWS: [Row<'static>; 21] = [
     Row {
         size: EIGHT,
         kind: PlaceKind::Near,
-        asked: "open 1/open 2/alloc 1 0 W - 1/alloc 1 1 - - 1/read 2 0 R/read 2 1 -/read 2 2 -/delete 1 0 W 1/alloc 1 0 W - 1/alloc 1 1 - - 1/read 2 2 -/read 2 1 -/read 2 2 -",
+        asked: "open 1/open 2/alloc 1 0 W - 1/alloc 1 1 - - 1/read 2 0 R/read 2 1 -/read 2 2 -/delete 1 0 W 1/alloc \
+            1 0 W - 1/alloc 1 1 - - 1/read 2 2 -/read 2 1 -/read 2 2 -",
         told: "ok/ok/blocks 1/blocks 2/data -/data -/data -/gone 2/blocks 1/blocks 2/no denied none read/data -/data -",
         again: "open 2/read 2 1 -/read 2 0 R/read 2 2 -/read 2 1 -/read 2 2 -",
         told_again: "ok/no denied none read/data -/no denied none read/data -/data -",
@@ -116,7 +119,8 @@ const ROWS: [Row<'static>; 21] = [
     Row {
         size: EIGHT,
         kind: PlaceKind::Near,
-        asked: "open 1/open 2/alloc 1 0 W - 1/read 2 0 R/setcap 1 0 W C D/read 2 1 -/alloc 1 1 - - 1/read 2 0 R/read 2 0 C/read 2 1 -",
+        asked: "open 1/open 2/alloc 1 0 W - 1/read 2 0 R/setcap 1 0 W C D/read 2 1 -/alloc 1 1 - - 1/read 2 0 R/\
+            read 2 0 C/read 2 1 -",
         told: "ok/ok/blocks 1/data -/ok/no denied none read/no denied none write/no denied none read/data -/data -",
         again: "open 1/read 1 0 R/write 1 0 C 07/write 1 0 D 07/read 1 0 C",
         told_again: "ok/no denied none read/no denied read write/ok/data 07",
@@ -125,7 +129,8 @@ const ROWS: [Row<'static>; 21] = [
     Row {
         size: EIGHT,
         kind: PlaceKind::Near,
-        asked: "open 1/open 2/alloc 1 0 W - 1/alloc 1 1 - - 1/read 2 0 R/read 2 1 -/setcap 1 0 W C D/read 2 2 -/read 1 2 -/read 2 0 C/read 2 1 -/read 2 2 -",
+        asked: "open 1/open 2/alloc 1 0 W - 1/alloc 1 1 - - 1/read 2 0 R/read 2 1 -/setcap 1 0 W C D/read 2 2 -/\
+            read 1 2 -/read 2 0 C/read 2 1 -/read 2 2 -",
         told: "ok/ok/blocks 1/blocks 2/data -/data -/ok/no denied none read/no denied none read/data -/data -/data -",
         again: "open 1/read 1 0 W/read 1 0 D/read 1 1 -/read 1 2 -",
         told_again: "ok/no denied none read/data -/data -/data -",
@@ -161,7 +166,8 @@ const ROWS: [Row<'static>; 21] = [
     Row {
         size: TIGHT,
         kind: PlaceKind::Near,
-        asked: "open 1/alloc 1 0 W - 3/alloc 1 1 - - 2/create 1 2 - 3/delete 1 0 W 1/create 1 2 - 3/create 1 3 - 2/create 1 2 - 2/create 1 3 - 3",
+        asked: "open 1/alloc 1 0 W - 3/alloc 1 1 - - 2/create 1 2 - 3/delete 1 0 W 1/create 1 2 - 3/create 1 3 - 2/\
+            create 1 2 - 2/create 1 3 - 3",
         told: "ok/blocks 1 2 3/blocks 4 5/no pointers-full 5 5/gone 3/ok/ok/ok/no pointers-full 5 5",
         again: "free/open 1/read 1 0 R/read 1 2 -/list 1 2 - 0",
         told_again: "free 5/ok/data -/data -/list 2 3",
@@ -171,7 +177,8 @@ const ROWS: [Row<'static>; 21] = [
         size: MANY,
         kind: PlaceKind::Low,
         asked: "open 1/alloc 1 0 W - 0/alloc 1 0 W - 33/alloc 1 0 W - 32/open 65/open 0/open 1/close 2/read 1 64 -",
-        told: "ok/no bad-count/no bad-count/blocks 1 2 3 4 5 6 7 8 9 10 11 12 13 14 15 16 17 18 19 20 21 22 23 24 25 26 27 28 29 30 31 32/no bad-session/no bad-session/no already-open/no not-open/no no-such-block",
+        told: "ok/no bad-count/no bad-count/blocks 1 2 3 4 5 6 7 8 9 10 11 12 13 14 15 16 17 18 19 20 21 22 23 24 \
+            25 26 27 28 29 30 31 32/no bad-session/no bad-session/no already-open/no not-open/no no-such-block",
         again: "free/close 1/open 1",
         told_again: "free 31/no not-open/ok",
     },
@@ -180,7 +187,8 @@ const ROWS: [Row<'static>; 21] = [
         size: MANY,
         kind: PlaceKind::Near,
         asked: "open 1/alloc 1 0 W - 1/alloc 1 1 - - 32/delete 1 0 W 1/free",
-        told: "ok/blocks 1/blocks 2 3 4 5 6 7 8 9 10 11 12 13 14 15 16 17 18 19 20 21 22 23 24 25 26 27 28 29 30 31 32 33/gone 33/free 63",
+        told: "ok/blocks 1/blocks 2 3 4 5 6 7 8 9 10 11 12 13 14 15 16 17 18 19 20 21 22 23 24 25 26 27 28 29 30 31 \
+            32 33/gone 33/free 63",
         again: "free",
         told_again: "free 63",
     },
@@ -188,7 +196,8 @@ const ROWS: [Row<'static>; 21] = [
     Row {
         size: TWICE,
         kind: PlaceKind::Near,
-        asked: "open 1/alloc 1 0 W - 1/create 1 1 D 2/alloc 1 2 - - 1/setcap 1 0 W R W/write 1 3 - 05/setcap 1 1 D C D/read 1 3 -",
+        asked: "open 1/alloc 1 0 W - 1/create 1 1 D 2/alloc 1 2 - - 1/setcap 1 0 W R W/write 1 3 - 05/setcap 1 1 D \
+            C D/read 1 3 -",
         told: "ok/blocks 2/ok/blocks 3/ok/ok/ok/no denied none read",
         again: "open 1/read 1 1 C/read 1 2 -/read 1 3 -",
         told_again: "ok/data -/data -/data 05",
@@ -207,7 +216,12 @@ const ROWS: [Row<'static>; 21] = [
         size: MORE,
         kind: PlaceKind::Zone,
         asked: "open 1/alloc 1 0 W 512 32/alloc 1 0 W 512 32/alloc 1 0 W 512 32/contig 1 0 W 512 32",
-        told: "ok/blocks 512 513 514 515 516 517 518 519 520 521 522 523 524 525 526 527 528 529 530 531 532 533 534 535 536 537 538 539 540 541 542 543/blocks 544 545 546 547 548 549 550 551 552 553 554 555 556 557 558 559 560 561 562 563 564 565 566 567 568 569 570 571 572 573 574 575/blocks 576 577 578 579 580 581 582 583 584 585 586 587 588 589 590 591 592 593 594 595 596 597 598 599 256 257 258 259 260 261 262 263/blocks 264 265 266 267 268 269 270 271 272 273 274 275 276 277 278 279 280 281 282 283 284 285 286 287 288 289 290 291 292 293 294 295",
+        told: "ok/blocks 512 513 514 515 516 517 518 519 520 521 522 523 524 525 526 527 528 529 530 531 532 533 \
+            534 535 536 537 538 539 540 541 542 543/blocks 544 545 546 547 548 549 550 551 552 553 554 555 556 557 \
+            558 559 560 561 562 563 564 565 566 567 568 569 570 571 572 573 574 575/blocks 576 577 578 579 580 581 \
+            582 583 584 585 586 587 588 589 590 591 592 593 594 595 596 597 598 599 256 257 258 259 260 261 262 263/\
+            blocks 264 265 266 267 268 269 270 271 272 273 274 275 276 277 278 279 280 281 282 283 284 285 286 287 \
+            288 289 290 291 292 293 294 295",
         again: "free",
         told_again: "free 471",
     },

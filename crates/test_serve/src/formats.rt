@@ -10,7 +10,8 @@ use tsd_words::{Format, Status};
 
 /// Two primary blocks. Their capabilities are the first 64 bytes of the ChaCha20 stream of a key of zeros.
 const LINES: &str =
-    "cap 0 76b8e0ada0f13d90405d6ae55386bd28 bdd219b8a08ded1aa836efcc8b770dc7\ncap 1 da41597c5157488d7724e03fb8d84a37 6a43b8f41518a11cc387b669b2ee6586\n";
+    "cap 0 76b8e0ada0f13d90405d6ae55386bd28 bdd219b8a08ded1aa836efcc8b770dc7\ncap 1 \
+        da41597c5157488d7724e03fb8d84a37 6a43b8f41518a11cc387b669b2ee6586\n";
 
 const PAIR: Format = Format {
     geometry: Geometry {

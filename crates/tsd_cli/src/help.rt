@@ -9,7 +9,7 @@ pub const USAGE: &str =
 
 /// The topics of the help.
 pub const TOPICS: &str =
-    "fresh, format, run, serve, shell, check, load, upgrade, mirror, requests and replies";
+    "fresh, format, run, serve, shell, check, load, upgrade, audit, verify, mirror, requests and replies";
 
 /// The text of a topic of the help.
 pub fn text_of(topic: &str) -> Option<&'static str> {
@@ -22,6 +22,8 @@ pub fn text_of(topic: &str) -> Option<&'static str> {
         "check" => Some(CHECK),
         "load" => Some(LOAD),
         "upgrade" => Some(UPGRADE),
+        "audit" => Some(AUDIT),
+        "verify" => Some(VERIFY),
         "mirror" => Some(MIRROR),
         "requests" => Some(REQUESTS),
         "replies" => Some(REPLIES),
@@ -53,6 +55,8 @@ commands
   check    tells how full the disk is, or what is wrong with the image
   load     carries out requests drawn from a seed, and counts the answers
   upgrade  keeps digests in place of capabilities from then on
+  audit    tells which blocks the primary blocks lead to, as a certificate
+  verify   reads a certificate and tells what it shows of the disk
 
 mirror IMAGE IMAGE COMMAND does it on two images as one disk, and goes on with
 the other where one of them fails: `tsd help mirror`.
@@ -259,6 +263,44 @@ example
   tsd disk.img upgrade
 ";
 
+/// The topic `audit`.
+pub const AUDIT: &str = "tsd IMAGE audit
+
+Opens the disk and prints a line for each block that its primary blocks lead to,
+in ascending order: `block B depth D parent A`. D is how many pointers the
+shortest path to B has, and A the least block with a pointer to B to which a
+path leads with one less. A primary block has depth 0 and, in place of A, `-`.
+
+`tsd IMAGE verify` answers these lines `yes`, also over a copy of the image.
+
+example
+
+  tsd disk.img audit > certificate
+  tsd copy.img verify < certificate
+";
+
+/// The topic `verify`.
+pub const VERIFY: &str = "tsd IMAGE verify
+
+Opens the disk, reads the lines of standard input to its end as a certificate,
+as `audit` prints one, and prints the first of these that applies:
+
+  no form I       line I, from 1, isn't of the form, or its block isn't of the
+                  disk, or isn't above that of the line before
+  no primary B    primary block B isn't listed
+  no entry B      block B is listed, and its depth and its parent are wrong: the
+                  parent isn't listed with one less, or has no pointer to it
+  no open A B     block A is listed, and points to block B, which isn't
+  yes N           N blocks are listed, and exactly these can be reached
+
+B, and the pair A B, is the least one. Nothing is searched: each line is held
+against the pointers of the disk. Where a line is refused, the rest is read too.
+
+example
+
+  tsd disk.img audit | tsd copy.img verify
+";
+
 /// The topic `mirror`.
 pub const MIRROR: &str = "tsd mirror IMAGE IMAGE COMMAND
 
@@ -270,7 +312,9 @@ words.
 
 A missing second image is made, for its owner alone; a missing first one by
 `fresh` and `format` alone. What the second image held is lost. Two paths of one
-file, or of one device, are refused before anything is written.
+file, or of one device, are refused before anything is written. A block device
+may not be smaller than the other image, since the copying goes over all sectors
+of the larger one: as the first it is a device fault, as the second it is lost.
 
 The status is 11 where all was done and one image failed, and its line says
 which: `tsd: side lost, first` or `tsd: side lost, second`. The other image has

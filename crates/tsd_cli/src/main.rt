@@ -1,33 +1,17 @@
 //! The program `tsd`.
 //!
-//! What it stands on: `tsd_serve` for the top call; the outside of `image_device`, with standard input as a source; the
+//! What it stands on: `tsd_serve` for the top call; `file_stations` for images in files and the standard streams; the
 //! closures that rank blocks are made here.
 //!
-//! What it promises: the contract of the top call over the objects that are made here. What files, the standard streams
-//! and the command line are on a real machine is trusted. Tests alone show it: those of this crate, its stored run, and
+//! What it promises: the contract of the top call over the objects that are made here. What the command line and a file
+//! that a word names are on a real machine is trusted. Tests alone show it: those of this crate, its stored run, and
 //! the script `tests/edge`, which runs the built program.
 #![tactic(auto)]
 
-mod ahead;
-mod file_side;
-mod file_sides;
-mod file_station;
 mod help;
-mod image_file;
-mod input;
-#[cfg(test)]
-mod input_tests;
-mod outlet;
-mod progress;
-#[cfg(test)]
-mod progress_tests;
 mod run;
-mod standard;
-#[cfg(test)]
-mod station_tests;
 #[cfg(test)]
 mod tests;
-mod trouble;
 mod usage;
 #[cfg(test)]
 mod usage_tests;
@@ -35,12 +19,10 @@ mod words;
 #[cfg(test)]
 mod words_tests;
 
-use input::InputSource;
+use file_stations::{InputSource, StandIns, Trouble};
 use run::{run, tell};
-use standard::StandIns;
 use std::io::{self, Stderr, Write};
 use std::process::ExitCode;
-use trouble::Trouble;
 use tsd_serve::{MirrorStatus, Status};
 use words::arguments;
 

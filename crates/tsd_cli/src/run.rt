@@ -4,14 +4,12 @@ ghost use Rattle.std.specs.Prelude.{◌≡◌, ◌≢◌, ◌<◌, ◌+◌, ◌*
 ghost use Rattle.tsd_model.specs.Rank.{rank_of, zones_after};
 ghost use Rattle.tsd_model.specs.declared.requests.PlaceKind.TheVariants.{Low, Near, Spread};
 
-use crate::file_sides::{FileSides, Named};
-use crate::file_station::FileStation;
 use crate::help::{HELP, VERSION, text_of};
-use crate::image_file::{ImageFile, Kind, Opening, are_one};
-use crate::progress::Progress;
-use crate::trouble::Trouble;
 use crate::usage::Misread;
-use crate::words::{WordFault, meant};
+use crate::words::{WordFault, meant, opening_of};
+use file_stations::{
+    FileSides, FileStation, ImageFile, Kind, Named, Opening, Progress, Trouble, are_one, tell_image,
+};
 use image_device::{MemStation, Source};
 use place_policy::{PlaceBook, Placement, ZONE_TURNS, low_rank, near_rank, spread_rank, zone_rank};
 use script_text::OutBuf;
@@ -136,32 +134,6 @@ fn tell_cause<E: Write>(errors: &mut E, cause: &Cause) {
         } => tell_image(errors, path.as_str(), trouble, *unsure),
     };
 }
-
-/// Writes why a call on an image failed, and where a write or a sync did, how to have the system forget what it shows.
-pub fn tell_image<E: Write>(
-    errors: &mut E,
-    path: &str,
-    trouble: &Trouble,
-    unsure: Option<Kind>,
-) -> io::Result<()> {
-    writeln!(errors, "tsd: {path}: {trouble}")?;
-    match unsure {
-        None => Ok(()),
-        Some(Kind::Device) => {
-            writeln!(errors, "tsd: {path}: {UNSURE} blockdev --flushbufs {path}")
-        }
-        Some(_) => {
-            writeln!(
-                errors,
-                "tsd: {path}: {UNSURE} dd if={path} iflag=nocache count=0, or mount its file system anew"
-            )
-        }
-    }
-}
-
-/// What is told after a write or a sync that failed, before the command that helps.
-const UNSURE: &str =
-    "the system may now show what the medium doesn't hold; before the next run, have it forget that:";
 
 /// The first word, or none.
 fn first_of(words: &Vec<String>) -> &str {
@@ -332,7 +304,7 @@ fn serve_file<S: Source, O: Write, E: Write>(
     output: &mut O,
     errors: &mut E,
 ) -> Ended {
-    let image = match Opening::of(command) {
+    let image = match opening_of(command) {
         Some(opening) => ImageFile::open(rt, path.as_str(), opening),
         None => Err(Trouble::NotOpen),
     };
@@ -400,7 +372,7 @@ fn open_sides(
     second: &str,
     command: &Vec<String>,
 ) -> (Result<ImageFile, Trouble>, Result<ImageFile, Trouble>) {
-    let Some(opening) = Opening::of(command) else {
+    let Some(opening) = opening_of(command) else {
         return (Err(Trouble::NotOpen), Err(Trouble::NotOpen));
     };
     let copied = match opening {

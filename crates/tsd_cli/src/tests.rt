@@ -82,7 +82,7 @@ const RUNS: [(&str, &str, u64, Status, &str, &str); 13] = [
         NEVER,
         Status::Usage,
         "",
-        "tsd: usage\ntsd: behind IMAGE stands a command: fresh, format, run, serve, shell, check, load or upgrade\n",
+        "tsd: usage\ntsd: behind IMAGE stands a command: fresh, format, run, serve, shell, check, load, upgrade, audit or verify\n",
     ),
     (
         "- fresh 8",
@@ -106,7 +106,7 @@ const RUNS: [(&str, &str, u64, Status, &str, &str); 13] = [
         NEVER,
         Status::Usage,
         "",
-        "tsd: usage\ntsd: no command is called ran; there are fresh, format, run, serve, shell, check, load and upgrade\n",
+        "tsd: usage\ntsd: no command is called ran; there are fresh, format, run, serve, shell, check, load, upgrade, audit and verify\n",
     ),
     (
         "disk.img check near",
@@ -233,6 +233,8 @@ const TOLD: [&str; 20] = [
     "\n  check ",
     "\n  load ",
     "\n  upgrade ",
+    "\n  audit ",
+    "\n  verify ",
     "\n  0  ",
     "\n  2  ",
     "\n  3  ",
@@ -302,8 +304,8 @@ fn the_help_tells_all(rt: HostRuntime) {
 }
 
 /// The commands.
-const COMMANDS: [&str; 8] = [
-    "fresh", "format", "run", "serve", "shell", "check", "load", "upgrade",
+const COMMANDS: [&str; 10] = [
+    "fresh", "format", "run", "serve", "shell", "check", "load", "upgrade", "audit", "verify",
 ];
 
 #[test]

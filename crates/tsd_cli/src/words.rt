@@ -1,17 +1,28 @@
 //! The words of the command line, and those that stand in a file.
 
+ghost use Rattle.std.specs.Prelude.{◌≡◌, ◌*◌};
+ghost use Rattle.tsd_model.specs.Geometry.{IsLawful};
+ghost use Rattle.image_layout.specs.Areas.{total};
+ghost use Rattle.file_stations.specs.declared.image_file.Opening.TheVariants as opening;
+
+use file_stations::Opening;
+use image_layout::Layout;
 use std::alloc::AllocError;
 use std::fmt::{self, Formatter};
 use std::fs::File;
 use std::io::{self, Read};
 use std::{env, str};
-use tsd_serve::Status;
+use tsd_model::Geometry;
+use tsd_serve::{Command, Status, command};
 
 /// What a word of a command begins with where it names a file.
 pub const FILE_SIGN: u8 = b'@';
 
 /// The most bytes of a file among which its first word is looked for.
 const LOOKED_AT: u64 = 4_096;
+
+/// The bytes of a sector.
+const SECTOR: u64 = 512;
 
 /// The words of the command line, without the program's name.
 pub fn arguments(rt: &HostRuntime) -> Result<Vec<String>, Status> {
@@ -141,4 +152,22 @@ fn first_word(bytes: &[u8], is_all: bool) -> Result<&[u8], WordTrouble> {
         None if is_all => Err(WordTrouble::Empty),
         _ => Err(WordTrouble::TooLong),
     }
+}
+
+/// What a command opens an image for; none where the words are no command.
+pub fn opening_of(words: &Vec<String>) -> Option<Opening> {
+    match command(words)? {
+        Command::Fresh(fresh) => Some(making(&fresh.geometry)),
+        Command::Format(format) => Some(making(&format.geometry)),
+        _ => Some(Opening::Kept),
+    }
+}
+
+/// To make a disk of this size.
+fn making(geometry: &Geometry) -> Opening
+    requires { IsLawful geometry.now }
+    ensures { result ≡ opening.Made (total geometry.now * 512) }
+{
+    let bytes = u64::from(Layout::of(geometry).total()) * SECTOR;
+    Opening::Made { bytes }
 }

@@ -2,3 +2,4 @@ pub mod Statuses
 pub mod Prefixes
 pub mod Promises
 pub mod Mirrored
+pub mod ByAccess

@@ -134,6 +134,8 @@ headline_over (command.Shell shell) source old new c port begins ends ran = tt
 headline_over command.Check source old new c port begins ends ran = tt
 headline_over (command.Load load) source old new c port begins ends ran = tt
 headline_over command.Upgrade source old new c port begins ends ran = tt
+headline_over command.Audit source old new c port begins ends ran = tt
+headline_over command.Verify source old new c port begins ends ran = tt
 
 pub headline_unbegun : (words : Command) (source : Taking) (old new : SidesView) → source.came [] → AreSound old → Copying old new → MirrorHeadline words source old new
 headline_unbegun (command.Run kind) source old new came sound copying = λ firm w stands. none_asked old new sound copying line_spelling source (IsPrefixLeft line_voice kind w old.sent) came (none_on_first old line_voice kind w lines_apart.nothing firm stands)
@@ -144,6 +146,8 @@ headline_unbegun (command.Shell shell) source old new came sound copying = tt
 headline_unbegun command.Check source old new came sound copying = tt
 headline_unbegun (command.Load load) source old new came sound copying = tt
 headline_unbegun command.Upgrade source old new came sound copying = tt
+headline_unbegun command.Audit source old new came sound copying = tt
+headline_unbegun command.Verify source old new came sound copying = tt
 
 -- ---- which sides are sound at the end
 

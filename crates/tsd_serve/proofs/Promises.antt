@@ -92,3 +92,5 @@ headline (command.Shell shell) r source port none same sound did told = tt
 headline command.Check r source port none same sound did told = tt
 headline (command.Load load) r source port none same sound did told = tt
 headline command.Upgrade r source port none same sound did told = tt
+headline command.Audit r source port none same sound did told = tt
+headline command.Verify r source port none same sound did told = tt

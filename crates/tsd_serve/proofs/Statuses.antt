@@ -9,6 +9,7 @@ use Rattle.tsd_words.specs.declared.status.Status.TheVariants as status
 use Rattle.serving.specs.Input.{Spelling}
 use Rattle.serving.specs.Ran.{Moments, Taking}
 use Rattle.serving.specs.Voice.{Voice}
+use Rattle.audit_runs.specs.Verify.{VerifyRan}
 use Rattle.image_runs.specs.Sending.{IsEnding}
 use Rattle.image_runs.specs.Served.{ImageRan}
 use Rattle.image_runs.specs.Fresh.{FreshRan}
@@ -34,3 +35,7 @@ no_usage_ending r ending e = subst IsEnding e ending
 
 pub no_source_ending : (r : Status) → IsEnding r → r ≡ status.SourceFault → ⊥
 no_source_ending r ending e = subst IsEnding e ending
+
+-- nor one that reads a certificate
+pub no_usage_verify : (source : Taking) (port : Moments) → VerifyRan status.Usage source port → ⊥
+no_usage_verify source port ran = ran.ending

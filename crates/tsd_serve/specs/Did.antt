@@ -17,6 +17,8 @@ use Rattle.serving.specs.Input.{Spelling}
 use Rattle.serving.specs.LineSpelling.{line_spelling, line_voice}
 use Rattle.serving.specs.Ran.{Moments, Taking}
 use Rattle.serving.specs.Voice.{Voice}
+use Rattle.audit_runs.specs.Audit.{HasAudited, IsAuditing}
+use Rattle.audit_runs.specs.Verify.{VerifyRan}
 use Rattle.image_runs.specs.Check.{HasChecked, IsSaying}
 use Rattle.image_runs.specs.Format.{HasFormatted, IsLeftOfFormat}
 use Rattle.image_runs.specs.Load.{HasLoaded, IsLeftOfLoad}
@@ -53,6 +55,11 @@ pub record Mounted (r : Status) (shell : Shell) (source : Taking) (port : Moment
   pub ran : ShellRan r shell.layout shell.root shell.cap (2 ^ 40) source port
   pub spared : SparesImage r port
 
+-- A certificate was read and its answer told, or a front of it.
+pub record VerifiedBy (r : Status) (source : Taking) (port : Moments) : Type 0 where
+  pub ran : VerifyRan r source port
+  pub spared : SparesImage r port
+
 -- ---- commands that take no input
 
 -- An image was judged: what the status says of it, and its line or a front of that was sent. It stands for the same world, or for
@@ -79,6 +86,13 @@ pub record Upgraded (r : Status) (port : Moments) : Type 0 where
   pub spared : SparesImage r port
   pub no_memory : port.tells → r ≡ status.NoMemory → IsFirm port.old → LeavesOnly port.old port.new (λ x f. StandAlike port.old.reads x × (f ≡ port.old.sent))
 
+-- What is reached was told, as a certificate or a front of it.
+pub record Audited (r : Status) (port : Moments) : Type 0 where
+  pub ending : IsEnding r
+  pub said : port.tells → HasAudited r port.old.reads port.old.sent port.new.sent
+  pub any_moment : port.tells → IsFirm port.old → LeavesOnly port.old port.new (λ x f. StandAlike port.old.reads x × IsAuditing port.old.reads port.old.sent f)
+  pub spared : SparesImage r port
+
 -- The requests of a seed were carried out. Without memory none was.
 pub record Loaded (load : Load) (r : Status) (port : Moments) : Type 0 where
   pub ending : IsEnding r
@@ -98,4 +112,6 @@ Did (Some (command.Shell shell)) r source port = Mounted r shell source port
 Did (Some command.Check) r source port = source.untouched × Checked r port
 Did (Some (command.Load load)) r source port = source.untouched × Loaded load r port
 Did (Some command.Upgrade) r source port = source.untouched × Upgraded r port
+Did (Some command.Audit) r source port = source.untouched × Audited r port
+Did (Some command.Verify) r source port = VerifiedBy r source port
 Did None r source port = r ≡ status.Usage

@@ -1,7 +1,8 @@
-//! The headline, read off what the top call did.
+//! The headline and the law of access, read off what the top call did.
 
 ghost use Rattle.std.specs.Prelude.{Some};
 ghost use Rattle.serving.specs.Ran.{moments, taking};
+ghost use Rattle.tsd_serve.specs.Access.{AccessLaw};
 ghost use Rattle.tsd_serve.specs.Did.{Did};
 ghost use Rattle.tsd_serve.specs.Headline.{Headline};
 ghost use Rattle.tsd_words.specs.declared.commands.Command.{Command as Words};
@@ -18,4 +19,15 @@ pub fn acknowledged_requests_stay<S: Source, P: Port>()
         → let source = taking S.told S.taken S.left_bytes S.ended source_old source_new in
         let port = moments P.told P.view port_old port_new in
         Did (Some words) status source port → P.told → Headline words source port }
+{}
+
+/// The law of access, from the same clause: in every image that a crash leaves after `run` or `serve`, and in every
+/// reply, what of a block's bytes, pointers and capabilities differs from the start was changed by a session that
+/// attained write there, by a capability that it showed or along a pointer from where it was granted write. What no
+/// session could reach is as it was, and no reply depends on its bytes.
+pub fn changes_are_by_access<S: Source, P: Port>()
+    ensures { (words : Words) (status : Ended) (source_old source_new : S) (port_old port_new : P)
+        → let source = taking S.told S.taken S.left_bytes S.ended source_old source_new in
+        let port = moments P.told P.view port_old port_new in
+        Did (Some words) status source port → P.told → AccessLaw words source port }
 {}

@@ -5,9 +5,11 @@ ghost use Rattle.image_device.specs.Counts.{Rose};
 ghost use Rattle.serving.specs.Ran.{moments, taking};
 ghost use Rattle.tsd_model.specs.Geometry.{IsLawful};
 ghost use Rattle.tsd_serve.specs.Did.{Did};
+ghost use Rattle.tsd_serve.specs.Prompt.{AnswersPromptly};
 ghost use Rattle.tsd_words.specs.Words.{IsInLimits, command_of};
 ghost use Rattle.tsd_words.specs.declared.commands.Command.TheVariants as command;
 
+use audit_runs::{audit_image, verify_image};
 use fs_trees::ShellKind;
 use image_device::{Port, Source};
 use image_runs::{check_image, format_image, load_image, serve_fresh, serve_image, upgrade_image};
@@ -25,7 +27,8 @@ use tsd_words::{Command, Fresh, Shell, Status, command};
 /// answers frames. `shell KIND ROOT CAP PLACE` opens it, mounts the tree of files under a block, and answers lines on
 /// that. `format BLOCKS SECTORS SLOTS PRIMARIES SEED` makes a disk, `check` tells what an image is, `load
 /// SEED COUNT PLACE` carries out the requests of a seed, and `upgrade` has an image keep digests in place of
-/// capabilities.
+/// capabilities. `audit` puts a certificate of which blocks are reached, and `verify` reads one and tells what it
+/// shows.
 ///
 /// Each reply is put whole before the next request is carried out.
 #[tactic(auto, using(crate::proofs::Statuses::no_usage_ending, crate::proofs::Statuses::no_source_ending))]
@@ -44,6 +47,10 @@ pub fn tsd<S: Source, P: Port>(
     // is after Done.
     ensures did { Did (command_of (map string_bytes words.now.items)) result
         (taking S.told S.taken S.left_bytes S.ended source.old source.new) (moments P.told P.view port.old port.new) }
+    // What is written before each reply has a bound, and what is written behind it; where the input was cut short,
+    // nothing is done behind the last one but that.
+    ensures prompt { P.told → AnswersPromptly (command_of (map string_bytes words.now.items)) result P.view port.old
+        port.new }
     // A count of faults rose only where the status is that fault's.
     ensures source_fault { result ≡ Status.SourceFault → Rose (S.faults source.old) (S.faults source.new) }
     ensures device_fault { result ≡ Status.DeviceFault → Rose (P.view port.old).faults (P.view port.new).faults }
@@ -59,7 +66,7 @@ pub fn tsd<S: Source, P: Port>(
 }
 
 /// Does what a command says.
-#[tactic(auto, using(crate::proofs::Statuses::no_usage_ending, crate::proofs::Statuses::no_source_ending))]
+#[tactic(auto, using(crate::proofs::Statuses::no_usage_ending, crate::proofs::Statuses::no_source_ending, crate::proofs::Statuses::no_usage_verify))]
 pub(crate) fn obey<S: Source, P: Port>(
     alloc: Global,
     words: Command,
@@ -73,6 +80,9 @@ pub(crate) fn obey<S: Source, P: Port>(
     // is after Done.
     ensures did { Did (Some words) result
         (taking S.told S.taken S.left_bytes S.ended source.old source.new) (moments P.told P.view port.old port.new) }
+    // What is written before each reply has a bound, and what is written behind it; where the input was cut short,
+    // nothing is done behind the last one but that.
+    ensures prompt { P.told → AnswersPromptly (Some words) result P.view port.old port.new }
     // A count of faults rose only where the status is that fault's.
     ensures source_fault { result ≡ Status.SourceFault → Rose (S.faults source.old) (S.faults source.new) }
     ensures device_fault { result ≡ Status.DeviceFault → Rose (P.view port.old).faults (P.view port.new).faults }
@@ -90,6 +100,8 @@ pub(crate) fn obey<S: Source, P: Port>(
         Command::Check => check_image(alloc, port),
         Command::Load(words) => load_image(alloc, &words, places.pick(words.kind), port),
         Command::Upgrade => upgrade_image(alloc, port),
+        Command::Audit => audit_image(alloc, port),
+        Command::Verify => verify_image(alloc, source, port),
     }
 }
 
@@ -107,6 +119,7 @@ fn fresh_lines<S: Source, P: Port>(
     ensures other { result ≢ Status.Usage }
     ensures did { Did (Some (command.Fresh fresh.now)) result
         (taking S.told S.taken S.left_bytes S.ended source.old source.new) (moments P.told P.view port.old port.new) }
+    ensures prompt { P.told → AnswersPromptly (Some (command.Fresh fresh.now)) result P.view port.old port.new }
     ensures source_fault { result ≡ Status.SourceFault → Rose (S.faults source.old) (S.faults source.new) }
     ensures device_fault { result ≡ Status.DeviceFault → Rose (P.view port.old).faults (P.view port.new).faults }
     ensures put_fault { result ≡ Status.PutFault → Rose (P.view port.old).put_faults (P.view port.new).put_faults }
@@ -139,6 +152,7 @@ fn run_lines<S: Source, P: Port>(
     ensures other { result ≢ Status.Usage }
     ensures did { Did (Some (command.Run kind)) result
         (taking S.told S.taken S.left_bytes S.ended source.old source.new) (moments P.told P.view port.old port.new) }
+    ensures prompt { P.told → AnswersPromptly (Some (command.Run kind)) result P.view port.old port.new }
     ensures source_fault { result ≡ Status.SourceFault → Rose (S.faults source.old) (S.faults source.new) }
     ensures device_fault { result ≡ Status.DeviceFault → Rose (P.view port.old).faults (P.view port.new).faults }
     ensures put_fault { result ≡ Status.PutFault → Rose (P.view port.old).put_faults (P.view port.new).put_faults }
@@ -169,6 +183,7 @@ fn run_frames<S: Source, P: Port>(
     ensures other { result ≢ Status.Usage }
     ensures did { Did (Some (command.Serve kind)) result
         (taking S.told S.taken S.left_bytes S.ended source.old source.new) (moments P.told P.view port.old port.new) }
+    ensures prompt { P.told → AnswersPromptly (Some (command.Serve kind)) result P.view port.old port.new }
     ensures source_fault { result ≡ Status.SourceFault → Rose (S.faults source.old) (S.faults source.new) }
     ensures device_fault { result ≡ Status.DeviceFault → Rose (P.view port.old).faults (P.view port.new).faults }
     ensures put_fault { result ≡ Status.PutFault → Rose (P.view port.old).put_faults (P.view port.new).put_faults }

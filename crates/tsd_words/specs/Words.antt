@@ -95,9 +95,13 @@ shell_of layout root cap place = do
   kind ← kind_of place
   Some (record { layout = l; root = a; cap = c; kind = kind })
 
--- check; upgrade
+-- check; upgrade; audit; verify
 unfoldable pub alone_of : List ℕ → Option Command
-alone_of name = cond (bytes_eq name (codes "check")) (Some command.Check) (cond (bytes_eq name (codes "upgrade")) (Some command.Upgrade) None)
+alone_of name =
+    cond (bytes_eq name (codes "check")) (Some command.Check)
+    (cond (bytes_eq name (codes "upgrade")) (Some command.Upgrade)
+    (cond (bytes_eq name (codes "audit")) (Some command.Audit)
+    (cond (bytes_eq name (codes "verify")) (Some command.Verify) None)))
 
 -- run PLACE; serve PLACE
 unfoldable pub served_of : List ℕ → List ℕ → Option Command

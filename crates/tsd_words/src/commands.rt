@@ -87,4 +87,10 @@ pub enum Command {
 
     /// Opens an image, and keeps digests in place of its capabilities.
     Upgrade,
+
+    /// Opens an image, and tells which blocks its primary blocks lead to, with a line for each as a certificate.
+    Audit,
+
+    /// Opens an image, reads a certificate, and tells what that shows of it.
+    Verify,
 }

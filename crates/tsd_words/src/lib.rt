@@ -1,8 +1,8 @@
 //! The words that the program reads and writes apart from requests and replies: commands, how a run ends, what is wrong
 //! with an image, and the lines of commands that take no input.
 //!
-//! What it stands on: the types of `tsd_model`, the layouts of `fs_trees`, fields and lines of `script_text`, and the faults
-//! of an image of `image_layout`.
+//! What it stands on: the types of `tsd_model`, the layouts of `fs_trees`, fields and lines of `script_text`, and the
+//! faults of an image of `image_layout`.
 //!
 //! What it promises: [`command`] answers a command exactly where the words spell one (`specs/Words.antt`);
 //! [`status_line`] and [`image_line`] leave exactly the text of a status and of a fault, and a line feed

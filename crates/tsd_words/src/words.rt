@@ -50,7 +50,7 @@ fn bytes(word: &String) -> &[u8]
     word.as_str().as_bytes()
 }
 
-/// `check` and `upgrade`.
+/// `check`, `upgrade`, `audit` and `verify`.
 #[tactic(auto, unfolding(crate::specs::Words::alone_of))]
 fn alone(name: &[u8]) -> Option<Command>
     ensures value { result ≡ alone_of name.now }
@@ -60,6 +60,10 @@ fn alone(name: &[u8]) -> Option<Command>
         Some(Command::Check)
     } else if name == b"upgrade".as_slice() {
         Some(Command::Upgrade)
+    } else if name == b"audit".as_slice() {
+        Some(Command::Audit)
+    } else if name == b"verify".as_slice() {
+        Some(Command::Verify)
     } else {
         None
     }

@@ -3,8 +3,8 @@ use Rattle.std.specs.Prelude.{IfSome}
 use Rattle.script_text.specs.Pieces.{pieces}
 use Rattle.image_audit.specs.declared.listing.Listing.{Listing}
 use Rattle.image_audit.specs.Listing.{IsListing}
-use Rattle.image_audit.specs.ListingReading.{listing_in}
-use Rattle.image_audit.proofs.ListingLaws.{line_is, line_back}
+use Rattle.image_audit.specs.ListingReading.{listing_in, listing_of}
+use Rattle.image_audit.proofs.ListingLaws.{line_is, line_back, listing_of-cut}
 use Rattle.image_audit.proofs.listing.parse_listing.Goals as goal
 
 if_read : (line : List ℕ) (o : Option Listing) → o ≡ listing_in (pieces 32 line) → IfSome o (IsListing line)
@@ -16,3 +16,9 @@ returns-clause-spelled c = if_read c.args.line.now c.read_listing.result (c.read
 
 pub returns-clause-only : goal.returns-clause-only
 returns-clause-only c l h = c.read_listing.ensures ∙ (ap listing_in c.of.ensures ∙ line_back c.args.line.now l h)
+
+pub returns-clause-value : goal.returns-clause-value
+returns-clause-value c = c.read_listing.ensures ∙ ap listing_in c.of.ensures
+
+pub returns-clause-cut : goal.returns-clause-cut
+returns-clause-cut c whole is = c.read_listing.ensures ∙ ap listing_in c.of.ensures ∙ ap listing_of is ∙ listing_of-cut whole

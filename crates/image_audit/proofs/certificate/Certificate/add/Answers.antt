@@ -1,17 +1,8 @@
-use Rattle.std.proofs.Common.{◌≡◌, refl, sym, ap, subst, false, Option}
-use Rattle.std.specs.Prelude.{unwrap_or}
-use Rattle.std.proofs.lemmas.Bool.{both_ways}
-use Rattle.image_audit.specs.declared.listing.Listing.{Listing}
-use Rattle.image_audit.specs.Listing.{Listed, MayFollow}
+use Rattle.image_audit.proofs.ListingLaws.{added_line, refused_line}
 use Rattle.image_audit.proofs.certificate.Certificate.add.Goals as goal
 
-pub returns-in_default-clause-refused : goal.returns-in_default-clause-refused
-returns-in_default-clause-refused c l h f = c.in_default.not-Some l (c.parse_listing.ensures.only l h)
+pub returns-clause-added : goal.returns-clause-added
+returns-clause-added c = added_line c.take.result c.args.line.now c.parse_listing.result c.args.self.now.entries c.take.new.self.entries c.parse_listing.ensures.value c.take.ensures.taken
 
-pub returns-else-list-clause-refused : goal.returns-else-list-clause-refused
-returns-else-list-clause-refused c l h f =
-    let listing = c.in-Some.listing in
-    let same : l ≡ listing = sym (ap (λ (o : Option Listing). unwrap_or o listing) (c.in-Some.ensures.only l h)) in
-    both_ways false refl (c.if-list.ensures.listed.1
-    (subst (λ (x : Listing). MayFollow c.self.inside.entries.items x.block) same
-    (subst (λ es. MayFollow es l.block) (sym (ap (λ (v : Listed). v.entries) c.self.view_is)) f)))
+pub returns-clause-refused : goal.returns-clause-refused
+returns-clause-refused c = refused_line c.take.result c.args.line.now c.parse_listing.result c.args.self.now.entries c.parse_listing.ensures.value c.take.ensures.refused

@@ -9,8 +9,8 @@ use Rattle.image_audit.specs.Searching.{IsSearched}
 use Rattle.image_audit.proofs.SearchLaws.{search_done}
 use Rattle.image_audit.proofs.reached.Reached.new.Goals as goal
 
-pub returns : goal.returns
-returns c =
+pub returns-clause-reached : goal.returns-clause-reached
+returns-clause-reached c =
     let w = told_by c.args.volume.now in
     let size = c.geometry-blocks.ensures in
     let blocks : w.geometry.blocks ≡ c.args.volume.now.tables.geometry.blocks = ap (λ (g : Geometry). g.blocks) size.told in

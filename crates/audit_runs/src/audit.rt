@@ -1,0 +1,76 @@
+//! `audit`: which blocks the primary blocks lead to, as a certificate.
+
+ghost use Rattle.std.specs.Prelude.{◌≡◌, ◌≢◌, IfOk, IfErr};
+ghost use Rattle.image_device.specs.Counts.{CountsFaultOf, Rose};
+ghost use Rattle.image_device.specs.Runs.{IsFirm, LeavesOnly};
+ghost use Rattle.recovery.specs.Opening.{IsForeign, IsSpared, IsUntouched, StandAlike};
+ghost use Rattle.volume_laws.specs.Writes.{Works};
+ghost use Rattle.image_runs.specs.Opened.{IsJudged, IsNotImage, IsUnopened};
+ghost use Rattle.image_runs.specs.Sending.{IsEnding};
+ghost use Rattle.audit_runs.specs.Audit.{HasAudited, IsAuditing};
+ghost use Rattle.audit_runs.specs.Found.{IsFoundIn};
+
+use crate::listings::put_listings;
+use image_audit::{Reached, primary_roots};
+use image_device::{Device, Port};
+use image_runs::open_volume;
+use std::alloc::Global;
+use tsd_words::Status;
+
+/// Opens an image and puts a line for each block that its primary blocks lead to, ascending: how many pointers the
+/// shortest path to it has, and the least block one level up that points to it.
+///
+/// The status is Done, NotImage where the image stands for no world, DeviceFault or PutFault where that count rose, or
+/// NoMemory where none was found to open the image or to search it.
+pub fn audit_image<P: Port>(alloc: Global, port: &mut P) -> Status
+    ensures ending { IsEnding result }
+    ensures said { P.told → HasAudited result (P.view port.old).reads (P.view port.old).sent (P.view port.new).sent }
+    // Where the image fails one of the tests that need no write, nothing is written, and the disk reads as before;
+    // where it fails another, nothing is lost that a repair could use.
+    ensures untouched { P.told → IsForeign (P.view port.old).reads
+        → IsUntouched (P.view port.old) (P.view port.new) }
+    ensures spared { P.told → IsNotImage result → IsSpared (P.view port.old) (P.view port.new) }
+    // A crash at any moment leaves an image of the same world, or of none where the image stood for none.
+    ensures any_moment { P.told → IsFirm (P.view port.old) → LeavesOnly (P.view port.old) (P.view port.new)
+        (λ x f. StandAlike (P.view port.old).reads x × IsAuditing (P.view port.old).reads (P.view port.old).sent f) }
+    // A count of faults rose only where the status is that fault's.
+    ensures device_fault { result ≡ Status.DeviceFault → Rose (P.view port.old).faults (P.view port.new).faults }
+    ensures put_fault { result ≡ Status.PutFault → Rose (P.view port.old).put_faults (P.view port.new).put_faults }
+    ensures no_device_fault { result ≢ Status.DeviceFault → (P.view port.new).faults ≡ (P.view port.old).faults }
+    ensures no_put_fault { result ≢ Status.PutFault → (P.view port.new).put_faults ≡ (P.view port.old).put_faults }
+{
+    match find(alloc, port) {
+        Ok(reached) => match put_listings(&reached, port) {
+            Ok(()) => Status::Done,
+            Err(_) => Status::PutFault,
+        },
+        Err(why) => why,
+    }
+}
+
+/// Opens an image and searches it from its primary blocks.
+fn find<D: Device>(alloc: Global, dev: &mut D) -> Result<Reached, Status>
+    ensures found { D.told → IfOk result (IsFoundIn (D.view dev.old).reads) }
+    ensures judged { D.told → IfErr result (IsJudged (D.view dev.old).reads) }
+    ensures stops { IfErr result IsUnopened }
+    ensures sent { D.told → (D.view dev.new).sent ≡ (D.view dev.old).sent }
+    // Where the image fails one of the tests that need no write, nothing is written, and the disk reads as before;
+    // where it fails another, nothing is lost that a repair could use.
+    ensures untouched { D.told → IsForeign (D.view dev.old).reads → IsUntouched (D.view dev.old) (D.view dev.new) }
+    ensures spared { D.told → IfErr result (λ why. IsNotImage why → IsSpared (D.view dev.old) (D.view dev.new)) }
+    ensures any_moment { D.told → IsFirm (D.view dev.old) → LeavesOnly (D.view dev.old) (D.view dev.new)
+        (λ x f. StandAlike (D.view dev.old).reads x × (f ≡ (D.view dev.old).sent)) }
+    ensures works { Works (D.view dev.old) (D.view dev.new) }
+    ensures faults { CountsFaultOf Status.DeviceFault result (D.view dev.old).faults (D.view dev.new).faults }
+{
+    match open_volume(alloc, dev) {
+        Ok(volume) => {
+            let _size = volume.geometry();
+            match Reached::new(alloc, &volume, &primary_roots(&volume)) {
+                Ok(reached) => Ok(reached),
+                Err(_) => Err(Status::NoMemory),
+            }
+        }
+        Err(why) => Err(why),
+    }
+}

@@ -1,0 +1,122 @@
+//! `verify`: what a certificate shows of an image.
+
+ghost use Rattle.std.specs.Prelude.{◌≡◌, ◌≢◌, ℕ, List, Option, length, IfErr};
+ghost use Rattle.image_device.specs.Counts.{CountsFaultOf, Rose};
+ghost use Rattle.image_device.specs.Runs.{IsFirm, LeavesOnly};
+ghost use Rattle.recovery.specs.Opening.{IsForeign, IsSpared, IsUntouched, StandAlike};
+ghost use Rattle.script_text.specs.Pieces.{all_lines};
+ghost use Rattle.serving.specs.Ran.{moments, taking};
+ghost use Rattle.volume_laws.specs.Volume.{IsVolumeReady, told_by};
+ghost use Rattle.volume_laws.specs.Writes.{Works};
+ghost use Rattle.image_runs.specs.Opened.{IsJudged, IsNotImage};
+ghost use Rattle.audit_runs.specs.Answering.{HasAnswered, IsUnanswered, IsUnread};
+ghost use Rattle.audit_runs.specs.Taking.{IsReadAs};
+ghost use Rattle.audit_runs.specs.Verify.{IsAnswer, IsAnswerOf, VerifyRan};
+
+use crate::taking::take_lines;
+use image_audit::{Certificate, FormFault, fault_line, verdict_line, verify};
+use image_device::{Device, Port, Source, put_all};
+use image_runs::open_volume;
+use script_text::OutBuf;
+use std::alloc::Global;
+use tsd_words::Status;
+use volume::Volume;
+
+/// Opens an image, reads the lines of an input to its end as a certificate, and puts one line: that exactly the listed
+/// blocks are reached, or the first thing that is wrong.
+///
+/// The status is Done, NotImage where the image stands for no world, DeviceFault, SourceFault or PutFault where that
+/// count rose, TooLong where a byte after the first 2^40 came, or NoMemory where none was found to open the image or
+/// for the certificate, before anything is taken.
+pub fn verify_image<S: Source, P: Port>(alloc: Global, source: &mut S, port: &mut P) -> Status
+    ensures ran { VerifyRan result (taking S.told S.taken S.left_bytes S.ended source.old source.new)
+        (moments P.told P.view port.old port.new) }
+    // Where the image fails one of the tests that need no write, nothing is written, and the disk reads as before;
+    // where it fails another, nothing is lost that a repair could use.
+    ensures untouched { P.told → IsForeign (P.view port.old).reads
+        → IsUntouched (P.view port.old) (P.view port.new) }
+    ensures spared { P.told → IsNotImage result → IsSpared (P.view port.old) (P.view port.new) }
+    // A count of faults rose only where the status is that fault's.
+    ensures source_fault { result ≡ Status.SourceFault → Rose (S.faults source.old) (S.faults source.new) }
+    ensures device_fault { result ≡ Status.DeviceFault → Rose (P.view port.old).faults (P.view port.new).faults }
+    ensures put_fault { result ≡ Status.PutFault → Rose (P.view port.old).put_faults (P.view port.new).put_faults }
+    ensures no_source_fault { result ≢ Status.SourceFault → S.faults source.new ≡ S.faults source.old }
+    ensures no_device_fault { result ≢ Status.DeviceFault → (P.view port.new).faults ≡ (P.view port.old).faults }
+    ensures no_put_fault { result ≢ Status.PutFault → (P.view port.new).put_faults ≡ (P.view port.old).put_faults }
+{
+    let mut line = OutBuf::new();
+    match answer(alloc, source, port, &mut line) {
+        Ok(()) => match put_all(port, line.as_slice()) {
+            Ok(()) => Status::Done,
+            Err(_) => Status::PutFault,
+        },
+        Err(why) => why,
+    }
+}
+
+/// Opens an image and reads a certificate. The line is left that says what it shows.
+fn answer<S: Source, D: Device>(
+    alloc: Global,
+    source: &mut S,
+    dev: &mut D,
+    line: &mut OutBuf,
+) -> Result<(), Status>
+    ensures answered { HasAnswered result (taking S.told S.taken S.left_bytes S.ended source.old source.new)
+        (λ bytes. D.told → IsAnswerOf (D.view dev.old).reads bytes line.new) }
+    ensures judged { D.told → IfErr result (IsJudged (D.view dev.old).reads) }
+    ensures stops { IfErr result IsUnanswered }
+    ensures sent { D.told → (D.view dev.new).sent ≡ (D.view dev.old).sent }
+    // Where the image fails one of the tests that need no write, nothing is written, and the disk reads as before;
+    // where it fails another, nothing is lost that a repair could use.
+    ensures untouched { D.told → IsForeign (D.view dev.old).reads → IsUntouched (D.view dev.old) (D.view dev.new) }
+    ensures spared { D.told → IfErr result (λ why. IsNotImage why → IsSpared (D.view dev.old) (D.view dev.new)) }
+    ensures any_moment { D.told → IsFirm (D.view dev.old) → LeavesOnly (D.view dev.old) (D.view dev.new)
+        (λ x f. StandAlike (D.view dev.old).reads x × (f ≡ (D.view dev.old).sent)) }
+    ensures works { Works (D.view dev.old) (D.view dev.new) }
+    ensures source_faults { CountsFaultOf Status.SourceFault result (S.faults source.old) (S.faults source.new) }
+    ensures faults { CountsFaultOf Status.DeviceFault result (D.view dev.old).faults (D.view dev.new).faults }
+{
+    match open_volume(alloc, dev) {
+        Ok(volume) => read_and_verify(alloc, &volume, source, line),
+        Err(why) => Err(why),
+    }
+}
+
+/// Reads a certificate of an open volume. The line is left that says what it shows.
+fn read_and_verify<S: Source>(
+    alloc: Global,
+    volume: &Volume,
+    source: &mut S,
+    line: &mut OutBuf,
+) -> Result<(), Status>
+    requires { IsVolumeReady volume.now }
+    ensures answered { HasAnswered result (taking S.told S.taken S.left_bytes S.ended source.old source.new)
+        (λ bytes. IsAnswer (told_by volume.now) (all_lines bytes) line.new) }
+    ensures stops { IfErr result IsUnread }
+    ensures faults { CountsFaultOf Status.SourceFault result (S.faults source.old) (S.faults source.new) }
+{
+    let Ok(mut certificate) = Certificate::new(alloc, volume.geometry().blocks) else {
+        return Err(Status::NoMemory);
+    };
+    match take_lines(&mut certificate, source) {
+        Ok(fault) => {
+            *line = answer_line(volume, &certificate, fault);
+            Ok(())
+        }
+        Err(why) => Err(why),
+    }
+}
+
+/// What is answered to the lines that a certificate was read of.
+fn answer_line(volume: &Volume, certificate: &Certificate, fault: Option<FormFault>) -> OutBuf
+    requires ready { IsVolumeReady volume.now }
+    requires blocks { length certificate.now.entries ≡ volume.now.tables.geometry.blocks }
+    ensures { (lines : List (List ℕ))
+        → IsReadAs (told_by volume.now).geometry.blocks lines fault certificate.now.entries
+        → IsAnswer (told_by volume.now) lines result }
+{
+    match fault {
+        Some(fault) => fault_line(&fault),
+        None => verdict_line(&verify(volume, certificate)),
+    }
+}

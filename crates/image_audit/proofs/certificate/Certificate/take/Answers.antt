@@ -1,0 +1,17 @@
+use Rattle.std.proofs.Common.{◌≡◌, refl, sym, ◌∙◌, ap, subst, false, Option}
+use Rattle.std.specs.Prelude.{unwrap_or}
+use Rattle.std.proofs.lemmas.Bool.{both_ways}
+use Rattle.image_audit.specs.declared.listing.Listing.{Listing}
+use Rattle.image_audit.specs.Listing.{Listed, MayFollow}
+use Rattle.image_audit.proofs.certificate.Certificate.take.Goals as goal
+
+pub returns-in_default-clause-refused : goal.returns-in_default-clause-refused
+returns-in_default-clause-refused c l says f = c.in_default.not-Some l says
+
+pub returns-else-list-clause-refused : goal.returns-else-list-clause-refused
+returns-else-list-clause-refused c l says f =
+    let listing = c.in-Some.listing in
+    let same : l ≡ listing = sym (ap (λ (o : Option Listing). unwrap_or o listing) (sym c.in-Some.is ∙ says)) in
+    both_ways false refl (c.if-list.ensures.listed.1
+    (subst (λ (x : Listing). MayFollow c.self.inside.entries.items x.block) same
+    (subst (λ es. MayFollow es l.block) (sym (ap (λ (v : Listed). v.entries) c.self.view_is)) f)))
