@@ -243,7 +243,7 @@ SOUND_ONES: Dict[str, Tuple[str, Damage]] = {
         ("put_record", 0, 0, [(131, b"\1".ljust(SECTOR, b"\0"))]))),
 }
 
-OTHER_COMMANDS = (["run", "near"], ["serve", "low"], ["load", SEED, "2", "zone"], ["upgrade"])
+OTHER_COMMANDS = (["run", "near"], ["serve", "low"], ["load", SEED, "2", "zone"], ["upgrade"], ["audit"], ["verify"])
 
 
 def fault_result(name: str, line: str, image: Image, context: Context, program: Program) -> Result:

@@ -19,7 +19,8 @@ from program import MOST_SECONDS, Program, Run, write_image
 R, W = "aa" * 16, "bb" * 16
 SEED = "00" * 32
 FRESH = ["fresh", "8", "1", R, W, "near"]
-OPENING: Sequence[List[str]] = (["run", "near"], ["serve", "near"], ["check"], ["load", SEED, "1", "near"], ["upgrade"])
+OPENING: Sequence[List[str]] = (["run", "near"], ["serve", "near"], ["check"], ["load", SEED, "1", "near"], ["upgrade"],
+                                   ["audit"], ["verify"])
 FULL = Path("/dev/full")
 # Enough for the program and its libraries, and too little for the tables of the largest disk.
 LITTLE_MEMORY = 64 * 2**20
@@ -30,7 +31,7 @@ Word = Union[str, bytes]
 
 USAGES: Sequence[List[Word]] = (
     ["run"], ["run", "nearest"], ["run", "Near"], ["run", ""], ["run", "near", "x"], ["serve"], ["serve", "1"],
-    ["check", "x"], ["Check"], ["check "], ["upgrade", "2"], ["open"], [""], ["run near"], [b"\xff"], ["run", b"\xff"],
+    ["check", "x"], ["Check"], ["check "], ["upgrade", "2"], ["audit", "1"], ["verify", "-"], ["open"], [""], ["run near"], [b"\xff"], ["run", b"\xff"],
     ["fresh", "7", "1", R, W, "near"], ["fresh", "1048577", "1", R, W, "near"], ["fresh", "8", "0", R, W, "near"],
     ["fresh", "8", "3", R, W, "near"], ["fresh", "8", "16", R, W, "near"], ["fresh", "+8", "1", R, W, "near"],
     ["fresh", "00000000008", "1", R, W, "near"], ["fresh", "4294967304", "1", R, W, "near"],

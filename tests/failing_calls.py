@@ -25,8 +25,8 @@ from crash_requests import text_of
 from disk_model import Disk, Request, World
 from image_reader import Fault, is_settled, read_image
 from judging import (
-    NOT_FORMATTED, Course, Different, Standing, caps_of_seed, course_of_check, course_of_format, course_of_load,
-    course_of_requests, course_of_upgrade, difference, judge_image, matching,
+    NOT_FORMATTED, Course, Different, Standing, caps_of_seed, course_of_audit, course_of_check, course_of_format,
+    course_of_load, course_of_requests, course_of_upgrade, course_of_verify, difference, judge_image, matching,
 )
 from parts import Context, Result, failed, passed, skipped
 from recording import INPUT, PUT, READ, SYNC, WRITE, NoRecorder, Recorder, Recording
@@ -37,6 +37,8 @@ READ_CAP, WRITE_CAP = b"\xaa" * 16, b"\xbb" * 16
 CAPS = ((READ_CAP, WRITE_CAP),)
 SEED = bytes(range(32))
 IMAGES_OF_A_FAULT = 6
+# No line of it is whole before the input ends, and so none is answered before.
+CERTIFICATE = b"block 0 depth 0 parent -"
 PIECE = 7
 # A scene of many calls gets no more time than this.
 MOST_SECONDS_OF_A_ROW = 40
@@ -158,6 +160,8 @@ def scenes(recorder: Recorder, image: Path) -> List[Scene]:
         Scene("format", 1, b"", ("format", 8, 1, 32, 2, SEED.hex()), b"", formatted),
         Scene("check", 2, data, ("check",), b"", lambda: course_of_check(before, disk(), CAPS)),
         Scene("upgrade", 4, data, ("upgrade",), b"", lambda: course_of_upgrade(before, disk(), CAPS)),
+        Scene("audit", 2, data, ("audit",), b"", lambda: course_of_audit(before, disk(), CAPS)),
+        Scene("verify", 2, data, ("verify",), CERTIFICATE, lambda: course_of_verify(before, disk(), CAPS, CERTIFICATE)),
         Scene("load", 4, data, ("load", SEED.hex(), 20, "low"), b"",
               lambda: course_of_load(before, disk(), CAPS, SEED, 20)),
         row_scene(recorder, image, CHAIN_OF_40),

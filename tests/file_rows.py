@@ -6,6 +6,7 @@ What must be answered is written down here from docs/FILES.md, and nothing of it
 
 from __future__ import annotations
 
+import resource
 from pathlib import Path
 from typing import Iterator, NamedTuple, Sequence
 
@@ -25,6 +26,7 @@ SEED = bytes(32)
 OK = ["ok"]
 BAD = "no bad-request"
 LONGEST_LINE = 8400
+LITTLE_STACK = 1 << 20
 
 
 class Session(NamedTuple):
@@ -74,9 +76,11 @@ SESSIONS = (
              "put /. 00", "put /.. 00", "put /- 00", f"put /{'n' * 29} 00", f"put {'/a' * 17} 00", "put  /a 00",
              "PUT /a 00", "cat", "ls", "cp /a", "df /", "x" * LONGEST_LINE, "x" * (LONGEST_LINE + 1), "df"],
             [BAD] * 8 + ["no not-this-fs"] + [BAD] * 14 + ["free 7"]),
-    Session("names at their ends", 8, 1, INODE,
-            ["mkfs", f"put /{'n' * 28} 01", "put /n 02", "put /nn 03", "ls /", "cat /n", "cat /nn", f"cat /{'n' * 28}"],
-            ["ok", "ok", "ok", "ok", f"names n nn {'n' * 28}", "data 02", "data 03", "data 01"]),
+    *(Session("names at their ends", 8, 1, kind,
+              ["mkfs", f"put /{'n' * 28} 01", "put /n 02", "put /nn 03", "ls /", "cat /n", "cat /nn",
+               f"cat /{'n' * 28}"],
+              ["ok", "ok", "ok", "ok", f"names n nn {'n' * 28}", "data 02", "data 03", "data 01"])
+      for kind in (INODE, CHAIN)),
 )
 
 
@@ -86,6 +90,20 @@ def result_of(session: Session, program: Program, image: Path) -> Result:
     program.run([image, "fresh", str(session.blocks), str(session.sectors), R, W, "near"], b"")
     run = program.run([image, "shell", session.kind, "0", W, "near"], text_of(session.lines))
     return compared(f"{session.name} ({session.kind})", (0, text_of(session.answers), b""), tuple(run))
+
+
+def little_stack_result(program: Program, image: Path) -> Result:
+    """A file of 5,000 clusters is made and taken away in a stack of 210 bytes for each: no call calls itself."""
+    session = long_chain(8192, 605, 1920, 3191)
+    image.unlink(missing_ok=True)
+    program.run([image, "fresh", str(session.blocks), str(session.sectors), R, W, "near"], b"")
+    run = program.run([image, "shell", session.kind, "0", W, "near"], text_of(session.lines), before=limit_stack)
+    return compared(f"{session.name} in little stack", (0, text_of(session.answers), b""), tuple(run))
+
+
+def limit_stack() -> None:
+    """The stack of a program has a megabyte."""
+    resource.setrlimit(resource.RLIMIT_STACK, (LITTLE_STACK, LITTLE_STACK))
 
 
 def text_of(lines: Sequence[str]) -> bytes:
@@ -126,7 +144,7 @@ def disk_result(program: Program, image: Path, kind: str, sectors: int, place: s
 
 def largest_results(program: Program, image: Path) -> Iterator[Result]:
     """How many entries a directory of inodes has and how many blocks a file, by the sectors of a block."""
-    for sectors, entries, blocks in ((2, 31, 252), (4, 63, 508)):
+    for sectors, entries, blocks in ((2, 31, 252), (4, 63, 508), (8, 127, 1020)):
         image.unlink(missing_ok=True)
         program.run([image, "fresh", "2048", str(sectors), R, W, "low"], b"")
         lines = ["mkfs"] + [f"put /{number} -" for number in range(entries)] + ["put /more -", "rm /0", "put /more -"]
@@ -138,6 +156,35 @@ def largest_results(program: Program, image: Path) -> Iterator[Result]:
         answers = OK * (blocks + 2) + ["no too-big", "ok"]
         run = program.run([image, "shell", INODE, "0", W, "low"], text_of(lines))
         yield compared(f"{blocks} blocks of a file", (0, text_of(answers), b""), tuple(run))
+
+
+# --- a block that another root leads to as well ---
+
+def shared_result(program: Program, image: Path, kind: str) -> Result:
+    """A file goes, but for the block to which root 0 leads, too: the bytes of inodes, or a whole cluster."""
+    caps = [pair[1].hex() for pair in seed_caps(SEED)[:2]]
+    image.unlink(missing_ok=True)
+    program.run([image, "format", "32", "1", "128", "2", SEED.hex()], b"")
+    shell = [image, "shell", kind, "1", caps[1], "low"]
+    program.run(shell, text_of(["mkfs", "put /a 0102"]))
+    way = [1, *pointed(image, 1)]
+    if kind == INODE:
+        way += pointed(image, way[-1])
+    reads = [f"read 1 {block} {caps[1] if block == 1 else '-'}" for block in way]
+    first = program.run([image, "run", "low"], text_of(["open 1", *reads, f"create 1 0 {caps[0]} {way[-1]}"]))
+    run = program.run(shell, text_of(["cat /a", "rm /a", "df", "ls /", "put /a 03", "cat /a", "df"]))
+    rest = program.run([image, "run", "low"], text_of(["open 1", f"read 1 0 {caps[0]}", f"read 1 {way[-1]} -"]))
+    data = first.out.split(b"\n")[-3:]
+    found = (data[1:], run.out, rest.out.split(b"\n")[2:])
+    answers = ["data 0102", "ok", "free 29", "names -", "ok", "data 03", "free 27" if kind == INODE else "free 28"]
+    right = ([b"ok", b""], text_of(answers), [data[0], b""])
+    return compared(f"a block shared with another root ({kind})", right, found)
+
+
+def pointed(image: Path, block: int) -> Sequence[int]:
+    """The targets of the pointers out of a block of an image."""
+    world = read_image(image.read_bytes())
+    return [] if isinstance(world, Fault) else sorted(target for source, target in world.pairs if source == block)
 
 
 # --- a mount that is refused, and then mkfs ---
@@ -211,8 +258,11 @@ def run(context: Context) -> Iterator[Result]:
         return
     for session in SESSIONS:
         yield result_of(session, program, image)
+    yield little_stack_result(program, image)
     yield from disk_results(program, image)
     yield from largest_results(program, image)
+    for kind in (INODE, CHAIN):
+        yield shared_result(program, image, kind)
     yield other_kind_result(program, image)
     if context.compiler is None:
         yield skipped("a put that is stopped", "no C compiler was found")

@@ -9,6 +9,7 @@ from bisect import bisect_right
 from itertools import accumulate, islice
 from typing import List, NamedTuple, Optional, Sequence, Tuple, Union
 
+from certificates import answer_to, certificate_of
 from crash_images import FORMAT_GATE, ZEROS, Choice, Choices, Medium, Progress, told
 from disk_model import Disk, Request, World, drawn_requests, frame, reply_body, reply_line, seed_caps
 from image_reader import Fault, read_image
@@ -106,6 +107,20 @@ def course_of_check(before: Sequence[Standing], disk: Disk, caps: Caps) -> Cours
     """The course of `check`, which changes no world."""
     course = Course(before, Standing(disk.world(), caps))
     course.answers.append(disk.check_line())
+    return course
+
+
+def course_of_audit(before: Sequence[Standing], disk: Disk, caps: Caps) -> Course:
+    """The course of `audit`, which changes no world: its lines."""
+    course = Course(before, Standing(disk.world(), caps))
+    course.answers += certificate_of(disk.world()).splitlines(keepends=True)
+    return course
+
+
+def course_of_verify(before: Sequence[Standing], disk: Disk, caps: Caps, text: bytes) -> Course:
+    """The course of `verify`, which changes no world: its answer."""
+    course = Course(before, Standing(disk.world(), caps))
+    course.answers.append(answer_to(text, disk.world()))
     return course
 
 

@@ -86,13 +86,14 @@ class Pair:
         return waited
 
     def come_back(self, running: Running) -> bool:
-        """A is connected again, and its run is asked on; whether it ended by a device fault and gave no answer more."""
+        """A is connected again, and its run is asked on; whether it ended by a device fault and changed nothing. It may
+        still answer what needs no call on the image, such as a request that is refused."""
         self.a.connect()
         time.sleep(BACK_SECONDS)
-        answered = running.answered
+        before = running.course.prefixes[running.answered]
         running.ask(IDLE_AFTER)
         running.end()
-        return running.status == DEVICE_FAULT and running.answered == answered
+        return running.status == DEVICE_FAULT and running.course.prefixes[running.answered] == before
 
 
 def cut_in_mid_run(pair: Pair) -> Iterator[Result]:

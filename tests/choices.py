@@ -1,0 +1,164 @@
+"""Which free blocks are taken, where the search goes by groups of 256: each kind of placement, hints at the edges of
+groups, inside, past the disk and at the greatest number, in disks whose groups are full, empty, or hold few free blocks
+at their edges. What is expected is sorted by rank as docs/FORMAT.md gives it, without any groups.
+
+Each block that was taken is given back before the next request, so all requests to one disk meet the same free blocks.
+"""
+
+from __future__ import annotations
+
+import heapq
+import random
+from array import array
+from pathlib import Path
+from typing import Dict, Iterator, List, NamedTuple, Set, Tuple
+
+from disk_model import PLACES, rank
+from endings import is_checked
+from large_images import WRITE_CAP, LargeImage, numbers_of
+from parts import Context, Result, compared
+from program import Program
+
+NAME = "choices"
+W = WRITE_CAP.hex()
+GROUP = 256
+LAST_HINT = 2**32 - 1
+COUNTS = (1, 2, 31, 32)
+SMALL_BLOCKS = 5 * GROUP + 24
+LARGE_BLOCKS = 2**20
+# A built checker of memory is slow.
+CHECKED_BLOCKS = 2**16
+
+
+class Ask(NamedTuple):
+    """A request for blocks: its word, hint and count."""
+
+    word: str
+    hint: int
+    count: int
+
+
+def starts_of(free: List[int], count: int) -> List[int]:
+    """The blocks where so many free ones stand in a row; the free ones ascend."""
+    return [block for place, block in enumerate(free[:max(len(free) - count + 1, 0)])
+            if free[place + count - 1] == block + count - 1]
+
+
+def chosen(place: str, free: List[int], ask: Ask) -> List[int]:
+    """The blocks that are taken: none where there are too few, or no run is long enough."""
+    def by_rank(block: int) -> int:
+        return rank(place, block, ask.hint)
+
+    if ask.word == "alloc":
+        return heapq.nsmallest(ask.count, free, key=by_rank) if ask.count <= len(free) else []
+    starts = starts_of(free, ask.count)
+    first = min(starts, key=by_rank, default=None)
+    return [] if first is None else list(range(first, first + ask.count))
+
+
+def reply_to(free: List[int], ask: Ask, taken: List[int]) -> str:
+    """The reply with these blocks, or the refusal."""
+    if taken:
+        return " ".join(["blocks", *map(str, taken)])
+    rule = "full" if len(free) < ask.count else "run"
+    return f"no {rule} {len(free)} {ask.count}"
+
+
+def rows_of(place: str, free: List[int], asks: List[Ask]) -> Iterator[Tuple[str, str]]:
+    """The lines of these requests, each with its reply, and behind each the deletions that give back what it took."""
+    for ask in asks:
+        taken = chosen(place, free, ask)
+        yield f"{ask.word} 1 0 {W} {ask.hint} {ask.count}", reply_to(free, ask, taken)
+        for block in taken:
+            yield f"delete 1 0 {W} {block}", "gone 1"
+
+
+def write_disk(path: Path, blocks: int, free: Set[int]) -> None:
+    """A disk with these free blocks: block 0 leads to each other one."""
+    live = [block for block in range(blocks) if block not in free]
+    image = LargeImage(blocks)
+    marks = bytearray(blocks // 8)
+    for block in live:
+        marks[block // 8] |= 1 << block % 8
+    image.bits = bytes(marks)
+    targets = numbers_of(live[1:])
+    image.put_pairs(array(targets.typecode, bytes(4 * len(targets))), targets)
+    image.write(path)
+
+
+def result(name: str, program: Program, path: Path, place: str, rows: List[Tuple[str, str]]) -> Result:
+    """The replies to these lines, in a session of their own."""
+    lines = "".join(f"{line}\n" for line, _ in [("open 1", ""), *rows])
+    replies = "".join(f"{reply}\n" for _, reply in [("", "ok"), *rows])
+    ending = program.run([path, "run", place], lines.encode())
+    return compared(f"{name}, {place}", (0, replies.encode(), b""), tuple(ending))
+
+
+def hints_of(blocks: int) -> List[int]:
+    """Hints at the edges of groups, inside, past the disk, and at the greatest number."""
+    edges = [0, 1, 100, GROUP - 1, GROUP, GROUP + 1, 2 * GROUP - 1, 2 * GROUP, 700, blocks - 1]
+    return edges + [blocks, blocks + 700, 2**31, LAST_HINT - GROUP, LAST_HINT]
+
+
+def small_disks(rng: random.Random) -> Dict[str, Set[int]]:
+    """Sets of free blocks of a disk of six groups, the last of them cut off."""
+    blocks = range(1, SMALL_BLOCKS)
+    edges = {0, 1, GROUP - 2, GROUP - 1}
+    return {
+        "all groups empty": set(blocks),
+        "two groups full": {block for block in blocks if block // GROUP not in (1, 2)},
+        "all groups full but the last one": set(range(5 * GROUP, SMALL_BLOCKS)),
+        "all groups full": set(),
+        "free at the edges of groups": {block for block in blocks if block % GROUP in edges},
+        "one free in each group": {GROUP * group + 255 for group in range(5)} | {SMALL_BLOCKS - 1},
+        "runs over the edges": {block for block in blocks if (block + 20) % GROUP < 40},
+        "runs of 31": {block for block in blocks if block % 32},
+        "a third, drawn": set(rng.sample(blocks, SMALL_BLOCKS // 3)),
+        "nearly all, drawn": set(rng.sample(blocks, SMALL_BLOCKS - 60)),
+    }
+
+
+def small_results(context: Context, program: Program) -> Iterator[Result]:
+    """Disks of six groups, for each kind, hint and count."""
+    path = context.folder / "choices.img"
+    asks = [Ask(word, hint, count) for hint in hints_of(SMALL_BLOCKS) for count in COUNTS for word in ("alloc", "contig")]
+    for name, free in small_disks(context.random("small choices")).items():
+        write_disk(path, SMALL_BLOCKS, free)
+        ascending = sorted(free)
+        for place in PLACES:
+            yield result(name, program, path, place, list(rows_of(place, ascending, asks)))
+    path.unlink()
+
+
+def holes_of(rng: random.Random, blocks: int) -> Set[int]:
+    """Holes of a large disk: a few hundred runs of free blocks, some over edges of groups, and one in its last block."""
+    free = {blocks - 1}
+    for _ in range(400):
+        first = rng.choice((rng.randrange(1, blocks), GROUP * rng.randrange(1, blocks // GROUP) - rng.randrange(12)))
+        free |= set(range(first, min(first + rng.choice((1, 2, 5, 31, 40)), blocks)))
+    return free
+
+
+def large_results(context: Context, program: Program) -> Iterator[Result]:
+    """A large disk with holes, and the same with few live blocks in the places of the holes."""
+    path, rng = context.folder / "holes.img", context.random("large choices")
+    blocks = CHECKED_BLOCKS if is_checked(program) else LARGE_BLOCKS
+    hints = [*hints_of(blocks), *(rng.randrange(blocks) for _ in range(10))]
+    asks = [Ask(word, hint, count) for hint in hints for count in COUNTS for word in ("alloc", "contig")]
+    holes = holes_of(rng, blocks)
+    write_disk(path, blocks, holes)
+    for place in PLACES:
+        yield result(f"{blocks} blocks with holes", program, path, place, list(rows_of(place, sorted(holes), asks)))
+    write_disk(path, blocks, set(range(1, blocks)) - holes)
+    ascending = sorted(set(range(1, blocks)) - holes)
+    for place in PLACES:
+        some = [Ask("alloc", rng.choice(hints), 2), Ask("contig", rng.choice(hints), 32)]
+        yield result(f"{blocks} blocks, few of them live", program, path, place, list(rows_of(place, ascending, some)))
+    path.unlink()
+
+
+def run(context: Context) -> Iterator[Result]:
+    """Small disks and large ones."""
+    program = Program(context.program)
+    yield from small_results(context, program)
+    yield from large_results(context, program)
