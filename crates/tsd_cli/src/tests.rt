@@ -224,7 +224,7 @@ fn an_output_that_fails_says_why(rt: HostRuntime) -> Result<(), Fail> {
 }
 
 /// The words that a reader of the help looks for: each command, each status, and where more is told.
-const TOLD: [&str; 20] = [
+const TOLD: [&str; 22] = [
     USAGE,
     "\n  fresh ",
     "\n  format ",
