@@ -19,12 +19,12 @@ use Rattle.image_audit.specs.declared.entry.Entry.{Entry}
 use Rattle.image_audit.specs.Depths.{AreReached}
 use Rattle.image_audit.specs.Laws.{listings_from}
 use Rattle.image_runs.specs.Opened.{IsJudged, IsNotImage, IsUnopened}
-use Rattle.image_runs.specs.Sending.{IsCut, IsEnding}
+use Rattle.image_runs.specs.Sending.{ProperFrontWasSent, IsEnding}
 use Rattle.audit_runs.specs.Answering.{HasAnswered, IsUnanswered, IsUnread}
 use Rattle.audit_runs.specs.Audit.{HasAudited, IsAudit, IsAuditOf, listings_text}
 use Rattle.audit_runs.specs.Certificate.{IsCertificate, IsFirstRefused}
 use Rattle.audit_runs.specs.Found.{IsFoundIn}
-use Rattle.audit_runs.specs.Verify.{HasVerified, IsAnswer, IsAnswerOf, IsFormAnswer, IsVerdictAnswer, IsVerifyEnding}
+use Rattle.audit_runs.specs.Verify.{HasVerified, IsVerdictOver, IsAnswerOf, IsFormAnswer, IsVerdictAnswer, IsVerifyEnding}
 use Rattle.audit_runs.proofs.LikeLaws.{reached_like, verdict_like}
 
 -- ---- what a crash leaves while a text is put
@@ -44,8 +44,8 @@ told_moments old mid new text Says sound is sent before putting =
     (λ x f left part. (left.0, inr (text, is, subst (λ (b : List ℕ). IsPart b text f) sent part)))
 
 -- a text that was cut, from what was sent before the work
-pub cut_from : (before mid : List ℕ) (text now : List ℕ) → mid ≡ before → IsCut mid text now → IsCut before text now
-cut_from before mid text now sent cut = subst (λ (b : List ℕ). IsCut b text now) sent cut
+pub cut_from : (before mid : List ℕ) (text now : List ℕ) → mid ≡ before → ProperFrontWasSent mid text now → ProperFrontWasSent before text now
+cut_from before mid text now sent cut = subst (λ (b : List ℕ). ProperFrontWasSent b text now) sent cut
 
 pub silent_moments : (old new : View) (Says : List ℕ → Type 0) → LeavesOnly old new (λ x f. StandAlike old.reads x × (f ≡ old.sent))
     → LeavesOnly old new (λ x f. StandAlike old.reads x × ((f ≡ old.sent) ⊎ ((t : List ℕ) × Says t × IsPart old.sent t f)))
@@ -89,7 +89,7 @@ unopened_ends (status.RootDenied level) stops = absurd stops
 
 -- ---- verify
 
-answer_like : (v w : World) (lines : List (List ℕ)) (text : List ℕ) → AreLike v w → IsAnswer v lines text → IsAnswer w lines text
+answer_like : (v w : World) (lines : List (List ℕ)) (text : List ℕ) → AreLike v w → IsVerdictOver v lines text → IsVerdictOver w lines text
 answer_like v w lines text like (inl form) = inl (record { fault = form.fault; first = subst (λ (g : Geometry). IsFirstRefused lines g.blocks form.fault.line) like.geometry form.first; says = form.says })
 answer_like v w lines text like (inr shown) = inr (record {
   entries = shown.entries;
@@ -99,8 +99,8 @@ answer_like v w lines text like (inr shown) = inr (record {
   says = shown.says;
 })
 
-pub answer_on : (image : Image) (v w : World) (bytes text : List ℕ) → IsGood image → AreLike v w → w ≡ world_of image → IsAnswer v (all_lines bytes) text → IsAnswerOf image bytes text
-answer_on image v w bytes text good like is answer = record { good = good; answer = subst (λ (x : World). IsAnswer x (all_lines bytes) text) is (answer_like v w (all_lines bytes) text like answer) }
+pub answer_on : (image : Image) (v w : World) (bytes text : List ℕ) → IsGood image → AreLike v w → w ≡ world_of image → IsVerdictOver v (all_lines bytes) text → IsAnswerOf image bytes text
+answer_on image v w bytes text good like is answer = record { good = good; answer = subst (λ (x : World). IsVerdictOver x (all_lines bytes) text) is (answer_like v w (all_lines bytes) text like answer) }
 
 pub unverified : (why : Status) (image : Image) (bytes before now : List ℕ) → IsUnanswered why → IsJudged image why → now ≡ before → HasVerified why image bytes before now
 unverified (status.NotImage why) image bytes before now stops judged sent = (judged, sent)

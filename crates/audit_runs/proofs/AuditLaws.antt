@@ -15,8 +15,8 @@ use Rattle.image_audit.specs.declared.verdict.Verdict.TheVariants as verdict
 use Rattle.image_audit.specs.Certificates.{IsVerdict}
 use Rattle.image_audit.specs.Depths.{AreReached, IsDepth, IsEntryOf, IsParent, IsPath}
 use Rattle.image_audit.specs.Entries.{entry_at, is_listed}
-use Rattle.image_audit.specs.Laws.{AreTaken, IsWhole, listings_from}
-use Rattle.image_audit.specs.Listing.{IsListing, IsRefused, MayFollow}
+use Rattle.image_audit.specs.Laws.{AreTaken, IsWholeWorld, listings_from}
+use Rattle.image_audit.specs.Listing.{IsListing, ListsNone, MayFollow}
 use Rattle.image_audit.specs.Texts.{verdict_words}
 use Rattle.image_audit.proofs.PathLaws.{path_of_round, reached_by_path}
 use Rattle.image_audit.proofs.TakingLaws.{one_listing, taken_behind}
@@ -24,7 +24,7 @@ use Rattle.image_audit.proofs.VerdictLaws.{found_closed, found_no_bad, found_pri
 use Rattle.audit_runs.specs.Audit.{IsAudit, listings_text}
 use Rattle.audit_runs.specs.Certificate.{AreSpelled, IsCertificate, IsFirstRefused}
 use Rattle.audit_runs.specs.Laws.{AuditsAreAnsweredYes, YesMeansReached, yes_line}
-use Rattle.audit_runs.specs.Verify.{IsAnswer, IsFormAnswer, IsVerdictAnswer}
+use Rattle.audit_runs.specs.Verify.{IsVerdictOver, IsFormAnswer, IsVerdictAnswer}
 use Rattle.audit_runs.proofs.TextLaws.{IsSmall, small_from, small_spelled}
 
 -- ---- lines are one certificate
@@ -41,7 +41,7 @@ one_end (x ∷ xs) (k ∷ ks) (l ∷ ls) old one other hk hl tk tl =
     one_end xs ks ls (slice_set old l.block (Some l.entry)) one other hk.1 hl.1 (subst (λ (m : Listing). AreTaken ks (slice_set old m.block (Some m.entry)) one) same tk.1) tl.1
 
 -- where all lines are taken, none of them is refused
-none_refused : (before : List (List ℕ)) (line : List ℕ) (behind : List (List ℕ)) (ks ls : List Listing) (old one other : List (Option Entry)) → AreSpelled before ks → AreTaken ks old one → IsRefused line one
+none_refused : (before : List (List ℕ)) (line : List ℕ) (behind : List (List ℕ)) (ks ls : List Listing) (old one other : List (Option Entry)) → AreSpelled before ks → AreTaken ks old one → ListsNone line one
     → AreSpelled (before ++ line ∷ behind) ls → AreTaken ls old other → ⊥
 none_refused [] line behind [] [] old one other hk tk refused hl tl = hl
 none_refused [] line behind [] (l ∷ ls) old one other hk tk refused hl tl = refused l hl.0 (subst (λ es. MayFollow es l.block) (sym tk) tl.0)
@@ -55,7 +55,7 @@ none_refused (x ∷ xs) line behind (k ∷ ks) (l ∷ ls) old one other hk tk re
 -- ---- the certificate of a world
 
 module _ (w : World) (valid : IsValid w) where
-  whole : IsWhole w
+  whole : IsWholeWorld w
   whole = record { each_block = valid.raw.sized.each_block; targets = valid.raw.targets }
 
   few : w.geometry.primaries < w.geometry.blocks

@@ -10,7 +10,7 @@ use Rattle.disk_laws.specs.Bytes.{AreLike}
 use Rattle.image_audit.specs.declared.entry.Entry.{Entry}
 use Rattle.image_audit.specs.declared.verdict.Verdict.{Verdict}
 use Rattle.image_audit.specs.declared.verdict.Verdict.TheVariants as verdict
-use Rattle.image_audit.specs.Certificates.{HasGoodEntries, HasParent, HasPrimaries, IsBad, IsBelow, IsClosed, IsFirst, IsGood, IsLeastBad, IsLeastOut, IsLeastPrimaryOut, IsVerdict, LeavesList}
+use Rattle.image_audit.specs.Certificates.{HasGoodEntries, HasParent, ListsPrimaries, IsBad, IsBelow, IsClosed, IsPrimaryEntry, IsGoodEntry, IsLeastBadEntry, IsLeastOut, IsLeastPrimaryOut, IsVerdict, LeavesList}
 use Rattle.image_audit.specs.Depths.{AreReached, IsDepth, IsEntryOf, IsParent, IsPath, LeadsTo, LeadsToFirst}
 use Rattle.image_audit.specs.Entries.{entry_at}
 
@@ -69,20 +69,20 @@ reached_like v w like entries h = subst (λ (roots : List ℕ). AreReached w roo
 primary_like : (v w : World) → AreLike v w → (b : ℕ) → is_primary v b ≡ is_primary w b
 primary_like v w like b = ap (λ (g : Geometry). nat_lt b g.primaries) like.geometry
 
-all_primaries : (v w : World) → AreLike v w → (es : List (Option Entry)) → HasPrimaries v es → HasPrimaries w es
+all_primaries : (v w : World) → AreLike v w → (es : List (Option Entry)) → ListsPrimaries v es → ListsPrimaries w es
 all_primaries v w like es h b p = h b (primary_like v w like b ∙ p)
 
 above_like : (v w : World) → AreLike v w → (es : List (Option Entry)) (b d : ℕ) (p : Option ℕ) → HasParent v es b d p → HasParent w es b d p
 above_like v w like es b d None h = h
 above_like v w like es b d (Some a) h = record { listed = h.listed; points = held_like v w like a b h.points; depth = h.depth }
 
-good_like : (v w : World) → AreLike v w → (es : List (Option Entry)) (b : ℕ) (e : Entry) → IsGood v es b e → IsGood w es b e
-good_like v w like es b e h = elim (is_primary w b) as (λ t. MatchBool t (IsFirst e) (HasParent v es b e.depth e.parent) → MatchBool t (IsFirst e) (HasParent w es b e.depth e.parent)) [
+good_like : (v w : World) → AreLike v w → (es : List (Option Entry)) (b : ℕ) (e : Entry) → IsGoodEntry v es b e → IsGoodEntry w es b e
+good_like v w like es b e h = elim (is_primary w b) as (λ t. MatchBool t (IsPrimaryEntry e) (HasParent v es b e.depth e.parent) → MatchBool t (IsPrimaryEntry e) (HasParent w es b e.depth e.parent)) [
   | true ↦ λ f. f
   | false ↦ λ f. above_like v w like es b e.depth e.parent f
-] (subst (λ t. MatchBool t (IsFirst e) (HasParent v es b e.depth e.parent)) (primary_like v w like b) h)
+] (subst (λ t. MatchBool t (IsPrimaryEntry e) (HasParent v es b e.depth e.parent)) (primary_like v w like b) h)
 
-each_good : (v w : World) → AreLike v w → (es : List (Option Entry)) (b : ℕ) (o : Option Entry) → IfSome o (IsGood v es b) → IfSome o (IsGood w es b)
+each_good : (v w : World) → AreLike v w → (es : List (Option Entry)) (b : ℕ) (o : Option Entry) → IfSome o (IsGoodEntry v es b) → IfSome o (IsGoodEntry w es b)
 each_good v w like es b None h = tt
 each_good v w like es b (Some e) h = good_like v w like es b e h
 

@@ -9,7 +9,7 @@ use Rattle.image_audit.specs.declared.certificate.FormFault.{FormFault}
 use Rattle.image_audit.specs.declared.entry.Entry.{Entry}
 use Rattle.image_audit.specs.declared.listing.Listing.{Listing}
 use Rattle.image_audit.specs.Laws.{AreTaken}
-use Rattle.image_audit.specs.Listing.{IsListing, IsNotTaken, IsRefused, IsTaken, Listed, MayFollow}
+use Rattle.image_audit.specs.Listing.{IsListing, IsNotTaken, ListsNone, IsListingTaken, Listed, MayFollow}
 use Rattle.image_audit.specs.ListingReading.{listing_of}
 use Rattle.image_audit.proofs.ListingLaws.{line_back, line_is}
 use Rattle.audit_runs.specs.Certificate.{AreSpelled, IsCertificate, IsFirstRefused}
@@ -29,7 +29,7 @@ says_long : (ls : List Listing) → length (says ls) ≡ length ls
 says_long [] = refl
 says_long (l ∷ ls) = ap suc (says_long ls)
 
-pub taken_more : (blocks : ℕ) (said : List (Option Listing)) (one : Option Listing) (c d : Listed) → TakenAll blocks said c → IsTaken one c.entries d.entries → d.lines ≡ min (c.lines + 1) (2 ^ 64 - 1) → length said < 2 ^ 64 - 1
+pub taken_more : (blocks : ℕ) (said : List (Option Listing)) (one : Option Listing) (c d : Listed) → TakenAll blocks said c → IsListingTaken one c.entries d.entries → d.lines ≡ min (c.lines + 1) (2 ^ 64 - 1) → length said < 2 ^ 64 - 1
     → TakenAll blocks (said ++ one ∷ []) d
 taken_more blocks said one c d was taken counts few = record {
   listings = was.listings ++ taken.listing ∷ [];
@@ -71,7 +71,7 @@ taken_none blocks c none new = record { listings = []; say = refl; taken = none;
 
 -- where nothing was refused before
 
-pub taken_next : (blocks : ℕ) (said : List (Option Listing)) (one : Option Listing) (fault : Option FormFault) (c d : Listed) → is_some fault ≡ false → HasTaken blocks said fault c → IsTaken one c.entries d.entries → d.lines ≡ min (c.lines + 1) (2 ^ 64 - 1) → length said < 2 ^ 64 - 1
+pub taken_next : (blocks : ℕ) (said : List (Option Listing)) (one : Option Listing) (fault : Option FormFault) (c d : Listed) → is_some fault ≡ false → HasTaken blocks said fault c → IsListingTaken one c.entries d.entries → d.lines ≡ min (c.lines + 1) (2 ^ 64 - 1) → length said < 2 ^ 64 - 1
     → TakenAll blocks (said ++ one ∷ []) d
 taken_next blocks said one None c d none was taken counts few = taken_more blocks said one c d was taken counts few
 taken_next blocks said one (Some f) c d none was taken counts few = absurd (both_ways true none refl)

@@ -10,7 +10,8 @@ abbrev pub IsAnsweredTo : {T : Type 0} → Result T Status → Taking → (List 
 IsAnsweredTo (Ok x) source holds bytes = (length bytes ≤ 2 ^ 40) × source.at_end × holds bytes
 IsAnsweredTo (Err why) source holds bytes = IsTakenBy why source bytes
 
-pub record HasAnswered {T : Type 0} (result : Result T Status) (source : Taking) (holds : List ℕ → Type 0) : Type 0 where
+pub record HasAnswered {T : Type 0} (result : Result T Status) (source : Taking)
+    (holds : List ℕ → Type 0) : Type 0 where
   pub bytes : List ℕ
   pub came_in : source.came bytes
   pub taken : IsAnsweredTo result source holds bytes

@@ -13,7 +13,7 @@ use Rattle.image_audit.specs.declared.listing.Listing.{Listing}
 use Rattle.image_audit.specs.Depths.{AreReached}
 use Rattle.image_audit.specs.Laws.{listings_from}
 use Rattle.image_audit.specs.Texts.{listing_words}
-use Rattle.image_runs.specs.Sending.{IsCut}
+use Rattle.image_runs.specs.Sending.{ProperFrontWasSent}
 
 -- a line for each
 abbrev pub listings_text : List Listing → List ℕ
@@ -35,7 +35,8 @@ pub record IsAuditOf (image : Image) (text : List ℕ) : Type 0 where
 -- What was sent by the time that it ended so: the certificate, whole or a proper front of it, or nothing.
 abbrev pub HasAudited : Status → Image → List ℕ → List ℕ → Type 0
 HasAudited status.Done image before now = (text : List ℕ) × IsAuditOf image text × (now ≡ before ++ text)
-HasAudited status.PutFault image before now = (text : List ℕ) × IsAuditOf image text × IsCut before text now
+HasAudited status.PutFault image before now =
+    (text : List ℕ) × IsAuditOf image text × ProperFrontWasSent before text now
 HasAudited (status.NotImage why) image before now = IsFirstFault image why × (now ≡ before)
 HasAudited status.DeviceFault image before now = now ≡ before
 HasAudited status.NoMemory image before now = now ≡ before

@@ -3,7 +3,7 @@ use Rattle.std.specs.Prelude.{◌≡◌, ℕ, suc, List, [], ◌∷◌, ◌++◌
 use Rattle.image_audit.specs.declared.entry.Entry.{Entry}
 use Rattle.image_audit.specs.declared.listing.Listing.{Listing}
 use Rattle.image_audit.specs.Laws.{AreTaken}
-use Rattle.image_audit.specs.Listing.{IsListing, IsRefused}
+use Rattle.image_audit.specs.Listing.{IsListing, ListsNone}
 
 -- the lines spell these, one each
 abbrev pub AreSpelled : List (List ℕ) → List Listing → Type 0
@@ -26,5 +26,5 @@ pub record IsFirstRefused (lines : List (List ℕ)) (blocks number : ℕ) : Type
   pub parts : lines ≡ before ++ line ∷ behind
   pub entries : List (Option Entry)
   pub taken : IsCertificate before blocks entries
-  pub refused : IsRefused line entries
+  pub refused : ListsNone line entries
   pub at : number ≡ suc (length before)

@@ -11,7 +11,7 @@ use Rattle.image_audit.specs.Entries.{is_listed}
 use Rattle.image_audit.specs.Texts.{verdict_words}
 use Rattle.audit_runs.specs.Audit.{IsAudit}
 use Rattle.audit_runs.specs.Certificate.{IsCertificate}
-use Rattle.audit_runs.specs.Verify.{IsAnswer}
+use Rattle.audit_runs.specs.Verify.{IsVerdictOver}
 
 -- the answer yes, of so many blocks
 abbrev pub yes_line : ℕ → List ℕ
@@ -20,10 +20,12 @@ yes_line n = line_of (verdict_words (verdict.Yes n))
 -- What `audit` puts is answered yes over the same world.
 abbrev pub AuditsAreAnsweredYes : Type 0
 AuditsAreAnsweredYes =
-    (w : World) (text answer : List ℕ) → IsValid w → IsAudit w text → IsAnswer w (all_lines text) answer → (n : ℕ) × (answer ≡ yes_line n)
+    (w : World) (text answer : List ℕ) → IsValid w → IsAudit w text → IsVerdictOver w (all_lines text) answer
+    → (n : ℕ) × (answer ≡ yes_line n)
 
 -- Where the answer is yes, whoever made the certificate, exactly the listed blocks are reached.
 abbrev pub YesMeansReached : Type 0
 YesMeansReached =
-    (w : World) (lines : List (List ℕ)) (n : ℕ) → IsValid w → IsAnswer w lines (yes_line n)
-    → (entries : List (Option Entry)) × IsCertificate lines w.geometry.blocks entries × ((b : ℕ) → is_listed entries b ≡ has_number (reach w) b)
+    (w : World) (lines : List (List ℕ)) (n : ℕ) → IsValid w → IsVerdictOver w lines (yes_line n)
+    → (entries : List (Option Entry)) × IsCertificate lines w.geometry.blocks entries
+    × ((b : ℕ) → is_listed entries b ≡ has_number (reach w) b)

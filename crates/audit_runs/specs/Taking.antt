@@ -1,5 +1,6 @@
 -- A certificate takes what the lines of an input say, one after another.
-use Rattle.std.specs.Prelude.{◌≡◌, ℕ, suc, ◌+◌, ◌^◌, ◌<◌, ◌≤◌, List, [], ◌∷◌, ◌++◌, Option, Some, None, Result, Ok, Err, MatchOption, length, map, replicate}
+use Rattle.std.specs.Prelude.{◌≡◌, ℕ, suc, ◌+◌, ◌^◌, ◌<◌, ◌≤◌, List, [], ◌∷◌, ◌++◌, Option, Some, None, Result, Ok, Err}
+use Rattle.std.specs.Prelude.{MatchOption, length, map, replicate}
 use Rattle.script_text.specs.Pieces.{all_lines}
 use Rattle.serving.specs.Ran.{Taking}
 use Rattle.tsd_words.specs.declared.status.Status.{Status}
@@ -34,15 +35,18 @@ HasTaken blocks said fault c = MatchOption fault (TakenAll blocks said c) (Refus
 
 -- what the lines of an input are to a certificate: one with these entries, or a line is refused
 abbrev pub IsReadAs : ℕ → List (List ℕ) → Option FormFault → List (Option Entry) → Type 0
-IsReadAs blocks lines fault entries = MatchOption fault (IsCertificate lines blocks entries) (λ f. IsFirstRefused lines blocks f.line)
+IsReadAs blocks lines fault entries =
+    MatchOption fault (IsCertificate lines blocks entries) (λ f. IsFirstRefused lines blocks f.line)
 
 -- these bytes of it came in
 abbrev pub IsReadTo : ℕ → Result (Option FormFault) Status → List (Option Entry) → Taking → List ℕ → Type 0
-IsReadTo blocks (Ok fault) entries source bytes = (length bytes ≤ 2 ^ 40) × source.at_end × IsReadAs blocks (all_lines bytes) fault entries
+IsReadTo blocks (Ok fault) entries source bytes =
+    (length bytes ≤ 2 ^ 40) × source.at_end × IsReadAs blocks (all_lines bytes) fault entries
 IsReadTo blocks (Err why) entries source bytes = IsTakenBy why source bytes
 
 -- an input was read to its end, or the status says why it wasn't
-pub record HasRead (blocks : ℕ) (result : Result (Option FormFault) Status) (entries : List (Option Entry)) (source : Taking) : Type 0 where
+pub record HasRead (blocks : ℕ) (result : Result (Option FormFault) Status) (entries : List (Option Entry))
+    (source : Taking) : Type 0 where
   pub bytes : List ℕ
   pub came_in : source.came bytes
   pub taken : IsReadTo blocks result entries source bytes

@@ -11,7 +11,7 @@ ghost use Rattle.volume_laws.specs.Writes.{Works};
 ghost use Rattle.image_runs.specs.Opened.{IsJudged, IsNotImage};
 ghost use Rattle.audit_runs.specs.Answering.{HasAnswered, IsUnanswered, IsUnread};
 ghost use Rattle.audit_runs.specs.Taking.{IsReadAs};
-ghost use Rattle.audit_runs.specs.Verify.{IsAnswer, IsAnswerOf, VerifyRan};
+ghost use Rattle.audit_runs.specs.Verify.{IsVerdictOver, IsAnswerOf, VerifyRan};
 
 use crate::taking::take_lines;
 use image_audit::{Certificate, FormFault, fault_line, verdict_line, verify};
@@ -91,7 +91,7 @@ fn read_and_verify<S: Source>(
 ) -> Result<(), Status>
     requires { IsVolumeReady volume.now }
     ensures answered { HasAnswered result (taking S.told S.taken S.left_bytes S.ended source.old source.new)
-        (λ bytes. IsAnswer (told_by volume.now) (all_lines bytes) line.new) }
+        (λ bytes. IsVerdictOver (told_by volume.now) (all_lines bytes) line.new) }
     ensures stops { IfErr result IsUnread }
     ensures faults { CountsFaultOf Status.SourceFault result (S.faults source.old) (S.faults source.new) }
 {
@@ -113,7 +113,7 @@ fn answer_line(volume: &Volume, certificate: &Certificate, fault: Option<FormFau
     requires blocks { length certificate.now.entries ≡ volume.now.tables.geometry.blocks }
     ensures { (lines : List (List ℕ))
         → IsReadAs (told_by volume.now).geometry.blocks lines fault certificate.now.entries
-        → IsAnswer (told_by volume.now) lines result }
+        → IsVerdictOver (told_by volume.now) lines result }
 {
     match fault {
         Some(fault) => fault_line(&fault),

@@ -11,7 +11,7 @@ use Rattle.std.proofs.lemmas.Grind.{one_shifted}
 use Rattle.tsd_model.specs.Geometry.{IsLawful}
 use Rattle.tsd_model.specs.declared.geometry.Geometry.{Geometry}
 use Rattle.block_alloc.specs.LiveMap.{is_live, free_count, IsTable}
-use Rattle.block_alloc.specs.Bytes.{bit_in, bits_of, AreBits, IsPut, IsKept}
+use Rattle.block_alloc.specs.Bytes.{bit_in, bits_of, AreBits, IsBitPut, IsMapKept}
 
 pub length-bits_of : (bytes : List ℕ) (len : ℕ) → length (bits_of bytes len) ≡ len
 length-bits_of bytes len = length-map-range_with_len (bit_in bytes) 0 len
@@ -43,16 +43,16 @@ bits-changed old new len b bit h same others =
     ]
 
 -- the bits are kept as before
-pub bits-put : (len : ℕ) (old new : List ℕ) (b : ℕ) (bit : Bool) → AreBits len old → b < len → IsPut old new b bit → AreBits len new
+pub bits-put : (len : ℕ) (old new : List ℕ) (b : ℕ) (bit : Bool) → AreBits len old → b < len → IsBitPut old new b bit → AreBits len new
 bits-put len old new b bit kept h put = record {
   whole = put.whole ∙ kept.whole;
   ends = λ k g. put.others k (λ e. omega arith) ∙ kept.ends k g;
 }
 
 -- and with them a map
-pub kept-put : (blocks : ℕ) (bytes unhidden bytes' unhidden' : List ℕ) (b free free' : ℕ) (bit rest : Bool) → IsKept blocks bytes unhidden free → b < blocks
-    → (rest ≡ true → bit ≡ true) → IsPut bytes bytes' b bit → IsPut unhidden unhidden' b rest → free' ≡ free_count (bits_of unhidden' blocks)
-    → IsKept blocks bytes' unhidden' free'
+pub kept-put : (blocks : ℕ) (bytes unhidden bytes' unhidden' : List ℕ) (b free free' : ℕ) (bit rest : Bool) → IsMapKept blocks bytes unhidden free → b < blocks
+    → (rest ≡ true → bit ≡ true) → IsBitPut bytes bytes' b bit → IsBitPut unhidden unhidden' b rest → free' ≡ free_count (bits_of unhidden' blocks)
+    → IsMapKept blocks bytes' unhidden' free'
 kept-put blocks bytes unhidden bytes' unhidden' b free free' bit rest kept h within raw seen counted = record {
   bitmap = bits-put blocks bytes bytes' b bit kept.bitmap h raw;
   rest = bits-put blocks unhidden unhidden' b rest kept.rest h seen;
@@ -124,7 +124,7 @@ low-none x m k i e h =
     bit_at_and x m i ∙ omega (arith, none)
 
 -- ---- one bit was given a value
-pub count-put : (len : ℕ) (old new : List ℕ) (b : ℕ) (was bit now : Bool) → b < len → bit_in old b ≡ was → IsPut old new b bit → bit ≡ now
+pub count-put : (len : ℕ) (old new : List ℕ) (b : ℕ) (was bit now : Bool) → b < len → bit_in old b ≡ was → IsBitPut old new b bit → bit ≡ now
     → free_count (bits_of new len) + cond (not was) 1 0 ≡ free_count (bits_of old len) + cond (not now) 1 0
 count-put len old new b was bit now h is put becomes =
     let size = length-bits_of old len in
@@ -136,7 +136,7 @@ pub count-most : (len : ℕ) (bytes : List ℕ) → free_count (bits_of bytes le
 count-most len bytes = let most = free_count-le (bits_of bytes len) in let size = length-bits_of bytes len in omega (arith, most, size)
 
 -- ---- a map that is so kept is a table
-pub kept-table : (g : Geometry) (bytes unhidden : List ℕ) (free : ℕ) → IsLawful g → IsKept g.blocks bytes unhidden free
+pub kept-table : (g : Geometry) (bytes unhidden : List ℕ) (free : ℕ) → IsLawful g → IsMapKept g.blocks bytes unhidden free
     → IsTable (record { geometry = g; live = bits_of bytes g.blocks; unhidden = bits_of unhidden g.blocks })
 kept-table g bytes unhidden free lawful kept = record {
   lawful = lawful;

@@ -1,5 +1,6 @@
 -- Bits in bytes: eight blocks a byte, the first of them in the lowest bit.
-use Rattle.std.specs.Prelude.{◌≡◌, ◌≢◌, ℕ, ◌+◌, ◌*◌, ◌/◌, ◌%◌, ◌≤◌, ◌==◌, Bool, true, false, cond, List, [], ◌∷◌, length, map, take, drop, slice_index}
+use Rattle.std.specs.Prelude.{◌≡◌, ◌≢◌, ℕ, ◌+◌, ◌*◌, ◌/◌, ◌%◌, ◌≤◌, ◌==◌, Bool, true, false, cond, List, [], ◌∷◌}
+use Rattle.std.specs.Prelude.{length, map, take, drop, slice_index}
 use Rattle.std.specs.List.{range_with_len}
 use Rattle.std.specs.Int.{bit_at, div_ceil}
 use Rattle.block_alloc.specs.LiveMap.{free_count}
@@ -17,16 +18,16 @@ pub record AreBits (blocks : ℕ) (bytes : List ℕ) : Type 0 where
   pub whole : length bytes ≡ div_ceil blocks 8
   pub ends : (b : ℕ) → blocks ≤ b → bit_in bytes b ≡ false
 
--- How a map of so many blocks is kept: the bits of the bitmap, those of the blocks that aren't hidden, and how many blocks are
--- free.
-pub record IsKept (blocks : ℕ) (bytes unhidden : List ℕ) (free : ℕ) : Type 0 where
+-- How a map of so many blocks is kept: the bits of the bitmap, those of the blocks that aren't hidden, and how many
+-- blocks are free.
+pub record IsMapKept (blocks : ℕ) (bytes unhidden : List ℕ) (free : ℕ) : Type 0 where
   pub bitmap : AreBits blocks bytes
   pub rest : AreBits blocks unhidden
   pub are_live : (b : ℕ) → bit_in unhidden b ≡ true → bit_in bytes b ≡ true
   pub counted : free ≡ free_count (bits_of unhidden blocks)
 
 -- one bit was given a value, and all others are as before
-pub record IsPut (old new : List ℕ) (b : ℕ) (bit : Bool) : Type 0 where
+pub record IsBitPut (old new : List ℕ) (b : ℕ) (bit : Bool) : Type 0 where
   pub whole : length new ≡ length old
   pub same : bit_in new b ≡ bit
   pub others : (k : ℕ) → k ≢ b → bit_in new k ≡ bit_in old k

@@ -17,4 +17,5 @@ is_run_within rank live run ceiling b = is_free_run live run b && is_within ceil
 -- kept are the wanted ones of least rank among those of these blocks from `start` on
 abbrev pub IsKeptFrom : (ℕ → ℕ) → List Bool → ℕ → Option ℕ → ℕ → ℕ → List Ranked → Type 0
 IsKeptFrom rank live run ceiling wanted start kept =
-    kept ≡ least_of rank wanted (filter (is_run_within rank live run ceiling) (range_with_len start (length live - start)))
+    kept
+    ≡ least_of rank wanted (filter (is_run_within rank live run ceiling) (range_with_len start (length live - start)))

@@ -47,8 +47,8 @@ Completes live g patch =
 abbrev pub patched : List Bool → Geometry → ℕ → Image → Image
 patched live g b x = put_at (sector_of g b) (bitmap_sector_bytes live (b / per_sector)) x
 
--- From image x, where a map was `live`, to image y, where it is `now`: each block's sector is patched, or it is as before and
--- the block didn't change.
+-- From image x, where a map was `live`, to image y, where it is `now`: each block's sector is patched, or it is as
+-- before and the block didn't change.
 abbrev pub ArePatched : List Bool → List Bool → Geometry → Image → Image → Type 0
 ArePatched live now g x y =
     (b : ℕ) → b < g.blocks

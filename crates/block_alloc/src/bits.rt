@@ -5,7 +5,7 @@ ghost use Rattle.std.specs.List.{list_all};
 ghost use Rattle.std.specs.Prelude.{◌==◌, ◌^◌, cond, true, false, length, slice_index, IfOk, IsTrue};
 ghost use Rattle.std.specs.Int.{bit_at, div_ceil};
 ghost use Rattle.block_alloc.specs.LiveMap.{free_count};
-ghost use Rattle.block_alloc.specs.Bytes.{bit_in, bits_of, AreBits, IsPut};
+ghost use Rattle.block_alloc.specs.Bytes.{bit_in, bits_of, AreBits, IsBitPut};
 
 use image_layout::bit_mask;
 use image_layout::sectors::SECTOR_BYTES;
@@ -104,7 +104,7 @@ pub fn copy_of(alloc: Global, bytes: &[u8]) -> Result<Vec<u8>, AllocError>
 /// Gives a bit a value.
 pub fn put_bit(bytes: &mut Vec<u8>, b: u32, bit: bool)
     requires { b / 8 < length bytes.old.items }
-    ensures { IsPut bytes.old.items bytes.new.items b bit }
+    ensures { IsBitPut bytes.old.items bytes.new.items b bit }
 {
     let place = (b / BYTE_BITS) as usize;
     bytes[place] = with_bit(bytes[place], b, bit);
@@ -115,7 +115,7 @@ pub fn put_counted(bytes: &mut Vec<u8>, len: u32, b: u32, bit: bool, zeros: u32)
     requires inside { b < len }
     requires bits { AreBits len bytes.old.items }
     requires counted { zeros ≡ free_count (bits_of bytes.old.items len) }
-    ensures put { IsPut bytes.old.items bytes.new.items b bit }
+    ensures put { IsBitPut bytes.old.items bytes.new.items b bit }
     ensures counted { result ≡ free_count (bits_of bytes.new.items len) }
 {
     let was = bit_in(bytes, b);

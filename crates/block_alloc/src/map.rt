@@ -42,7 +42,7 @@ pub struct LiveMap {
 
 impl Model for LiveMap {
     ghost use Rattle.block_alloc.specs.LiveMap.{LiveMap as Value_of};
-    ghost use Rattle.block_alloc.specs.Bytes.{bits_of, IsKept};
+    ghost use Rattle.block_alloc.specs.Bytes.{bits_of, IsMapKept};
     ghost use Rattle.tsd_model.specs.Geometry.{IsLawful};
 
     ghost Value = { Value_of };
@@ -53,7 +53,7 @@ impl Model for LiveMap {
       unhidden = bits_of m.unhidden.items m.geometry.blocks;
     } };
 
-    ghost invariant = { λ m. IsLawful m.geometry × IsKept m.geometry.blocks m.bytes.items m.unhidden.items m.free };
+    ghost invariant = { λ m. IsLawful m.geometry × IsMapKept m.geometry.blocks m.bytes.items m.unhidden.items m.free };
 }
 
 impl LiveMap {

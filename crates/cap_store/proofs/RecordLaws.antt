@@ -15,7 +15,7 @@ use Rattle.tsd_model.specs.declared.records.Record.{Record}
 use Rattle.tsd_model.specs.Records.{is_of_version, is_record_of, kept, kept_of, upgraded_kept, upgraded_record}
 use Rattle.image_layout.specs.Header.{IsVersion}
 use Rattle.image_layout.specs.Image.{kept_len}
-use Rattle.cap_store.specs.Store.{IsKept, IsRecord, AreRecords}
+use Rattle.cap_store.specs.Store.{IsOfVersion, IsRecord, AreRecords}
 use Rattle.cap_store.specs.Stored.{kept_as, kept_bytes, record_bytes, record_at}
 
 -- there are two versions
@@ -24,13 +24,13 @@ for_version P one two version (inl is) = subst P (sym is) one
 for_version P one two version (inr is) = subst P (sym is) two
 
 -- ---- what a version keeps
-kept_is : (c : Cap) → length c.bytes ≡ 16 → (version : ℕ) → IsVersion version → IsKept version (kept_of version c)
-kept_is c long = for_version (λ v. IsKept v (kept_of v c)) (refl, long) (refl, length-sha256 c.bytes)
+kept_is : (c : Cap) → length c.bytes ≡ 16 → (version : ℕ) → IsVersion version → IsOfVersion version (kept_of version c)
+kept_is c long = for_version (λ v. IsOfVersion v (kept_of v c)) (refl, long) (refl, length-sha256 c.bytes)
 
 pub record_is : (version : ℕ) (caps : CapPair) → IsVersion version → length caps.read.bytes ≡ 16 → length caps.write.bytes ≡ 16 → IsRecord version (kept version caps)
 record_is version caps is read write = record { read = kept_is caps.read read version is; write = kept_is caps.write write version is }
 
-is_of_version_kept : (version : ℕ) (k : KeptCap) → IsKept version k → is_of_version version k ≡ true
+is_of_version_kept : (version : ℕ) (k : KeptCap) → IsOfVersion version k → is_of_version version k ≡ true
 is_of_version_kept version (Plain c) is = subst (λ v. (v == 1) ≡ true) (sym is.0) refl
 is_of_version_kept version (Digested d) is = subst (λ v. (v == 2) ≡ true) (sym is.0) refl
 
@@ -43,7 +43,7 @@ all_of_version version (x ∷ xs) are =
     (and_from (is_of_version version x.read) (is_of_version version x.write) (is_of_version_kept version x.read first.read) (is_of_version_kept version x.write first.write))
     (all_of_version version xs (λ b s at. are (suc b) s at))
 
-upgraded_is : (k : KeptCap) (version : ℕ) → IsKept version k → IsKept 2 (upgraded_kept k)
+upgraded_is : (k : KeptCap) (version : ℕ) → IsOfVersion version k → IsOfVersion 2 (upgraded_kept k)
 upgraded_is (Plain c) version is = (refl, length-sha256 c.bytes)
 upgraded_is (Digested d) version is = (refl, subst (λ v. length d ≡ kept_len v) is.0 is.1)
 
@@ -55,7 +55,7 @@ upgraded_are version (x ∷ xs) are zero r is =
     subst (IsRecord 2) (same_Some (upgraded_record x) r is) (record { read = upgraded_is x.read version first.read; write = upgraded_is x.write version first.write })
 upgraded_are version (x ∷ xs) are (suc block) r is = upgraded_are version xs (λ b s at. are (suc b) s at) block r is
 
-digest_stays : (k : KeptCap) → IsKept 2 k → upgraded_kept k ≡ k
+digest_stays : (k : KeptCap) → IsOfVersion 2 k → upgraded_kept k ≡ k
 digest_stays (Plain c) is = absurd (let never : 2 ≡ 1 = is.0 in omega arith)
 digest_stays (Digested d) is = refl
 
@@ -68,7 +68,7 @@ upgraded_stays (x ∷ xs) are =
     (λ i. head i ∷ upgraded_stays xs (λ b s at. are (suc b) s at) i)
 
 -- ---- the bytes of a record
-kept_long : (version : ℕ) (k : KeptCap) → IsKept version k → length (kept_bytes k) ≡ kept_len version
+kept_long : (version : ℕ) (k : KeptCap) → IsOfVersion version k → length (kept_bytes k) ≡ kept_len version
 kept_long version (Plain c) is = is.1
 kept_long version (Digested d) is = is.1
 
@@ -86,7 +86,7 @@ records_long version (x ∷ xs) are =
     omega (arith, length-append (record_bytes x) (flat_map record_bytes xs), first, rest)
 
 -- ---- records read back from their bytes
-read_back : (version : ℕ) (k : KeptCap) → IsKept version k → kept_as version (kept_bytes k) ≡ k
+read_back : (version : ℕ) (k : KeptCap) → IsOfVersion version k → kept_as version (kept_bytes k) ≡ k
 read_back version (Plain c) is = subst (λ v. kept_as v c.bytes ≡ Plain c) (sym is.0) refl
 read_back version (Digested d) is = subst (λ v. kept_as v d ≡ Digested d) (sym is.0) refl
 

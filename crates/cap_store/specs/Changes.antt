@@ -15,7 +15,8 @@ patch_of s block = record {
 -- where an image has the records of the store as it was, with the patch it has those of the store as it is
 abbrev pub KeepsStored : Store → Store → Patch → Type 0
 KeepsStored old new patch =
-    (x : Image) → IsStored old.version old.records x → IsStored new.version new.records (put_at patch.sector patch.bytes x)
+    (x : Image) → IsStored old.version old.records x
+    → IsStored new.version new.records (put_at patch.sector patch.bytes x)
 
 -- what an image has of the store as it was it has of the store as it is, but for the sector of this block's record
 abbrev pub KeepsElsewhere : ℕ → Store → Store → Type 0

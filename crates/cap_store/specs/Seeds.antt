@@ -20,7 +20,8 @@ cap_at key stream place = record {
       ++ word_bytes key stream (place + 3);
 }
 
--- the pair of primary block b, from stream 0 of the seed: words 8 b to 8 b + 3 for reading, and the next four for writing
+-- the pair of primary block b, from stream 0 of the seed: words 8 b to 8 b + 3 for reading, and the next four for
+-- writing
 abbrev pub seed_pair : List ℕ → ℕ → CapPair
 seed_pair seed block = record {
   read = cap_at (key_of seed) 0 (8 * block);

@@ -22,13 +22,13 @@ pub record Store : Type 0 where
 
 -- ---- what is right
 -- a capability of 16 bytes in version 1, a digest of 32 in version 2
-abbrev pub IsKept : ℕ → KeptCap → Type 0
-IsKept version (Plain c) = (version ≡ 1) × (length c.bytes ≡ kept_len version)
-IsKept version (Digested d) = (version ≡ 2) × (length d ≡ kept_len version)
+abbrev pub IsOfVersion : ℕ → KeptCap → Type 0
+IsOfVersion version (Plain c) = (version ≡ 1) × (length c.bytes ≡ kept_len version)
+IsOfVersion version (Digested d) = (version ≡ 2) × (length d ≡ kept_len version)
 
 pub record IsRecord (version : ℕ) (r : Record) : Type 0 where
-  pub read : IsKept version r.read
-  pub write : IsKept version r.write
+  pub read : IsOfVersion version r.read
+  pub write : IsOfVersion version r.write
 
 abbrev pub AreRecords : ℕ → List Record → Type 0
 AreRecords version records = (block : ℕ) (r : Record) → slice_get records block ≡ Some r → IsRecord version r

@@ -1,6 +1,7 @@
 -- The sectors that keep the records: in version 1 sixteen records of 32 bytes in the first of two sectors, in version 2
 -- eight of 64 bytes in each.
-use Rattle.std.specs.Prelude.{◌≡◌, ℕ, ◌+◌, ◌-◌, ◌*◌, ◌/◌, ◌<◌, ◌==◌, cond, if◌then◌else◌, Bool, false, List, ◌++◌, length, take, drop, replicate, slice_get, Some}
+use Rattle.std.specs.Prelude.{◌≡◌, ℕ, ◌+◌, ◌-◌, ◌*◌, ◌/◌, ◌<◌, ◌==◌, cond, if◌then◌else◌, Bool, false, List, ◌++◌}
+use Rattle.std.specs.Prelude.{length, take, drop, replicate, slice_get, Some}
 use Rattle.std.specs.List.{flat_map}
 use Rattle.tsd_model.specs.declared.records.KeptCap.{KeptCap}
 use Rattle.tsd_model.specs.declared.records.KeptCap.TheVariants.{Plain, Digested}

@@ -18,7 +18,7 @@ use Rattle.fs_trees.specs.declared.ask.ShellAsk.TheVariants as ask
 use Rattle.fs_trees.specs.declared.refusal.FsRefusal.{FsRefusal}
 use Rattle.fs_laws.proofs.ListLaws.{number_left, number_right, first_in, held_left, held_right, held_append}
 use Rattle.fs_laws.proofs.CountLaws.{times, times-append, apart_times}
-use Rattle.fs_port.specs.View.{View}
+use Rattle.fs_port.specs.View.{DiskView}
 use Rattle.fs_client.specs.declared.client.Client.{Client}
 use Rattle.fs_client.specs.Client.{write_by}
 use Rattle.fs_client.specs.Steps.{Leads, written, no_room_in}
@@ -29,7 +29,7 @@ use Rattle.chain_layout.specs.Listed.{entry_blocks}
 use Rattle.chain_layout.specs.ReadsBack.{are_small}
 use Rattle.chain_reading.specs.Chained.{IsFrom, AreOthers}
 use Rattle.chain_reading.specs.Changed.{file_blocks, file_pairs, file_names, relinked}
-use Rattle.chain_reading.specs.Decided.{IsNew, FileAdded, FileSet}
+use Rattle.chain_reading.specs.Decided.{IsNewFile, FileAdded, FileSet}
 use Rattle.chain_reading.proofs.ChangeLaws.{blocks-append}
 use Rattle.chain_reading.proofs.DecidedLaws.{entry_is_added, entry_is_set}
 use Rattle.chain_changes.specs.Filling.{AreLinkable, NewFile}
@@ -49,7 +49,7 @@ pub small_block : (b : ℕ) → b + 1 < 2 ^ 32 → nat_lt b (2 ^ 32) ≡ true
 small_block b h = grind (arith, nat_tests)
 
 -- the directory's cluster with other entries, as it is read
-module _ (c : Client) (old : View) (n : Name) (page : Page) (x : Putting c old n page) (es : List Entry) (named : all_named es ≡ true) (room : length es ≤ entries_room (block_len old.world.geometry)) (small : are_small (entry_blocks es)) where
+module _ (c : Client) (old : DiskView) (n : Name) (page : Page) (x : Putting c old n page) (es : List Entry) (named : all_named es ≡ true) (room : length es ≤ entries_room (block_len old.world.geometry)) (small : are_small (entry_blocks es)) where
   sized : (16 ≤ block_len old.world.geometry) × (block_len old.world.geometry ≤ 4096)
   sized = page_sized old.world c.root x.chains x.under x.valid.valid x.before page x.behind x.parts x.read
 
@@ -63,7 +63,7 @@ module _ (c : Client) (old : View) (n : Name) (page : Page) (x : Putting c old n
 
 -- ---- a new file whose first block is named there
 
-module _ (c : Client) (old : View) (n : Name) (page : Page) (x : Putting c old n page) (body blocks : List ℕ) (mid : View) (nf : NewFile c old mid page.block 0 body blocks)
+module _ (c : Client) (old : DiskView) (n : Name) (page : Page) (x : Putting c old n page) (body blocks : List ℕ) (mid : DiskView) (nf : NewFile c old mid page.block 0 body blocks)
     (room : ◌≡◌ {A = Option FsRefusal} (no_room_in old.world (clusters_for old.world.geometry (length body) + 0) (clusters_for old.world.geometry (length body) + 0)) None) (linkable : AreLinkable blocks) (some : 0 < length blocks) where
   abbrev pub entered_file : ChainFile
   entered_file = record { name = n; from = page.block; chain = nf.links }
@@ -77,7 +77,7 @@ module _ (c : Client) (old : View) (n : Name) (page : Page) (x : Putting c old n
   pub entered_small : nat_lt (slice_index_or blocks 0 0) (2 ^ 32) ≡ true
   entered_small = small_block (slice_index_or blocks 0 0) (linkable (slice_index_or blocks 0 0) (first_there blocks some))
 
-  pub is_new : IsNew mid.world x.chains page.block (record { name = n; block = slice_index_or blocks 0 0 }) (record { name = n; from = page.block; chain = nf.links })
+  pub is_new : IsNewFile mid.world x.chains page.block (record { name = n; block = slice_index_or blocks 0 0 }) (record { name = n; from = page.block; chain = nf.links })
   is_new = record {
     file = file_in c old n page x 0 body blocks mid nf room mid.world nf.making.geometry page.block (slice_index_or blocks 0 0) (subst (λ o. IsFrom mid.world o nf.links) (first_of_all blocks some) nf.from);
     fresh = ap (λ bs. are_apart (chain_blocks x.chains ++ bs)) own_is ∙ new_apart c old n page x blocks mid.world nf.making;

@@ -17,7 +17,7 @@ use Rattle.fs_trees.specs.declared.refusal.FsRefusal.TheVariants as no
 use Rattle.fs_laws.specs.Stays.{IsUnder}
 use Rattle.fs_laws.proofs.OutsideLaws.{outside_twice}
 use Rattle.fs_laws.proofs.TreeLaws.{named_is_under, read_from_named}
-use Rattle.fs_port.specs.View.{View}
+use Rattle.fs_port.specs.View.{DiskView}
 use Rattle.fs_port.specs.Calls.{IsValidNow}
 use Rattle.fs_port.specs.Files.{Answers, IsEitherTree, LeavesTidyWorld, tree_on}
 use Rattle.fs_client.specs.declared.client.Client.{Client}
@@ -43,7 +43,7 @@ is_false false h = refl
 
 -- The ask isn't refused, and the world has the tree that it makes. If the world was tidy when the call began, all pairs out of named
 -- blocks are named, but for some loose ones.
-pub record Decided (c : Client) (first : View) (a : ShellAsk) (w : World) (Loose : ℕ → ℕ → Type 0) : Type 0 where
+pub record Decided (c : Client) (first : DiskView) (a : ShellAsk) (w : World) (Loose : ℕ → ℕ → Type 0) : Type 0 where
   pub granted : ◌≡◌ {A = Option FsRefusal} (refused_on (mounted_by c) first a) None
   pub answer : (change (tree_on (mounted_by c) first) (free_count first.world) a).answer ≡ done
   pub valid : IsValid w
@@ -64,7 +64,7 @@ None_loose x y = ⊥
 abbrev pub This_loose : ℕ → ℕ → ℕ → ℕ → Type 0
 This_loose d b x y = is_pair d b (x, y) ≡ true
 
-module _ (c : Client) (first : View) (a : ShellAsk) (w : World) (Loose : ℕ → ℕ → Type 0) (x : Decided c first a w Loose) where
+module _ (c : Client) (first : DiskView) (a : ShellAsk) (w : World) (Loose : ℕ → ℕ → Type 0) (x : Decided c first a w Loose) where
   pub decided_named : named_at kind.Chain w c.root ≡ record { blocks = chain_blocks x.chains; pairs = chain_pairs x.chains }
   decided_named = ap by_chains x.under
 
@@ -78,11 +78,11 @@ module _ (c : Client) (first : View) (a : ShellAsk) (w : World) (Loose : ℕ →
   pub decided_either : IsEitherTree (mounted_by c) first a w
   decided_either = (inr (x.tree ∙ sym (after_is (mounted_by c) first a x.granted x.answer)), record { valid = x.valid; geometry = x.geometry; others = x.others })
 
-pub decided_answers : (c : Client) (first : View) (a : ShellAsk) (new : View) (Loose : ℕ → ℕ → Type 0) → Decided c first a new.world Loose → Answers {X = Unit {0}} (mounted_by c) first new a (Ok tt) (λ _ answer. answer ≡ done)
+pub decided_answers : (c : Client) (first : DiskView) (a : ShellAsk) (new : DiskView) (Loose : ℕ → ℕ → Type 0) → Decided c first a new.world Loose → Answers {X = Unit {0}} (mounted_by c) first new a (Ok tt) (λ _ answer. answer ≡ done)
 decided_answers c first a new Loose x = ask_done {X = Unit {0}} (mounted_by c) first new a tt x.granted x.answer x.tree
 
 -- where nothing is loose, the world is left so
-pub decided_leaves : (c : Client) (first : View) (a : ShellAsk) (new : View) → Decided c first a new.world None_loose → new.spent ≡ false → LeavesTidyWorld (mounted_by c) first new
+pub decided_leaves : (c : Client) (first : DiskView) (a : ShellAsk) (new : DiskView) → Decided c first a new.world None_loose → new.spent ≡ false → LeavesTidyWorld (mounted_by c) first new
 decided_leaves c first a new x unspent =
     let named_is = decided_named c first a new.world None_loose x in
     record {
@@ -100,13 +100,13 @@ decided_leaves c first a new x unspent =
 -- ---- the last loose pair goes
 
 -- It is decided, and the pair from a named block to one that isn't named any more is loose.
-pub record LetsGo (c : Client) (first : View) (a : ShellAsk) (w : World) (d b : ℕ) : Type 0 where
+pub record LetsGo (c : Client) (first : DiskView) (a : ShellAsk) (w : World) (d b : ℕ) : Type 0 where
   pub decided : Decided c first a w (This_loose d b)
   pub source : has_number (chain_blocks decided.chains) d ≡ true
   pub held : holds w.pairs d b ≡ true
   pub gone : has_number (chain_blocks decided.chains) b ≡ false
 
-module _ (c : Client) (first : View) (a : ShellAsk) (wr : View) (d b : ℕ) (now : IsValidNow wr) (lets : LetsGo c first a wr.world d b) where
+module _ (c : Client) (first : DiskView) (a : ShellAsk) (wr : DiskView) (d b : ℕ) (now : IsValidNow wr) (lets : LetsGo c first a wr.world d b) where
   abbrev x : Decided c first a wr.world (This_loose d b)
   x = lets.decided
 
@@ -135,7 +135,7 @@ module _ (c : Client) (first : View) (a : ShellAsk) (wr : View) (d b : ℕ) (now
   )
 
   -- afterwards nothing is loose
-  pub loose_gone : (fin : View) → Went c wr fin (unlink_by c d b) d (dropped wr.world d b) → Decided c first a fin.world None_loose
+  pub loose_gone : (fin : DiskView) → Went c wr fin (unlink_by c d b) d (dropped wr.world d b) → Decided c first a fin.world None_loose
   loose_gone fin went =
       let trimmed = trimmed_by_step c names wr d b now under source_named lets.held spared fin went in
       let same = read_from_named kind.Chain wr.world fin.world c.root there trimmed.keeps in
@@ -167,7 +167,7 @@ module _ (c : Client) (first : View) (a : ShellAsk) (wr : View) (d b : ℕ) (now
       not_this k y h (inr this) same = absurd (clash (is_pair d b (k, y)) this (other_pair wr.world d b k y (ap (λ w. holds w.pairs k y) (sym went.world) ∙ h)))
 
 -- a stop meanwhile leaves the tree after
-pub loose_runs : {X : Type 0} (told : Type 0) (c : Client) (first : View) (a : ShellAsk) (wr fin : View) (d b : ℕ) (result : Result X FsRefusal) (now : told → IsValidNow wr) (lets : told → LetsGo c first a wr.world d b)
+pub loose_runs : {X : Type 0} (told : Type 0) (c : Client) (first : DiskView) (a : ShellAsk) (wr fin : DiskView) (d b : ℕ) (result : Result X FsRefusal) (now : told → IsValidNow wr) (lets : told → LetsGo c first a wr.world d b)
     → (told → IfErr result (λ e. e ≡ no.Device)) → Steps told c wr fin (unlink_by c d b) d (dropped wr.world d b) result → Runs told wr fin (IsEitherTree (mounted_by c) first a) result
 loose_runs told c first a wr fin d b result now lets only steps =
     runs_more told wr fin (IsTrim c (named_at kind.Chain wr.world c.root) wr) (IsEitherTree (mounted_by c) first a) result (λ t. stop c first a wr d b (now t) (lets t))

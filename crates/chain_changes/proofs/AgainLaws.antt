@@ -2,7 +2,7 @@
 use Rattle.std.proofs.Common.{◌≡◌, ℕ, List, ◌∙◌, ap, Ok}
 use Rattle.fs_trees.specs.Tree.{is_there}
 use Rattle.fs_trees.specs.ChainTree.{chains_under, chain_tree}
-use Rattle.fs_port.specs.View.{View}
+use Rattle.fs_port.specs.View.{DiskView}
 use Rattle.fs_client.specs.declared.client.Client.{Client}
 use Rattle.fs_client.specs.May.{OnlyLooks}
 use Rattle.fs_client.proofs.RunLaws.{ready_still}
@@ -12,14 +12,14 @@ use Rattle.chain_reading.specs.Finding.{IsFileOf}
 use Rattle.chain_changes.specs.Growing.{IsLastCluster, IsLastOf}
 
 -- the client may ask still
-pub may_ask_again : {X : Type 0} (told : Type 0) (c : Client) (first rd : View) (x : X) → OnlyLooks told first rd (Ok x) → MayAsk told c first → MayAsk told c rd
+pub may_ask_again : {X : Type 0} (told : Type 0) (c : Client) (first rd : DiskView) (x : X) → OnlyLooks told first rd (Ok x) → MayAsk told c first → MayAsk told c rd
 may_ask_again told c first rd x looks may = record {
   ready = ready_still (mounted_by c) first rd looks.stays.0 looks.counts looks.unspent.0 may.ready;
   valid = λ t. (looks.looked t).0.valid;
   tree = λ t. ap (λ w. is_there (chain_tree w c.root)) (looks.looked t).0.world ∙ may.tree t;
 }
 
-pub last_of_file : (c : Client) (mid rd : View) (path : List (List ℕ)) (b : ℕ) (part : Part) (found : IsFileOf c mid path b) → rd.world ≡ mid.world → IsLastCluster c rd found.file.chain part → IsLastOf c rd path part
+pub last_of_file : (c : Client) (mid rd : DiskView) (path : List (List ℕ)) (b : ℕ) (part : Part) (found : IsFileOf c mid path b) → rd.world ≡ mid.world → IsLastCluster c rd found.file.chain part → IsLastOf c rd path part
 last_of_file c mid rd path b part found same last = record {
   chains = found.chains;
   under = ap (λ w. chains_under w c.root) same ∙ found.under;

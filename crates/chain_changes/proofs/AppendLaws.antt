@@ -10,7 +10,7 @@ use Rattle.fs_trees.specs.Refusals.{first_of, lost_on_the_way}
 use Rattle.fs_trees.specs.declared.ask.ShellAsk.TheVariants as ask
 use Rattle.fs_trees.specs.declared.ask.ShellKind.TheVariants as kind
 use Rattle.fs_trees.specs.declared.refusal.FsRefusal.{FsRefusal}
-use Rattle.fs_port.specs.View.{View}
+use Rattle.fs_port.specs.View.{DiskView}
 use Rattle.fs_client.specs.declared.client.Client.{Client}
 use Rattle.fs_client.specs.Steps.{no_room_in}
 use Rattle.fs_client.specs.Changing.{refused_on}
@@ -27,7 +27,7 @@ first_none : (o : Option FsRefusal) (rest : List (Option FsRefusal)) → ◌≡�
 first_none None rest h = refl
 first_none (Some r) rest h = absurd (cc)
 
-module _ (c : Client) (first mid : View) (path : Path) (b : ℕ) (valid : IsValid first.world) (there : is_there (tree_of c first) ≡ true) (same : mid.world ≡ first.world) (found : IsFileOf c mid path b) where
+module _ (c : Client) (first mid : DiskView) (path : Path) (b : ℕ) (valid : IsValid first.world) (there : is_there (tree_of c first) ≡ true) (same : mid.world ≡ first.world) (found : IsFileOf c mid path b) where
   at_path : at (tree_of c first) path ≡ a_file (chain_bytes found.file.chain)
   at_path = ap (λ w. at (chain_tree w c.root) path) (sym same) ∙ found.there
 

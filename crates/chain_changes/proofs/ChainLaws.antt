@@ -17,7 +17,7 @@ use Rattle.fs_trees.specs.declared.refusal.FsRefusal.{FsRefusal}
 use Rattle.fs_trees.specs.declared.refusal.FsRefusal.TheVariants as no
 use Rattle.fs_laws.specs.Ways.{attains_write}
 use Rattle.fs_laws.proofs.WayLaws.{ways_lead_on}
-use Rattle.fs_port.specs.View.{View, state_of}
+use Rattle.fs_port.specs.View.{DiskView, state_of}
 use Rattle.fs_port.specs.Calls.{IsValidNow}
 use Rattle.fs_client.specs.declared.client.Client.{Client}
 use Rattle.fs_client.specs.Client.{shown_at, unlink_by, alloc_by}
@@ -40,13 +40,13 @@ use Rattle.chain_changes.proofs.BackLaws.{is_back}
 -- ---- one block
 
 -- what holds of a request holds of it where another value is given on
-pub as_block : {X Y : Type 0} (told : Type 0) (c : Client) (old new : View) (q : Request) (a : ℕ) (after : World) (x : X) (y : Y) → Steps told c old new q a after (Ok x) → Steps told c old new q a after (Ok y)
+pub as_block : {X Y : Type 0} (told : Type 0) (c : Client) (old new : DiskView) (q : Request) (a : ℕ) (after : World) (x : X) (y : Y) → Steps told c old new q a after (Ok x) → Steps told c old new q a after (Ok y)
 as_block told c old new q a after x y h = record { went = h.went; same = λ t. tt; crash = h.crash; stays = h.stays; counts = h.counts; unspent = h.unspent; faultless = h.faultless; cause = tt; spent = tt }
 
-pub as_refused : {X Y : Type 0} (told : Type 0) (c : Client) (old new : View) (q : Request) (a : ℕ) (after : World) (e : FsRefusal) → Steps {X = X} told c old new q a after (Err e) → Steps {X = Y} told c old new q a after (Err e)
+pub as_refused : {X Y : Type 0} (told : Type 0) (c : Client) (old new : DiskView) (q : Request) (a : ℕ) (after : World) (e : FsRefusal) → Steps {X = X} told c old new q a after (Err e) → Steps {X = Y} told c old new q a after (Err e)
 as_refused told c old new q a after e h = record { went = λ t. tt; same = h.same; crash = h.crash; stays = h.stays; counts = h.counts; unspent = h.unspent; faultless = h.faultless; cause = h.cause; spent = h.spent }
 
-pub no_block : {X Y : Type 0} (told : Type 0) (c : Client) (old new : View) (q : Request) (a : ℕ) (after : World) (x : X) (e : FsRefusal) → e ≢ no.Device → (told → ⊥) → Steps told c old new q a after (Ok x) → Steps {X = Y} told c old new q a after (Err e)
+pub no_block : {X Y : Type 0} (told : Type 0) (c : Client) (old new : DiskView) (q : Request) (a : ℕ) (after : World) (x : X) (e : FsRefusal) → e ≢ no.Device → (told → ⊥) → Steps told c old new q a after (Ok x) → Steps {X = Y} told c old new q a after (Err e)
 no_block told c old new q a after x e ne never h = record {
   went = λ t. tt;
   same = λ t. absurd (never t);
@@ -60,7 +60,7 @@ no_block told c old new q a after x e ne never h = record {
 }
 
 -- where there is room for one, one is chosen, and it can be named
-pub one_chosen : (v : View) (a : ℕ) → IsValid v.world → ◌≡◌ {A = Option FsRefusal} (no_room_in v.world 1 1) None → (b : ℕ) × (chosen v.kind v.world (At a) 1 ≡ b ∷ []) × (b + 1 < 2 ^ 32)
+pub one_chosen : (v : DiskView) (a : ℕ) → IsValid v.world → ◌≡◌ {A = Option FsRefusal} (no_room_in v.world 1 1) None → (b : ℕ) × (chosen v.kind v.world (At a) 1 ≡ b ∷ []) × (b + 1 < 2 ^ 32)
 one_chosen v a valid room =
     let free = (there_is_room v.world 1 1 room).0 in
     of_one (chosen v.kind v.world (At a) 1) (chosen_enough v.kind v.world (At a) 1 free) (λ b m. (free_may v.world valid.raw b (chosen_free v.kind v.world (At a) 1 b m)).0)
@@ -71,7 +71,7 @@ one_chosen v a valid room =
     of_one (b ∷ k ∷ bs) e within = absurd (omega arith)
 
 -- a refusal by a rule leaves what can go on
-pub runs_despite : {X : Type 0} (told : Type 0) (old new : View) (P : World → Type 0) (e : FsRefusal) → e ≢ no.Device → Runs {X = X} told old new P (Err e) → Runs {X = Unit {0}} told old new P (Ok tt)
+pub runs_despite : {X : Type 0} (told : Type 0) (old new : DiskView) (P : World → Type 0) (e : FsRefusal) → e ≢ no.Device → Runs {X = X} told old new P (Err e) → Runs {X = Unit {0}} told old new P (Ok tt)
 runs_despite told old new P e ne h = record {
   valid = λ t. ((h.valid t).1 ne, tt);
   led = λ t. ((h.led t).1 ne, tt);
@@ -84,7 +84,7 @@ runs_despite told old new P e ne h = record {
   spent = tt;
 }
 
-may_same : (c : Client) (now new : View) (b : ℕ) → state_of new ≡ state_of now → MayWrite c now b → MayWrite c new b
+may_same : (c : Client) (now new : DiskView) (b : ℕ) → state_of new ≡ state_of now → MayWrite c now b → MayWrite c new b
 may_same c now new b e may = record {
   number = may.number;
   begun = ap (λ st. is_open st.sessions c.session) e ∙ may.begun;
@@ -115,7 +115,7 @@ aside_back c source i blocks some is w v h first at m = elim h [
 -- ---- a chain grows
 
 -- so many blocks were made, of which this is the last
-pub record Chaining (told : Type 0) (c : Client) (first now : View) (source count made above : ℕ) (blocks : List ℕ) : Type 0 where
+pub record Chaining (told : Type 0) (c : Client) (first now : DiskView) (source count made above : ℕ) (blocks : List ℕ) : Type 0 where
   pub runs : Runs {X = Unit {0}} told first now (IsAside c.root first.world) (Ok tt)
   pub linkable : AreLinkable blocks
   pub many : length blocks ≡ made
@@ -125,7 +125,7 @@ pub record Chaining (told : Type 0) (c : Client) (first now : View) (source coun
   pub pairs : told → length now.world.pairs ≡ length first.world.pairs + made
   pub enough : told → count ≤ free_count first.world
 
-pub chaining_begins : (told : Type 0) (c : Client) (first now : View) (source count : ℕ) → OnlyLooks {X = Unit {0}} told first now (Ok tt) → (told → IsValidNow first) → (told → Stage c.root first.world source) → (told → count ≤ free_count first.world)
+pub chaining_begins : (told : Type 0) (c : Client) (first now : DiskView) (source count : ℕ) → OnlyLooks {X = Unit {0}} told first now (Ok tt) → (told → IsValidNow first) → (told → Stage c.root first.world source) → (told → count ≤ free_count first.world)
     → Chaining told c first now source count 0 source []
 chaining_begins told c first now source count looks valid at enough = record {
   runs = runs_look told first now (IsAside c.root first.world) (Ok tt) (λ t w e. subst (IsAside c.root first.world) (sym e) (aside_first c.root first.world source (at t))) looks;
@@ -143,7 +143,7 @@ chaining_begins told c first now source count looks valid at enough = record {
   enough = enough;
 }
 
-module _ (told : Type 0) (c : Client) (first now new : View) (source count made above : ℕ) (blocks : List ℕ) (h : Chaining told c first now source count made above blocks) (at : told → Stage c.root first.world source) where
+module _ (told : Type 0) (c : Client) (first now new : DiskView) (source count made above : ℕ) (blocks : List ℕ) (h : Chaining told c first now source count made above blocks) (at : told → Stage c.root first.world source) where
   valid_now : told → IsValidNow now
   valid_now t = (h.runs.valid t).0
 

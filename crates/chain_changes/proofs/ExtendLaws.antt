@@ -19,7 +19,7 @@ use Rattle.fs_trees.specs.ChainTree.{Link, blocks_of, links, ChainFile, chain_by
 use Rattle.fs_trees.specs.declared.ask.ShellAsk.TheVariants as ask
 use Rattle.fs_trees.specs.declared.refusal.FsRefusal.{FsRefusal}
 use Rattle.fs_laws.proofs.ListLaws.{number_left, number_right, in_append, first_in, held_left, held_right, held_append}
-use Rattle.fs_port.specs.View.{View}
+use Rattle.fs_port.specs.View.{DiskView}
 use Rattle.fs_port.specs.Files.{IsEitherTree}
 use Rattle.fs_client.specs.declared.client.Client.{Client}
 use Rattle.fs_client.specs.Client.{write_by}
@@ -53,7 +53,7 @@ use Rattle.chain_changes.proofs.AddLaws.{small_block}
 clash : (t : Bool) → t ≡ true → t ≡ false → ⊥
 clash t p q = cc
 
-module _ (c : Client) (old : View) (n : Name) (page : Page) (x : Putting c old n page) (body blocks : List ℕ) (mid : View) (nf : NewFile c old mid page.block 1 body blocks)
+module _ (c : Client) (old : DiskView) (n : Name) (page : Page) (x : Putting c old n page) (body blocks : List ℕ) (mid : DiskView) (nf : NewFile c old mid page.block 1 body blocks)
     (room : ◌≡◌ {A = Option FsRefusal} (no_room_in old.world (clusters_for old.world.geometry (length body) + 1) (clusters_for old.world.geometry (length body) + 1)) None) (linkable : AreLinkable blocks) (some : 1 < length blocks) where
   abbrev p : ℕ
   p = slice_index_or blocks 0 0
@@ -225,7 +225,7 @@ module _ (c : Client) (old : View) (n : Name) (page : Page) (x : Putting c old n
               (ap (λ bs. holds (links bs) page.block p) new_directory ∙ links_seam (blocks_of x.before) page.block p))
 
 -- a stop while the new cluster is written leaves the tree
-pub stop_new : (c : Client) (old : View) (n : Name) (page : Page) (x : Putting c old n page) (body blocks : List ℕ) (mid : View) (nf : NewFile c old mid page.block 1 body blocks)
+pub stop_new : (c : Client) (old : DiskView) (n : Name) (page : Page) (x : Putting c old n page) (body blocks : List ℕ) (mid : DiskView) (nf : NewFile c old mid page.block 1 body blocks)
     (room : ◌≡◌ {A = Option FsRefusal} (no_room_in old.world (clusters_for old.world.geometry (length body) + 1) (clusters_for old.world.geometry (length body) + 1)) None) (linkable : AreLinkable blocks) (some : 1 < length blocks)
     → (v : World) → (v ≡ mid.world) ⊎ ((v ≡ written mid.world (slice_index_or blocks 0 0) (directory_bytes None (record { name = n; block = slice_index_or blocks 1 0 } ∷ []))) × Leads mid.world (write_by c (slice_index_or blocks 0 0) (directory_bytes None (record { name = n; block = slice_index_or blocks 1 0 } ∷ []))) (written mid.world (slice_index_or blocks 0 0) (directory_bytes None (record { name = n; block = slice_index_or blocks 1 0 } ∷ []))))
     → IsEitherTree (mounted_by c) old (ask.Put (n ∷ []) body) v

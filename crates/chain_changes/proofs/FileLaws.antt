@@ -14,7 +14,7 @@ use Rattle.fs_trees.specs.Inode.{are_apart}
 use Rattle.fs_trees.specs.Cluster.{bytes_room}
 use Rattle.fs_trees.specs.Needs.{clusters_for}
 use Rattle.fs_trees.specs.ChainTree.{Link, blocks_of, is_filled}
-use Rattle.fs_port.specs.View.{View}
+use Rattle.fs_port.specs.View.{DiskView}
 use Rattle.fs_client.specs.declared.client.Client.{Client}
 use Rattle.fs_client.specs.May.{MayWrite}
 use Rattle.chain_changes.specs.Making.{Stage, IsAside}
@@ -77,7 +77,7 @@ long_room w valid = elim valid.raw.sized.lawful.sectors [
 
 -- ---- its blocks and its bytes together
 
-module _ (c : Client) (old mid new : View) (source ahead wanted : ℕ) (bytes blocks : List ℕ) (at : Stage c.root old.world source) (valid : IsValid old.world) (is : wanted ≡ clusters_for old.world.geometry (length bytes) + ahead)
+module _ (c : Client) (old mid new : DiskView) (source ahead wanted : ℕ) (bytes blocks : List ℕ) (at : Stage c.root old.world source) (valid : IsValid old.world) (is : wanted ≡ clusters_for old.world.geometry (length bytes) + ahead)
     (chain : NewChain c old mid source wanted blocks) where
   -- those behind are new
   pub behind_new : AreNew (drop ahead blocks) blocks

@@ -33,7 +33,7 @@ use Rattle.fs_laws.specs.Outside.{is_inside}
 use Rattle.fs_laws.proofs.ListLaws.{number_left, number_right, first_in}
 use Rattle.fs_laws.proofs.CountLaws.{times, apart_times}
 use Rattle.fs_laws.proofs.OutsideLaws.{outside_twice}
-use Rattle.fs_port.specs.View.{View}
+use Rattle.fs_port.specs.View.{DiskView}
 use Rattle.fs_port.specs.Files.{IsEitherTree}
 use Rattle.fs_client.specs.declared.client.Client.{Client}
 use Rattle.fs_client.specs.Client.{write_by}
@@ -88,12 +88,12 @@ append_lost g t free held n path x e there h =
     of_three None None None k = absurd (cc)
 
 -- what is in the making leaves the tree as it was
-pub aside_either : (c : Client) (first : View) (a : ShellAsk) (w : World) → IsAside c.root first.world w → IsEitherTree (mounted_by c) first a w
+pub aside_either : (c : Client) (first : DiskView) (a : ShellAsk) (w : World) → IsAside c.root first.world w → IsEitherTree (mounted_by c) first a w
 aside_either c first a w aside = (inl aside.tree, record { valid = aside.valid; geometry = aside.geometry; others = aside.others })
 
 -- ---- the file, and what it needs
 
-module _ (c : Client) (first : View) (path : Path) (x : List ℕ) (part : Part) (last : IsLastOf c first path part) (valid : IsValid first.world) (primary : c.root < first.world.geometry.primaries) where
+module _ (c : Client) (first : DiskView) (path : Path) (x : List ℕ) (part : Part) (last : IsLastOf c first path part) (valid : IsValid first.world) (primary : c.root < first.world.geometry.primaries) where
   abbrev d : ℕ
   d = part.block
 
@@ -188,7 +188,7 @@ module _ (c : Client) (first : View) (path : Path) (x : List ℕ) (part : Part) 
 
     -- ---- the deciding write
 
-    module _ (mid : View) (blocks : List ℕ) (linkable : AreLinkable blocks) (tail : NewTail c first mid d rest blocks) where
+    module _ (mid : DiskView) (blocks : List ℕ) (linkable : AreLinkable blocks) (tail : NewTail c first mid d rest blocks) where
       abbrev bytes : List ℕ
       bytes = part_bytes (first_block blocks) own
 

@@ -5,7 +5,7 @@ use Rattle.fs_trees.specs.Names.{Name, Path}
 use Rattle.fs_trees.specs.Tree.{nothing, at}
 use Rattle.fs_trees.specs.ChainTree.{Link, chains_under, as_tree, chain_tree}
 use Rattle.fs_trees.specs.Refusals.{lost_on_the_way}
-use Rattle.fs_port.specs.View.{View, IsSound}
+use Rattle.fs_port.specs.View.{DiskView, IsDiskSound}
 use Rattle.fs_client.specs.declared.client.Client.{Client}
 use Rattle.fs_client.specs.May.{Looked}
 use Rattle.chain_reading.specs.Chained.{PlacedEntry, AreEntries, AreOthers}
@@ -21,7 +21,7 @@ use Rattle.chain_reading.proofs.KnownLaws.{IsKnown, is_known, tree_known, taken_
 use Rattle.chain_reading.proofs.ListLaws.{entries_unique}
 use Rattle.chain_changes.specs.Places.{StandsAtPlace}
 
-module _ (told : Type 0) (c : Client) (old new : View) (t : told) (may : MayAsk told c old) (sound : IsSound old) (seen : Looked old new) (n : Name) (place : Place) (found : (ls : List Link) (ps : List PlacedEntry) → IsDirectoryAhead c old ls ps → IsNameFound c new n ls ps place) where
+module _ (told : Type 0) (c : Client) (old new : DiskView) (t : told) (may : MayAsk told c old) (sound : IsDiskSound old) (seen : Looked old new) (n : Name) (place : Place) (found : (ls : List Link) (ps : List PlacedEntry) → IsDirectoryAhead c old ls ps → IsNameFound c new n ls ps place) where
   known : IsKnown c old
   known = is_known told c old t may sound
 
@@ -46,7 +46,7 @@ module _ (told : Type 0) (c : Client) (old new : View) (t : told) (may : MayAsk 
           ap (λ x. lost_on_the_way x (n ∷ m ∷ ns)) (tree_known c old known) ∙ ap (λ x. lost_on_the_way x (m ∷ ns)) (free_name c old new known seen n free.0)
 
 -- nothing stands at the path of a free name
-pub free_at : (c : Client) (first mid : View) (path : Path) (n : Name) (page : Page) (count : ℕ) → mid.world ≡ first.world → path ≡ n ∷ [] → StandsAtPlace c mid n (Free page count) → at (tree_of c first) path ≡ nothing
+pub free_at : (c : Client) (first mid : DiskView) (path : Path) (n : Name) (page : Page) (count : ℕ) → mid.world ≡ first.world → path ≡ n ∷ [] → StandsAtPlace c mid n (Free page count) → at (tree_of c first) path ≡ nothing
 free_at c first mid path n page count same path_is found =
     let has = has_chains mid.world c.root found.chains found.under in
     let free = found.found has.listing.entries has.listing.in_order in

@@ -23,7 +23,7 @@ use Rattle.fs_trees.specs.declared.refusal.FsRefusal.TheVariants as no
 use Rattle.fs_fields.proofs.WrittenLaws.{length-entries}
 use Rattle.fs_laws.proofs.ChainLaws.{found}
 use Rattle.fs_laws.proofs.ListLaws.{any-append, first_in}
-use Rattle.fs_port.specs.View.{View}
+use Rattle.fs_port.specs.View.{DiskView}
 use Rattle.fs_port.specs.Calls.{IsValidNow}
 use Rattle.fs_port.specs.Files.{FilesView, need_on}
 use Rattle.fs_client.specs.declared.client.Client.{Client}
@@ -41,7 +41,7 @@ use Rattle.chain_changes.specs.Filling.{first_block}
 use Rattle.chain_reading.specs.declared.walking.Page.{Page}
 use Rattle.chain_reading.specs.declared.finding.Place.TheVariants.{Taken, Free}
 use Rattle.chain_reading.specs.Asking.{tree_of, mounted_by}
-use Rattle.chain_reading.specs.Finding.{placed_names, page_link, is_roomy, IsEntry, IsTaken, IsRoomiest}
+use Rattle.chain_reading.specs.Finding.{placed_names, page_link, is_roomy, IsEntry, IsPlaceTaken, IsRoomiest}
 use Rattle.chain_reading.proofs.KnownLaws.{IsKnown, names_of_files, entry_file, taken_name}
 use Rattle.chain_changes.specs.Places.{StandsAtPlace}
 use Rattle.chain_changes.proofs.PutNeedLaws.{put_lost, put_over, put_new, need_over, need_new, names_counted}
@@ -108,8 +108,8 @@ add_bytes next n b es place at =
 
 -- ---- what was found
 
-module _ (c : Client) (old : View) (n : Name) (page : Page) (valid : IsValidNow old) (tree : is_there (tree_of c old) ≡ true) (primary : c.root < old.world.geometry.primaries) (named : is_name n ≡ true) where
-  pub the_taken : (place first : ℕ) (at : StandsAtPlace c old n (Taken page place first)) → IsTaken c old n at.chains.directory page place first
+module _ (c : Client) (old : DiskView) (n : Name) (page : Page) (valid : IsValidNow old) (tree : is_there (tree_of c old) ≡ true) (primary : c.root < old.world.geometry.primaries) (named : is_name n ≡ true) where
+  pub the_taken : (place first : ℕ) (at : StandsAtPlace c old n (Taken page place first)) → IsPlaceTaken c old n at.chains.directory page place first
   the_taken place first at = let has : HasChains old.world c.root at.chains = has_chains old.world c.root at.chains at.under in at.found has.listing.entries has.listing.in_order
 
   abbrev pub putting_over : (place first : ℕ) → StandsAtPlace c old n (Taken page place first) → Putting c old n page
@@ -120,7 +120,7 @@ module _ (c : Client) (old : View) (n : Name) (page : Page) (valid : IsValidNow 
   pub over_entry : (known : IsKnown c old) (place first : ℕ) (at : StandsAtPlace c old n (Taken page place first)) → (y : List ℕ) × (entry n (tree_of_files at.chains.files) ≡ a_file y)
   over_entry known place first at =
       let same : known.chains ≡ at.chains = some_same (sym known.under ∙ at.under) in
-      let taken = subst (λ cs. IsTaken c old n cs.directory page place first) (sym same) (the_taken place first at) in
+      let taken = subst (λ cs. IsPlaceTaken c old n cs.directory page place first) (sym same) (the_taken place first at) in
       let seen : Looked old old = record { world = refl; valid = valid; ways = λ s a h. h; led = ([], refl) } in
       (chain_bytes (entry_file c old old known seen n page place first taken).0.chain, ap (λ cs. entry n (tree_of_files cs.files)) (sym same) ∙ taken_name c old old known seen n page place first taken)
     where
@@ -196,7 +196,7 @@ module _ (c : Client) (old : View) (n : Name) (page : Page) (valid : IsValidNow 
 
 -- ---- what refuses it
 
-module _ (c : Client) (old : View) (n : Name) (cs : Chains) (under : chains_under old.world c.root ≡ Some cs) (body : List ℕ) where
+module _ (c : Client) (old : DiskView) (n : Name) (cs : Chains) (under : chains_under old.world c.root ≡ Some cs) (body : List ℕ) where
   abbrev by_chains_there : Option Chains → Option FsRefusal
   by_chains_there o = refusal kind.Chain old.world.geometry (as_tree o) (free_count old.world) (length old.world.pairs)
       (chain_need old.world.geometry (as_tree o) (option_map_or (has_room old.world) o true) (ask.Put (n ∷ []) body)) (ask.Put (n ∷ []) body)
@@ -250,11 +250,11 @@ module _ (c : Client) (old : View) (n : Name) (cs : Chains) (under : chains_unde
 
 -- ---- where the path leads to no entry
 
-abbrev by_any : Client → View → Path → List ℕ → Option Chains → Option FsRefusal
+abbrev by_any : Client → DiskView → Path → List ℕ → Option Chains → Option FsRefusal
 by_any c old path body o = refusal kind.Chain old.world.geometry (as_tree o) (free_count old.world) (length old.world.pairs)
     (chain_need old.world.geometry (as_tree o) (option_map_or (has_room old.world) o true) (ask.Put path body)) (ask.Put path body)
 
-pub refused_lost : (c : Client) (old : View) → is_there (tree_of c old) ≡ true → (path : Path) (body : List ℕ) (e : FsRefusal) → no_place_found (tree_of c old) path no.IsDir ≡ Some e → refused_on (mounted_by c) old (ask.Put path body) ≡ Some e
+pub refused_lost : (c : Client) (old : DiskView) → is_there (tree_of c old) ≡ true → (path : Path) (body : List ℕ) (e : FsRefusal) → no_place_found (tree_of c old) path no.IsDir ≡ Some e → refused_on (mounted_by c) old (ask.Put path body) ≡ Some e
 refused_lost c old there path body e h =
     let f = found old.world c.root there in
     let cs = f.chains in
@@ -263,7 +263,7 @@ refused_lost c old there path body e h =
     (ap (λ o. no_place_found (as_tree o) path no.IsDir) (sym f.under) ∙ h)
 
 -- what refuses an ask where nothing has changed since
-pub refused_since : (f : FilesView) (first mid : View) (a : ShellAsk) → mid.world ≡ first.world → refused_on f mid a ≡ refused_on f first a
+pub refused_since : (f : FilesView) (first mid : DiskView) (a : ShellAsk) → mid.world ≡ first.world → refused_on f mid a ≡ refused_on f first a
 refused_since f first mid a same =
     ap (λ w. refusal f.kind w.geometry (cond f.mounted (tree_at f.kind w f.root) nothing) (free_count w) (length w.pairs) (need_of f.kind w f.root (cond f.mounted (tree_at f.kind w f.root) nothing) a) a) same
 

@@ -24,7 +24,7 @@ use Rattle.fs_trees.specs.declared.refusal.FsRefusal.{FsRefusal}
 use Rattle.fs_laws.specs.Outside.{is_inside}
 use Rattle.fs_laws.proofs.CountLaws.{times-append, times_none, apart_times, times_apart}
 use Rattle.fs_laws.proofs.OutsideLaws.{outside_twice}
-use Rattle.fs_port.specs.View.{View}
+use Rattle.fs_port.specs.View.{DiskView}
 use Rattle.fs_port.specs.Calls.{IsValidNow}
 use Rattle.fs_port.specs.Files.{IsEitherTree}
 use Rattle.fs_client.specs.declared.client.Client.{Client}
@@ -49,7 +49,7 @@ use Rattle.chain_changes.proofs.KeptLaws.{chains_kept}
 use Rattle.chain_changes.proofs.AfterLaws.{Decided, decided_either}
 
 -- the cluster of the directory that is to have the entry, where the call begins
-pub record Putting (c : Client) (old : View) (n : Name) (page : Page) : Type 0 where
+pub record Putting (c : Client) (old : DiskView) (n : Name) (page : Page) : Type 0 where
   pub valid : IsValidNow old
   pub tree : is_there (tree_of c old) ≡ true
   pub primary : c.root < old.world.geometry.primaries
@@ -66,7 +66,7 @@ pub record Putting (c : Client) (old : View) (n : Name) (page : Page) : Type 0 w
 number_or : (xs : List ℕ) (b : ℕ) → (has_number xs b ≡ true) ⊎ (has_number xs b ≡ false)
 number_or xs b = elim (has_number xs b) as (λ t. (t ≡ true) ⊎ (t ≡ false)) [ true ↦ inl refl | false ↦ inr refl ]
 
-module _ (c : Client) (old : View) (n : Name) (page : Page) (x : Putting c old n page) where
+module _ (c : Client) (old : DiskView) (n : Name) (page : Page) (x : Putting c old n page) where
   abbrev d : ℕ
   d = page.block
 
@@ -167,7 +167,7 @@ module _ (c : Client) (old : View) (n : Name) (page : Page) (x : Putting c old n
   -- ---- the new file
 
   -- a chain is no longer than the disk
-  module _ (ahead : ℕ) (body blocks : List ℕ) (mid : View) (nf : NewFile c old mid page.block ahead body blocks) (room : ◌≡◌ {A = Option FsRefusal} (no_room_in old.world (clusters_for old.world.geometry (length body) + ahead) (clusters_for old.world.geometry (length body) + ahead)) None) where
+  module _ (ahead : ℕ) (body blocks : List ℕ) (mid : DiskView) (nf : NewFile c old mid page.block ahead body blocks) (room : ◌≡◌ {A = Option FsRefusal} (no_room_in old.world (clusters_for old.world.geometry (length body) + ahead) (clusters_for old.world.geometry (length body) + ahead)) None) where
     pub short : length nf.links ≤ old.world.geometry.blocks
     short =
         let few = (there_is_room old.world (clusters_for old.world.geometry (length body) + ahead) (clusters_for old.world.geometry (length body) + ahead) room).0 in

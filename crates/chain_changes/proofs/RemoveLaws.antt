@@ -25,7 +25,7 @@ use Rattle.fs_laws.specs.Outside.{is_inside}
 use Rattle.fs_laws.proofs.ListLaws.{number_left, number_right, first_in, held_left, held_right}
 use Rattle.fs_laws.proofs.CountLaws.{times}
 use Rattle.fs_laws.proofs.TreeLaws.{named_is_under}
-use Rattle.fs_port.specs.View.{View}
+use Rattle.fs_port.specs.View.{DiskView}
 use Rattle.fs_port.specs.Calls.{Stays}
 use Rattle.fs_port.specs.Files.{IsEitherTree}
 use Rattle.fs_client.specs.declared.client.Client.{Client}
@@ -50,7 +50,7 @@ use Rattle.chain_reading.proofs.FileLaws.{distinct_parts, tree_has}
 use Rattle.chain_reading.specs.declared.walking.Page.{Page}
 use Rattle.chain_reading.specs.declared.finding.Place.TheVariants.{Taken}
 use Rattle.chain_reading.specs.Asking.{tree_of, mounted_by}
-use Rattle.chain_reading.specs.Finding.{page_link, IsTaken}
+use Rattle.chain_reading.specs.Finding.{page_link, IsPlaceTaken}
 use Rattle.chain_changes.specs.Places.{StandsAtPlace}
 use Rattle.chain_changes.proofs.EntryLaws.{ReadsAs, directory_read, directory_fits, from_first, named_parts, named_both, small_parts, small_both, page_live, page_within, page_named, page_entries, page_all_named, page_linked, page_sized, page_small}
 use Rattle.chain_changes.proofs.ExchangeLaws.{old_gone, named_before, still_named}
@@ -116,7 +116,7 @@ module _ (w : World) (root : ℕ) (c : Chains) (under : chains_under w root ≡ 
 
 -- ---- an entry that is to be taken out
 
-pub record Taking (c : Client) (first mid : View) (path : Path) (n : Name) (page : Page) (place b : ℕ) : Type 0 where
+pub record Taking (c : Client) (first mid : DiskView) (path : Path) (n : Name) (page : Page) (place b : ℕ) : Type 0 where
   pub valid : IsValid first.world
   pub tree : is_there (tree_of c first) ≡ true
   pub primary : c.root < first.world.geometry.primaries
@@ -125,7 +125,7 @@ pub record Taking (c : Client) (first mid : View) (path : Path) (n : Name) (page
   pub found : StandsAtPlace c mid n (Taken page place b)
   pub way : ◌≡◌ {A = Option FsRefusal} (no_place_found (tree_of c first) path no.IsDir) None
 
-module _ (c : Client) (first mid : View) (path : Path) (n : Name) (page : Page) (place b : ℕ) (x : Taking c first mid path n page place b) where
+module _ (c : Client) (first mid : DiskView) (path : Path) (n : Name) (page : Page) (place b : ℕ) (x : Taking c first mid path n page place b) where
   abbrev w : World
   w = mid.world
 
@@ -144,7 +144,7 @@ module _ (c : Client) (first mid : View) (path : Path) (n : Name) (page : Page) 
   pub has : HasChains mid.world c.root x.found.chains
   has = has_chains mid.world c.root x.found.chains x.found.under
 
-  pub taken : IsTaken c mid n x.found.chains.directory page place b
+  pub taken : IsPlaceTaken c mid n x.found.chains.directory page place b
   taken = x.found.found has.listing.entries has.listing.in_order
 
   abbrev es : List Entry
@@ -302,7 +302,7 @@ module _ (c : Client) (first mid : View) (path : Path) (n : Name) (page : Page) 
 
   -- ---- letting go
 
-  module _ (wr : View) (went : Went c mid wr (write_by c d bytes) d (written mid.world d bytes)) (stays : Stays mid wr) where
+  module _ (wr : DiskView) (went : Went c mid wr (write_by c d bytes) d (written mid.world d bytes)) (stays : Stays mid wr) where
     pub lets_go_now : LetsGo c first (ask.Rm path) wr.world d b
     lets_go_now = subst (λ v. LetsGo c first (ask.Rm path) v d b) (sym went.world) (lets_go went.leads)
 

@@ -7,7 +7,7 @@ use Rattle.tsd_model.specs.Geometry.{block_len}
 use Rattle.tsd_model.specs.World.{World}
 use Rattle.tsd_model.specs.Valid.{IsValid}
 use Rattle.fs_trees.specs.Cluster.{bytes_room}
-use Rattle.fs_port.specs.View.{View}
+use Rattle.fs_port.specs.View.{DiskView}
 use Rattle.fs_client.specs.declared.client.Client.{Client}
 use Rattle.chain_changes.specs.Making.{Stage, IsAside}
 use Rattle.chain_changes.specs.Filling.{AsideWith, NewChain, ArePartsOf, Wrote}
@@ -17,7 +17,7 @@ use Rattle.chain_changes.specs.Growing.{clusters_more, NewTail}
 pub few_more : (w : World) (bytes : List ℕ) → IsValid w → length bytes ≤ 4096 → clusters_more (block_len w.geometry) bytes ≤ 64
 few_more w bytes valid small = let few = few_clusters (length bytes) (bytes_room (block_len w.geometry)) small (long_room w valid) in omega (arith, few)
 
-module _ (c : Client) (old mid new : View) (source count : ℕ) (bytes blocks : List ℕ) (at : Stage c.root old.world source) (valid : IsValid old.world) (is : count ≡ clusters_more (block_len old.world.geometry) bytes) (chain : NewChain c old mid source count blocks) where
+module _ (c : Client) (old mid new : DiskView) (source count : ℕ) (bytes blocks : List ℕ) (at : Stage c.root old.world source) (valid : IsValid old.world) (is : count ≡ clusters_more (block_len old.world.geometry) bytes) (chain : NewChain c old mid source count blocks) where
   pub tail_enough : length bytes ≤ bytes_room (block_len old.world.geometry) * length blocks
   tail_enough =
       let room = bytes_room (block_len old.world.geometry) in

@@ -7,7 +7,7 @@ use Rattle.tsd_model.specs.World.{World, is_live, has_number}
 use Rattle.tsd_model.specs.Valid.{IsValid}
 use Rattle.fs_trees.specs.ChainTree.{links}
 use Rattle.fs_trees.specs.Needs.{need, clusters_for}
-use Rattle.fs_port.specs.View.{View}
+use Rattle.fs_port.specs.View.{DiskView}
 use Rattle.fs_port.specs.Files.{KeepsRoom}
 use Rattle.fs_client.specs.declared.client.Client.{Client}
 use Rattle.fs_client.proofs.KeepLaws.{takes_these}
@@ -31,10 +31,10 @@ making_takes root first source blocks w valid m =
       | false ↦ λ e. or_left (is_live first b) false (ap is_some (sym (m.bytes b e)) ∙ h)
     ] refl
 
-pub file_takes : (c : Client) (old new : View) (source ahead : ℕ) (bytes blocks : List ℕ) → IsValid old.world → NewFile c old new source ahead bytes blocks
+pub file_takes : (c : Client) (old new : DiskView) (source ahead : ℕ) (bytes blocks : List ℕ) → IsValid old.world → NewFile c old new source ahead bytes blocks
     → KeepsRoom (need (clusters_for old.world.geometry (length bytes) + ahead) (clusters_for old.world.geometry (length bytes) + ahead)) old.world new.world
 file_takes c old new source ahead bytes blocks valid made = subst (λ n. KeepsRoom (need n n) old.world new.world) made.many (making_takes c.root old.world source blocks new.world valid made.making)
 
-pub tail_takes : (c : Client) (old new : View) (source : ℕ) (bytes blocks : List ℕ) → IsValid old.world → NewTail c old new source bytes blocks
+pub tail_takes : (c : Client) (old new : DiskView) (source : ℕ) (bytes blocks : List ℕ) → IsValid old.world → NewTail c old new source bytes blocks
     → KeepsRoom (need (clusters_more (block_len old.world.geometry) bytes) (clusters_more (block_len old.world.geometry) bytes)) old.world new.world
 tail_takes c old new source bytes blocks valid made = subst (λ n. KeepsRoom (need n n) old.world new.world) made.many (making_takes c.root old.world source blocks new.world valid made.making)

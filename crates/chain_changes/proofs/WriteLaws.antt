@@ -14,7 +14,7 @@ use Rattle.fs_trees.specs.Inode.{are_apart}
 use Rattle.fs_trees.specs.Cluster.{Cluster, cluster_in, bytes_room, link_field, part_bytes}
 use Rattle.fs_trees.specs.ChainTree.{cluster_at}
 use Rattle.fs_trees.specs.declared.refusal.FsRefusal.{FsRefusal}
-use Rattle.fs_port.specs.View.{View, IsSound}
+use Rattle.fs_port.specs.View.{DiskView, IsDiskSound}
 use Rattle.fs_port.specs.Calls.{IsValidNow}
 use Rattle.fs_client.specs.declared.client.Client.{Client}
 use Rattle.fs_client.specs.Client.{write_by}
@@ -84,7 +84,7 @@ wrote_none root w bytes e = record {
   making = λ first source blocks at m new. m;
 }
 
-module _ (c : Client) (b : ℕ) (rest : List ℕ) (bytes : List ℕ) (room : ℕ) (old mid : View) (is_room : room ≡ bytes_room (block_len old.world.geometry)) (few : room < 2 ^ 32) (linkable : AreLinkable rest)
+module _ (c : Client) (b : ℕ) (rest : List ℕ) (bytes : List ℕ) (room : ℕ) (old mid : DiskView) (is_room : room ≡ bytes_room (block_len old.world.geometry)) (few : room < 2 ^ 32) (linkable : AreLinkable rest)
     (lives : is_live old.world b ≡ true) (went : Went c old mid (write_by c b (part_bytes (first_block rest) (take room bytes))) b (written old.world b (part_bytes (first_block rest) (take room bytes)))) where
   abbrev x : List ℕ
   x = part_bytes (first_block rest) (take room bytes)
@@ -154,7 +154,7 @@ pub next_linked : (blocks : List ℕ) (place : ℕ) → AreLinkable blocks → l
 next_linked blocks place linkable = first_linked (drop (place + 1) blocks) (λ b h. linkable b (in_drop blocks (place + 1) b h))
 
 -- what was written so far, and what is left of the bytes
-pub record Writing (told : Type 0) (c : Client) (first now : View) (blocks bytes : List ℕ) (room place : ℕ) (rest : List ℕ) : Type 0 where
+pub record Writing (told : Type 0) (c : Client) (first now : DiskView) (blocks bytes : List ℕ) (room place : ℕ) (rest : List ℕ) : Type 0 where
   pub runs : Runs {X = Unit {0}} told first now (AsideWith c.root blocks first.world) (Ok tt)
   pub geometry : told → now.world.geometry ≡ first.world.geometry
   pub made : told → MadeWith c.root blocks first.world now.world
@@ -162,7 +162,7 @@ pub record Writing (told : Type 0) (c : Client) (first now : View) (blocks bytes
   pub left : told → length rest ≤ room * (length blocks - place)
   pub last : told → (new : World) → WroteIn c.root now.world new (drop place blocks) rest → WroteIn c.root first.world new blocks bytes
 
-pub writing_begins : (told : Type 0) (c : Client) (first : View) (blocks bytes : List ℕ) (room : ℕ) → first.spent ≡ false → (told → IsSound first) → (told → IsValidNow first) → (told → length bytes ≤ room * length blocks) → Writing told c first first blocks bytes room 0 bytes
+pub writing_begins : (told : Type 0) (c : Client) (first : DiskView) (blocks bytes : List ℕ) (room : ℕ) → first.spent ≡ false → (told → IsDiskSound first) → (told → IsValidNow first) → (told → length bytes ≤ room * length blocks) → Writing told c first first blocks bytes room 0 bytes
 writing_begins told c first blocks bytes room unspent sound now enough = record {
   runs = runs_look told first first (AsideWith c.root blocks first.world) (Ok tt) (λ t w e. aside_same c.root blocks first.world w e) (no_look told first unspent sound now);
   geometry = λ t. refl;
@@ -175,7 +175,7 @@ writing_begins told c first blocks bytes room unspent sound now enough = record 
     whole : (n : ℕ) → n ≡ n - 0
     whole n = omega arith
 
-module _ (told : Type 0) (c : Client) (first now new : View) (blocks bytes : List ℕ) (room place b : ℕ) (rest : List ℕ) (w : Writing told c first now blocks bytes room place rest)
+module _ (told : Type 0) (c : Client) (first now new : DiskView) (blocks bytes : List ℕ) (room place b : ℕ) (rest : List ℕ) (w : Writing told c first now blocks bytes room place rest)
     (inside : place < length blocks) (is : b ≡ slice_index_or blocks place 0) where
   abbrev behind : List ℕ
   behind = drop (place + 1) blocks
@@ -228,7 +228,7 @@ module _ (told : Type 0) (c : Client) (first now new : View) (blocks bytes : Lis
             fewer zero j q h = omega (arith, e, h)
             fewer (suc k) j q h = let same : j ≡ k = omega (arith, q) in subst (λ x. s ≤ room * x) (sym same) (omega (arith, e, h))
 
-pub writing_ends : (told : Type 0) (c : Client) (first now : View) (blocks bytes : List ℕ) (room place : ℕ) (rest : List ℕ) → Writing told c first now blocks bytes room place rest → length blocks ≤ place → told → Wrote c first now blocks bytes
+pub writing_ends : (told : Type 0) (c : Client) (first now : DiskView) (blocks bytes : List ℕ) (room place : ℕ) (rest : List ℕ) → Writing told c first now blocks bytes room place rest → length blocks ≤ place → told → Wrote c first now blocks bytes
 writing_ends told c first now blocks bytes room place rest w ends t =
     let none : length blocks - place ≡ 0 = omega (arith, ends) in
     let short : length rest ≤ room * 0 = subst (λ k. length rest ≤ room * k) none (w.left t) in

@@ -1,4 +1,5 @@
--- A chain in the making: new blocks that hang from one that the root reaches, each pointed to by the one before, and that nothing names.
+-- A chain in the making: new blocks that hang from one that the root reaches, each pointed to by the one before, and
+-- that nothing names.
 use Rattle.std.specs.Prelude.{◌≡◌, ℕ, ◌<◌, false, ◌||◌, List, ◌∷◌, IsTrue}
 use Rattle.tsd_model.specs.World.{World, contents, is_live, is_free, has_number}
 use Rattle.tsd_model.specs.Pairs.{holds}
@@ -18,8 +19,8 @@ pub record Stage (root : ℕ) (first : World) (source : ℕ) : Type 0 where
   pub there : IsTrue (is_there (chain_tree first root))
   pub reached : IsTrue (is_under first root source)
 
--- Since the world `first` the block `source` has got a chain of these new blocks. All else is as it was: what the tree names, what the
--- root doesn't reach, the bytes and pairs of all other blocks.
+-- Since the world `first` the block `source` has got a chain of these new blocks. All else is as it was: what the tree
+-- names, what the root doesn't reach, the bytes and pairs of all other blocks.
 pub record Making (root : ℕ) (first : World) (source : ℕ) (blocks : List ℕ) (w : World) : Type 0 where
   pub valid : IsValid w
   pub geometry : w.geometry ≡ first.geometry

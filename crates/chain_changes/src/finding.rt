@@ -5,7 +5,7 @@ ghost use Rattle.fs_trees.specs.declared.refusal.FsRefusal.TheVariants as no;
 ghost use Rattle.fs_client.specs.May.{OnlyLooks};
 ghost use Rattle.fs_client.specs.Changing.{no_place_found};
 ghost use Rattle.chain_reading.specs.Asking.{MayAsk, tree_of};
-ghost use Rattle.chain_reading.specs.Finding.{IsWithin};
+ghost use Rattle.chain_reading.specs.Finding.{IsPlaceWithin};
 ghost use Rattle.chain_changes.specs.Places.{StandsAtPlace};
 
 use chain_reading::{Place, no_way, search};
@@ -24,7 +24,7 @@ pub fn find_place<'a, K: Blocks>(
     requires refusal { at_root ≢ no.Device }
     ensures found { K.told → IfOk result (λ found. StandsAtPlace client.now (K.view disk.new) found.1.now found.0) }
     ensures path { IfOk result (λ found. path.now ≡ found.1.now ∷ []) }
-    ensures within { IfOk result (λ found. IsWithin found.0) }
+    ensures within { IfOk result (λ found. IsPlaceWithin found.0) }
     ensures none { K.told → OnOk result (no_place_found (tree_of client.now (K.view disk.old)) path.now at_root
         ≡ None) }
     ensures refused { K.told → IfErr result (λ e. e ≢ no.Device

@@ -14,7 +14,7 @@ use Rattle.fs_trees.specs.declared.ask.ShellKind.TheVariants as kind
 use Rattle.fs_laws.specs.Stays.{IsUnder}
 use Rattle.fs_laws.proofs.ChainLaws.{Found, found}
 use Rattle.fs_laws.proofs.TreeLaws.{named_is_under}
-use Rattle.fs_port.specs.View.{View, IsSound}
+use Rattle.fs_port.specs.View.{DiskView, IsDiskSound}
 use Rattle.fs_port.specs.Files.{IsClientReady}
 use Rattle.fs_client.specs.declared.client.Client.{Client}
 use Rattle.fs_client.specs.May.{OnlyLooks}
@@ -35,7 +35,7 @@ module _ (w : World) (root : ℕ) (there : is_there (chain_tree w root) ≡ true
   pub named_are : named_of (chains_of w root) ≡ named_at kind.Chain w root
   named_are = ap named_of chains_are ∙ sym (ap by_chains f.under)
 
-pub stands_now : (c : Client) (v : View) → c.root < v.world.geometry.primaries → is_there (chain_tree v.world c.root) ≡ true → AreChainsUnder c (chains_of v.world c.root) v
+pub stands_now : (c : Client) (v : DiskView) → c.root < v.world.geometry.primaries → is_there (chain_tree v.world c.root) ≡ true → AreChainsUnder c (chains_of v.world c.root) v
 stands_now c v primary there =
     let w = v.world in
     let f = found w c.root there in
@@ -55,7 +55,7 @@ stands_now c v primary there =
 
 -- ---- a tree is there
 
-module _ (told : Type 0) (c : Client) (old mid : View) (x : Bool) (ready : IsClientReady (mounted_by c) old) (sound : told → IsSound mid) (there : told → is_there (chain_tree old.world c.root) ≡ true) (looks : OnlyLooks told old mid (Ok x)) where
+module _ (told : Type 0) (c : Client) (old mid : DiskView) (x : Bool) (ready : IsClientReady (mounted_by c) old) (sound : told → IsDiskSound mid) (there : told → is_there (chain_tree old.world c.root) ≡ true) (looks : OnlyLooks told old mid (Ok x)) where
   there_mid : told → is_there (chain_tree mid.world c.root) ≡ true
   there_mid t = ap (λ w. is_there (chain_tree w c.root)) (looks.looked t).0.world ∙ there t
 

@@ -11,7 +11,7 @@ use Rattle.fs_trees.specs.Cluster.{Cluster, cluster_in, entries_of}
 use Rattle.fs_trees.specs.ChainTree.{Link, ChainFile, Chains, cluster_at, blocks_of, links, chain_blocks, chain_pairs}
 use Rattle.fs_laws.specs.Ways.{HoldsWrite}
 use Rattle.fs_laws.proofs.ListLaws.{held_left, number_left, number_right, in_append as number_append}
-use Rattle.fs_port.specs.View.{View, state_of}
+use Rattle.fs_port.specs.View.{DiskView, state_of}
 use Rattle.fs_port.specs.Calls.{Stays}
 use Rattle.fs_client.specs.declared.client.Client.{Client}
 use Rattle.fs_client.specs.May.{MayWrite}
@@ -56,7 +56,7 @@ number_entry (e ∷ es) b h = elim (or_cases (e.block == b) (has_number (entry_b
 
 -- ---- what a page names
 
-module _ (c : Client) (k : Chains) (v : View) (s : AreChainsUnder c k v) (page : Page) (here : IsPageHere c k v page) where
+module _ (c : Client) (k : Chains) (v : DiskView) (s : AreChainsUnder c k v) (page : Page) (here : IsPageHere c k v page) where
   abbrev cl : Cluster
   cl = cluster_of (page_cluster page.cluster)
 
@@ -102,7 +102,7 @@ module _ (c : Client) (k : Chains) (v : View) (s : AreChainsUnder c k v) (page :
 
 -- ---- it stays what it is
 
-module _ (c : Client) (k : Chains) (old new : View) (s : AreChainsUnder c k old) (trimmed : Trimmed c (named_of k) old new) (stays : Stays old new) where
+module _ (c : Client) (k : Chains) (old new : DiskView) (s : AreChainsUnder c k old) (trimmed : Trimmed c (named_of k) old new) (stays : Stays old new) where
   pub is_page_still : (page : Page) (b : ℕ) → has_number (blocks_of k.directory) b ≡ true → IsPage old.world b page → IsPage new.world b page
   is_page_still page b m is =
       let bytes = trimmed.keeps.bytes b (number_left (blocks_of k.directory) (flat_map (λ f. blocks_of f.chain) k.files) b m) in
@@ -127,7 +127,7 @@ module _ (c : Client) (k : Chains) (old new : View) (s : AreChainsUnder c k old)
         held = trimmed.ways c.session page.block here.held (trimmed.keeps.live page.block (number_left (blocks_of k.directory) (flat_map (λ f. blocks_of f.chain) k.files) page.block here.one));
       }
 
-pub page_still : {X : Type 0} (told : Type 0) (c : Client) (k : Chains) (old new : View) (page : Page) (x : X) → MayTidyPage told c k old page → Trims told c (named_of k) old new (Ok x) → MayTidyPage told c k new page
+pub page_still : {X : Type 0} (told : Type 0) (c : Client) (k : Chains) (old new : DiskView) (page : Page) (x : X) → MayTidyPage told c k old page → Trims told c (named_of k) old new (Ok x) → MayTidyPage told c k new page
 page_still told c k old new page x may trims = record {
   tree = tidy_still told c k old new x may.tree trims;
   here = λ t. page_here_still c k old new (may.tree.stands t) (trims.trimmed t) trims.runs.stays.0 page (may.here t);
@@ -136,12 +136,12 @@ page_still told c k old new page x may trims = record {
 -- ---- file after file
 
 -- the files of the entries before this place are clean
-pub record PageGoing (told : Type 0) (c : Client) (k : Chains) (first now : View) (page : Page) (i : ℕ) : Type 0 where
+pub record PageGoing (told : Type 0) (c : Client) (k : Chains) (first now : DiskView) (page : Page) (i : ℕ) : Type 0 where
   pub may : MayTidyPage told c k now page
   pub trims : Trims {X = Unit {0}} told c (named_of k) first now (Ok tt)
   pub clean : told → (j : ℕ) → j < i → (f : ChainFile) → IsIn f k.files → BeginsAt (entry_block page j) f.chain → f.from ≡ page.block → AreClean (named_of k) now.world (blocks_of f.chain)
 
-pub files_more : (c : Client) (k : Chains) (now new : View) (page : Page) (i : ℕ) → Trimmed c (named_of k) now new → HoldsWrite (state_of now) c.session page.block
+pub files_more : (c : Client) (k : Chains) (now new : DiskView) (page : Page) (i : ℕ) → Trimmed c (named_of k) now new → HoldsWrite (state_of now) c.session page.block
     → ((j : ℕ) → j < i → (f : ChainFile) → IsIn f k.files → BeginsAt (entry_block page j) f.chain → f.from ≡ page.block → AreClean (named_of k) now.world (blocks_of f.chain))
     → ((f : ChainFile) → IsFileHere c k now (entry_block page i) f → AreClean (named_of k) new.world (blocks_of f.chain))
     → (j : ℕ) → j < i + 1 → (f : ChainFile) → IsIn f k.files → BeginsAt (entry_block page j) f.chain → f.from ≡ page.block → AreClean (named_of k) new.world (blocks_of f.chain)
@@ -152,7 +152,7 @@ files_more c k now new page i trimmed held before here j less f one begins from 
       here f (record { one = one; begins = subst (λ n. BeginsAt (entry_block page n) f.chain) same begins; held = subst (HoldsWrite (state_of now) c.session) (sym from) held })
 ]
 
-pub files_all : (c : Client) (k : Chains) (now : View) (s : AreChainsUnder c k now) (page : Page) (here : IsPageHere c k now page) (i : ℕ) → length (entries_in page.cluster) ≤ i
+pub files_all : (c : Client) (k : Chains) (now : DiskView) (s : AreChainsUnder c k now) (page : Page) (here : IsPageHere c k now page) (i : ℕ) → length (entries_in page.cluster) ≤ i
     → ((j : ℕ) → j < i → (f : ChainFile) → IsIn f k.files → BeginsAt (entry_block page j) f.chain → f.from ≡ page.block → AreClean (named_of k) now.world (blocks_of f.chain))
     → FilesAreClean k now.world page.block
 files_all c k now s page here i past clean f one from =
@@ -163,7 +163,7 @@ files_all c k now s page here i past clean f one from =
 -- ---- cluster after cluster of the directory
 
 -- these clusters of the directory were tidied with their files, and this one is next
-pub record DirLeft (c : Client) (k : Chains) (now : View) (b turn : ℕ) : Type 0 where
+pub record DirLeft (c : Client) (k : Chains) (now : DiskView) (b turn : ℕ) : Type 0 where
   pub before : List Link
   pub walked : IsWalked c now k.directory before b
   pub count : length before ≡ turn
@@ -171,12 +171,12 @@ pub record DirLeft (c : Client) (k : Chains) (now : View) (b turn : ℕ) : Type 
   pub clean : AreClean (named_of k) now.world (blocks_of before)
   pub files : (f : ChainFile) → IsIn f k.files → has_number (blocks_of before) f.from ≡ true → AreClean (named_of k) now.world (blocks_of f.chain)
 
-pub record DirGoing (told : Type 0) (c : Client) (k : Chains) (first now : View) (b turn : ℕ) : Type 0 where
+pub record DirGoing (told : Type 0) (c : Client) (k : Chains) (first now : DiskView) (b turn : ℕ) : Type 0 where
   pub tree : MayTidy told c k now
   pub trims : Trims {X = Unit {0}} told c (named_of k) first now (Ok tt)
   pub left : told → DirLeft c k now b turn
 
-pub dir_starts : (c : Client) (k : Chains) (v : View) → MayWrite c v c.root → AreChainsUnder c k v → DirLeft c k v c.root 0
+pub dir_starts : (c : Client) (k : Chains) (v : DiskView) → MayWrite c v c.root → AreChainsUnder c k v → DirLeft c k v c.root 0
 dir_starts c k v may s = record {
   before = [];
   walked = walk_starts c v c.root k.directory (record {
@@ -193,7 +193,7 @@ dir_starts c k v may s = record {
     never : false ≡ true → ⊥
     never h = cc
 
-module _ (c : Client) (k : Chains) (now : View) (s : AreChainsUnder c k now) (b turn : ℕ) (left : DirLeft c k now b turn) where
+module _ (c : Client) (k : Chains) (now : DiskView) (s : AreChainsUnder c k now) (b turn : ℕ) (left : DirLeft c k now b turn) where
   pub dir_here : has_number (blocks_of k.directory) b ≡ true
   dir_here = block_here c now k.directory left.before b left.walked
 
@@ -204,7 +204,7 @@ module _ (c : Client) (k : Chains) (now : View) (s : AreChainsUnder c k now) (b 
   page_there = ap is_some (entries_here c k now s b dir_here).are
 
   -- the cluster that was read there
-  pub page_read : (mid : View) (page : Page) → Trimmed c (named_of k) now mid → Stays now mid → IsPage now.world b page → HoldsWrite (state_of mid) c.session b → IsPageHere c k mid page
+  pub page_read : (mid : DiskView) (page : Page) → Trimmed c (named_of k) now mid → Stays now mid → IsPage now.world b page → HoldsWrite (state_of mid) c.session b → IsPageHere c k mid page
   page_read mid page trimmed stays is held =
       let at = is.block in
       let way = way_still c (named_of k) now mid trimmed stays b s.under left.way in
@@ -216,7 +216,7 @@ module _ (c : Client) (k : Chains) (now : View) (s : AreChainsUnder c k now) (b 
         held = subst (HoldsWrite (state_of mid) c.session) (sym at) held;
       }
 
-  module _ (cl : Cluster) (at : cluster_at now.world b ≡ Some cl) (new : View) (trimmed : Trimmed c (named_of k) now new) (own : AreClean (named_of k) new.world (b ∷ [])) (clean : FilesAreClean k new.world b) where
+  module _ (cl : Cluster) (at : cluster_at now.world b ≡ Some cl) (new : DiskView) (trimmed : Trimmed c (named_of k) now new) (own : AreClean (named_of k) new.world (b ∷ [])) (clean : FilesAreClean k new.world b) where
     clean_now : AreClean (named_of k) new.world (blocks_of (left.before ++ link_of b cl ∷ []))
     clean_now = clean_more (named_of k) new.world left.before b cl (clean_still (named_of k) now.world new.world (blocks_of left.before) trimmed.fewer left.clean) own
 

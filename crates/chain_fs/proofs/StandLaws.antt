@@ -11,7 +11,7 @@ use Rattle.fs_trees.specs.Fields.{Entry}
 use Rattle.fs_trees.specs.Cluster.{Cluster, entries_of}
 use Rattle.fs_trees.specs.ChainTree.{Link, ChainFile, Chains, cluster_at, blocks_of, links, chain_pairs}
 use Rattle.fs_laws.proofs.ListLaws.{held_append, held_left, held_right, number_left, number_right, in_append as number_append}
-use Rattle.fs_port.specs.View.{View}
+use Rattle.fs_port.specs.View.{DiskView}
 use Rattle.fs_client.specs.declared.client.Client.{Client}
 use Rattle.fs_client.specs.Trimming.{Trimmed}
 use Rattle.fs_client.proofs.TrimLaws.{under_still}
@@ -25,7 +25,7 @@ some_same e = cc
 
 -- ---- they stand after deletions
 
-pub stands_still : (c : Client) (k : Chains) (old new : View) → Trimmed c (named_of k) old new → AreChainsUnder c k old → AreChainsUnder c k new
+pub stands_still : (c : Client) (k : Chains) (old new : DiskView) → Trimmed c (named_of k) old new → AreChainsUnder c k old → AreChainsUnder c k new
 stands_still c k old new h s =
     let own = blocks_of k.directory in
     let rest = flat_map (λ f. blocks_of f.chain) k.files in
@@ -203,7 +203,7 @@ begins_once b d ls one two = let same = sym one.1 ∙ two.1 in firsts b d one.0 
 
 -- ---- what stands
 
-module _ (c : Client) (k : Chains) (v : View) (s : AreChainsUnder c k v) where
+module _ (c : Client) (k : Chains) (v : DiskView) (s : AreChainsUnder c k v) where
   abbrev own : List ℕ
   own = blocks_of k.directory
 

@@ -11,7 +11,7 @@ use Rattle.fs_trees.specs.declared.refusal.FsRefusal.TheVariants as no
 use Rattle.fs_laws.specs.Ways.{HoldsWrite}
 use Rattle.fs_laws.proofs.ListLaws.{held_right, number_right}
 use Rattle.fs_laws.proofs.WayLaws.{ways_lead_on}
-use Rattle.fs_port.specs.View.{View, state_of}
+use Rattle.fs_port.specs.View.{DiskView, state_of}
 use Rattle.fs_port.specs.Calls.{IsValidNow, Stays}
 use Rattle.fs_port.specs.Files.{IsClientReady}
 use Rattle.fs_client.specs.declared.client.Client.{Client}
@@ -29,7 +29,7 @@ use Rattle.chain_fs.proofs.StandLaws.{stands_still, from_chain, file_pair, file_
 
 -- ---- before each call
 
-pub tidy_still : {X : Type 0} (told : Type 0) (c : Client) (k : Chains) (old new : View) (x : X) → MayTidy told c k old → Trims told c (named_of k) old new (Ok x) → MayTidy told c k new
+pub tidy_still : {X : Type 0} (told : Type 0) (c : Client) (k : Chains) (old new : DiskView) (x : X) → MayTidy told c k old → Trims told c (named_of k) old new (Ok x) → MayTidy told c k new
 tidy_still told c k old new x may trims = record {
   ready = ready_still (mounted_by c) old new trims.runs.stays.0 trims.runs.counts trims.runs.unspent.0 may.ready;
   valid = λ t. (trims.trimmed t).valid;
@@ -37,7 +37,7 @@ tidy_still told c k old new x may trims = record {
 }
 
 -- a block that a pair leads to from one that is held for writing
-pub may_by_pair : (c : Client) (v : View) (z b : ℕ) → IsClientReady (mounted_by c) v → IsValidNow v → holds v.world.pairs z b ≡ true → HoldsWrite (state_of v) c.session z → MayWrite c v b
+pub may_by_pair : (c : Client) (v : DiskView) (z b : ℕ) → IsClientReady (mounted_by c) v → IsValidNow v → holds v.world.pairs z b ≡ true → HoldsWrite (state_of v) c.session z → MayWrite c v b
 may_by_pair c v z b ready valid pair held = record {
   number = ready.number;
   begun = ready.begun;
@@ -46,7 +46,7 @@ may_by_pair c v z b ready valid pair held = record {
 }
 
 -- it is refused where that can't be
-pub trims_refuse : (told : Type 0) (c : Client) (n : Named) (old new : View) → (told → ⊥) → Trims {X = Unit {0}} told c n old new (Ok tt) → Trims {X = Unit {0}} told c n old new (Err no.NotThisFs)
+pub trims_refuse : (told : Type 0) (c : Client) (n : Named) (old new : DiskView) → (told → ⊥) → Trims {X = Unit {0}} told c n old new (Ok tt) → Trims {X = Unit {0}} told c n old new (Err no.NotThisFs)
 trims_refuse told c n old new never trims = record {
   trimmed = λ t. tt;
   only = λ t. absurd (never t);
@@ -63,14 +63,14 @@ block_behind : (before rest : List Link) (a : ℕ) → has_number (blocks_of res
 block_behind [] rest a h = h
 block_behind (l ∷ before) rest a h = or_right (l.block == a) _ (block_behind before rest a h)
 
-pub block_here : (c : Client) (now : View) (ls before : List Link) (b : ℕ) → IsWalked c now ls before b → has_number (blocks_of ls) b ≡ true
+pub block_here : (c : Client) (now : DiskView) (ls before : List Link) (b : ℕ) → IsWalked c now ls before b → has_number (blocks_of ls) b ≡ true
 block_here c now ls before b walked = ap (λ xs. has_number (blocks_of xs) b) walked.parts ∙ block_behind before walked.rest b (first walked.rest walked.ahead.rest)
   where
     first : (ks : List Link) → IsFrom now.world (Some b) ks → has_number (blocks_of ks) b ≡ true
     first [] is = absurd (cc)
     first (k ∷ ks) is = let same : k.block ≡ b = cc in or_left (k.block == b) _ (eq-eqb k.block b same)
 
-pub walk_over : (c : Client) (n : Named) (now new : View) (ls before : List Link) (b d : ℕ) (cl : Cluster) → IsWalked c now ls before b → cluster_at now.world b ≡ Some cl → cl.next ≡ Some d
+pub walk_over : (c : Client) (n : Named) (now new : DiskView) (ls before : List Link) (b d : ℕ) (cl : Cluster) → IsWalked c now ls before b → cluster_at now.world b ≡ Some cl → cl.next ≡ Some d
     → ((a : ℕ) → has_number (blocks_of ls) a ≡ true → has_number n.blocks a ≡ true) → ((x y : ℕ) → holds (links (blocks_of ls)) x y ≡ true → holds n.pairs x y ≡ true)
     → Trimmed c n now new → Stays now new → HoldsWrite (state_of new) c.session b → IsWalked c new ls (before ++ link_of b cl ∷ []) d
 walk_over c n now new ls before b d cl walked at next blocks pairs trimmed stays held =
@@ -135,7 +135,7 @@ only_next (Some d) b e = let same : d ≡ b = cc in or_left (d == b) _ (eq-eqb d
 -- ---- a file's clusters
 
 -- of a file these clusters were tidied, and this one is next
-pub record FileLeft (c : Client) (k : Chains) (now : View) (f : ChainFile) (b turn : ℕ) : Type 0 where
+pub record FileLeft (c : Client) (k : Chains) (now : DiskView) (f : ChainFile) (b turn : ℕ) : Type 0 where
   pub one : IsIn f k.files
   pub before : List Link
   pub walked : IsWalked c now f.chain before b
@@ -143,7 +143,7 @@ pub record FileLeft (c : Client) (k : Chains) (now : View) (f : ChainFile) (b tu
   pub way : IsWay c (named_of k) now b
   pub clean : AreClean (named_of k) now.world (blocks_of before)
 
-pub record FileGoing (told : Type 0) (c : Client) (k : Chains) (first now : View) (start b turn : ℕ) : Type 0 where
+pub record FileGoing (told : Type 0) (c : Client) (k : Chains) (first now : DiskView) (start b turn : ℕ) : Type 0 where
   pub tree : MayTidy told c k now
   pub trims : Trims {X = Unit {0}} told c (named_of k) first now (Ok tt)
   pub left : told → (f : ChainFile) → IsFileHere c k first start f → FileLeft c k now f b turn
@@ -156,7 +156,7 @@ module _ (k : Chains) (f : ChainFile) (one : IsIn f k.files) where
   pub file_links : (x y : ℕ) → holds (links (blocks_of f.chain)) x y ≡ true → holds (chain_pairs k) x y ≡ true
   file_links x y h = held_right (links (blocks_of k.directory)) (flat_map (λ g. links (g.from ∷ blocks_of g.chain)) k.files) x y (file_pair k.files f x y one (from_chain f.from f.chain x y h))
 
-pub file_starts : (c : Client) (k : Chains) (v : View) (b : ℕ) (f : ChainFile) → IsClientReady (mounted_by c) v → IsValidNow v → AreChainsUnder c k v → IsFileHere c k v b f → FileLeft c k v f b 0
+pub file_starts : (c : Client) (k : Chains) (v : DiskView) (b : ℕ) (f : ChainFile) → IsClientReady (mounted_by c) v → IsValidNow v → AreChainsUnder c k v → IsFileHere c k v b f → FileLeft c k v f b 0
 file_starts c k v b f ready valid s here = record {
   one = here.one;
   before = [];
@@ -170,7 +170,7 @@ file_starts c k v b f ready valid s here = record {
   clean = clean_none (named_of k) v.world;
 }
 
-module _ (c : Client) (k : Chains) (now : View) (s : AreChainsUnder c k now) (f : ChainFile) (b turn : ℕ) (left : FileLeft c k now f b turn) (cl : Cluster) (at : cluster_at now.world b ≡ Some cl) where
+module _ (c : Client) (k : Chains) (now : DiskView) (s : AreChainsUnder c k now) (f : ChainFile) (b turn : ℕ) (left : FileLeft c k now f b turn) (cl : Cluster) (at : cluster_at now.world b ≡ Some cl) where
   here : has_number (blocks_of f.chain) b ≡ true
   here = block_here c now f.chain left.before b left.walked
 
@@ -184,7 +184,7 @@ module _ (c : Client) (k : Chains) (now : View) (s : AreChainsUnder c k now) (f 
     may = left.walked.ahead.may;
   }
 
-  module _ (new : View) (trimmed : Trimmed c (named_of k) now new) (only : OnlyNamed new.world b (next_blocks cl.next)) where
+  module _ (new : DiskView) (trimmed : Trimmed c (named_of k) now new) (only : OnlyNamed new.world b (next_blocks cl.next)) where
     clean_here : AreClean (named_of k) new.world (blocks_of (left.before ++ link_of b cl ∷ []))
     clean_here = clean_more (named_of k) new.world left.before b cl
         (clean_still (named_of k) now.world new.world (blocks_of left.before) trimmed.fewer left.clean)
@@ -204,7 +204,7 @@ module _ (c : Client) (k : Chains) (now : View) (s : AreChainsUnder c k now) (f 
     file_ends next = subst (λ ls. AreClean (named_of k) new.world (blocks_of ls)) (sym (walk_ends c now f.chain left.before b cl left.walked at next)) clean_here
 
 -- no chain has more clusters than the disk has blocks
-pub file_short : (c : Client) (k : Chains) (now : View) (f : ChainFile) (b turn : ℕ) → AreChainsUnder c k now → FileLeft c k now f b turn → now.world.geometry.blocks ≤ turn → ⊥
+pub file_short : (c : Client) (k : Chains) (now : DiskView) (f : ChainFile) (b turn : ℕ) → AreChainsUnder c k now → FileLeft c k now f b turn → now.world.geometry.blocks ≤ turn → ⊥
 file_short c k now f b turn s left past =
     let more = one_more c now f.chain left.before b left.walked in
     let short = (of_entry c k now s f left.one).2.chain.short in

@@ -8,7 +8,7 @@ use Rattle.fs_trees.specs.ChainTree.{Link, ChainFile, Chains, blocks_of, chain_b
 use Rattle.fs_trees.specs.Layouts.{Named, by_chains}
 use Rattle.fs_laws.specs.Stays.{IsUnder}
 use Rattle.fs_laws.specs.Ways.{HoldsWrite}
-use Rattle.fs_port.specs.View.{View, state_of}
+use Rattle.fs_port.specs.View.{DiskView, state_of}
 use Rattle.fs_port.specs.Calls.{IsValidNow}
 use Rattle.fs_port.specs.Files.{IsClientReady}
 use Rattle.fs_client.specs.declared.client.Client.{Client}
@@ -33,7 +33,7 @@ abbrev pub BeginsAt : ℕ → List Link → Type 0
 BeginsAt b ls = (bs : List ℕ) × (blocks_of ls ≡ b ∷ bs)
 
 -- These are the chains under the client's root.
-pub record AreChainsUnder (c : Client) (k : Chains) (v : View) : Type 0 where
+pub record AreChainsUnder (c : Client) (k : Chains) (v : DiskView) : Type 0 where
   pub under : IsUnder v.world c.root (named_of k)
   pub directory : IsChain v.world c.root k.directory
   -- the directory's entries, and their files
@@ -47,30 +47,30 @@ abbrev pub AreClean : Named → World → List ℕ → Type 0
 AreClean n w bs = (a : ℕ) → IsTrue (has_number bs a) → (b : ℕ) → IsTrue (holds w.pairs a b) → IsTrue (holds n.pairs a b)
 
 -- before the whole tree is tidied
-pub record MayTidy (told : Type 0) (c : Client) (k : Chains) (v : View) : Type 0 where
+pub record MayTidy (told : Type 0) (c : Client) (k : Chains) (v : DiskView) : Type 0 where
   pub ready : IsClientReady (mounted_by c) v
   pub valid : told → IsValidNow v
   pub stands : told → AreChainsUnder c k v
 
 -- a file that begins at this block, of an entry in a cluster that the session may write
-pub record IsFileHere (c : Client) (k : Chains) (v : View) (b : ℕ) (f : ChainFile) : Type 0 where
+pub record IsFileHere (c : Client) (k : Chains) (v : DiskView) (b : ℕ) (f : ChainFile) : Type 0 where
   pub one : IsIn f k.files
   pub begins : BeginsAt b f.chain
   pub held : HoldsWrite (state_of v) c.session f.from
 
-pub record MayTidyFile (told : Type 0) (c : Client) (k : Chains) (v : View) (b : ℕ) : Type 0 where
+pub record MayTidyFile (told : Type 0) (c : Client) (k : Chains) (v : DiskView) (b : ℕ) : Type 0 where
   pub tree : MayTidy told c k v
   pub file : told → (f : ChainFile) × IsFileHere c k v b f
 
 -- a cluster of the directory that was read
-pub record IsPageHere (c : Client) (k : Chains) (v : View) (page : Page) : Type 0 where
+pub record IsPageHere (c : Client) (k : Chains) (v : DiskView) (page : Page) : Type 0 where
   pub read : IsPage v.world page.block page
   pub one : IsTrue (has_number (blocks_of k.directory) page.block)
   pub way : IsWay c (named_of k) v page.block
   pub may : MayWrite c v page.block
   pub held : HoldsWrite (state_of v) c.session page.block
 
-pub record MayTidyPage (told : Type 0) (c : Client) (k : Chains) (v : View) (page : Page) : Type 0 where
+pub record MayTidyPage (told : Type 0) (c : Client) (k : Chains) (v : DiskView) (page : Page) : Type 0 where
   pub tree : MayTidy told c k v
   pub here : told → IsPageHere c k v page
 

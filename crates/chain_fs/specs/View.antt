@@ -6,7 +6,13 @@ use Rattle.fs_port.specs.Files.{FilesView}
 use Rattle.chain_fs.specs.declared.file_system.ChainFs.{ChainFs}
 
 abbrev pub chain_view : ChainFs → FilesView
-chain_view f = record { kind = Chain; root = f.client.root; cap = f.client.cap; session = f.client.session; mounted = f.mounted }
+chain_view f = record {
+  kind = Chain;
+  root = f.client.root;
+  cap = f.client.cap;
+  session = f.client.session;
+  mounted = f.mounted;
+}
 
 -- at first nothing is mounted
 abbrev pub new_view : ℕ → Cap → ℕ → FilesView

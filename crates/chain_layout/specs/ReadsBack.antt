@@ -3,7 +3,8 @@ use Rattle.std.specs.Prelude.{◌≡◌, ℕ, ◌^◌, ◌<◌, ◌≤◌, true,
 use Rattle.std.specs.List.{list_all}
 use Rattle.std.specs.Option.{option_and_then}
 use Rattle.fs_trees.specs.Fields.{Entry, all_named}
-use Rattle.fs_trees.specs.Cluster.{Cluster, cluster_in, link_field, entries_of, entries_room, cluster_bytes, directory_bytes, part_bytes}
+use Rattle.fs_trees.specs.Cluster.{Cluster, cluster_in, link_field, entries_of, entries_room, cluster_bytes}
+use Rattle.fs_trees.specs.Cluster.{directory_bytes, part_bytes}
 use Rattle.chain_layout.specs.Listed.{entry_blocks}
 
 -- numbers of four bytes
@@ -17,13 +18,15 @@ is_linked next = link_field next < 2 ^ 32
 abbrev pub HeadReadsBack : Type 0
 HeadReadsBack =
     (next : Option ℕ) (used : ℕ) (body rest : List ℕ) → is_linked next → used < 2 ^ 32
-    → cluster_in (cluster_bytes next used body ++ rest) ≡ Some (record { next = next; used = used; body = body ++ rest })
+    → cluster_in (cluster_bytes next used body ++ rest)
+    ≡ Some (record { next = next; used = used; body = body ++ rest })
 
 -- the entries of a cluster of the directory, where they are named and there is room for them, whatever stands behind
 abbrev pub EntriesReadBack : Type 0
 EntriesReadBack =
     (len : ℕ) (next : Option ℕ) (es : List Entry) (rest : List ℕ)
-    → is_linked next → length es < 2 ^ 32 → length es ≤ entries_room len → all_named es ≡ true → are_small (entry_blocks es)
+    → is_linked next → length es < 2 ^ 32 → length es ≤ entries_room len → all_named es ≡ true
+    → are_small (entry_blocks es)
     → option_and_then (entries_of len) (cluster_in (directory_bytes next es ++ rest)) ≡ Some es
 
 -- the bytes of a file's cluster, whatever stands behind

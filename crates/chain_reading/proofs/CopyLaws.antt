@@ -4,7 +4,7 @@ use Rattle.std.specs.Prelude.{take, drop}
 use Rattle.fs_trees.specs.Cluster.{Cluster}
 use Rattle.fs_trees.specs.ChainTree.{Link, chain_bytes, cluster_at}
 use Rattle.std.proofs.lemmas.Grind.{flat_map-append}
-use Rattle.fs_port.specs.View.{View, state_of}
+use Rattle.fs_port.specs.View.{DiskView, state_of}
 use Rattle.fs_port.specs.Calls.{Stays}
 use Rattle.fs_laws.specs.Ways.{HoldsWrite}
 use Rattle.fs_client.specs.declared.client.Client.{Client}
@@ -54,16 +54,16 @@ full_already start xs ys new is full =
 -- ---- the walk
 
 -- the bytes of the clusters before a block, from the start on, were added
-pub record IsCopied (c : Client) (now : View) (ls : List Link) (i b before start : ℕ) (into : List ℕ) : Type 0 where
+pub record IsCopied (c : Client) (now : DiskView) (ls : List Link) (i b before start : ℕ) (into : List ℕ) : Type 0 where
   pub counted : IsCounted c now ls i b before
   pub copied : into ≡ take 4096 (drop start (chain_bytes counted.before))
 
-pub record Copying (told : Type 0) (c : Client) (first now : View) (block i b before start : ℕ) (into : List ℕ) : Type 0 where
+pub record Copying (told : Type 0) (c : Client) (first now : DiskView) (block i b before start : ℕ) (into : List ℕ) : Type 0 where
   pub looks : OnlyLooks {X = Unit {0}} told first now (Ok tt)
   pub copied : told → (ls : List Link) → IsFileAhead c first block ls → IsCopied c now ls i b before start into
   pub few : before ≤ 4096 * i
 
-module _ (c : Client) (now : View) (ls : List Link) (i b before start more : ℕ) (into result : List ℕ) (cl : Cluster) (copied : IsCopied c now ls i b before start into) (at : cluster_at now.world b ≡ Some cl) (part : more ≡ length (take cl.used cl.body))
+module _ (c : Client) (now : DiskView) (ls : List Link) (i b before start more : ℕ) (into result : List ℕ) (cl : Cluster) (copied : IsCopied c now ls i b before start into) (at : cluster_at now.world b ≡ Some cl) (part : more ≡ length (take cl.used cl.body))
     (adds : result ≡ into ++ take (4096 - length into) (drop (start - before) (take cl.used cl.body))) where
   now_copied : result ≡ take 4096 (drop start (chain_bytes (copied.counted.before ++ link_of b cl ∷ [])))
   now_copied = added start before (chain_bytes copied.counted.before) (take cl.used cl.body) into result copied.counted.bytes copied.copied adds ∙ ap (λ xs. take 4096 (drop start xs)) (sym (more_bytes copied.counted.before b cl))
@@ -79,7 +79,7 @@ module _ (c : Client) (now : View) (ls : List Link) (i b before start more : ℕ
       full_already start (chain_bytes (copied.counted.before ++ link_of b cl ∷ [])) (chain_bytes first.0) result now_copied full
       ∙ ap (λ xs. take 4096 (drop start xs)) (sym (ap chain_bytes all ∙ flat_map-append (λ l. take l.cluster.used l.cluster.body) (copied.counted.before ++ link_of b cl ∷ []) first.0))
 
-  pub copy_on : (new : View) (d : ℕ) → cl.next ≡ Some d → Looked now new → Stays now new → HoldsWrite (state_of new) c.session b → IsCopied c new ls (i + 1) d (before + more) start result
+  pub copy_on : (new : DiskView) (d : ℕ) → cl.next ≡ Some d → Looked now new → Stays now new → HoldsWrite (state_of new) c.session b → IsCopied c new ls (i + 1) d (before + more) start result
   unfolding count_on
   copy_on new d next seen stays held = record {
     counted = record {
@@ -91,7 +91,7 @@ module _ (c : Client) (now : View) (ls : List Link) (i b before start more : ℕ
     copied = now_copied;
   }
 
-pub copy_starts : (c : Client) (v : View) (block start : ℕ) (into : List ℕ) (ls : List Link) → into ≡ [] → IsFileAhead c v block ls → IsCopied c v ls 0 block 0 start into
+pub copy_starts : (c : Client) (v : DiskView) (block start : ℕ) (into : List ℕ) (ls : List Link) → into ≡ [] → IsFileAhead c v block ls → IsCopied c v ls 0 block 0 start into
 copy_starts c v block start into ls empty file = record {
   counted = record { before = []; walked = walk_starts c v block ls file.ahead; count = refl; bytes = refl };
   copied = empty ∙ sym (none_cut start);

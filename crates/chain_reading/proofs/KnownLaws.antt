@@ -25,7 +25,7 @@ use Rattle.fs_trees.specs.declared.refusal.FsRefusal.TheVariants as no
 use Rattle.fs_laws.proofs.WayLaws.{ways_lead_on}
 use Rattle.fs_laws.proofs.ChainLaws.{found}
 use Rattle.fs_laws.proofs.ListLaws.{held_left, held_right}
-use Rattle.fs_port.specs.View.{View, state_of, IsSound}
+use Rattle.fs_port.specs.View.{DiskView, state_of, IsDiskSound}
 use Rattle.fs_port.specs.Calls.{Stays}
 use Rattle.fs_client.specs.declared.client.Client.{Client}
 use Rattle.fs_client.specs.Client.{shown_at}
@@ -40,14 +40,14 @@ use Rattle.chain_reading.proofs.FileLaws.{tree_has, tree_lacks, others-append}
 use Rattle.chain_reading.specs.declared.walking.Page.{Page}
 use Rattle.chain_reading.specs.Ahead.{IsFileAhead, IsDirectoryAhead, HasDirectory}
 use Rattle.chain_reading.specs.Asking.{MayAsk, tree_of}
-use Rattle.chain_reading.specs.Finding.{placed_names, no_way, IsTaken, IsNameFound, IsFileOf, no_file_found, no_directory_found}
+use Rattle.chain_reading.specs.Finding.{placed_names, no_way, IsPlaceTaken, IsNameFound, IsFileOf, no_file_found, no_directory_found}
 use Rattle.chain_reading.proofs.WalkLaws.{link_of}
 use Rattle.chain_reading.proofs.ListLaws.{names_placed, names-append, own_entries, entries_unique}
 
 -- ---- the root
 
 -- what the root shows may be written
-pub root_may : (told : Type 0) (c : Client) (v : View) → told → MayAsk told c v → IsSound v → MayWrite c v c.root
+pub root_may : (told : Type 0) (c : Client) (v : DiskView) → told → MayAsk told c v → IsDiskSound v → MayWrite c v c.root
 root_may told c v t may sound = record {
   number = may.ready.number;
   begun = may.ready.begun;
@@ -65,13 +65,13 @@ root_may told c v t may sound = record {
         ∙ (ap (λ n. record_level (slice_get v.records c.root) (kept_of n c.cap)) sound.version ∙ may.ready.attains))
 
 -- the chains under the root, and the directory ahead
-pub record IsKnown (c : Client) (v : View) : Type 0 where
+pub record IsKnown (c : Client) (v : DiskView) : Type 0 where
   pub chains : Chains
   pub under : chains_under v.world c.root ≡ Some chains
   pub has : HasChains v.world c.root chains
   pub ahead : IsDirectoryAhead c v chains.directory has.listing.entries
 
-pub is_known : (told : Type 0) (c : Client) (v : View) → told → MayAsk told c v → IsSound v → IsKnown c v
+pub is_known : (told : Type 0) (c : Client) (v : DiskView) → told → MayAsk told c v → IsDiskSound v → IsKnown c v
 is_known told c v t may sound =
     let f = found v.world c.root (may.tree t) in
     let has = has_chains v.world c.root f.chains f.under in
@@ -90,10 +90,10 @@ is_known told c v t may sound =
       };
     }
 
-pub has_directory : (c : Client) (v : View) → IsKnown c v → HasDirectory c v
+pub has_directory : (c : Client) (v : DiskView) → IsKnown c v → HasDirectory c v
 has_directory c v known = (known.chains.directory, known.has.listing.entries, known.ahead)
 
-pub tree_known : (c : Client) (v : View) (known : IsKnown c v) → tree_of c v ≡ a_dir tt (tree_of_files known.chains.files)
+pub tree_known : (c : Client) (v : DiskView) (known : IsKnown c v) → tree_of c v ≡ a_dir tt (tree_of_files known.chains.files)
 tree_known c v known = ap as_tree known.under
 
 -- ---- the files of entries
@@ -126,12 +126,12 @@ file_among w ps qs b e n fs are others =
 some_same : {X : Type 0} {x y : X} → Some x ≡ Some y → x ≡ y
 some_same e = cc
 
-module _ (c : Client) (old new : View) (known : IsKnown c old) (seen : Looked old new) (n : Name) where
+module _ (c : Client) (old new : DiskView) (known : IsKnown c old) (seen : Looked old new) (n : Name) where
   -- no file has the name
   pub free_name : AreOthers n (placed_names known.has.listing.entries) → entry n (tree_of_files known.chains.files) ≡ nothing
   free_name others = tree_lacks n known.chains.files (subst (AreOthers n) (sym (names_of_files old.world known.has.listing.entries known.chains.files known.has.listing.files)) others)
 
-  module _ (page : Page) (place first : ℕ) (taken : IsTaken c new n known.chains.directory page place first) where
+  module _ (page : Page) (place first : ℕ) (taken : IsPlaceTaken c new n known.chains.directory page place first) where
     -- all entries, by the one that was found
     in_parts : (later : List PlacedEntry) → known.has.listing.entries ≡ taken.earlier ++ (placed page.block (entries_in page.cluster) ++ later)
         → known.has.listing.entries ≡ (taken.earlier ++ placed page.block taken.entry.front) ++ ((page.block, taken.entry.entry) ∷ (placed page.block taken.entry.back ++ later))
@@ -260,7 +260,7 @@ module _ (es : Entries (Unit {0}) (List ℕ)) (n : Name) where
 
 -- ---- what looking a name up found
 
-module _ (told : Type 0) (c : Client) (old new : View) (t : told) (may : MayAsk told c old) (sound : IsSound old) (seen : Looked old new) (stays : Stays old new) (n : Name) (place : Place) (found : (ls : List Link) (ps : List PlacedEntry) → IsDirectoryAhead c old ls ps → IsNameFound c new n ls ps place) where
+module _ (told : Type 0) (c : Client) (old new : DiskView) (t : told) (may : MayAsk told c old) (sound : IsDiskSound old) (seen : Looked old new) (stays : Stays old new) (n : Name) (place : Place) (found : (ls : List Link) (ps : List PlacedEntry) → IsDirectoryAhead c old ls ps → IsNameFound c new n ls ps place) where
   the_known : IsKnown c old
   the_known = is_known told c old t may sound
 
@@ -285,7 +285,7 @@ module _ (told : Type 0) (c : Client) (old new : View) (t : told) (may : MayAsk 
       by_place (Free page count) free = ap (λ x. no_directory_found x (n ∷ ns)) (tree_known c old the_known) ∙ free_no_dir (tree_of_files the_known.chains.files) n ns (free_name c old new the_known seen n free.0)
 
 -- a name that was found, and one that wasn't
-module _ (told : Type 0) (c : Client) (old new : View) (t : told) (may : MayAsk told c old) (sound : IsSound old) (seen : Looked old new) (stays : Stays old new) (n : Name) where
+module _ (told : Type 0) (c : Client) (old new : DiskView) (t : told) (may : MayAsk told c old) (sound : IsDiskSound old) (seen : Looked old new) (stays : Stays old new) (n : Name) where
   pub no_name : (page : Page) (count : ℕ) → ((ls : List Link) (ps : List PlacedEntry) → IsDirectoryAhead c old ls ps → IsNameFound c new n ls ps (Free page count)) → no_file_found (tree_of c old) (n ∷ []) ≡ Some no.NoEntry
   no_name page count found =
       let known = is_known told c old t may sound in
@@ -316,8 +316,8 @@ module _ (told : Type 0) (c : Client) (old new : View) (t : told) (may : MayAsk 
         }
 
 -- `/` is a directory
-pub root_is_dir : (told : Type 0) (c : Client) (v : View) → told → MayAsk told c v → IsSound v → no_file_found (tree_of c v) [] ≡ Some no.IsDir
+pub root_is_dir : (told : Type 0) (c : Client) (v : DiskView) → told → MayAsk told c v → IsDiskSound v → no_file_found (tree_of c v) [] ≡ Some no.IsDir
 root_is_dir told c v t may sound = ap (λ x. no_file_found x []) (tree_known c v (is_known told c v t may sound))
 
-pub root_is_listed : (told : Type 0) (c : Client) (v : View) → told → MayAsk told c v → IsSound v → ◌≡◌ {A = Option FsRefusal} (no_directory_found (tree_of c v) []) None
+pub root_is_listed : (told : Type 0) (c : Client) (v : DiskView) → told → MayAsk told c v → IsDiskSound v → ◌≡◌ {A = Option FsRefusal} (no_directory_found (tree_of c v) []) None
 root_is_listed told c v t may sound = ap (λ x. no_directory_found x []) (tree_known c v (is_known told c v t may sound))

@@ -8,7 +8,7 @@ use Rattle.fs_trees.specs.Names.{Name}
 use Rattle.fs_trees.specs.Fields.{Entry, entry_names}
 use Rattle.fs_trees.specs.Cluster.{Cluster, entries_of}
 use Rattle.fs_trees.specs.ChainTree.{Link, cluster_at}
-use Rattle.fs_port.specs.View.{View, state_of}
+use Rattle.fs_port.specs.View.{DiskView, state_of}
 use Rattle.fs_port.specs.Calls.{Stays}
 use Rattle.fs_laws.specs.Ways.{HoldsWrite}
 use Rattle.fs_client.specs.declared.client.Client.{Client}
@@ -43,14 +43,14 @@ entries_unique len (l ∷ ls) ps qs a b =
     some_same e = cc
 
 -- the clusters before a block were looked through, with these entries
-pub record IsLooking (c : Client) (now : View) (len : ℕ) (ls : List Link) (ps qs : List PlacedEntry) (i b : ℕ) : Type 0 where
+pub record IsLooking (c : Client) (now : DiskView) (len : ℕ) (ls : List Link) (ps qs : List PlacedEntry) (i b : ℕ) : Type 0 where
   pub before : List Link
   pub walked : IsWalked c now ls before b
   pub count : length before ≡ i
   pub entries : AreEntries len before qs
   pub all : AreEntries len ls ps
 
-abbrev pub look_starts : (c : Client) (v : View) (len : ℕ) (ls : List Link) (ps : List PlacedEntry) → len ≡ block_len v.world.geometry → IsDirectoryAhead c v ls ps → IsLooking c v len ls ps [] 0 c.root
+abbrev pub look_starts : (c : Client) (v : DiskView) (len : ℕ) (ls : List Link) (ps : List PlacedEntry) → len ≡ block_len v.world.geometry → IsDirectoryAhead c v ls ps → IsLooking c v len ls ps [] 0 c.root
 look_starts c v len ls ps is ahead = record {
   before = [];
   walked = walk_starts c v c.root ls ahead.ahead;
@@ -62,7 +62,7 @@ look_starts c v len ls ps is ahead = record {
 one_cluster : (len b : ℕ) (cl : Cluster) (es : List Entry) → entries_of len cl ≡ Some es → AreEntries len (link_of b cl ∷ []) (placed b es)
 one_cluster len b cl es e = (es, [], e, sym (append-nil (placed b es)), refl)
 
-module _ (c : Client) (now : View) (len : ℕ) (ls : List Link) (ps qs : List PlacedEntry) (i b : ℕ) (looking : IsLooking c now len ls ps qs i b) where
+module _ (c : Client) (now : DiskView) (len : ℕ) (ls : List Link) (ps qs : List PlacedEntry) (i b : ℕ) (looking : IsLooking c now len ls ps qs i b) where
   -- the block has a cluster of the directory
   pub page_there : len ≡ block_len now.world.geometry → is_some (entries_at now.world b) ≡ true
   page_there whole = by_rest looking.walked.rest looking.walked.parts looking.walked.ahead.rest
@@ -80,7 +80,7 @@ module _ (c : Client) (now : View) (len : ℕ) (ls : List Link) (ps qs : List Pl
     pub more : AreEntries len (looking.before ++ link_of b cl ∷ []) (qs ++ placed b es)
     more = entries-append len looking.before (link_of b cl ∷ []) qs (placed b es) looking.entries (one_cluster len b cl es own)
 
-    abbrev pub look_on : (new : View) (d : ℕ) → cl.next ≡ Some d → Looked now new → Stays now new → HoldsWrite (state_of new) c.session b → IsLooking c new len ls ps (qs ++ placed b es) (i + 1) d
+    abbrev pub look_on : (new : DiskView) (d : ℕ) → cl.next ≡ Some d → Looked now new → Stays now new → HoldsWrite (state_of new) c.session b → IsLooking c new len ls ps (qs ++ placed b es) (i + 1) d
     look_on new d next seen stays held = record {
       before = looking.before ++ link_of b cl ∷ [];
       walked = walk_on c now new ls looking.before b d cl looking.walked at next seen stays held;
@@ -107,12 +107,12 @@ least_more n qs b es least least_here result is here e =
     ∙ sym (ap (least_above n) (names-append qs (placed b es)) ∙ (least-append n (placed_names qs) (placed_names (placed b es)) ∙ ap (λ ns. lesser (least_above n (placed_names qs)) (least_above n ns)) (names_placed b es)))))
 
 -- the clusters so far were looked through for it
-pub record IsLeast (c : Client) (now : View) (len : ℕ) (ls : List Link) (ps : List PlacedEntry) (i b : ℕ) (after : Name) (least : Option Name) : Type 0 where
+pub record IsLeast (c : Client) (now : DiskView) (len : ℕ) (ls : List Link) (ps : List PlacedEntry) (i b : ℕ) (after : Name) (least : Option Name) : Type 0 where
   pub qs : List PlacedEntry
   pub looking : IsLooking c now len ls ps qs i b
   pub is : least ≡ least_above after (placed_names qs)
 
-pub record Seeking (told : Type 0) (c : Client) (first now : View) (i b : ℕ) (after : Name) (least : Option Name) : Type 0 where
+pub record Seeking (told : Type 0) (c : Client) (first now : DiskView) (i b : ℕ) (after : Name) (least : Option Name) : Type 0 where
   pub looks : OnlyLooks {X = Unit {0}} told first now (Ok tt)
   pub seen : told → (ls : List Link) (ps : List PlacedEntry) → IsDirectoryAhead c first ls ps → IsLeast c now (block_len first.world.geometry) ls ps i b after least
 

@@ -10,7 +10,7 @@ use Rattle.fs_trees.specs.Cluster.{Cluster}
 use Rattle.fs_trees.specs.ChainTree.{names_max}
 use Rattle.fs_laws.specs.Ways.{HoldsWrite}
 use Rattle.fs_laws.proofs.WayLaws.{ways_lead_on}
-use Rattle.fs_port.specs.View.{View, state_of}
+use Rattle.fs_port.specs.View.{DiskView, state_of}
 use Rattle.fs_port.specs.Calls.{IsValidNow, Stays}
 use Rattle.fs_client.specs.declared.client.Client.{Client}
 use Rattle.fs_client.specs.Client.{shown_at}
@@ -22,7 +22,7 @@ use Rattle.fs_client.proofs.ApartLaws.{is_false}
 use Rattle.fs_client.proofs.PlaceLaws.{drop_at, drop_end}
 use Rattle.fs_client.proofs.SetLaws.{agrees_more, is_new}
 use Rattle.chain_layout.specs.Listed.{entry_blocks}
-use Rattle.chain_reading.specs.Looking.{part_seen, Listed, page_seen, go_on, file_by, file_from, files_from, page_on, directory_by, directory_from, Comes}
+use Rattle.chain_reading.specs.Looking.{part_seen, ListedCluster, page_seen, go_on, file_by, file_from, files_from, page_on, directory_by, directory_from, Comes}
 
 -- ---- what is come to
 
@@ -42,7 +42,7 @@ some_of m None h = absurd (cc)
 some_of m (Some s) h = (s, refl, h.1)
 
 -- what a block points to may be written, where that block may
-pub led_may : (c : Client) (old new : View) (a b d : ℕ) → IsValidNow new → MayWrite c old a → Stays old new → holds new.world.pairs b d ≡ true → HoldsWrite (state_of new) c.session b → MayWrite c new d
+pub led_may : (c : Client) (old new : DiskView) (a b d : ℕ) → IsValidNow new → MayWrite c old a → Stays old new → holds new.world.pairs b d ≡ true → HoldsWrite (state_of new) c.session b → MayWrite c new d
 led_may c old new a b d now may stays pair held = record {
   number = may.number;
   begun = stays.sessions c.session ∙ may.begun;
@@ -60,10 +60,10 @@ not_first : (i : ℕ) → (i + 1 == 0) ≡ false
 not_first i = is_false (i + 1 == 0) (λ e. let never = eqb-true (i + 1) 0 e in absurd (omega (arith, never)))
 
 -- a loop over as many as there are blocks
-pub within_is : (v : View) (end i : ℕ) → v.world.geometry.blocks ≡ v.geometry.blocks → end ≡ v.geometry.blocks → i < end → i < v.world.geometry.blocks
+pub within_is : (v : DiskView) (end i : ℕ) → v.world.geometry.blocks ≡ v.geometry.blocks → end ≡ v.geometry.blocks → i < end → i < v.world.geometry.blocks
 within_is v end i sound is h = omega (arith, sound, is, h)
 
-pub over_is : (v : View) (end i : ℕ) → v.world.geometry.blocks ≡ v.geometry.blocks → end ≡ v.geometry.blocks → end ≤ i → v.world.geometry.blocks ≤ i
+pub over_is : (v : DiskView) (end i : ℕ) → v.world.geometry.blocks ≡ v.geometry.blocks → end ≡ v.geometry.blocks → end ≤ i → v.world.geometry.blocks ≤ i
 over_is v end i sound is h = omega (arith, sound, is, h)
 
 -- ---- a file
@@ -72,7 +72,7 @@ over_is v end i sound is h = omega (arith, sound, is, h)
 abbrev pub FileGoesOn : World → ℕ → ℕ → ℕ → BlockSet → BlockSet → Type 0
 FileGoesOn w start i b begun m = (s : List ℕ) → Agrees begun s → (t : List ℕ) × Agrees m t × (file_from w w.geometry.blocks true start s ≡ file_from w (w.geometry.blocks - i) (i == 0) b t)
 
-pub record Following (told : Type 0) (c : Client) (first now : View) (start i b : ℕ) (begun m : BlockSet) : Type 0 where
+pub record Following (told : Type 0) (c : Client) (first now : DiskView) (start i b : ℕ) (begun m : BlockSet) : Type 0 where
   pub looks : OnlyLooks {X = Unit {0}} told first now (Ok tt)
   pub may : told → MayWrite c now b
   pub on : told → FileGoesOn first.world start i b begun m
@@ -142,13 +142,13 @@ over_blocks es n i e h = let many = many_blocks es in omega (arith, many, e, h)
 abbrev pub FilesGoOn : World → List ℕ → ℕ → BlockSet → BlockSet → Type 0
 FilesGoOn w bs i begun m = (s : List ℕ) → Agrees begun s → (t : List ℕ) × Agrees m t × (files_from w bs s ≡ files_from w (drop i bs) t)
 
-pub record Visiting (told : Type 0) (c : Client) (first now : View) (bs : List ℕ) (i : ℕ) (begun m : BlockSet) : Type 0 where
+pub record Visiting (told : Type 0) (c : Client) (first now : DiskView) (bs : List ℕ) (i : ℕ) (begun m : BlockSet) : Type 0 where
   pub looks : OnlyLooks {X = Unit {0}} told first now (Ok tt)
   pub may : told → (b : ℕ) → has_number bs b ≡ true → MayWrite c now b
   pub on : told → FilesGoOn first.world bs i begun m
 
 -- what may be written still may
-pub may_still : (c : Client) (now new : View) (bs : List ℕ) → Looked now new → Stays now new → IsValidNow now → ((b : ℕ) → has_number bs b ≡ true → MayWrite c now b) → (b : ℕ) → has_number bs b ≡ true → MayWrite c new b
+pub may_still : (c : Client) (now new : DiskView) (bs : List ℕ) → Looked now new → Stays now new → IsValidNow now → ((b : ℕ) → has_number bs b ≡ true → MayWrite c now b) → (b : ℕ) → has_number bs b ≡ true → MayWrite c new b
 may_still c now new bs seen stays valid may b h = may_again c now new b seen stays valid (may b h)
 
 -- what is told of the same world and block
@@ -183,7 +183,7 @@ module _ (w : World) (bs : List ℕ) (i : ℕ) (begun m : BlockSet) (on : FilesG
 abbrev pub DirectoryGoesOn : World → ℕ → ℕ → ℕ → ℕ → BlockSet → BlockSet → Type 0
 DirectoryGoesOn w start i b count begun m = (s : List ℕ) → Agrees begun s → (t : List ℕ) × Agrees m t × (directory_from w w.geometry.blocks start 0 s ≡ directory_from w (w.geometry.blocks - i) b count t)
 
-pub record Reading (told : Type 0) (c : Client) (first now : View) (start i b count : ℕ) (begun m : BlockSet) : Type 0 where
+pub record Reading (told : Type 0) (c : Client) (first now : DiskView) (start i b count : ℕ) (begun m : BlockSet) : Type 0 where
   pub looks : OnlyLooks {X = Unit {0}} told first now (Ok tt)
   pub may : told → MayWrite c now b
   pub on : told → DirectoryGoesOn first.world start i b count begun m
@@ -224,10 +224,10 @@ module _ (w : World) (start i b count : ℕ) (begun m : BlockSet) (on : Director
             let so = on s agrees in
             directory_step s agrees ∙ ap (λ t. cond t None (directory_by w behind count (b ∷ so.0) (page_seen w b))) (is_new m so.0 b result so.1 tells ∙ ap not first)
 
-        pub directory_stops : (next : BlockSet) → ◌≡◌ {A = Option Listed} (page_seen w b) None → (s : List ℕ) → Agrees begun s → Comes next (directory_from w w.geometry.blocks start 0 s) false
+        pub directory_stops : (next : BlockSet) → ◌≡◌ {A = Option ListedCluster} (page_seen w b) None → (s : List ℕ) → Agrees begun s → Comes next (directory_from w w.geometry.blocks start 0 s) false
         directory_stops next none s agrees = comes_none next _ (directory_inside s agrees ∙ ap (directory_by w behind count (b ∷ (on s agrees).0)) none)
 
-        module _ (p : Listed) (seen : page_seen w b ≡ Some p) (small : b < 1048576) (mid next : BlockSet) (gains : Gains m mid b) where
+        module _ (p : ListedCluster) (seen : page_seen w b ≡ Some p) (small : b < 1048576) (mid next : BlockSet) (gains : Gains m mid b) where
           with_files : (s : List ℕ) (agrees : Agrees begun s) (o : Option (List ℕ)) → files_from w (entry_blocks p.entries) (b ∷ (on s agrees).0) ≡ o → directory_from w w.geometry.blocks start 0 s ≡ page_on behind p.cluster.next (count + length p.entries) o
           with_files s agrees o e =
               directory_inside s agrees ∙ (ap (directory_by w behind count (b ∷ (on s agrees).0)) seen ∙ ap (page_on behind p.cluster.next (count + length p.entries)) e)

@@ -9,7 +9,7 @@ use Rattle.fs_trees.specs.Fields.{Entry, entry_names}
 use Rattle.fs_trees.specs.Cluster.{Cluster, entries_of}
 use Rattle.fs_trees.specs.ChainTree.{Link, cluster_at}
 use Rattle.fs_laws.specs.Ways.{HoldsWrite}
-use Rattle.fs_port.specs.View.{View, state_of}
+use Rattle.fs_port.specs.View.{DiskView, state_of}
 use Rattle.fs_port.specs.Calls.{IsValidNow, Stays}
 use Rattle.fs_client.specs.declared.client.Client.{Client}
 use Rattle.fs_client.specs.May.{Looked, OnlyLooks}
@@ -27,7 +27,7 @@ some_same : {X : Type 0} {x y : X} → Some x ≡ Some y → x ≡ y
 some_same e = cc
 
 -- what the block's cluster is, and what is behind it
-pub record FirstPage (c : Client) (v : View) (b : ℕ) (ls : List Link) (ps : List PlacedEntry) (cl : Cluster) (es : List Entry) : Type 0 where
+pub record FirstPage (c : Client) (v : DiskView) (b : ℕ) (ls : List Link) (ps : List PlacedEntry) (cl : Cluster) (es : List Entry) : Type 0 where
   pub later : List Link
   pub entries : List PlacedEntry
   pub parts : ls ≡ link_of b cl ∷ later
@@ -36,18 +36,18 @@ pub record FirstPage (c : Client) (v : View) (b : ℕ) (ls : List Link) (ps : Li
   pub names : placed_names ps ≡ entry_names es ++ placed_names entries
 
 -- clusters are there
-pub page_there : (c : Client) (v : View) (b : ℕ) (ls : List Link) (ps : List PlacedEntry) → ArePagesAhead c v b ls ps → is_some (entries_at v.world b) ≡ true
+pub page_there : (c : Client) (v : DiskView) (b : ℕ) (ls : List Link) (ps : List PlacedEntry) → ArePagesAhead c v b ls ps → is_some (entries_at v.world b) ≡ true
 page_there c v b [] ps pages = let e = pages.ahead.rest in absurd (cc)
 page_there c v b (l ∷ ls) ps pages =
     let here : b ≡ l.block = some_same pages.ahead.rest.0 in
     let at : cluster_at v.world b ≡ Some l.cluster = ap (cluster_at v.world) here ∙ pages.ahead.rest.1 in
     ap (λ o. is_some (option_and_then (entries_of (block_len v.world.geometry)) o)) at ∙ ap is_some pages.entries.2
 
-pub some_page : (c : Client) (v : View) (b : ℕ) (ls : List Link) (ps : List PlacedEntry) → ArePagesAhead c v b ls ps → 1 ≤ length ls
+pub some_page : (c : Client) (v : DiskView) (b : ℕ) (ls : List Link) (ps : List PlacedEntry) → ArePagesAhead c v b ls ps → 1 ≤ length ls
 some_page c v b [] ps pages = let e = pages.ahead.rest in absurd (cc)
 some_page c v b (l ∷ ls) ps pages = omega arith
 
-module _ (c : Client) (v : View) (b : ℕ) (ls : List Link) (ps : List PlacedEntry) (pages : ArePagesAhead c v b ls ps) (cl : Cluster) (es : List Entry) (at : cluster_at v.world b ≡ Some cl) (own : entries_at v.world b ≡ Some es) where
+module _ (c : Client) (v : DiskView) (b : ℕ) (ls : List Link) (ps : List PlacedEntry) (pages : ArePagesAhead c v b ls ps) (cl : Cluster) (es : List Entry) (at : cluster_at v.world b ≡ Some cl) (own : entries_at v.world b ≡ Some es) where
   pub first_page : FirstPage c v b ls ps cl es
   first_page =
       let first = first_link v.world b ls cl pages.ahead.rest at in
@@ -63,7 +63,7 @@ module _ (c : Client) (v : View) (b : ℕ) (ls : List Link) (ps : List PlacedEnt
       }
 
   -- the clusters behind it are ahead
-  pub pages_on : (first : FirstPage c v b ls ps cl es) (new : View) (d : ℕ) → cl.next ≡ Some d → Looked v new → Stays v new → HoldsWrite (state_of new) c.session b → ArePagesAhead c new d first.later first.entries
+  pub pages_on : (first : FirstPage c v b ls ps cl es) (new : DiskView) (d : ℕ) → cl.next ≡ Some d → Looked v new → Stays v new → HoldsWrite (state_of new) c.session b → ArePagesAhead c new d first.later first.entries
   pages_on first new d next seen stays held =
       let walked = walk_on c v new ls [] b d cl (walk_starts c v b ls pages.ahead) at next seen stays held in
       let all : link_of b cl ∷ first.later ≡ link_of b cl ∷ walked.rest = sym first.parts ∙ walked.parts in
@@ -84,7 +84,7 @@ module _ (c : Client) (v : View) (b : ℕ) (ls : List Link) (ps : List PlacedEnt
       by_later (k ∷ ks) qs from listed = absurd (cc)
 
 -- after looking, they are still ahead
-pub pages_again : (c : Client) (old new : View) (b : ℕ) (ls : List Link) (ps : List PlacedEntry) → Looked old new → Stays old new → IsValidNow old → ArePagesAhead c old b ls ps → ArePagesAhead c new b ls ps
+pub pages_again : (c : Client) (old new : DiskView) (b : ℕ) (ls : List Link) (ps : List PlacedEntry) → Looked old new → Stays old new → IsValidNow old → ArePagesAhead c old b ls ps → ArePagesAhead c new b ls ps
 pages_again c old new b ls ps seen stays valid pages = record {
   ahead = record {
     rest = subst (λ w. IsFrom w (Some b) ls) (sym seen.world) pages.ahead.rest;
@@ -96,7 +96,7 @@ pages_again c old new b ls ps seen stays valid pages = record {
 }
 
 -- the cluster that was read, after looking
-pub page_again : (old new : View) (b : ℕ) (page : Page) → Looked old new → IsPage old.world b page → IsPage new.world page.block page
+pub page_again : (old new : DiskView) (b : ℕ) (page : Page) → Looked old new → IsPage old.world b page → IsPage new.world page.block page
 page_again old new b page seen read = subst (λ w. IsPage w page.block page) (sym seen.world) (record {
   block = refl;
   read = subst (λ d. IsRead old.world d (cluster_in page.cluster)) (sym read.block) read.read;
@@ -104,36 +104,36 @@ page_again old new b page seen read = subst (λ w. IsPage w page.block page) (sy
 })
 
 -- by the block of that cluster
-pub pages_at : (c : Client) (old new : View) (b : ℕ) (ls : List Link) (ps : List PlacedEntry) (page : Page) → Looked old new → Stays old new → IsValidNow old → ArePagesAhead c old b ls ps → IsPage old.world b page → ArePagesAhead c new page.block ls ps
+pub pages_at : (c : Client) (old new : DiskView) (b : ℕ) (ls : List Link) (ps : List PlacedEntry) (page : Page) → Looked old new → Stays old new → IsValidNow old → ArePagesAhead c old b ls ps → IsPage old.world b page → ArePagesAhead c new page.block ls ps
 pages_at c old new b ls ps page seen stays valid pages read = subst (λ d. ArePagesAhead c new d ls ps) (sym read.block) (pages_again c old new b ls ps seen stays valid pages)
 
 -- ---- while they are compared
 
 -- what is left to be read, of which all else depends
-pub record IsLeft (c : Client) (first now : View) (i b : ℕ) (test : List Name → Bool) (names : List Name) : Type 0 where
+pub record IsLeft (c : Client) (first now : DiskView) (i b : ℕ) (test : List Name → Bool) (names : List Name) : Type 0 where
   pub chain : List Link
   pub entries : List PlacedEntry
   pub ahead : ArePagesAhead c now b chain entries
   pub same : test names ≡ test (placed_names entries)
   pub few : length chain + i ≤ first.world.geometry.blocks
 
-pub record Comparing (told : Type 0) (c : Client) (first now : View) (start i b : ℕ) (test : List Name → Bool) : Type 0 where
+pub record Comparing (told : Type 0) (c : Client) (first now : DiskView) (start i b : ℕ) (test : List Name → Bool) : Type 0 where
   pub looks : OnlyLooks {X = Unit {0}} told first now (Ok tt)
   pub left : told → (ls : List Link) (ps : List PlacedEntry) → ArePagesAhead c first start ls ps → IsLeft c first now i b test (placed_names ps)
 
-pub left_first : (c : Client) (v : View) (b : ℕ) (test : List Name → Bool) (ls : List Link) (ps : List PlacedEntry) → ArePagesAhead c v b ls ps → IsLeft c v v 0 b test (placed_names ps)
+pub left_first : (c : Client) (v : DiskView) (b : ℕ) (test : List Name → Bool) (ls : List Link) (ps : List PlacedEntry) → ArePagesAhead c v b ls ps → IsLeft c v v 0 b test (placed_names ps)
 left_first c v b test ls ps pages = record { chain = ls; entries = ps; ahead = pages; same = refl; few = let k = pages.short in omega (arith, k) }
 
 -- there are no more than the disk has blocks
-pub left_below : (c : Client) (first now : View) (i b : ℕ) (test : List Name → Bool) (names : List Name) → IsLeft c first now i b test names → first.world.geometry.blocks ≤ i → ⊥
+pub left_below : (c : Client) (first now : DiskView) (i b : ℕ) (test : List Name → Bool) (names : List Name) → IsLeft c first now i b test names → first.world.geometry.blocks ≤ i → ⊥
 left_below c first now i b test names left over = let one = some_page c now b left.chain left.entries left.ahead in let few = left.few in absurd (omega (arith, one, few, over))
 
-module _ (c : Client) (first now : View) (i b : ℕ) (test : List Name → Bool) (names : List Name) (left : IsLeft c first now i b test names) (cl : Cluster) (es : List Entry) (at : cluster_at now.world b ≡ Some cl) (own : entries_at now.world b ≡ Some es) where
+module _ (c : Client) (first now : DiskView) (i b : ℕ) (test : List Name → Bool) (names : List Name) (left : IsLeft c first now i b test names) (cl : Cluster) (es : List Entry) (at : cluster_at now.world b ≡ Some cl) (own : entries_at now.world b ≡ Some es) where
   page : FirstPage c now b left.chain left.entries cl es
   page = first_page c now b left.chain left.entries left.ahead cl es at own
 
   -- the test is passed by this cluster's names, and depends on the others
-  pub left_on : ((ns : List Name) → placed_names left.entries ≡ entry_names es ++ ns → test (entry_names es ++ ns) ≡ test ns) → (new : View) (d : ℕ) → cl.next ≡ Some d → Looked now new → Stays now new → HoldsWrite (state_of new) c.session b → IsLeft c first new (i + 1) d test names
+  pub left_on : ((ns : List Name) → placed_names left.entries ≡ entry_names es ++ ns → test (entry_names es ++ ns) ≡ test ns) → (new : DiskView) (d : ℕ) → cl.next ≡ Some d → Looked now new → Stays now new → HoldsWrite (state_of new) c.session b → IsLeft c first new (i + 1) d test names
   left_on passes new d next seen stays held = record {
     chain = page.later;
     entries = page.entries;

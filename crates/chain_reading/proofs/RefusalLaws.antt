@@ -8,7 +8,7 @@ use Rattle.fs_trees.specs.Step.{judged}
 use Rattle.fs_trees.specs.declared.ask.ShellAsk.TheVariants as ask
 use Rattle.fs_trees.specs.declared.ask.ShellKind.TheVariants.{Chain}
 use Rattle.fs_trees.specs.declared.refusal.FsRefusal.{FsRefusal}
-use Rattle.fs_port.specs.View.{View}
+use Rattle.fs_port.specs.View.{DiskView}
 use Rattle.fs_port.specs.Files.{step_on}
 use Rattle.fs_client.specs.declared.client.Client.{Client}
 use Rattle.chain_reading.specs.Asking.{mounted_by, tree_of}
@@ -19,7 +19,7 @@ is_mounted nothing rest h = absurd (cc)
 is_mounted (a_file x) rest h = refl
 is_mounted (a_dir d es) rest h = refl
 
-module _ (c : Client) (v : View) (p : Path) (there : is_there (tree_of c v) ≡ true) where
+module _ (c : Client) (v : DiskView) (p : Path) (there : is_there (tree_of c v) ≡ true) where
   pub cat_refused : (e : FsRefusal) → no_file_found (tree_of c v) p ≡ Some e → (step_on (mounted_by c) v (ask.Cat p)).answer ≡ refused e
   cat_refused e h = ap (λ o. (judged (tree_of c v) 0 (ask.Cat p) o).answer) (is_mounted (tree_of c v) (lost_on_the_way (tree_of c v) p ∷ missing (tree_of c v) p ∷ no_file (tree_of c v) p ∷ []) there ∙ h)
 

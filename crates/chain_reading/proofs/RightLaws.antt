@@ -21,7 +21,7 @@ use Rattle.chain_reading.specs.Changed.{file_blocks, file_pairs}
 use Rattle.chain_reading.proofs.ChainedLaws.{files-append}
 use Rattle.chain_reading.proofs.ChangeLaws.{file_blocks-append, file_pairs-append}
 use Rattle.chain_reading.proofs.WalkLaws.{link_of}
-use Rattle.chain_reading.specs.Looking.{part_seen, Listed, blocks_listed, page_seen, go_on, file_by, file_from, files_from, page_on, directory_by, directory_from}
+use Rattle.chain_reading.specs.Looking.{part_seen, ListedCluster, blocks_listed, page_seen, go_on, file_by, file_from, files_from, page_on, directory_by, directory_from}
 use Rattle.chain_reading.proofs.SeenLaws.{room_of, passed, PartIs, part_is, PageIs, page_is}
 
 -- ---- what was come to
@@ -197,17 +197,17 @@ all_held : (w : World) (b : ℕ) (bs cs : List ℕ) → are_held w b (bs ++ cs) 
 all_held w b bs cs h c m = all_in (holds w.pairs b) (bs ++ cs) c (and_parts (are_apart (bs ++ cs)) (list_all (holds w.pairs b) (bs ++ cs)) h).1 (number_right bs cs c m)
 
 -- what a cluster of the directory names is pointed to from its block
-pub entry_held_of : (w next : World) → next ≡ w → (b : ℕ) (p : Listed) → are_held w b (blocks_listed p) ≡ true → (d : ℕ) → has_number (entry_blocks p.entries) d ≡ true → holds next.pairs b d ≡ true
+pub entry_held_of : (w next : World) → next ≡ w → (b : ℕ) (p : ListedCluster) → are_held w b (blocks_listed p) ≡ true → (d : ℕ) → has_number (entry_blocks p.entries) d ≡ true → holds next.pairs b d ≡ true
 entry_held_of w next same b p held d m = ap (λ x. holds x.pairs b d) same ∙ all_held w b (next_blocks p.cluster.next) (entry_blocks p.entries) held d m
 
-pub page_held_of : (w next : World) → next ≡ w → (b d : ℕ) (p : Listed) → are_held w b (blocks_listed p) ≡ true → p.cluster.next ≡ Some d → holds next.pairs b d ≡ true
+pub page_held_of : (w next : World) → next ≡ w → (b d : ℕ) (p : ListedCluster) → are_held w b (blocks_listed p) ≡ true → p.cluster.next ≡ Some d → holds next.pairs b d ≡ true
 page_held_of w next same b d p held link = ap (λ x. holds x.pairs b d) same ∙ next_held w b d (entry_blocks p.entries) (ap (λ o. are_held w b (next_blocks o ++ entry_blocks p.entries)) (sym link) ∙ held)
 
 module _ (w : World) (n b count : ℕ) (s t : List ℕ) (later : (d k : ℕ) (u : List ℕ) → directory_from w n d k u ≡ Some t → DirectoryRight w n d k u t) where
   abbrev follow : ℕ → ℕ → List ℕ → Option (List ℕ)
   follow d k u = directory_from w n d k u
 
-  directory_on : (p : Listed) → has_number s b ≡ false → PageIs w b p → (u : List ℕ) → files_from w (entry_blocks p.entries) (b ∷ s) ≡ Some u → (o : Option ℕ) → p.cluster.next ≡ o
+  directory_on : (p : ListedCluster) → has_number s b ≡ false → PageIs w b p → (u : List ℕ) → files_from w (entry_blocks p.entries) (b ∷ s) ≡ Some u → (o : Option ℕ) → p.cluster.next ≡ o
       → page_on follow o (count + length p.entries) (Some u) ≡ Some t → DirectoryRight w (suc n) b count s t
   directory_on p new is u files None next h =
       let own = files_right w b p.entries (b ∷ s) u (all_held w b (next_blocks p.cluster.next) (entry_blocks p.entries) is.held) files in
@@ -270,11 +270,11 @@ module _ (w : World) (n b count : ℕ) (s t : List ℕ) (later : (d k : ℕ) (u 
       length_both [] gs = omega arith
       length_both (f ∷ fs) gs = let e = length_both fs gs in omega (arith, e)
 
-  directory_files : (p : Listed) → has_number s b ≡ false → PageIs w b p → (o : Option (List ℕ)) → files_from w (entry_blocks p.entries) (b ∷ s) ≡ o → page_on follow p.cluster.next (count + length p.entries) o ≡ Some t → DirectoryRight w (suc n) b count s t
+  directory_files : (p : ListedCluster) → has_number s b ≡ false → PageIs w b p → (o : Option (List ℕ)) → files_from w (entry_blocks p.entries) (b ∷ s) ≡ o → page_on follow p.cluster.next (count + length p.entries) o ≡ Some t → DirectoryRight w (suc n) b count s t
   directory_files p new is None e h = absurd (cc)
   directory_files p new is (Some u) e h = directory_on p new is u e p.cluster.next refl h
 
-  directory_seen : (o : Option Listed) → has_number s b ≡ false → page_seen w b ≡ o → directory_by w follow count (b ∷ s) o ≡ Some t → DirectoryRight w (suc n) b count s t
+  directory_seen : (o : Option ListedCluster) → has_number s b ≡ false → page_seen w b ≡ o → directory_by w follow count (b ∷ s) o ≡ Some t → DirectoryRight w (suc n) b count s t
   directory_seen None new e h = absurd (cc)
   directory_seen (Some p) new e h = directory_files p new (page_is w b p e) (files_from w (entry_blocks p.entries) (b ∷ s)) refl h
 

@@ -9,7 +9,7 @@ use Rattle.fs_trees.specs.Fields.{Entry, entry_names}
 use Rattle.fs_trees.specs.Cluster.{Cluster, entries_of}
 use Rattle.fs_trees.specs.ChainTree.{Link, cluster_at}
 use Rattle.fs_laws.specs.Ways.{HoldsWrite}
-use Rattle.fs_port.specs.View.{View, state_of}
+use Rattle.fs_port.specs.View.{DiskView, state_of}
 use Rattle.fs_port.specs.Calls.{IsValidNow, Stays}
 use Rattle.fs_client.specs.declared.client.Client.{Client}
 use Rattle.fs_client.specs.May.{MayWrite, Looked, OnlyLooks}
@@ -22,7 +22,7 @@ use Rattle.chain_reading.proofs.FileLaws.{others-append}
 use Rattle.chain_reading.specs.declared.walking.Page.{Page}
 use Rattle.chain_reading.specs.Standing.{IsPage}
 use Rattle.chain_reading.specs.Ahead.{IsDirectoryAhead}
-use Rattle.chain_reading.specs.Finding.{placed_names, page_link, IsEntry, IsTaken, is_roomy, IsRoomiest, better}
+use Rattle.chain_reading.specs.Finding.{placed_names, page_link, IsEntry, IsPlaceTaken, is_roomy, IsRoomiest, better}
 use Rattle.chain_reading.proofs.WalkLaws.{link_of, first_link, walk_ends}
 use Rattle.chain_reading.proofs.ListLaws.{IsLooking, look_starts, look_on, look_ends, names_placed, names-append}
 
@@ -85,12 +85,12 @@ place_within n es place at =
 -- ---- the cluster for a new entry
 
 -- none was read, or this one is it of those that were
-abbrev pub IsRoomiestOf : Client → View → List Link → Option Page → Type 0
+abbrev pub IsRoomiestOf : Client → DiskView → List Link → Option Page → Type 0
 IsRoomiestOf c v ls None = ls ≡ []
 IsRoomiestOf c v ls (Some page) = IsRoomiest c v ls page
 
 -- reading leaves it so
-module _ (c : Client) (now new : View) (seen : Looked now new) (stays : Stays now new) (valid : IsValidNow now) where
+module _ (c : Client) (now new : DiskView) (seen : Looked now new) (stays : Stays now new) (valid : IsValidNow now) where
   roomiest_still : (ls : List Link) (page : Page) → IsRoomiest c now ls page → IsRoomiest c new ls page
   roomiest_still ls page is = record {
     before = is.before;
@@ -116,7 +116,7 @@ any-none p (l ∷ ls) ms a b = by_first (p l) a (λ h. any-none p ls ms h b)
     by_first false h rest = rest h
 
 -- with one cluster more
-module _ (c : Client) (v : View) (ls : List Link) (page : Page) (read : IsPage v.world page.block page) (held : HoldsWrite (state_of v) c.session page.block) (may : MayWrite c v page.block) where
+module _ (c : Client) (v : DiskView) (ls : List Link) (page : Page) (read : IsPage v.world page.block page) (held : HoldsWrite (state_of v) c.session page.block) (may : MayWrite c v page.block) where
   -- it is the last, and those before have no room
   newest : list_any (is_roomy (block_len v.world.geometry)) ls ≡ false → IsRoomiest c v (ls ++ page_link page ∷ []) page
   newest full = record { before = ls; behind = []; parts = refl; read = read; held = held; may = may; full = full; last = λ _. refl }
@@ -146,14 +146,14 @@ module _ (c : Client) (v : View) (ls : List Link) (page : Page) (read : IsPage v
 
 -- ---- in all clusters
 
-pub record IsSearched (c : Client) (now : View) (len : ℕ) (ls : List Link) (ps : List PlacedEntry) (i b : ℕ) (n : Name) (count : ℕ) (best : Option Page) : Type 0 where
+pub record IsSearched (c : Client) (now : DiskView) (len : ℕ) (ls : List Link) (ps : List PlacedEntry) (i b : ℕ) (n : Name) (count : ℕ) (best : Option Page) : Type 0 where
   pub qs : List PlacedEntry
   pub looking : IsLooking c now len ls ps qs i b
   pub others : AreOthers n (placed_names qs)
   pub counted : count ≡ length qs
   pub roomiest : IsRoomiestOf c now looking.before best
 
-pub record Searching (told : Type 0) (c : Client) (first now : View) (i b : ℕ) (n : Name) (count : ℕ) (best : Option Page) : Type 0 where
+pub record Searching (told : Type 0) (c : Client) (first now : DiskView) (i b : ℕ) (n : Name) (count : ℕ) (best : Option Page) : Type 0 where
   pub looks : OnlyLooks {X = Unit {0}} told first now (Ok tt)
   pub searched : told → (ls : List Link) (ps : List PlacedEntry) → IsDirectoryAhead c first ls ps → IsSearched c now (block_len first.world.geometry) ls ps i b n count best
   pub few : count ≤ 127 * i
@@ -162,7 +162,7 @@ length-placed : (b : ℕ) (es : List Entry) → length (placed b es) ≡ length 
 length-placed b [] = refl
 length-placed b (e ∷ es) = ap suc (length-placed b es)
 
-module _ (c : Client) (now : View) (len : ℕ) (ls : List Link) (ps : List PlacedEntry) (i b : ℕ) (n : Name) (count more : ℕ) (best : Option Page) (cl : Cluster) (es : List Entry) (searched : IsSearched c now len ls ps i b n count best) (at : cluster_at now.world b ≡ Some cl) (own : entries_of len cl ≡ Some es)
+module _ (c : Client) (now : DiskView) (len : ℕ) (ls : List Link) (ps : List PlacedEntry) (i b : ℕ) (n : Name) (count more : ℕ) (best : Option Page) (cl : Cluster) (es : List Entry) (searched : IsSearched c now len ls ps i b n count best) (at : cluster_at now.world b ≡ Some cl) (own : entries_of len cl ≡ Some es)
     (none : position_from (has_name n) 0 es ≡ None) (sized : more ≡ length es) where
   others_now : AreOthers n (placed_names (searched.qs ++ placed b es))
   others_now = subst (AreOthers n) (sym (names-append searched.qs (placed b es) ∙ ap (λ ns. placed_names searched.qs ++ ns) (names_placed b es))) (others-append n (placed_names searched.qs) (entry_names es) searched.others (none_found n es 0 none))
@@ -170,7 +170,7 @@ module _ (c : Client) (now : View) (len : ℕ) (ls : List Link) (ps : List Place
   counted_now : count + more ≡ length (searched.qs ++ placed b es)
   counted_now = let sum = length-append searched.qs (placed b es) in let size = length-placed b es in omega (arith, sum, size, sized, searched.counted)
 
-  module _ (page : Page) (here : page_link page ≡ link_of b cl) (read : IsPage now.world page.block page) (new : View) (valid : IsValidNow now) (seen : Looked now new) (stays : Stays now new) (held : HoldsWrite (state_of new) c.session b) where
+  module _ (page : Page) (here : page_link page ≡ link_of b cl) (read : IsPage now.world page.block page) (new : DiskView) (valid : IsValidNow now) (seen : Looked now new) (stays : Stays now new) (held : HoldsWrite (state_of new) c.session b) where
     roomiest_now : IsRoomiest c new (searched.looking.before ++ link_of b cl ∷ []) (better best page)
     roomiest_now = subst (λ l. IsRoomiest c new (searched.looking.before ++ l ∷ []) (better best page)) here
         (roomiest_more c new searched.looking.before page (subst (λ w. IsPage w page.block page) (sym seen.world) read) (subst (HoldsWrite (state_of new) c.session) (sym (ap (λ l. l.block) here)) held)
@@ -194,9 +194,9 @@ module _ (c : Client) (now : View) (len : ℕ) (ls : List Link) (ps : List Place
         )
 
 -- it was found in this cluster
-pub search_finds : (c : Client) (first now new : View) (ls : List Link) (ps : List PlacedEntry) (i b : ℕ) (n : Name) (count : ℕ) (best : Option Page) (page : Page) (place block : ℕ) → IsSearched c now (block_len first.world.geometry) ls ps i b n count best → Looked first now → Looked now new → Stays now new
+pub search_finds : (c : Client) (first now new : DiskView) (ls : List Link) (ps : List PlacedEntry) (i b : ℕ) (n : Name) (count : ℕ) (best : Option Page) (page : Page) (place block : ℕ) → IsSearched c now (block_len first.world.geometry) ls ps i b n count best → Looked first now → Looked now new → Stays now new
     → IsPage now.world b page → HoldsWrite (state_of new) c.session b → position_from (has_name n) 0 (entries_in page.cluster) ≡ Some place → block ≡ slice_index (entry_blocks (entries_in page.cluster)) place
-    → IsTaken c new n ls page place block
+    → IsPlaceTaken c new n ls page place block
 search_finds c first now new ls ps i b n count best page place block searched before seen stays read held at is =
     let cl = cluster_of (cluster_in page.cluster) in
     let walked = searched.looking.walked in
@@ -215,5 +215,5 @@ search_finds c first now new ls ps i b n count best page place block searched be
       may = subst (MayWrite c new) (sym here) (may_again c now new b seen stays before.valid walked.ahead.may);
     }
 
-pub search_starts : (c : Client) (v : View) (ls : List Link) (ps : List PlacedEntry) (n : Name) → IsDirectoryAhead c v ls ps → IsSearched c v (block_len v.world.geometry) ls ps 0 c.root n 0 None
+pub search_starts : (c : Client) (v : DiskView) (ls : List Link) (ps : List PlacedEntry) (n : Name) → IsDirectoryAhead c v ls ps → IsSearched c v (block_len v.world.geometry) ls ps 0 c.root n 0 None
 search_starts c v ls ps n ahead = record { qs = []; looking = look_starts c v (block_len v.world.geometry) ls ps refl ahead; others = tt; counted = refl; roomiest = refl }

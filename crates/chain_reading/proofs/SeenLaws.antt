@@ -13,11 +13,11 @@ use Rattle.fs_client.proofs.ApartLaws.{yes_no, is_false}
 use Rattle.chain_layout.specs.Listed.{next_blocks}
 use Rattle.chain_layout.specs.Block.{cluster_of, block_len_of}
 use Rattle.chain_layout.specs.Held.{part_cluster}
-use Rattle.chain_reading.specs.Standing.{entries_at, has_part, IsPage, IsPart}
+use Rattle.chain_reading.specs.Standing.{entries_at, has_part, IsPage, IsPartOfRoot}
 use Rattle.chain_reading.specs.declared.walking.Page.{Page}
 use Rattle.chain_reading.specs.declared.walking.Part.{Part}
 use Rattle.chain_reading.proofs.ListLaws.{own_entries}
-use Rattle.chain_reading.specs.Looking.{is_part_filled, is_part_right, if_part, part_seen, Listed, blocks_listed, if_page, page_of, page_seen, listed_in}
+use Rattle.chain_reading.specs.Looking.{is_part_filled, is_part_right, if_part, part_seen, ListedCluster, blocks_listed, if_page, page_of, page_seen, listed_in}
 
 abbrev pub room_of : World → ℕ
 room_of w = bytes_room (block_len w.geometry)
@@ -80,18 +80,18 @@ module _ (w : World) (first : Bool) (b : ℕ) (c : Cluster) (at : cluster_at w b
 
 -- ---- of the directory
 
-pub record PageIs (w : World) (b : ℕ) (p : Listed) : Type 0 where
+pub record PageIs (w : World) (b : ℕ) (p : ListedCluster) : Type 0 where
   pub at : cluster_at w b ≡ Some p.cluster
   pub entries : entries_of (block_len w.geometry) p.cluster ≡ Some p.entries
   pub held : are_held w b (blocks_listed p) ≡ true
 
-pub page_is : (w : World) (b : ℕ) (p : Listed) → page_seen w b ≡ Some p → PageIs w b p
+pub page_is : (w : World) (b : ℕ) (p : ListedCluster) → page_seen w b ≡ Some p → PageIs w b p
 page_is w b p h = by_cluster (cluster_at w b) refl h
   where
     by_entries : (c : Cluster) → cluster_at w b ≡ Some c → (o : Option (List Entry)) → entries_of (block_len w.geometry) c ≡ o → option_and_then (λ es. if_page w b (record { cluster = c; entries = es })) o ≡ Some p → PageIs w b p
     by_entries c at None e k = absurd (cc)
     by_entries c at (Some es) e k =
-        let q : Listed = record { cluster = c; entries = es } in
+        let q : ListedCluster = record { cluster = c; entries = es } in
         let two = passed (are_held w b (blocks_listed q)) q p k in
         subst (PageIs w b) two.1 (record { at = at; entries = e; held = two.0 })
 
@@ -100,25 +100,25 @@ page_is w b p h = by_cluster (cluster_at w b) refl h
     by_cluster (Some c) at k = by_entries c at (entries_of (block_len w.geometry) c) refl k
 
 -- by its parts, whatever the test says
-page_by : (w : World) (b : ℕ) (p : Listed) → cluster_at w b ≡ Some p.cluster → entries_of (block_len w.geometry) p.cluster ≡ Some p.entries → page_seen w b ≡ if_page w b p
+page_by : (w : World) (b : ℕ) (p : ListedCluster) → cluster_at w b ≡ Some p.cluster → entries_of (block_len w.geometry) p.cluster ≡ Some p.entries → page_seen w b ≡ if_page w b p
 page_by w b p at e = ap (option_and_then (page_of w b)) at ∙ ap (option_and_then (λ es. if_page w b (record { cluster = p.cluster; entries = es }))) e
 
-pub is_page : (w : World) (b : ℕ) (p : Listed) → PageIs w b p → page_seen w b ≡ Some p
+pub is_page : (w : World) (b : ℕ) (p : ListedCluster) → PageIs w b p → page_seen w b ≡ Some p
 is_page w b p is = page_by w b p is.at is.entries ∙ ap (λ t. only_if t (λ _. Some p)) is.held
 
-pub unheld_page : (w : World) (b : ℕ) (p : Listed) → cluster_at w b ≡ Some p.cluster → entries_of (block_len w.geometry) p.cluster ≡ Some p.entries → are_held w b (blocks_listed p) ≡ false → ◌≡◌ {A = Option Listed} (page_seen w b) None
+pub unheld_page : (w : World) (b : ℕ) (p : ListedCluster) → cluster_at w b ≡ Some p.cluster → entries_of (block_len w.geometry) p.cluster ≡ Some p.entries → are_held w b (blocks_listed p) ≡ false → ◌≡◌ {A = Option ListedCluster} (page_seen w b) None
 unheld_page w b p at e not_held = page_by w b p at e ∙ ap (λ t. only_if t (λ _. Some p)) not_held
 
-pub no_page : (w : World) (b : ℕ) → ◌≡◌ {A = Option (List Entry)} (entries_at w b) None → ◌≡◌ {A = Option Listed} (page_seen w b) None
+pub no_page : (w : World) (b : ℕ) → ◌≡◌ {A = Option (List Entry)} (entries_at w b) None → ◌≡◌ {A = Option ListedCluster} (page_seen w b) None
 no_page w b none = by_cluster (cluster_at w b) none
   where
-    by_cluster : (o : Option Cluster) → ◌≡◌ {A = Option (List Entry)} (option_and_then (entries_of (block_len w.geometry)) o) None → ◌≡◌ {A = Option Listed} (option_and_then (page_of w b) o) None
+    by_cluster : (o : Option Cluster) → ◌≡◌ {A = Option (List Entry)} (option_and_then (entries_of (block_len w.geometry)) o) None → ◌≡◌ {A = Option ListedCluster} (option_and_then (page_of w b) o) None
     by_cluster None e = refl
     by_cluster (Some c) e = ap (option_and_then (λ es. if_page w b (record { cluster = c; entries = es }))) e
 
 -- ---- as they are read
 
-module _ (w : World) (first : Bool) (b : ℕ) (part : Part) (is : IsPart w b part) where
+module _ (w : World) (first : Bool) (b : ℕ) (part : Part) (is : IsPartOfRoot w b part) where
   abbrev says : Cluster
   says = cluster_of (part_cluster part.cluster)
 
@@ -146,7 +146,7 @@ module _ (w : World) (b : ℕ) (page : Page) (is : IsPage w b page) where
   pub seen_page : true ≡ are_held w b (blocks_listed (listed_in page)) → page_seen w b ≡ Some (listed_in page)
   seen_page held = is_page w b (listed_in page) (record { at = is.read.says; entries = own; held = sym held })
 
-  pub unseen_page : false ≡ are_held w b (blocks_listed (listed_in page)) → ◌≡◌ {A = Option Listed} (page_seen w b) None
+  pub unseen_page : false ≡ are_held w b (blocks_listed (listed_in page)) → ◌≡◌ {A = Option ListedCluster} (page_seen w b) None
   unseen_page e = unheld_page w b (listed_in page) is.read.says own (sym e)
 
 -- ---- of a result

@@ -12,7 +12,7 @@ use Rattle.tsd_model.specs.Geometry.{block_len}
 use Rattle.tsd_model.specs.Pairs.{holds}
 use Rattle.fs_port.specs.Calls.{IsValidNow, Stays}
 use Rattle.fs_client.proofs.LookLaws.{may_again}
-use Rattle.fs_port.specs.View.{View, IsSound}
+use Rattle.fs_port.specs.View.{DiskView, IsDiskSound}
 use Rattle.fs_port.specs.Files.{Answers, TellsPart, TellsNext}
 use Rattle.fs_client.specs.declared.client.Client.{Client}
 use Rattle.fs_client.specs.May.{Looked, OnlyLooks}
@@ -27,7 +27,7 @@ use Rattle.chain_reading.proofs.KnownLaws.{is_known, tree_known, root_is_listed,
 use Rattle.chain_reading.proofs.NextLaws.{next_name}
 
 -- the bytes of a file from a place on
-pub part_told : (told : Type 0) (c : Client) (old mid new : View) (p : Path) (first start : ℕ) (part : List ℕ) (result : Result (Unit {0}) FsRefusal) → told → is_there (tree_of c old) ≡ true → Looked old mid → ◌≡◌ {A = Option FsRefusal} (no_file_found (tree_of c old) p) None → IsFileOf c mid p first
+pub part_told : (told : Type 0) (c : Client) (old mid new : DiskView) (p : Path) (first start : ℕ) (part : List ℕ) (result : Result (Unit {0}) FsRefusal) → told → is_there (tree_of c old) ≡ true → Looked old mid → ◌≡◌ {A = Option FsRefusal} (no_file_found (tree_of c old) p) None → IsFileOf c mid p first
     → ((ls : List Link) → IsFileAhead c mid first ls → OnOk result (part ≡ take 4096 (drop start (chain_bytes ls)))) → IfErr result (λ e. e ≡ no.Device) → OnlyLooks told mid new result → Answers (mounted_by c) old new (ask.Cat p) result (λ _. TellsPart start part)
 part_told told c old mid new p first start part (Err e) t there seen none file gives only looks = record { ok = tt; err = λ ne. absurd (ne only) }
 part_told told c old mid new p first start part (Ok x) t there seen none file gives only looks = record {
@@ -39,7 +39,7 @@ part_told told c old mid new p first start part (Ok x) t there seen none file gi
 }
 
 -- the next name of the directory
-pub next_told : (told : Type 0) (c : Client) (old new : View) (after : Name) (result : Result (Option Name) FsRefusal) → told → MayAsk told c old → IsSound old
+pub next_told : (told : Type 0) (c : Client) (old new : DiskView) (after : Name) (result : Result (Option Name) FsRefusal) → told → MayAsk told c old → IsDiskSound old
     → ((ls : List Link) (ps : List PlacedEntry) → IsDirectoryAhead c old ls ps → IfOk result (λ name. name ≡ least_above after (map (λ p. p.1.name) ps))) → IfErr result (λ e. e ≡ no.Device) → OnlyLooks told old new result
     → Answers (mounted_by c) old new (ask.Ls []) result (TellsNext after)
 next_told told c old new after (Err e) t may sound gives only looks = record { ok = tt; err = λ ne. absurd (ne only) }
@@ -59,7 +59,7 @@ next_told told c old new after (Ok name) t may sound gives only looks =
     }
 
 -- after looking, the directory is still ahead
-pub ahead_again : (c : Client) (old mid : View) (ls : List Link) (ps : List PlacedEntry) → Looked old mid → Stays old mid → IsValidNow old → IsDirectoryAhead c old ls ps → IsDirectoryAhead c mid ls ps
+pub ahead_again : (c : Client) (old mid : DiskView) (ls : List Link) (ps : List PlacedEntry) → Looked old mid → Stays old mid → IsValidNow old → IsDirectoryAhead c old ls ps → IsDirectoryAhead c mid ls ps
 ahead_again c old mid ls ps seen stays valid ahead = record {
   ahead = record {
     rest = subst (λ w. IsFrom w (Some c.root) ls) (sym seen.world) ahead.ahead.rest;

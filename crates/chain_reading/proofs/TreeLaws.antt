@@ -21,7 +21,7 @@ use Rattle.chain_reading.proofs.ChangeLaws.{has_chains, right_is}
 use Rattle.std.specs.Prelude.{IfOk}
 use Rattle.tsd_model.specs.Geometry.{block_len}
 use Rattle.fs_trees.specs.declared.refusal.FsRefusal.{FsRefusal}
-use Rattle.fs_port.specs.View.{View}
+use Rattle.fs_port.specs.View.{DiskView}
 use Rattle.fs_client.specs.declared.client.Client.{Client}
 use Rattle.fs_client.specs.May.{MayWrite, Looked}
 use Rattle.chain_reading.specs.Chained.{IsFrom, AreEntries}
@@ -89,7 +89,7 @@ no_tree w root h = is_false (is_there (chain_tree w root)) (λ there.
 -- ---- what the look tells
 
 -- the directory's clusters are ahead of the names' comparison
-pub pages_ahead : (c : Client) (old mid : View) (t : List ℕ) (right : DirectoryRight old.world old.world.geometry.blocks c.root 0 [] t) → Looked old mid → MayWrite c mid c.root → ArePagesAhead c mid c.root right.chain right.entries
+pub pages_ahead : (c : Client) (old mid : DiskView) (t : List ℕ) (right : DirectoryRight old.world old.world.geometry.blocks c.root 0 [] t) → Looked old mid → MayWrite c mid c.root → ArePagesAhead c mid c.root right.chain right.entries
 pages_ahead c old mid t right seen may = record {
   ahead = record {
     rest = subst (λ w. IsFrom w (Some c.root) right.chain) (sym seen.world) right.from;

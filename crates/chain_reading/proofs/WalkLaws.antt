@@ -9,7 +9,7 @@ use Rattle.fs_trees.specs.Cluster.{Cluster, bytes_room}
 use Rattle.fs_trees.specs.ChainTree.{Link, cluster_at, blocks_of, links, is_filled}
 use Rattle.fs_laws.specs.Ways.{HoldsWrite}
 use Rattle.fs_laws.proofs.WayLaws.{ways_lead_on}
-use Rattle.fs_port.specs.View.{View, state_of}
+use Rattle.fs_port.specs.View.{DiskView, state_of}
 use Rattle.fs_port.specs.Calls.{Stays}
 use Rattle.fs_client.specs.declared.client.Client.{Client}
 use Rattle.fs_client.specs.Client.{shown_at}
@@ -21,12 +21,12 @@ abbrev pub link_of : ℕ → Cluster → Link
 link_of b cl = record { block = b; cluster = cl }
 
 -- of these links those before a block were read, and the others are ahead
-pub record IsWalked (c : Client) (now : View) (ls before : List Link) (b : ℕ) : Type 0 where
+pub record IsWalked (c : Client) (now : DiskView) (ls before : List Link) (b : ℕ) : Type 0 where
   pub rest : List Link
   pub parts : ls ≡ before ++ rest
   pub ahead : IsAhead c now b rest
 
-pub walk_starts : (c : Client) (v : View) (b : ℕ) (ls : List Link) → IsAhead c v b ls → IsWalked c v ls [] b
+pub walk_starts : (c : Client) (v : DiskView) (b : ℕ) (ls : List Link) → IsAhead c v b ls → IsWalked c v ls [] b
 walk_starts c v b ls ahead = record { rest = ls; parts = refl; ahead = ahead }
 
 -- what is ahead begins with the block's cluster
@@ -48,7 +48,7 @@ from_same_world : (w next : World) (o : Option ℕ) (ls : List Link) → next �
 from_same_world w next o ls e is = subst (λ u. IsFrom u o ls) (sym e) is
 
 -- the walk goes on to the next block
-pub walk_on : (c : Client) (now new : View) (ls before : List Link) (b d : ℕ) (cl : Cluster) → IsWalked c now ls before b → cluster_at now.world b ≡ Some cl → cl.next ≡ Some d
+pub walk_on : (c : Client) (now new : DiskView) (ls before : List Link) (b d : ℕ) (cl : Cluster) → IsWalked c now ls before b → cluster_at now.world b ≡ Some cl → cl.next ≡ Some d
     → Looked now new → Stays now new → HoldsWrite (state_of new) c.session b → IsWalked c new ls (before ++ link_of b cl ∷ []) d
 walk_on c now new ls before b d cl walked at next seen stays held =
     let first = first_link now.world b walked.rest cl walked.ahead.rest at in
@@ -77,7 +77,7 @@ walk_on c now new ls before b d cl walked at next seen stays held =
         }
 
 -- the walk is at its end
-pub walk_ends : (c : Client) (now : View) (ls before : List Link) (b : ℕ) (cl : Cluster) → IsWalked c now ls before b → cluster_at now.world b ≡ Some cl → cl.next ≡ None → ls ≡ before ++ link_of b cl ∷ []
+pub walk_ends : (c : Client) (now : DiskView) (ls before : List Link) (b : ℕ) (cl : Cluster) → IsWalked c now ls before b → cluster_at now.world b ≡ Some cl → cl.next ≡ None → ls ≡ before ++ link_of b cl ∷ []
 walk_ends c now ls before b cl walked at next =
     let first = first_link now.world b walked.rest cl walked.ahead.rest at in
     by_rest first.0 first.1 (subst (λ o. IsFrom now.world o first.0) next first.2)
@@ -87,7 +87,7 @@ walk_ends c now ls before b cl walked at next =
     by_rest (k ∷ ks) all is = absurd (cc)
 
 -- something is ahead
-pub one_more : (c : Client) (now : View) (ls before : List Link) (b : ℕ) → IsWalked c now ls before b → length before < length ls
+pub one_more : (c : Client) (now : DiskView) (ls before : List Link) (b : ℕ) → IsWalked c now ls before b → length before < length ls
 one_more c now ls before b walked = by_rest walked.rest walked.parts walked.ahead.rest
   where
     by_rest : (ks : List Link) → ls ≡ before ++ ks → IsFrom now.world (Some b) ks → length before < length ls
@@ -105,7 +105,7 @@ filled_part room [] l (k ∷ ks) h = let parts = and_parts ((l.cluster.used == r
 filled_part room (b ∷ []) l ks h = let parts = and_parts ((b.cluster.used == room) && nat_lt 0 l.cluster.used) (is_filled room (l ∷ ks)) h in filled_part room [] l ks parts.1
 filled_part room (b ∷ d ∷ before) l ks h = let parts = and_parts ((b.cluster.used == room) && nat_lt 0 d.cluster.used) (is_filled room (d ∷ (before ++ l ∷ ks))) h in filled_part room (d ∷ before) l ks parts.1
 
-pub part_there : (c : Client) (now : View) (ls before : List Link) (b : ℕ) → IsWalked c now ls before b → is_filled (bytes_room (block_len now.world.geometry)) ls ≡ true → has_part now.world b ≡ true
+pub part_there : (c : Client) (now : DiskView) (ls before : List Link) (b : ℕ) → IsWalked c now ls before b → is_filled (bytes_room (block_len now.world.geometry)) ls ≡ true → has_part now.world b ≡ true
 part_there c now ls before b walked filled = by_rest walked.rest walked.parts walked.ahead.rest
   where
     by_rest : (ks : List Link) → ls ≡ before ++ ks → IsFrom now.world (Some b) ks → has_part now.world b ≡ true

@@ -3,7 +3,7 @@ use Rattle.std.specs.Prelude.{true, IsTrue}
 use Rattle.fs_trees.specs.Tree.{Tree, is_there}
 use Rattle.fs_trees.specs.ChainTree.{chain_tree}
 use Rattle.fs_trees.specs.declared.ask.ShellKind.TheVariants.{Chain}
-use Rattle.fs_port.specs.View.{View}
+use Rattle.fs_port.specs.View.{DiskView}
 use Rattle.fs_port.specs.Calls.{IsValidNow}
 use Rattle.fs_port.specs.Files.{FilesView, IsClientReady}
 use Rattle.fs_client.specs.declared.client.Client.{Client}
@@ -13,11 +13,12 @@ abbrev pub mounted_by : Client → FilesView
 mounted_by c = record { kind = Chain; root = c.root; cap = c.cap; session = c.session; mounted = true }
 
 -- the tree under its root
-abbrev pub tree_of : Client → View → Tree
+abbrev pub tree_of : Client → DiskView → Tree
 tree_of c v = chain_tree v.world c.root
 
--- before each call: the disk isn't spent and the client may write its root; where the disk tells, its world is valid, and a tree is under the root
-pub record MayAsk (told : Type 0) (c : Client) (v : View) : Type 0 where
+-- before each call: the disk isn't spent and the client may write its root; where the disk tells, its world is valid,
+-- and a tree is under the root
+pub record MayAsk (told : Type 0) (c : Client) (v : DiskView) : Type 0 where
   pub ready : IsClientReady (mounted_by c) v
   pub valid : told → IsValidNow v
   pub tree : told → IsTrue (is_there (tree_of c v))

@@ -41,7 +41,8 @@ placed from es = map (λ e. (from, e)) es
 -- the entries of clusters of the directory, in blocks of this length
 abbrev pub AreEntries : ℕ → List Link → List PlacedEntry → Type 0
 AreEntries len [] ps = ps ≡ []
-AreEntries len (l ∷ ls) ps = (es : List Entry) × (rest : List PlacedEntry) × (entries_of len l.cluster ≡ Some es) × (ps ≡ placed l.block es ++ rest) × AreEntries len ls rest
+AreEntries len (l ∷ ls) ps = (es : List Entry) × (rest : List PlacedEntry) × (entries_of len l.cluster ≡ Some es)
+    × (ps ≡ placed l.block es ++ rest) × AreEntries len ls rest
 
 -- none of these names is that one
 abbrev pub AreOthers : Name → List Name → Type 0

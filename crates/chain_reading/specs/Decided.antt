@@ -10,7 +10,8 @@ use Rattle.fs_trees.specs.Tree.{Tree, nothing, a_file, entry, with_at}
 use Rattle.fs_trees.specs.Fields.{Entry}
 use Rattle.fs_trees.specs.Inode.{are_apart}
 use Rattle.fs_trees.specs.Cluster.{Cluster, cluster_in, entries_of, bytes_room}
-use Rattle.fs_trees.specs.ChainTree.{Link, cluster_at, blocks_of, links, is_filled, ChainFile, chain_bytes, Chains, chain_blocks, names_max, chains_under, tree_of_files, chain_tree}
+use Rattle.fs_trees.specs.ChainTree.{Link, cluster_at, blocks_of, links, is_filled, ChainFile, chain_bytes, Chains}
+use Rattle.fs_trees.specs.ChainTree.{chain_blocks, names_max, chains_under, tree_of_files, chain_tree}
 use Rattle.chain_reading.specs.Chained.{IsFrom, IsFile, AreOthers}
 use Rattle.chain_reading.specs.Changed.{file_names, relinked, Rewrites}
 
@@ -18,18 +19,21 @@ use Rattle.chain_reading.specs.Changed.{file_names, relinked, Rewrites}
 
 -- The tree doesn't depend on where a file stands among others of other names.
 abbrev pub FilesInAnyOrder : Type 0
-FilesInAnyOrder = (fs : List ChainFile) (f : ChainFile) (gs : List ChainFile) → AreOthers f.name (file_names fs) → tree_of_files (fs ++ f ∷ gs) ≡ tree_of_files (f ∷ (fs ++ gs))
+FilesInAnyOrder = (fs : List ChainFile) (f : ChainFile) (gs : List ChainFile) → AreOthers f.name (file_names fs)
+    → tree_of_files (fs ++ f ∷ gs) ≡ tree_of_files (f ∷ (fs ++ gs))
 
 -- A name stands for its file, and for nothing where no file has it.
 abbrev pub NamesAreFound : Type 0
 NamesAreFound =
-    ((fs : List ChainFile) (f : ChainFile) (gs : List ChainFile) → AreOthers f.name (file_names fs) → entry f.name (tree_of_files (fs ++ f ∷ gs)) ≡ a_file (chain_bytes f.chain))
+    ((fs : List ChainFile) (f : ChainFile) (gs : List ChainFile) → AreOthers f.name (file_names fs)
+    → entry f.name (tree_of_files (fs ++ f ∷ gs)) ≡ a_file (chain_bytes f.chain))
     × ((n : Name) (fs : List ChainFile) → AreOthers n (file_names fs) → entry n (tree_of_files fs) ≡ nothing)
 
 -- ---- the directory
 
--- A file that hangs from an entry in the directory's cluster of this block, in blocks that nothing under the root names.
-pub record IsNew (w : World) (c : Chains) (namer : ℕ) (e : Entry) (f : ChainFile) : Type 0 where
+-- A file that hangs from an entry in the directory's cluster of this block, in blocks that nothing under the root
+-- names.
+pub record IsNewFile (w : World) (c : Chains) (namer : ℕ) (e : Entry) (f : ChainFile) : Type 0 where
   pub file : IsFile w namer e f
   pub fresh : are_apart (chain_blocks c ++ blocks_of f.chain) ≡ true
   pub held : (a b : ℕ) → holds (links (namer ∷ blocks_of f.chain)) a b ≡ true → holds w.pairs a b ≡ true
@@ -40,57 +44,77 @@ pub record Becomes (w : World) (root : ℕ) (block : ℕ) (bytes : List ℕ) (ne
   pub tree : chain_tree (with_contents w block bytes) root ≡ t
 
 -- the files with one in place of another
-pub record FileSet (w : World) (root : ℕ) (c : Chains) (ls : List Link) (l : Link) (ms : List Link) (bytes : List ℕ) (cl : Cluster) (e : Entry) (f : ChainFile) : Type 0 where
+pub record FileSet (w : World) (root : ℕ) (c : Chains) (ls : List Link) (l : Link) (ms : List Link) (bytes : List ℕ)
+    (cl : Cluster) (e : Entry) (f : ChainFile) : Type 0 where
   pub before : List ChainFile
   pub old : ChainFile
   pub behind : List ChainFile
   pub files : c.files ≡ before ++ (old ∷ behind)
   pub was : IsFile w l.block e old
-  pub becomes : Becomes w root l.block bytes (record { directory = ls ++ relinked l cl ∷ ms; files = before ++ (f ∷ behind) }) (with_at (e.name ∷ []) (a_file (chain_bytes f.chain)) (chain_tree w root))
+  pub becomes : Becomes w root l.block bytes (record {
+    directory = ls ++ relinked l cl ∷ ms;
+    files = before ++ (f ∷ behind);
+  }) (with_at (e.name ∷ []) (a_file (chain_bytes f.chain)) (chain_tree w root))
 
--- After the write of a cluster in which another entry of the same name stands for an entry, the name stands for the new file.
+-- After the write of a cluster in which another entry of the same name stands for an entry, the name stands for the new
+-- file.
 abbrev pub EntryIsSet : Type 0
 EntryIsSet =
-    (w : World) (root : ℕ) (c : Chains) (ls : List Link) (l : Link) (ms : List Link) (bytes : List ℕ) (cl : Cluster) (es : List Entry) (e new : Entry) (fs : List Entry) (f : ChainFile)
+    (w : World) (root : ℕ) (c : Chains) (ls : List Link) (l : Link) (ms : List Link) (bytes : List ℕ) (cl : Cluster)
+    (es : List Entry) (e new : Entry) (fs : List Entry) (f : ChainFile)
     → chains_under w root ≡ Some c → Rewrites w c ls l ms bytes cl → cl.next ≡ l.cluster.next
-    → entries_of (block_len w.geometry) l.cluster ≡ Some (es ++ (e ∷ fs)) → entries_of (block_len w.geometry) cl ≡ Some (es ++ (new ∷ fs)) → new.name ≡ e.name
-    → IsNew w c l.block new f
+    → entries_of (block_len w.geometry) l.cluster ≡ Some (es ++ (e ∷ fs))
+    → entries_of (block_len w.geometry) cl ≡ Some (es ++ (new ∷ fs)) → new.name ≡ e.name
+    → IsNewFile w c l.block new f
     → FileSet w root c ls l ms bytes cl e f
 
 -- the files with one more
-pub record FileAdded (w : World) (root : ℕ) (c : Chains) (ls : List Link) (l : Link) (ms : List Link) (bytes : List ℕ) (cl : Cluster) (f : ChainFile) : Type 0 where
+pub record FileAdded (w : World) (root : ℕ) (c : Chains) (ls : List Link) (l : Link) (ms : List Link) (bytes : List ℕ)
+    (cl : Cluster) (f : ChainFile) : Type 0 where
   pub before : List ChainFile
   pub behind : List ChainFile
   pub files : c.files ≡ before ++ behind
-  pub becomes : Becomes w root l.block bytes (record { directory = ls ++ relinked l cl ∷ ms; files = before ++ (f ∷ behind) }) (with_at (f.name ∷ []) (a_file (chain_bytes f.chain)) (chain_tree w root))
+  pub becomes : Becomes w root l.block bytes (record {
+    directory = ls ++ relinked l cl ∷ ms;
+    files = before ++ (f ∷ behind);
+  }) (with_at (f.name ∷ []) (a_file (chain_bytes f.chain)) (chain_tree w root))
 
 -- After the write of a cluster with one entry more, of a name that no file had, the name stands for the new file.
 abbrev pub EntryIsAdded : Type 0
 EntryIsAdded =
-    (w : World) (root : ℕ) (c : Chains) (ls : List Link) (l : Link) (ms : List Link) (bytes : List ℕ) (cl : Cluster) (es : List Entry) (new : Entry) (fs : List Entry) (f : ChainFile)
+    (w : World) (root : ℕ) (c : Chains) (ls : List Link) (l : Link) (ms : List Link) (bytes : List ℕ) (cl : Cluster)
+    (es : List Entry) (new : Entry) (fs : List Entry) (f : ChainFile)
     → chains_under w root ≡ Some c → Rewrites w c ls l ms bytes cl → cl.next ≡ l.cluster.next
-    → entries_of (block_len w.geometry) l.cluster ≡ Some (es ++ fs) → entries_of (block_len w.geometry) cl ≡ Some (es ++ (new ∷ fs))
-    → IsNew w c l.block new f → AreOthers f.name (file_names c.files) → length c.files < names_max
+    → entries_of (block_len w.geometry) l.cluster ≡ Some (es ++ fs)
+    → entries_of (block_len w.geometry) cl ≡ Some (es ++ (new ∷ fs))
+    → IsNewFile w c l.block new f → AreOthers f.name (file_names c.files) → length c.files < names_max
     → FileAdded w root c ls l ms bytes cl f
 
 -- the files without one
-pub record FileRemoved (w : World) (root : ℕ) (c : Chains) (ls : List Link) (l : Link) (ms : List Link) (bytes : List ℕ) (cl : Cluster) (e : Entry) : Type 0 where
+pub record FileRemoved (w : World) (root : ℕ) (c : Chains) (ls : List Link) (l : Link) (ms : List Link) (bytes : List ℕ)
+    (cl : Cluster) (e : Entry) : Type 0 where
   pub before : List ChainFile
   pub old : ChainFile
   pub behind : List ChainFile
   pub files : c.files ≡ before ++ (old ∷ behind)
   pub was : IsFile w l.block e old
-  pub becomes : Becomes w root l.block bytes (record { directory = ls ++ relinked l cl ∷ ms; files = before ++ behind }) (with_at (e.name ∷ []) nothing (chain_tree w root))
+  pub becomes : Becomes w root l.block bytes (record {
+    directory = ls ++ relinked l cl ∷ ms;
+    files = before ++ behind;
+  }) (with_at (e.name ∷ []) nothing (chain_tree w root))
 
 -- After the write of a cluster without an entry, its name stands for nothing.
 abbrev pub EntryIsRemoved : Type 0
 EntryIsRemoved =
-    (w : World) (root : ℕ) (c : Chains) (ls : List Link) (l : Link) (ms : List Link) (bytes : List ℕ) (cl : Cluster) (es : List Entry) (e : Entry) (fs : List Entry)
+    (w : World) (root : ℕ) (c : Chains) (ls : List Link) (l : Link) (ms : List Link) (bytes : List ℕ) (cl : Cluster)
+    (es : List Entry) (e : Entry) (fs : List Entry)
     → chains_under w root ≡ Some c → Rewrites w c ls l ms bytes cl → cl.next ≡ l.cluster.next
-    → entries_of (block_len w.geometry) l.cluster ≡ Some (es ++ (e ∷ fs)) → entries_of (block_len w.geometry) cl ≡ Some (es ++ fs)
+    → entries_of (block_len w.geometry) l.cluster ≡ Some (es ++ (e ∷ fs))
+    → entries_of (block_len w.geometry) cl ≡ Some (es ++ fs)
     → FileRemoved w root c ls l ms bytes cl e
 
--- A new last cluster of the directory, with one entry: it stands in a block that nothing under the root names, and the last one points to it.
+-- A new last cluster of the directory, with one entry: it stands in a block that nothing under the root names, and the
+-- last one points to it.
 pub record IsNewCluster (w : World) (c : Chains) (last m : Link) (e : Entry) (f : ChainFile) : Type 0 where
   pub there : cluster_at w m.block ≡ Some m.cluster
   pub ends : m.cluster.next ≡ None
@@ -100,14 +124,19 @@ pub record IsNewCluster (w : World) (c : Chains) (last m : Link) (e : Entry) (f 
   pub led : holds w.pairs last.block m.block ≡ true
   pub held : (a b : ℕ) → holds (links (m.block ∷ blocks_of f.chain)) a b ≡ true → holds w.pairs a b ≡ true
 
--- After the write of the directory's last cluster with such a one as the next, the name of its entry stands for the new file.
+-- After the write of the directory's last cluster with such a one as the next, the name of its entry stands for the new
+-- file.
 abbrev pub DirectoryGrows : Type 0
 DirectoryGrows =
-    (w : World) (root : ℕ) (c : Chains) (ls : List Link) (l m : Link) (bytes : List ℕ) (cl : Cluster) (es : List Entry) (e : Entry) (f : ChainFile)
+    (w : World) (root : ℕ) (c : Chains) (ls : List Link) (l m : Link) (bytes : List ℕ) (cl : Cluster) (es : List Entry)
+    (e : Entry) (f : ChainFile)
     → IsSized w → chains_under w root ≡ Some c → Rewrites w c ls l [] bytes cl → cl.next ≡ Some m.block
     → entries_of (block_len w.geometry) l.cluster ≡ Some es → entries_of (block_len w.geometry) cl ≡ Some es
     → IsNewCluster w c l m e f → AreOthers f.name (file_names c.files) → length c.files < names_max
-    → Becomes w root l.block bytes (record { directory = ls ++ relinked l cl ∷ m ∷ []; files = c.files ++ (f ∷ []) }) (with_at (f.name ∷ []) (a_file (chain_bytes f.chain)) (chain_tree w root))
+    → Becomes w root l.block bytes (record {
+      directory = ls ++ relinked l cl ∷ m ∷ [];
+      files = c.files ++ (f ∷ []);
+    }) (with_at (f.name ∷ []) (a_file (chain_bytes f.chain)) (chain_tree w root))
 
 -- ---- a file
 
@@ -115,8 +144,10 @@ DirectoryGrows =
 abbrev pub grown : ChainFile → List Link → Link → Cluster → List Link → ChainFile
 grown f ks k cl more = record f { chain = ks ++ relinked k cl ∷ more }
 
--- The last cluster of a file is written anew; what follows it stands in blocks that nothing under the root names, each pointed to by the one before.
-pub record Lengthens (w : World) (c : Chains) (fs : List ChainFile) (f : ChainFile) (hs : List ChainFile) (ks : List Link) (k : Link) (bytes : List ℕ) (cl : Cluster) (more : List Link) : Type 0 where
+-- The last cluster of a file is written anew; what follows it stands in blocks that nothing under the root names, each
+-- pointed to by the one before.
+pub record Lengthens (w : World) (c : Chains) (fs : List ChainFile) (f : ChainFile) (hs : List ChainFile)
+    (ks : List Link) (k : Link) (bytes : List ℕ) (cl : Cluster) (more : List Link) : Type 0 where
   pub place : c.files ≡ fs ++ (f ∷ hs)
   pub ends : f.chain ≡ ks ++ k ∷ []
   pub within : k.block < length w.blocks
@@ -129,6 +160,11 @@ pub record Lengthens (w : World) (c : Chains) (fs : List ChainFile) (f : ChainFi
 -- After that write the file's name stands for its bytes with those added.
 abbrev pub FileGrows : Type 0
 FileGrows =
-    (w : World) (root : ℕ) (c : Chains) (fs : List ChainFile) (f : ChainFile) (hs : List ChainFile) (ks : List Link) (k : Link) (bytes : List ℕ) (cl : Cluster) (more : List Link)
+    (w : World) (root : ℕ) (c : Chains) (fs : List ChainFile) (f : ChainFile) (hs : List ChainFile) (ks : List Link)
+    (k : Link) (bytes : List ℕ) (cl : Cluster) (more : List Link)
     → IsSized w → chains_under w root ≡ Some c → Lengthens w c fs f hs ks k bytes cl more
-    → Becomes w root k.block bytes (record { directory = c.directory; files = fs ++ (grown f ks k cl more ∷ hs) }) (with_at (f.name ∷ []) (a_file (chain_bytes (ks ++ relinked k cl ∷ more))) (chain_tree w root))
+    → Becomes w root k.block bytes (record {
+      directory = c.directory;
+      files = fs ++ (grown f ks k cl more ∷ hs);
+    })
+    (with_at (f.name ∷ []) (a_file (chain_bytes (ks ++ relinked k cl ∷ more))) (chain_tree w root))

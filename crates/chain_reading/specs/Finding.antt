@@ -1,5 +1,6 @@
 -- What a name is looked up as.
-use Rattle.std.specs.Prelude.{◌≡◌, ℕ, ◌<◌, Bool, false, cond, nat_lt, List, [], ◌∷◌, ◌++◌, length, map, Option, Some, None}
+use Rattle.std.specs.Prelude.{◌≡◌, ℕ, ◌<◌, Bool, false, cond, nat_lt, List, [], ◌∷◌, ◌++◌, length, map, Option, Some}
+use Rattle.std.specs.Prelude.{None}
 use Rattle.std.specs.List.{list_any}
 use Rattle.tsd_model.specs.Geometry.{block_len}
 use Rattle.fs_trees.specs.Names.{Name, Path}
@@ -11,7 +12,7 @@ use Rattle.fs_trees.specs.Refusals.{first_of, lost_on_the_way, missing, no_file,
 use Rattle.fs_trees.specs.declared.refusal.FsRefusal.{FsRefusal}
 use Rattle.fs_trees.specs.declared.refusal.FsRefusal.TheVariants as no
 use Rattle.fs_laws.specs.Ways.{HoldsWrite}
-use Rattle.fs_port.specs.View.{View, state_of}
+use Rattle.fs_port.specs.View.{DiskView, state_of}
 use Rattle.fs_client.specs.declared.client.Client.{Client}
 use Rattle.fs_client.specs.May.{MayWrite}
 use Rattle.chain_layout.specs.Block.{cluster_of, block_len_of}
@@ -43,7 +44,8 @@ pub record IsEntry (n : Name) (es : List Entry) (place first : ℕ) : Type 0 whe
   pub others : AreOthers n (entry_names front)
 
 -- it stands in a cluster of the directory, which the session may write, and in none before that
-pub record IsTaken (c : Client) (v : View) (n : Name) (ls : List Link) (page : Page) (place first : ℕ) : Type 0 where
+pub record IsPlaceTaken (c : Client) (v : DiskView) (n : Name) (ls : List Link) (page : Page)
+    (place first : ℕ) : Type 0 where
   pub before : List Link
   pub behind : List Link
   pub parts : ls ≡ before ++ (page_link page ∷ behind)
@@ -59,8 +61,9 @@ pub record IsTaken (c : Client) (v : View) (n : Name) (ls : List Link) (page : P
 abbrev pub is_roomy : ℕ → Link → Bool
 is_roomy len l = nat_lt l.cluster.used (entries_room len)
 
--- of the directory's clusters it is the first one that has room, or the last one where none has; it was read, and the session may write it
-pub record IsRoomiest (c : Client) (v : View) (ls : List Link) (page : Page) : Type 0 where
+-- of the directory's clusters it is the first one that has room, or the last one where none has; it was read, and the
+-- session may write it
+pub record IsRoomiest (c : Client) (v : DiskView) (ls : List Link) (page : Page) : Type 0 where
   pub before : List Link
   pub behind : List Link
   pub parts : ls ≡ before ++ (page_link page ∷ behind)
@@ -75,14 +78,14 @@ abbrev pub better : Option Page → Page → Page
 better None other = other
 better (Some page) other = cond (is_roomy (block_len_of (cluster_in page.cluster)) (page_link page)) page other
 
-abbrev pub IsNameFound : Client → View → Name → List Link → List PlacedEntry → Place → Type 0
-IsNameFound c v n ls ps (Taken page place first) = IsTaken c v n ls page place first
+abbrev pub IsNameFound : Client → DiskView → Name → List Link → List PlacedEntry → Place → Type 0
+IsNameFound c v n ls ps (Taken page place first) = IsPlaceTaken c v n ls page place first
 IsNameFound c v n ls ps (Free page count) = AreOthers n (placed_names ps) × (count ≡ length ps) × IsRoomiest c v ls page
 
 -- where it is taken, its place is that of an entry
-abbrev pub IsWithin : Place → Type 0
-IsWithin (Taken page place first) = place < length (entries_in page.cluster)
-IsWithin (Free page count) = Unit {0}
+abbrev pub IsPlaceWithin : Place → Type 0
+IsPlaceWithin (Taken page place first) = place < length (entries_in page.cluster)
+IsPlaceWithin (Free page count) = Unit {0}
 
 -- why no way leads on from what stands at a name
 abbrev pub no_way : Place → FsRefusal
@@ -92,7 +95,7 @@ no_way (Free page count) = no.NoEntry
 -- ---- at a path
 
 -- the file at a path begins at this block, and is one of those under the root
-pub record IsFileOf (c : Client) (v : View) (path : Path) (first : ℕ) : Type 0 where
+pub record IsFileOf (c : Client) (v : DiskView) (path : Path) (first : ℕ) : Type 0 where
   pub file : ChainFile
   pub ahead : IsFileAhead c v first file.chain
   pub there : at (tree_of c v) path ≡ a_file (chain_bytes file.chain)

@@ -7,7 +7,7 @@ use Rattle.tsd_model.specs.Pairs.{holds}
 use Rattle.fs_trees.specs.Fields.{Entry}
 use Rattle.fs_trees.specs.Cluster.{entries_of, bytes_room}
 use Rattle.fs_trees.specs.ChainTree.{Link, cluster_at, blocks_of, links}
-use Rattle.fs_port.specs.View.{View}
+use Rattle.fs_port.specs.View.{DiskView}
 use Rattle.fs_client.specs.declared.client.Client.{Client}
 use Rattle.fs_client.specs.May.{MayWrite}
 use Rattle.chain_layout.specs.Block.{cluster_of, block_len_of}
@@ -35,12 +35,13 @@ pub record IsPage (w : World) (b : ℕ) (page : Page) : Type 0 where
   pub read : IsRead w b (cluster_in page.cluster)
   pub entries : entries_at w b ≡ Some (entries_in page.cluster)
 
-pub record IsPart (w : World) (b : ℕ) (part : Part) : Type 0 where
+pub record IsPartOfRoot (w : World) (b : ℕ) (part : Part) : Type 0 where
   pub block : part.block ≡ b
   pub read : IsRead w b (part_cluster part.cluster)
 
--- Of a chain these clusters are left, from this block on: each is pointed to by the one before, and the session may write the first.
-pub record IsAhead (c : Client) (v : View) (b : ℕ) (ls : List Link) : Type 0 where
+-- Of a chain these clusters are left, from this block on: each is pointed to by the one before, and the session may
+-- write the first.
+pub record IsAhead (c : Client) (v : DiskView) (b : ℕ) (ls : List Link) : Type 0 where
   pub rest : IsFrom v.world (Some b) ls
   pub held : (x y : ℕ) → holds (links (blocks_of ls)) x y ≡ true → holds v.world.pairs x y ≡ true
   pub may : MayWrite c v b

@@ -8,7 +8,7 @@ ghost use Rattle.fs_client.specs.May.{OnlyLooks};
 ghost use Rattle.chain_reading.specs.Chained.{PlacedEntry};
 ghost use Rattle.chain_reading.specs.Ahead.{IsDirectoryAhead, HasDirectory};
 ghost use Rattle.chain_reading.specs.Asking.{MayAsk, tree_of};
-ghost use Rattle.chain_reading.specs.Finding.{better, no_way, IsNameFound, IsWithin, IsFileOf, no_file_found};
+ghost use Rattle.chain_reading.specs.Finding.{better, no_way, IsNameFound, IsPlaceWithin, IsFileOf, no_file_found};
 ghost use Rattle.chain_reading.specs.Finding.{no_directory_found};
 
 use crate::walking::{Page, read_page};
@@ -51,7 +51,7 @@ pub fn search<K: Blocks>(client: &Client, disk: &mut K, name: &Name) -> Result<P
     requires directory { K.told → HasDirectory client.now (K.view disk.old) }
     ensures found { K.told → (ls : List Link) (ps : List PlacedEntry) → IsDirectoryAhead client.now (K.view disk.old) ls
         ps → IfOk result (IsNameFound client.now (K.view disk.new) name.now ls ps) }
-    ensures within { IfOk result IsWithin }
+    ensures within { IfOk result IsPlaceWithin }
     ensures only { K.told → IfErr result (λ e. e ≡ no.Device) }
     ensures looks { OnlyLooks K.told (K.view disk.old) (K.view disk.new) result }
 {

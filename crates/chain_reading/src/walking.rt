@@ -13,7 +13,7 @@ ghost use Rattle.fs_client.specs.May.{MayWrite, OnlyLooks};
 ghost use Rattle.chain_layout.specs.Listed.{next_blocks};
 ghost use Rattle.chain_layout.specs.Block.{cluster_of, block_len_of};
 ghost use Rattle.chain_layout.specs.Held.{blocks_in, cluster_in, entries_in, part_cluster};
-ghost use Rattle.chain_reading.specs.Standing.{entries_at, has_part, IsRead, IsPage, IsPart};
+ghost use Rattle.chain_reading.specs.Standing.{entries_at, has_part, IsRead, IsPage, IsPartOfRoot};
 
 use chain_layout::{Cluster, DirectoryCluster, FileCluster};
 use fs_client::{Client, Names};
@@ -134,7 +134,8 @@ pub fn part_at<K: Blocks>(
     requires unspent { (K.view disk.old).spent ≡ false }
     requires valid { K.told → IsValidNow (K.view disk.old) }
     requires may { K.told → MayWrite client.now (K.view disk.old) block }
-    ensures part { K.told → IfOk result (λ found. IfSome found (λ part. IsPart (K.view disk.old).world block part)) }
+    ensures part { K.told
+        → IfOk result (λ found. IfSome found (λ part. IsPartOfRoot (K.view disk.old).world block part)) }
     ensures none { K.told → IfOk result (λ found. IfNone found (has_part (K.view disk.old).world block ≡ false)) }
     ensures held { K.told → OnOk result (HoldsWrite (state_of (K.view disk.new)) client.now.session block) }
     ensures only { K.told → IfErr result (λ e. e ≡ no.Device) }
@@ -170,7 +171,7 @@ pub fn read_part<K: Blocks>(client: &Client, disk: &mut K, block: u32) -> Result
     requires valid { K.told → IsValidNow (K.view disk.old) }
     requires may { K.told → MayWrite client.now (K.view disk.old) block }
     requires there { K.told → IsTrue (has_part (K.view disk.old).world block) }
-    ensures part { K.told → IfOk result (λ part. IsPart (K.view disk.old).world block part) }
+    ensures part { K.told → IfOk result (λ part. IsPartOfRoot (K.view disk.old).world block part) }
     ensures held { K.told → OnOk result (HoldsWrite (state_of (K.view disk.new)) client.now.session block) }
     ensures only { K.told → IfErr result (λ e. e ≡ no.Device) }
     ensures looks { OnlyLooks K.told (K.view disk.old) (K.view disk.new) result }

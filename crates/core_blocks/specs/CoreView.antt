@@ -6,7 +6,7 @@ use Rattle.image_device.specs.View.{View as DeviceView}
 use Rattle.image_layout.specs.Image.{Image}
 use Rattle.image_world.specs.Faults.{IsGood}
 use Rattle.image_world.specs.Stands.{Stands, world_of}
-use Rattle.fs_port.specs.View.{Left, View}
+use Rattle.fs_port.specs.View.{Left, DiskView}
 use Rattle.tsd_core.specs.Core.{Core, told_world, sessions_of}
 
 -- what an image says: the world for which it stands, or none
@@ -20,7 +20,7 @@ pub record HasLeft (v : DeviceView) (t : ℕ) (x : Left) (f : List ℕ) : Type 0
   pub says : SaysWorld x.image x.world
 
 -- What memory tells, also where the device tells nothing, and beside it the world for which the device stands.
-abbrev pub core_view : ℕ × ℕ → PlaceKind → Core → DeviceView → View
+abbrev pub core_view : ℕ × ℕ → PlaceKind → Core → DeviceView → DiskView
 core_view lenders kind c v = record {
   geometry = (told_world c).geometry;
   version = (told_world c).version;

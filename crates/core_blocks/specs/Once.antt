@@ -4,7 +4,7 @@ use Rattle.std.proofs.Props.{props}
 use Rattle.std.specs.Prelude.{Ok}
 use Rattle.std.specs.Coded.{Coded-set, coded_ℕ}
 use Rattle.image_device.specs.View.{View}
-use Rattle.image_layout.specs.Header.{IsVersion, IsReading}
+use Rattle.image_layout.specs.Header.{IsVersion, IsHeaderReading}
 use Rattle.image_layout.specs.Image.{Image}
 use Rattle.image_layout.specs.Lawful.{IsLawful-prop}
 use Rattle.image_layout.specs.declared.header.Header.{Header}
@@ -20,7 +20,7 @@ either_prop a b never (inr x) (inr y) = ap inr (b x y)
 version_prop : (n : ℕ) → IsProp (IsVersion n)
 version_prop n = either_prop (Coded-set coded_ℕ n 1) (Coded-set coded_ℕ n 2) (λ one two. omega arith)
 
-reading_prop : (bytes : List ℕ) (h : Header) → IsProp (IsReading bytes (Ok h))
+reading_prop : (bytes : List ℕ) (h : Header) → IsProp (IsHeaderReading bytes (Ok h))
 reading_prop bytes h = hlevel (props, version_prop, IsLawful-prop)
 
 good_prop : (x : Image) → IsProp (IsGood x)

@@ -17,7 +17,8 @@ pub struct CoreBlocks<'a, D: Device, L: Places> {
     place: &'a L,
     dev: &'a mut D,
     ghost ready: { core.now.volume.is_spent ≡ false → IsCoreReady core.now } by { ready_prop core.now },
-    ghost at: { D.told → core.now.volume.is_spent ≡ false → IsCoreAt core.now (D.view dev.now) } by { at_prop D.told core.now (D.view dev.now) },
+    ghost at: { D.told → core.now.volume.is_spent ≡ false
+        → IsCoreAt core.now (D.view dev.now) } by { at_prop D.told core.now (D.view dev.now) },
 }
 
 impl<'a, D: Device, L: Places> CoreBlocks<'a, D, L> {

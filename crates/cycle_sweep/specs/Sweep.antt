@@ -10,8 +10,8 @@ use Rattle.graph_laws.specs.Steps.{without_pointers, IsStep, IsAlone}
 use Rattle.graph_laws.specs.Sweeping.{SweepsAs}
 use Rattle.reclaim.specs.Stepping.{after_step}
 
--- A step that may be taken: it is at a live block that isn't reached, takes at most 16 pairs, and at least one or frees the
--- block.
+-- A step that may be taken: it is at a live block that isn't reached, takes at most 16 pairs, and at least one or frees
+-- the block.
 pub record MaySweep (w : World) (s : OutStep) : Type 0 where
   pub live : IsTrue (is_live w s.block)
   pub unreached : has_number (reach w) s.block ≡ false
@@ -23,8 +23,8 @@ pub record MaySweep (w : World) (s : OutStep) : Type 0 where
 abbrev pub IsAloneAfter : World → OutStep → Type 0
 IsAloneAfter w s = IsAlone (without_pointers w s.block s.targets) s.block
 
--- Carried out, a step leaves a raw world raw, what is reached and what the world sweeps to as it was, and less pairs and
--- blocks.
+-- Carried out, a step leaves a raw world raw, what is reached and what the world sweeps to as it was, and less pairs
+-- and blocks.
 pub record IsSweptBy (r : World) (s : OutStep) : Type 0 where
   pub raw : IsRaw r → IsRaw (after_step r s)
   pub same : SweepsAs (after_step r s) r

@@ -32,7 +32,8 @@ VerdictsReadNoBytes = (v w : World) → AreLike v w → (s : Sessions) (q : Requ
 abbrev pub LevelsReadNoBytes : Type 0
 LevelsReadNoBytes =
     (v w : World) → AreLike v w → (s : Sessions) (n b : ℕ) (shown : Shown)
-    → ((o : ℕ) → attained_from v s n b shown o ≡ attained_from w s n b shown o) × (attained v s n b shown ≡ attained w s n b shown)
+    → ((o : ℕ) → attained_from v s n b shown o ≡ attained_from w s n b shown o)
+    × (attained v s n b shown ≡ attained w s n b shown)
 
 -- The same free blocks are chosen, and the same run of them.
 abbrev pub ChoicesReadNoBytes : Type 0

@@ -14,7 +14,8 @@ use Rattle.tsd_model.specs.declared.requests.Request.{Request}
 abbrev pub renews : State → Request → ℕ → Bool
 renews s q o = is_granted s.world s.sessions q && is_set_cap_of q o
 
--- A session to which the request doesn't belong holds afterwards what it held, at blocks that are live afterwards and from primary blocks that got no new capabilities, and nothing else. So what it holds never rises.
+-- A session to which the request doesn't belong holds afterwards what it held, at blocks that are live afterwards and
+-- from primary blocks that got no new capabilities, and nothing else. So what it holds never rises.
 abbrev pub OthersKeepTheirLevels : Type 0
 OthersKeepTheirLevels =
     (kind : PlaceKind) (s : State) (q : Request) (want : Bool) (n o a : ℕ)

@@ -15,7 +15,8 @@ ReachedIsLive = (w : World) (b : ℕ) → IsValid w → IsTrue (has_number (reac
 
 -- A block that is live in the one world and reached by the pairs of the next is live in the next: it isn't reclaimed.
 abbrev pub KeepsWhatIsReached : World → World → Type 0
-KeepsWhatIsReached w next = (b : ℕ) → IsTrue (is_live w b) → IsTrue (has_number (reach next) b) → IsTrue (is_live next b)
+KeepsWhatIsReached w next = (b : ℕ) → IsTrue (is_live w b) → IsTrue (has_number (reach next) b)
+    → IsTrue (is_live next b)
 
 -- So it is before and after a request.
 abbrev pub ReachedIsNotReclaimed : Type 0

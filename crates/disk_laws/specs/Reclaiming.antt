@@ -22,7 +22,8 @@ is_reclaimed w next b = is_live w b && not (is_live next b)
 
 -- the block isn't primary, and no pair that led to it is held afterwards
 abbrev pub LosesItsPointers : World → World → ℕ → Type 0
-LosesItsPointers w next b = (w.geometry.primaries ≤ b) × ((a : ℕ) → IsTrue (holds w.pairs a b) → holds next.pairs a b ≡ false)
+LosesItsPointers w next b = (w.geometry.primaries ≤ b)
+    × ((a : ℕ) → IsTrue (holds w.pairs a b) → holds next.pairs a b ≡ false)
 
 -- A live block becomes free exactly there.
 abbrev pub ReclaimsTheLost : World → World → Type 0
@@ -42,14 +43,16 @@ pairs_but_deleted q es = es
 -- each pair to one of the blocks comes from one before it
 abbrev pub InOrder : List (ℕ × ℕ) → List ℕ → List ℕ → Type 0
 InOrder es before [] = Unit {0}
-InOrder es before (b ∷ bs) = ((a : ℕ) → IsTrue (holds es a b) → IsTrue (has_number before a)) × InOrder es (before ++ b ∷ []) bs
+InOrder es before (b ∷ bs) = ((a : ℕ) → IsTrue (holds es a b) → IsTrue (has_number before a))
+    × InOrder es (before ++ b ∷ []) bs
 
 -- no number stands twice
 abbrev pub all_apart : List ℕ → Bool
 all_apart [] = true
 all_apart (b ∷ bs) = not (has_number bs b) && all_apart bs
 
--- The reclaimed blocks, each once, in an order in which each pair to one of them that was held before the request comes from one before it, or is the pair that the request deleted.
+-- The reclaimed blocks, each once, in an order in which each pair to one of them that was held before the request comes
+-- from one before it, or is the pair that the request deleted.
 pub record ReclaimOrder (w next : World) (q : Request) : Type 0 where
   pub order : List ℕ
   pub once : IsTrue (all_apart order)

@@ -24,10 +24,12 @@ NoMemoryChangesNothing =
 abbrev pub SessionsChangeNoWorld : Type 0
 SessionsChangeNoWorld =
     (kind : PlaceKind) (s : State) (n : ℕ) (want : Bool)
-    → ((answer kind s (ask.Begin n) want).state.world ≡ s.world) × ((answer kind s (ask.End n) want).state.world ≡ s.world)
+    → ((answer kind s (ask.Begin n) want).state.world ≡ s.world)
+    × ((answer kind s (ask.End n) want).state.world ≡ s.world)
 
 -- No request changes the version or the geometry.
 abbrev pub VersionStays : Type 0
 VersionStays =
     (kind : PlaceKind) (s : State) (wants : List Bool) (qs : List Request)
-    → ((after kind s wants qs).world.version ≡ s.world.version) × ((after kind s wants qs).world.geometry ≡ s.world.geometry)
+    → ((after kind s wants qs).world.version ≡ s.world.version)
+    × ((after kind s wants qs).world.geometry ≡ s.world.geometry)

@@ -12,7 +12,8 @@ use Rattle.tsd_model.specs.declared.geometry.Geometry.{Geometry}
 use Rattle.tsd_model.specs.declared.requests.PlaceKind.{PlaceKind}
 use Rattle.tsd_model.specs.declared.requests.Request.{Request}
 
--- From a valid world and sessions that fit it, any list of requests leaves a valid world and sessions that fit it, wherever no memory was found.
+-- From a valid world and sessions that fit it, any list of requests leaves a valid world and sessions that fit it,
+-- wherever no memory was found.
 abbrev pub WorldsStayValid : Type 0
 WorldsStayValid =
     (kind : PlaceKind) (s : State) (wants : List Bool) (qs : List Request)
@@ -21,7 +22,8 @@ WorldsStayValid =
 
 -- The world of a new disk is valid: any lawful geometry, and a pair of capabilities for each primary block.
 abbrev pub FreshWorldsAreValid : Type 0
-FreshWorldsAreValid = (g : Geometry) (caps : List CapPair) → IsLawful g → length caps ≡ g.primaries → IsValid (fresh_world g caps)
+FreshWorldsAreValid = (g : Geometry) (caps : List CapPair) → IsLawful g → length caps ≡ g.primaries
+    → IsValid (fresh_world g caps)
 
 -- A valid world stays valid where its capabilities are turned into digests.
 abbrev pub UpgradedWorldsAreValid : Type 0

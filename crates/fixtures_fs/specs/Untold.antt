@@ -5,15 +5,16 @@ use Rattle.tsd_model.specs.Run.{fresh_world}
 use Rattle.tsd_model.specs.declared.caps.CapPair.{CapPair}
 use Rattle.tsd_model.specs.declared.geometry.Geometry.{Geometry}
 use Rattle.tsd_model.specs.declared.requests.PlaceKind.TheVariants.{Near}
-use Rattle.fs_port.specs.View.{View}
+use Rattle.fs_port.specs.View.{DiskView}
 use Rattle.fixtures_fs.specs.Ours.{cap_of}
 
 -- what is shown for reading and for writing
 abbrev pub caps : CapPair
 caps = record { read = cap_of 170; write = cap_of 187 }
 
--- Session 1 is open, and of version 1 is what is kept of the capabilities. The world counts for nothing, as it isn't told.
-abbrev pub untold_view : Geometry → ℕ → Bool → View
+-- Session 1 is open, and of version 1 is what is kept of the capabilities. The world counts for nothing, as it isn't
+-- told.
+abbrev pub untold_view : Geometry → ℕ → Bool → DiskView
 untold_view g faults spent = record {
   geometry = g;
   version = 1;

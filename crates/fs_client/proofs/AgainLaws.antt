@@ -7,29 +7,29 @@ use Rattle.fs_trees.specs.Answer.{Answer}
 use Rattle.fs_trees.specs.Layouts.{tree_at, IsTidy, step_in}
 use Rattle.fs_trees.specs.Needs.{need_of}
 use Rattle.fs_trees.specs.Outside.{OthersStay}
-use Rattle.fs_trees.specs.Step.{Outcome}
+use Rattle.fs_trees.specs.Step.{AskOutcome}
 use Rattle.fs_trees.specs.declared.ask.ShellAsk.{ShellAsk}
 use Rattle.fs_trees.specs.declared.refusal.FsRefusal.{FsRefusal}
-use Rattle.fs_port.specs.View.{View}
+use Rattle.fs_port.specs.View.{DiskView}
 use Rattle.fs_port.specs.Files.{FilesView, Answers, IsEitherTree, KeepsRoom, LeavesTidyWorld, need_on, step_on, unless_refused}
 use Rattle.fs_client.specs.May.{OnlyLooks}
 use Rattle.fs_port.specs.Runs.{Changes, Runs}
 use Rattle.fs_port.proofs.RunLaws.{both_leave, leaves_more, on_answer}
 use Rattle.fs_client.proofs.RunLaws.{on_ok, runs_look, runs_more, then_runs, changes_so, as_before}
 
-module _ (f : FilesView) (first rd : View) (a : ShellAsk) (same : rd.world ≡ first.world) where
+module _ (f : FilesView) (first rd : DiskView) (a : ShellAsk) (same : rd.world ≡ first.world) where
   -- the step there, by the world
-  abbrev step_of : World → Outcome
+  abbrev step_of : World → AskOutcome
   step_of w = step_in f.kind w f.root (cond f.mounted (tree_at f.kind w f.root) nothing) a
 
   same_step : step_on f rd a ≡ step_on f first a
   same_step = ap (λ w. step_in f.kind w f.root (cond f.mounted (tree_at f.kind w f.root) nothing) a) same
 
-  pub answers_again : {X : Type 0} (fin : View) (result : Result X FsRefusal) (tells : X → Answer → Type 0) → Answers f rd fin a result tells → Answers f first fin a result tells
+  pub answers_again : {X : Type 0} (fin : DiskView) (result : Result X FsRefusal) (tells : X → Answer → Type 0) → Answers f rd fin a result tells → Answers f first fin a result tells
   answers_again fin (Ok y) tells h = record { ok = (subst (λ o. tells y o.answer) same_step h.ok.0, h.ok.1 ∙ ap (λ o. o.tree) same_step); err = tt }
   answers_again fin (Err r) tells h = record { ok = tt; err = λ ne. let k = h.err ne in (ap (λ o. o.answer) (sym same_step) ∙ k.0, k.1 ∙ same) }
 
-  leaves_again : (fin : View) → LeavesTidyWorld f rd fin → LeavesTidyWorld f first fin
+  leaves_again : (fin : DiskView) → LeavesTidyWorld f rd fin → LeavesTidyWorld f first fin
   leaves_again fin h = record {
     unspent = h.unspent;
     tidy = λ tidy. h.tidy (subst (λ w. IsTidy f.kind w f.root) (sym same) tidy);
@@ -37,7 +37,7 @@ module _ (f : FilesView) (first rd : View) (a : ShellAsk) (same : rd.world ≡ f
     taken = λ b free. h.taken b (ap (λ w. is_free w b) same ∙ free);
   }
 
-  room_again : (fin : View) → KeepsRoom (need_on f rd a) rd.world fin.world → KeepsRoom (need_on f first a) first.world fin.world
+  room_again : (fin : DiskView) → KeepsRoom (need_on f rd a) rd.world fin.world → KeepsRoom (need_on f first a) first.world fin.world
   room_again fin = subst (λ w. KeepsRoom (need_of f.kind w f.root (cond f.mounted (tree_at f.kind w f.root) nothing) a) w fin.world) same
 
   either_again : (w : World) → IsEitherTree f rd a w → IsEitherTree f first a w
@@ -49,7 +49,7 @@ module _ (f : FilesView) (first rd : View) (a : ShellAsk) (same : rd.world ≡ f
     record { valid = h.1.valid; geometry = h.1.geometry ∙ ap (λ v. v.geometry) same; others = subst (λ v. OthersStay f.root v w) same h.1.others },
   )
 
-pub changes_again : {X Y : Type 0} (told : Type 0) (f : FilesView) (first rd fin : View) (a : ShellAsk) (x : X) (result : Result Y FsRefusal) → (told → IsValid first.world) → OnlyLooks told first rd (Ok x) → Changes told f rd fin a result → Changes told f first fin a result
+pub changes_again : {X Y : Type 0} (told : Type 0) (f : FilesView) (first rd fin : DiskView) (a : ShellAsk) (x : X) (result : Result Y FsRefusal) → (told → IsValid first.world) → OnlyLooks told first rd (Ok x) → Changes told f rd fin a result → Changes told f first fin a result
 changes_again {X} {Y} told f first rd fin a x result valid looks h =
     changes_so told f first fin a result (λ t. on_ok (KeepsRoom (need_on f rd a) rd.world fin.world) (KeepsRoom (need_on f first a) first.world fin.world) result (room_again f first rd a (looks.looked t).0.world fin) (h.room t))
     (λ t. on_answer (LeavesTidyWorld f rd fin) (LeavesTidyWorld f first fin) result (leaves_again f first rd a (looks.looked t).0.world fin) (h.world t))

@@ -13,19 +13,19 @@ use Rattle.fs_trees.specs.declared.ask.ShellAsk.TheVariants as ask
 use Rattle.fs_trees.specs.declared.ask.ShellKind.{ShellKind}
 use Rattle.fs_trees.specs.declared.refusal.FsRefusal.{FsRefusal}
 use Rattle.fs_trees.specs.declared.refusal.FsRefusal.TheVariants as no
-use Rattle.fs_port.specs.View.{View}
+use Rattle.fs_port.specs.View.{DiskView}
 use Rattle.fs_port.specs.Files.{FilesView, Answers, tree_on, tree_after, unless_refused}
 use Rattle.fs_client.specs.Changing.{refused_on, no_place_found}
 
 -- ---- any ask
 
-pub ask_refuses : {X : Type 0} (f : FilesView) (old new : View) (a : ShellAsk) (tells : X → Answer → Type 0) (e : FsRefusal) → (e ≢ no.Device → refused_on f old a ≡ Some e) → (e ≢ no.Device → new.world ≡ old.world) → Answers {X = X} f old new a (Err e) tells
+pub ask_refuses : {X : Type 0} (f : FilesView) (old new : DiskView) (a : ShellAsk) (tells : X → Answer → Type 0) (e : FsRefusal) → (e ≢ no.Device → refused_on f old a ≡ Some e) → (e ≢ no.Device → new.world ≡ old.world) → Answers {X = X} f old new a (Err e) tells
 ask_refuses f old new a tells e h same = record {
   ok = tt;
   err = λ ne. (ap (λ o. (judged (tree_on f old) (free_count old.world) a o).answer) (h ne), same ne);
 }
 
-pub ask_done : {X : Type 0} (f : FilesView) (old new : View) (a : ShellAsk) (x : X) → ◌≡◌ {A = Option FsRefusal} (refused_on f old a) None → (change (tree_on f old) (free_count old.world) a).answer ≡ done → tree_at f.kind new.world f.root ≡ (change (tree_on f old) (free_count old.world) a).tree
+pub ask_done : {X : Type 0} (f : FilesView) (old new : DiskView) (a : ShellAsk) (x : X) → ◌≡◌ {A = Option FsRefusal} (refused_on f old a) None → (change (tree_on f old) (free_count old.world) a).answer ≡ done → tree_at f.kind new.world f.root ≡ (change (tree_on f old) (free_count old.world) a).tree
     → Answers f old new a (Ok x) (λ _ answer. answer ≡ done)
 ask_done f old new a x h answer tree = record {
   ok = (ap (λ o. (judged (tree_on f old) (free_count old.world) a o).answer) h ∙ answer, tree ∙ sym (ap (λ o. (judged (tree_on f old) (free_count old.world) a o).tree) h));
@@ -33,7 +33,7 @@ ask_done f old new a x h answer tree = record {
 }
 
 -- the tree afterwards, where it isn't refused
-pub after_is : (f : FilesView) (old : View) (a : ShellAsk) → ◌≡◌ {A = Option FsRefusal} (refused_on f old a) None → (change (tree_on f old) (free_count old.world) a).answer ≡ done → tree_after f old a ≡ (change (tree_on f old) (free_count old.world) a).tree
+pub after_is : (f : FilesView) (old : DiskView) (a : ShellAsk) → ◌≡◌ {A = Option FsRefusal} (refused_on f old a) None → (change (tree_on f old) (free_count old.world) a).answer ≡ done → tree_after f old a ≡ (change (tree_on f old) (free_count old.world) a).tree
 after_is f old a h answer =
     let t = tree_on f old in
     let before = tree_at f.kind old.world f.root in

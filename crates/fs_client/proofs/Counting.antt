@@ -8,7 +8,7 @@ use Rattle.tsd_model.specs.World.{World, has_number}
 use Rattle.tsd_model.specs.Valid.{IsValid}
 use Rattle.tsd_model.specs.Step.{targets_from}
 use Rattle.disk_laws.proofs.DoomLaws.{live_below}
-use Rattle.fs_port.specs.View.{View}
+use Rattle.fs_port.specs.View.{DiskView}
 use Rattle.fs_client.specs.declared.client.Client.{Client}
 use Rattle.fs_client.specs.Leftovers.{targets_of, named_targets, other_targets, next_in}
 use Rattle.fs_client.specs.May.{MayWrite, OnlyLooks}
@@ -18,7 +18,7 @@ use Rattle.fs_client.proofs.PageLaws.{targets_climb, all_targets, from_start, le
 abbrev pub rest_of : World → ℕ → ℕ → List ℕ
 rest_of w a start = filter (nat_le start) (targets_of w a)
 
-pub record Counting (told : Type 0) (c : Client) (first now : View) (a : ℕ) (names : List ℕ) (start m n : ℕ) : Type 0 where
+pub record Counting (told : Type 0) (c : Client) (first now : DiskView) (a : ℕ) (names : List ℕ) (start m n : ℕ) : Type 0 where
   pub looks : OnlyLooks {X = Unit {0}} told first now (Ok tt)
   pub may : told → MayWrite c now a
   pub named : told → m + length (filter (has_number names) (rest_of first.world a start)) ≡ length (named_targets first.world a names)

@@ -5,7 +5,7 @@ use Rattle.fs_trees.specs.declared.ask.ShellAsk.{ShellAsk}
 use Rattle.fs_trees.specs.declared.ask.ShellAsk.TheVariants as ask
 use Rattle.fs_trees.specs.declared.refusal.FsRefusal.{FsRefusal}
 use Rattle.fs_trees.specs.declared.refusal.FsRefusal.TheVariants as no
-use Rattle.fs_port.specs.View.{View, IsSound}
+use Rattle.fs_port.specs.View.{DiskView, IsDiskSound}
 use Rattle.fs_port.specs.Calls.{IsValidNow}
 use Rattle.fs_port.specs.Files.{FilesView, IsEitherTree, IsTreeAlone, IsLeft, LeavesTidyWorld, OnlyDeletes}
 use Rattle.fs_port.specs.Runs.{Changes, FindsTree, IsMade, Looks, Runs}
@@ -13,7 +13,7 @@ use Rattle.fs_port.proofs.RunLaws.{on_answer, unasked}
 use Rattle.fs_client.specs.May.{Looked, OnlyLooks}
 use Rattle.fs_client.proofs.RunLaws.{as_before, changes_so, leaves_same, on_ok, runs_look, runs_more}
 
-pub looks_at : {X : Type 0} (told : Type 0) (old new : View) (result : Result X FsRefusal) → OnlyLooks told old new result → Looks told old new result
+pub looks_at : {X : Type 0} (told : Type 0) (old new : DiskView) (result : Result X FsRefusal) → OnlyLooks told old new result → Looks told old new result
 looks_at told old new result looks = record {
   world = λ t. on_answer (Looked old new) (new.world ≡ old.world) result (λ l. l.world) (looks.looked t);
   runs = runs_look told old new (λ w. w ≡ old.world) result (λ t w e. e) looks;
@@ -21,7 +21,7 @@ looks_at told old new result looks = record {
 
 -- ---- a refusal that is no fault, before anything is asked
 
-module _ {X : Type 0} (told : Type 0) (v : View) (e : FsRefusal) (ne : e ≢ no.Device) (unspent : v.spent ≡ false) (sound : told → IsSound v) (valid : told → IsValidNow v) where
+module _ {X : Type 0} (told : Type 0) (v : DiskView) (e : FsRefusal) (ne : e ≢ no.Device) (unspent : v.spent ≡ false) (sound : told → IsDiskSound v) (valid : told → IsValidNow v) where
   pub unasked_looks : Looks {X = X} told v v (Err e)
   unasked_looks = record { world = λ t. (tt, λ _. refl); runs = unasked told v (λ w. w ≡ v.world) e ne unspent sound valid (λ t. refl) }
 
@@ -31,7 +31,7 @@ module _ {X : Type 0} (told : Type 0) (v : View) (e : FsRefusal) (ne : e ≢ no.
 
 -- ---- of the same file system, where a tree is mounted or where none is
 
-module _ (f : FilesView) (m : Bool) (old new : View) where
+module _ (f : FilesView) (m : Bool) (old new : DiskView) where
   left_as : (w : World) → IsLeft f old w → IsLeft (record f { mounted = m }) old w
   left_as w h = record { valid = h.valid; geometry = h.geometry; others = h.others }
 

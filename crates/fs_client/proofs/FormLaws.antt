@@ -10,7 +10,7 @@ use Rattle.tsd_model.specs.declared.replies.Reply.TheVariants as reply
 use Rattle.tsd_model.specs.declared.replies.Rule.{Rule}
 use Rattle.fs_trees.specs.declared.refusal.FsRefusal.{FsRefusal}
 use Rattle.fs_trees.specs.declared.refusal.FsRefusal.TheVariants as no
-use Rattle.fs_port.specs.View.{View}
+use Rattle.fs_port.specs.View.{DiskView}
 use Rattle.fs_port.specs.Calls.{Counts, IsAskCarriedOut, IsEitherSide, LeavesWorldsOnly, Stays}
 use Rattle.fs_client.specs.Asks.{refusal_in, bytes_in, done_in, gone_in, blocks_in, targets_in, has_wanted_form, AsksOnce}
 use Rattle.fs_client.proofs.RefusedLaws.{is_of_files}
@@ -68,7 +68,7 @@ targets_step P r h = tt
 
 -- ---- one request that was answered
 
-pub answered : {X : Type 0} (told : Type 0) (old new : View) (q : Request) (r : Reply) (result given : Result X FsRefusal) → given ≡ result → IsEither q r result → is_of_files q ≡ true
+pub answered : {X : Type 0} (told : Type 0) (old new : DiskView) (q : Request) (r : Reply) (result given : Result X FsRefusal) → given ≡ result → IsEither q r result → is_of_files q ≡ true
     → (told → IsAskCarriedOut old new q r) → (told → LeavesWorldsOnly old new (IsEitherSide old q)) → Stays old new → Counts old new → new.faults ≡ old.faults → new.spent ≡ false
     → AsksOnce told old new q given
 answered told old new q r result given is either own step crash stays counts faultless unspent =

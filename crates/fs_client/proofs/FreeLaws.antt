@@ -11,7 +11,7 @@ use Rattle.tsd_model.specs.declared.replies.Reply.TheVariants as reply
 use Rattle.disk_laws.proofs.RunLaws.{answer_valid, answer_fits}
 use Rattle.fs_laws.specs.Ways.{HoldsWrite}
 use Rattle.fs_laws.proofs.WayLaws.{ways_stay}
-use Rattle.fs_port.specs.View.{View, state_of}
+use Rattle.fs_port.specs.View.{DiskView, state_of}
 use Rattle.fs_port.specs.Calls.{Counts, IsAskCarriedOut, IsValidNow, LeavesWorldsOnly, Stays}
 use Rattle.fs_port.specs.Files.{OnAnswer}
 use Rattle.fs_port.proofs.RunLaws.{led_by}
@@ -20,11 +20,11 @@ use Rattle.fs_trees.specs.declared.refusal.FsRefusal.TheVariants as no
 use Rattle.fs_client.specs.May.{Looked, OnlyLooks}
 use Rattle.fs_client.proofs.MayLaws.{held_live}
 
-pub free_same : (v : View) (want : Bool) → (answer v.kind (state_of v) ask.GetFree want).state.world ≡ v.world
+pub free_same : (v : DiskView) (want : Bool) → (answer v.kind (state_of v) ask.GetFree want).state.world ≡ v.world
 free_same v true = refl
 free_same v false = refl
 
-pub free_looked : (old new : View) (n : ℕ) → IsValidNow old → IsAskCarriedOut old new ask.GetFree (reply.Free n) → Looked old new
+pub free_looked : (old new : DiskView) (n : ℕ) → IsValidNow old → IsAskCarriedOut old new ask.GetFree (reply.Free n) → Looked old new
 free_looked old new n now done = record {
   world = ap (λ st. st.world) (sym done.1) ∙ free_same old done.0;
   valid = record {
@@ -37,7 +37,7 @@ free_looked old new n now done = record {
 }
 
 -- counting only looks, whatever came of it
-pub free_looks : (told : Type 0) (old new : View) (result : Result ℕ FsRefusal) → (told → IsValidNow old) → (told → IfOk result (λ n. IsAskCarriedOut old new ask.GetFree (reply.Free n)))
+pub free_looks : (told : Type 0) (old new : DiskView) (result : Result ℕ FsRefusal) → (told → IsValidNow old) → (told → IfOk result (λ n. IsAskCarriedOut old new ask.GetFree (reply.Free n)))
     → (told → IfErr result (λ e. e ≡ no.Device)) → (told → LeavesWorldsOnly old new (λ w. w ≡ old.world)) → OnAnswer result (Stays old new) → Counts old new → OnAnswer result (new.spent ≡ false)
     → OnAnswer result (new.faults ≡ old.faults) → IfErr result (λ e. e ≡ no.Device → new.spent ≡ true) → IfErr result (λ e. e ≡ no.Device → Rose old.faults new.faults) → OnlyLooks told old new result
 free_looks told old new result valid step only crash stays counts unspent faultless spent cause = record {

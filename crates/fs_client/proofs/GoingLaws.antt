@@ -10,7 +10,7 @@ use Rattle.tsd_model.specs.Valid.{IsValid}
 use Rattle.tsd_model.specs.Step.{targets_from}
 use Rattle.fs_trees.specs.Inode.{are_apart}
 use Rattle.fs_trees.specs.Layouts.{Named}
-use Rattle.fs_port.specs.View.{View}
+use Rattle.fs_port.specs.View.{DiskView}
 use Rattle.fs_client.specs.declared.client.Client.{Client}
 use Rattle.fs_client.specs.Leftovers.{targets_of, next_in}
 use Rattle.fs_client.proofs.Counting.{rest_of, page_is, behind_page}
@@ -20,7 +20,7 @@ use Rattle.fs_client.specs.Trimming.{MayDelete, Trims}
 -- ---- in a page
 
 -- the targets before place i are let go of, where they aren't named
-pub record PageGoing (told : Type 0) (c : Client) (n : Named) (first now : View) (a : ℕ) (targets names : List ℕ) (i : ℕ) : Type 0 where
+pub record PageGoing (told : Type 0) (c : Client) (n : Named) (first now : DiskView) (a : ℕ) (targets names : List ℕ) (i : ℕ) : Type 0 where
   pub may : MayDelete told c n now a names
   pub trims : Trims {X = Unit {0}} told c n first now (Ok tt)
   pub held : told → (b : ℕ) → has_number (drop i targets) b ≡ true → holds now.world.pairs a b ≡ true
@@ -82,7 +82,7 @@ drop_whole xs i b h m = ap (λ ys. has_number ys b) (taken xs i h) ∙ m
 -- ---- page by page
 
 -- the pairs to blocks before a start are let go of, where they aren't named
-pub record OthersGoing (told : Type 0) (c : Client) (n : Named) (first now : View) (a : ℕ) (names : List ℕ) (start : ℕ) : Type 0 where
+pub record OthersGoing (told : Type 0) (c : Client) (n : Named) (first now : DiskView) (a : ℕ) (names : List ℕ) (start : ℕ) : Type 0 where
   pub may : MayDelete told c n now a names
   pub trims : Trims {X = Unit {0}} told c n first now (Ok tt)
   pub passed : told → (b : ℕ) → b < start → holds now.world.pairs a b ≡ true → has_number names b ≡ true

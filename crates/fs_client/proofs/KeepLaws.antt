@@ -14,7 +14,7 @@ use Rattle.tsd_model.proofs.SizeLaws.{length-filter_le}
 use Rattle.disk_laws.proofs.GraphLaws.{has_number-filter}
 use Rattle.fs_trees.specs.Needs.{need}
 use Rattle.fs_trees.specs.Refusals.{Need}
-use Rattle.fs_port.specs.View.{View}
+use Rattle.fs_port.specs.View.{DiskView}
 use Rattle.fs_port.specs.Calls.{IsValidNow}
 use Rattle.fs_port.specs.Files.{KeepsRoom}
 use Rattle.fs_client.specs.declared.client.Client.{Client}
@@ -134,7 +134,7 @@ no_more_room n w mid next first second = record {
 
 -- ---- steps
 
-module _ (c : Client) (old new : View) (now : IsValidNow old) (q : Request) (d : ℕ) where
+module _ (c : Client) (old new : DiskView) (now : IsValidNow old) (q : Request) (d : ℕ) where
   pub write_takes : (bytes : List ℕ) → is_live old.world d ≡ true → Went c old new q d (written old.world d bytes) → KeepsRoom (need 0 0) old.world new.world
   write_takes bytes live went = subst (KeepsRoom (need 0 0) old.world) (sym went.world) (takes_none old.world (written old.world d bytes) now.valid went.leads.valid went.leads.geometry was (λ a b h. h))
     where

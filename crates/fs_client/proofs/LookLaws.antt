@@ -25,7 +25,7 @@ use Rattle.tsd_model.specs.Pairs.{holds}
 use Rattle.fs_laws.specs.Ways.{HoldsWrite, is_steady, writes_through}
 use Rattle.fs_laws.proofs.WayLaws.{ways_stay, ways_are_gained}
 use Rattle.fs_laws.proofs.GrantedLaws.{read_is_granted, list_is_granted}
-use Rattle.fs_port.specs.View.{View, state_of, IsSound}
+use Rattle.fs_port.specs.View.{DiskView, state_of, IsDiskSound}
 use Rattle.fs_port.specs.Calls.{IsAskCarriedOut, IsEitherSide, IsValidNow, LeavesWorldsOnly, Stays}
 use Rattle.fs_port.proofs.RunLaws.{both_leave, leaves_more, on_answer, if_fault, both_stay, both_count, led_both, led_by}
 use Rattle.fs_trees.specs.declared.refusal.FsRefusal.{FsRefusal}
@@ -62,12 +62,12 @@ write_is_read level.Bare h = absurd (cc)
 write_is_read level.Read h = refl
 write_is_read level.Write h = refl
 
-pub read_granted : (c : Client) (v : View) (b : ℕ) → IsValidNow v → MayWrite c v b → verdict v.world v.sessions (read_by c b) ≡ None
+pub read_granted : (c : Client) (v : DiskView) (b : ℕ) → IsValidNow v → MayWrite c v b → verdict v.world v.sessions (read_by c b) ≡ None
 read_granted c v b now may =
     read_is_granted v.world v.sessions now.valid c.session (is_numbered v.sessions c.session may.begun) may.number may.begun b (shown_at c b) may.live
     (write_is_read (attained v.world v.sessions c.session b (shown_at c b)) may.attains)
 
-pub list_granted : (c : Client) (v : View) (b start : ℕ) → IsValidNow v → MayWrite c v b → verdict v.world v.sessions (list_by c b start) ≡ None
+pub list_granted : (c : Client) (v : DiskView) (b start : ℕ) → IsValidNow v → MayWrite c v b → verdict v.world v.sessions (list_by c b start) ≡ None
 list_granted c v b start now may =
     list_is_granted v.world v.sessions now.valid c.session (is_numbered v.sessions c.session may.begun) may.number may.begun b (shown_at c b) start may.live
     (write_is_read (attained v.world v.sessions c.session b (shown_at c b)) may.attains)
@@ -90,7 +90,7 @@ list_looks kind s c b start want = ap (λ o. o.state.world) (same_answer kind s 
 
 -- ---- what the reply says
 
-pub bytes_read : (c : Client) (old new : View) (b : ℕ) (bytes : List ℕ) → IsValidNow old → MayWrite c old b → IsAskCarriedOut old new (read_by c b) (reply.Bytes bytes) → contents old.world b ≡ Some bytes
+pub bytes_read : (c : Client) (old new : DiskView) (b : ℕ) (bytes : List ℕ) → IsValidNow old → MayWrite c old b → IsAskCarriedOut old new (read_by c b) (reply.Bytes bytes) → contents old.world b ≡ Some bytes
 bytes_read c old new b bytes now may done =
     let q = read_by c b in
     let s = state_of old in
@@ -106,7 +106,7 @@ bytes_read c old new b bytes now may done =
     there None h = absurd (cc)
     there (Some x) h = refl
 
-pub targets_listed : (c : Client) (old new : View) (b start : ℕ) (targets : List ℕ) → IsValidNow old → MayWrite c old b → IsAskCarriedOut old new (list_by c b start) (reply.Targets targets) → targets ≡ targets_from old.world.pairs b start
+pub targets_listed : (c : Client) (old new : DiskView) (b start : ℕ) (targets : List ℕ) → IsValidNow old → MayWrite c old b → IsAskCarriedOut old new (list_by c b start) (reply.Targets targets) → targets ≡ targets_from old.world.pairs b start
 targets_listed c old new b start targets now may done =
     let q = list_by c b start in
     let s = state_of old in
@@ -132,7 +132,7 @@ held_is_live w v s a fits held = elim (fits.live s held.0 a) [
     clash level.Write e h = cc
 
 -- a request of the client that only looks at a block
-module _ (c : Client) (old new : View) (q : Request) (b : ℕ) (r : Reply) (now : IsValidNow old) (may : MayWrite c old b) (done : IsAskCarriedOut old new q r)
+module _ (c : Client) (old new : DiskView) (q : Request) (b : ℕ) (r : Reply) (now : IsValidNow old) (may : MayWrite c old b) (done : IsAskCarriedOut old new q r)
     (same : (want : Bool) → (answer old.kind (state_of old) q want).state.world ≡ old.world) (steady : is_steady q ≡ true) where
   live_after : (a : ℕ) → is_live old.world a ≡ true → is_live (answer old.kind (state_of old) q done.0).state.world a ≡ true
   live_after a h = ap (λ w. is_live w a) (same done.0) ∙ h
@@ -158,10 +158,10 @@ through_here b attains h = or_left ((b == b) && attains) false (and_from (b == b
 
 -- ---- whatever came of it
 
-still : (old new : View) (q : Request) (same : (want : Bool) → (answer old.kind (state_of old) q want).state.world ≡ old.world) → LeavesWorldsOnly old new (IsEitherSide old q) → LeavesWorldsOnly old new (λ w. w ≡ old.world)
+still : (old new : DiskView) (q : Request) (same : (want : Bool) → (answer old.kind (state_of old) q want).state.world ≡ old.world) → LeavesWorldsOnly old new (IsEitherSide old q) → LeavesWorldsOnly old new (λ w. w ≡ old.world)
 still old new q same run = leaves_more old new (IsEitherSide old q) (λ w. w ≡ old.world) (λ w either. elim either [ inl before ↦ before | inr after ↦ after ∙ same false ]) run
 
-module _ {X : Type 0} (told : Type 0) (old new : View) (q : Request) where
+module _ {X : Type 0} (told : Type 0) (old new : DiskView) (q : Request) where
   pub looks_ok : (x : X) → ((want : Bool) → (answer old.kind (state_of old) q want).state.world ≡ old.world) → (told → Looked old new) → AsksOnce told old new q (Ok x) → OnlyLooks told old new (Ok x)
   looks_ok x same seen once = record {
     looked = λ t. (seen t, tt);
@@ -199,7 +199,7 @@ module _ {X : Type 0} (told : Type 0) (old new : View) (q : Request) where
 -- ---- one look after the other
 
 -- nothing was asked
-pub no_look : (told : Type 0) (v : View) → v.spent ≡ false → (told → IsSound v) → (told → IsValidNow v) → OnlyLooks {X = Unit {0}} told v v (Ok tt)
+pub no_look : (told : Type 0) (v : DiskView) → v.spent ≡ false → (told → IsDiskSound v) → (told → IsValidNow v) → OnlyLooks {X = Unit {0}} told v v (Ok tt)
 no_look told v unspent sound valid = record {
   looked = λ t. (record { world = refl; valid = valid t; ways = λ s a held. held; led = ([], refl) }, tt);
   crash = λ t. record {
@@ -217,7 +217,7 @@ no_look told v unspent sound valid = record {
   spent = tt;
 }
 
-also : (old mid new : View) → mid.kind ≡ old.kind → Looked old mid → Looked mid new → Looked old new
+also : (old mid new : DiskView) → mid.kind ≡ old.kind → Looked old mid → Looked mid new → Looked old new
 also old mid new same first second = record {
   world = second.world ∙ first.world;
   valid = second.valid;
@@ -225,7 +225,7 @@ also old mid new same first second = record {
   led = led_both old mid new same first.led second.led;
 }
 
-pub then_looks : {X Y : Type 0} (told : Type 0) (old mid new : View) (x : X) (result : Result Y FsRefusal) → OnlyLooks told old mid (Ok x) → OnlyLooks told mid new result → OnlyLooks told old new result
+pub then_looks : {X Y : Type 0} (told : Type 0) (old mid new : DiskView) (x : X) (result : Result Y FsRefusal) → OnlyLooks told old mid (Ok x) → OnlyLooks told mid new result → OnlyLooks told old new result
 then_looks told old mid new x result first second = record {
   looked = λ t. on_answer (Looked mid new) (Looked old new) result (also old mid new first.counts.kind (first.looked t).0) (second.looked t);
   crash = λ t. both_leave old mid new (λ w. w ≡ old.world) (first.crash t)
@@ -239,14 +239,14 @@ then_looks told old mid new x result first second = record {
 }
 
 -- the same answered otherwise
-pub looks_as : {X Y : Type 0} (told : Type 0) (old new : View) (x : X) (y : Y) → OnlyLooks told old new (Ok x) → OnlyLooks told old new (Ok y)
+pub looks_as : {X Y : Type 0} (told : Type 0) (old new : DiskView) (x : X) (y : Y) → OnlyLooks told old new (Ok x) → OnlyLooks told old new (Ok y)
 looks_as told old new x y h = record { looked = h.looked; crash = h.crash; stays = h.stays; counts = h.counts; unspent = h.unspent; faultless = h.faultless; cause = tt; spent = tt }
 
-pub looks_refused : {X Y : Type 0} (told : Type 0) (old new : View) (e : FsRefusal) → OnlyLooks {X = X} told old new (Err e) → OnlyLooks {X = Y} told old new (Err e)
+pub looks_refused : {X Y : Type 0} (told : Type 0) (old new : DiskView) (e : FsRefusal) → OnlyLooks {X = X} told old new (Err e) → OnlyLooks {X = Y} told old new (Err e)
 looks_refused told old new e h = record { looked = h.looked; crash = h.crash; stays = h.stays; counts = h.counts; unspent = h.unspent; faultless = h.faultless; cause = h.cause; spent = h.spent }
 
 -- a refusal of its own, not the disk's
-pub looks_but_refuses : {X Y : Type 0} (told : Type 0) (old new : View) (x : X) (e : FsRefusal) → e ≢ no.Device → OnlyLooks told old new (Ok x) → OnlyLooks {X = Y} told old new (Err e)
+pub looks_but_refuses : {X Y : Type 0} (told : Type 0) (old new : DiskView) (x : X) (e : FsRefusal) → e ≢ no.Device → OnlyLooks told old new (Ok x) → OnlyLooks {X = Y} told old new (Err e)
 looks_but_refuses told old new x e ne h = record {
   looked = λ t. (tt, λ _. (h.looked t).0);
   crash = h.crash;
@@ -259,7 +259,7 @@ looks_but_refuses told old new x e ne h = record {
 }
 
 -- what may be written still may: at a primary block by what is shown, elsewhere by what is held
-pub may_again : (c : Client) (old new : View) (b : ℕ) → Looked old new → Stays old new → IsValidNow old → MayWrite c old b → MayWrite c new b
+pub may_again : (c : Client) (old new : DiskView) (b : ℕ) → Looked old new → Stays old new → IsValidNow old → MayWrite c old b → MayWrite c new b
 may_again c old new b seen stays now may = record {
   number = may.number;
   begun = stays.sessions c.session ∙ may.begun;

@@ -15,7 +15,7 @@ use Rattle.fs_laws.specs.Stays.{IsUnder, Keeps}
 use Rattle.fs_laws.proofs.OutsideLaws.{outside_twice}
 use Rattle.fs_laws.proofs.UnderLaws.{root_under}
 use Rattle.fs_laws.proofs.TreeLaws.{named_is_under, read_from_named}
-use Rattle.fs_port.specs.View.{View}
+use Rattle.fs_port.specs.View.{DiskView}
 use Rattle.fs_port.specs.Calls.{IsValidNow}
 use Rattle.fs_port.specs.Files.{IsEitherTree}
 use Rattle.fs_client.specs.declared.client.Client.{Client}
@@ -31,7 +31,7 @@ use Rattle.fs_client.proofs.TrimLaws.{freed}
 use Rattle.fs_client.proofs.WriteLaws.{written_free}
 use Rattle.fs_client.proofs.KeepLaws.{takes_none, no_more_room, write_takes}
 
-module _ (kind : ShellKind) (c : Client) (first : View) (bytes : List ℕ) (now : IsValidNow first) (primary : c.root < first.world.geometry.primaries) (empty : IsEmptied kind (written first.world c.root bytes) c.root) where
+module _ (kind : ShellKind) (c : Client) (first : DiskView) (bytes : List ℕ) (now : IsValidNow first) (primary : c.root < first.world.geometry.primaries) (empty : IsEmptied kind (written first.world c.root bytes) c.root) where
   abbrev w : World
   w = first.world
 
@@ -48,7 +48,7 @@ module _ (kind : ShellKind) (c : Client) (first : View) (bytes : List ℕ) (now 
   stop_at_write u (inl before) = as_before (files_by kind c) first ask.Make u now.valid before
   stop_at_write u (inr h) = subst (IsEitherTree (files_by kind c) first ask.Make) (sym h.0) (at_next h.1)
 
-  module _ (wr : View) (went : Went c first wr (write_by c c.root bytes) c.root (written first.world c.root bytes)) where
+  module _ (wr : DiskView) (went : Went c first wr (write_by c c.root bytes) c.root (written first.world c.root bytes)) where
     tree_wr : tree_at kind wr.world c.root ≡ empty_tree
     tree_wr = ap (λ v. tree_at kind v c.root) went.world ∙ empty.tree
 
@@ -87,7 +87,7 @@ module _ (kind : ShellKind) (c : Client) (first : View) (bytes : List ℕ) (now 
       },
     )
 
-    module _ (fin : View) (l : Trimmed c (root_alone c.root) wr fin) (only : OnlyNamed fin.world c.root []) (unspent : fin.spent ≡ false) where
+    module _ (fin : DiskView) (l : Trimmed c (root_alone c.root) wr fin) (only : OnlyNamed fin.world c.root []) (unspent : fin.spent ≡ false) where
       pub made : IsMade (files_by kind c) first fin
       made = record {
         tree = tree_fin;

@@ -13,7 +13,7 @@ use Rattle.tsd_model.specs.declared.requests.Level.TheVariants as level
 use Rattle.tsd_model.specs.declared.requests.Request.{Request}
 use Rattle.disk_laws.proofs.AttainedLaws.{attained_where}
 use Rattle.fs_laws.specs.Ways.{HoldsWrite}
-use Rattle.fs_port.specs.View.{View, state_of}
+use Rattle.fs_port.specs.View.{DiskView, state_of}
 use Rattle.fs_port.specs.Calls.{IsValidNow, Stays}
 use Rattle.fs_client.specs.declared.client.Client.{Client}
 use Rattle.fs_client.specs.Client.{shown_at}
@@ -21,7 +21,7 @@ use Rattle.fs_client.specs.May.{MayWrite}
 use Rattle.fs_client.specs.Steps.{Went}
 
 -- a block that is live still, and the sources of its pairs
-pub may_still : (c : Client) (old new : View) (b : ℕ) → new.world.geometry ≡ old.world.geometry → new.world.version ≡ old.world.version → new.world.records ≡ old.world.records
+pub may_still : (c : Client) (old new : DiskView) (b : ℕ) → new.world.geometry ≡ old.world.geometry → new.world.version ≡ old.world.version → new.world.records ≡ old.world.records
     → ((a : ℕ) → holds old.world.pairs a b ≡ true → holds new.world.pairs a b ≡ true) → ((s a : ℕ) → HoldsWrite (state_of old) s a → HoldsWrite (state_of new) s a) → is_live new.world b ≡ true → Stays old new → MayWrite c old b → MayWrite c new b
 may_still c old new b size version records pairs ways lives stays may = record {
   number = may.number;
@@ -40,7 +40,7 @@ may_still c old new b size version records pairs ways lives stays may = record {
     shown_same Nothing = refl
     shown_same (Key k) = ap (λ rs. record_level (slice_get rs b) (kept_of new.world.version k)) records ∙ ap (λ n. record_level (slice_get old.world.records b) (kept_of n k)) version
 
-pub held_live : (v : View) → IsValidNow v → (s a : ℕ) → HoldsWrite (state_of v) s a → is_live v.world a ≡ true
+pub held_live : (v : DiskView) → IsValidNow v → (s a : ℕ) → HoldsWrite (state_of v) s a → is_live v.world a ≡ true
 held_live v now s a held = elim (now.fits.live s held.0 a) [
   | inl bare ↦ absurd (no_write (level_from v.sessions s held.0 a) bare held.2)
   | inr lives ↦ lives
@@ -51,7 +51,7 @@ held_live v now s a held = elim (now.fits.live s held.0 a) [
     no_write level.Read e h = cc
     no_write level.Write e h = cc
 
-pub may_after : (c : Client) (old new : View) (q : Request) (a : ℕ) (after : World) → Went c old new q a after → IsValidNow old → after.version ≡ old.world.version → after.records ≡ old.world.records
+pub may_after : (c : Client) (old new : DiskView) (q : Request) (a : ℕ) (after : World) → Went c old new q a after → IsValidNow old → after.version ≡ old.world.version → after.records ≡ old.world.records
     → ((x y : ℕ) → holds old.world.pairs x y ≡ true → holds after.pairs x y ≡ true) → ((b : ℕ) → is_live old.world b ≡ true → is_live after b ≡ true) → Stays old new → (b : ℕ) → MayWrite c old b → MayWrite c new b
 may_after c old new q a after went now version records pairs lives stays b may =
     may_still c old new b (ap (λ w. w.geometry) went.world ∙ went.leads.geometry) (ap (λ w. w.version) went.world ∙ version) (ap (λ w. w.records) went.world ∙ records)

@@ -11,7 +11,7 @@ use Rattle.fs_trees.specs.declared.refusal.FsRefusal.{FsRefusal}
 use Rattle.fs_trees.specs.declared.refusal.FsRefusal.TheVariants as no
 use Rattle.fs_laws.specs.Stays.{IsUnder}
 use Rattle.fs_laws.proofs.TreeLaws.{named_is_under}
-use Rattle.fs_port.specs.View.{View}
+use Rattle.fs_port.specs.View.{DiskView}
 use Rattle.fs_port.specs.Calls.{IsValidNow}
 use Rattle.fs_port.specs.Files.{FilesView, IsTreeAlone, LeavesTidyWorld, OnAnswer, OnlyDeletes}
 use Rattle.fs_client.specs.declared.client.Client.{Client}
@@ -40,12 +40,12 @@ no_tree_is (a_dir d es) h = absurd (cc)
 
 -- ---- a tree is there, was looked at, and is tidied
 
-module _ (kind : ShellKind) (told : Type 0) (c : Client) (old mid : View) (x : Bool) (n : Named) (valid : told → IsValidNow old) (primary : told → c.root < old.world.geometry.primaries) (there : told → is_there (tree_at kind old.world c.root) ≡ true)
+module _ (kind : ShellKind) (told : Type 0) (c : Client) (old mid : DiskView) (x : Bool) (n : Named) (valid : told → IsValidNow old) (primary : told → c.root < old.world.geometry.primaries) (there : told → is_there (tree_at kind old.world c.root) ≡ true)
     (named : told → n ≡ named_at kind old.world c.root) (targets : told → (a b : ℕ) → holds (named_at kind old.world c.root).pairs a b ≡ true → has_number (named_at kind old.world c.root).blocks b ≡ true) (looks : OnlyLooks told old mid (Ok x)) where
   pub under_old : told → IsUnder old.world c.root n
   under_old t = subst (IsUnder old.world c.root) (sym (named t)) (named_is_under kind old.world c.root (primary t) (there t))
 
-  module _ (new : View) (result : Result (Unit {0}) FsRefusal) (trims : Trims told c n mid new result) (clean : told → OnOk result ((a : ℕ) → IsClean n new.world a)) where
+  module _ (new : DiskView) (result : Result (Unit {0}) FsRefusal) (trims : Trims told c n mid new result) (clean : told → OnOk result ((a : ℕ) → IsClean n new.world a)) where
     all : Trims told c n old new result
     all = then_trims told c n old mid new x result (trims_by_looks told c n old mid (Ok x) valid under_old (λ t. tt) looks) trims
 
@@ -82,7 +82,7 @@ module _ (kind : ShellKind) (told : Type 0) (c : Client) (old mid : View) (x : B
 
 -- ---- it was only looked at
 
-module _ {X : Type 0} (told : Type 0) (f : FilesView) (old new : View) (result : Result X FsRefusal) (valid : told → IsValidNow old) (looks : OnlyLooks told old new result) where
+module _ {X : Type 0} (told : Type 0) (f : FilesView) (old new : DiskView) (result : Result X FsRefusal) (valid : told → IsValidNow old) (looks : OnlyLooks told old new result) where
   pub looked_left : told → OnAnswer result (LeavesTidyWorld f old new)
   looked_left = (looks_change told f old new ask.Df result (λ t. (valid t).valid) looks).world
 

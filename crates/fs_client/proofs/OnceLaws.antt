@@ -7,7 +7,7 @@ use Rattle.tsd_model.specs.declared.replies.Reply.TheVariants as reply
 use Rattle.tsd_model.specs.declared.replies.Rule.{Rule}
 use Rattle.tsd_model.specs.declared.replies.Rule.TheVariants as rule
 use Rattle.fs_trees.specs.declared.refusal.FsRefusal.TheVariants as no
-use Rattle.fs_port.specs.View.{View}
+use Rattle.fs_port.specs.View.{DiskView}
 use Rattle.fs_port.specs.Calls.{Counts, IsAskCarriedOut, IsEitherSide, LeavesWorldsOnly, Stays}
 use Rattle.fs_client.specs.Asks.{refusal_of, refusal_in, has_wanted_form, AsksOnce}
 use Rattle.fs_client.proofs.RefusedLaws.{is_of_files, other_form}
@@ -22,7 +22,7 @@ no_reply_is_a_fault : (r : Reply) → refusal_in r ≡ no.Device → ⊥
 no_reply_is_a_fault (reply.Refused r) e = never_a_fault r e
 no_reply_is_a_fault r e = cc
 
-module _ {X : Type 0} (told : Type 0) (old new : View) (q : Request) (crash : told → LeavesWorldsOnly old new (IsEitherSide old q)) (counts : Counts old new) where
+module _ {X : Type 0} (told : Type 0) (old new : DiskView) (q : Request) (crash : told → LeavesWorldsOnly old new (IsEitherSide old q)) (counts : Counts old new) where
   pub carried_out : (x : X) → Stays old new → new.spent ≡ false → new.faults ≡ old.faults → AsksOnce told old new q (Ok x)
   carried_out x stays unspent faultless = record {
     refused = λ t. tt;

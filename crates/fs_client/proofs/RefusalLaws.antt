@@ -23,7 +23,7 @@ use Rattle.tsd_model.specs.declared.requests.Hint.TheVariants.{At}
 use Rattle.fs_trees.specs.Refusals.{first_of, when}
 use Rattle.fs_trees.specs.declared.refusal.FsRefusal.{FsRefusal}
 use Rattle.fs_trees.specs.declared.refusal.FsRefusal.TheVariants as no
-use Rattle.fs_port.specs.View.{View, state_of}
+use Rattle.fs_port.specs.View.{DiskView, state_of}
 use Rattle.fs_port.specs.Calls.{IsValidNow}
 use Rattle.fs_laws.specs.Ways.{attains_write}
 use Rattle.fs_client.specs.declared.client.Client.{Client}
@@ -79,11 +79,11 @@ module _ (w : World) (v : Sessions) (valid : IsValid w) (s : ℕ) (from : 1 ≤ 
 
 -- ---- by the client
 
-pub write_granted : (c : Client) (v : View) (b : ℕ) (bytes : List ℕ) → IsValidNow v → MayWrite c v b → length bytes ≤ block_len v.world.geometry → ◌≡◌ {A = Option Rule} (verdict v.world v.sessions (write_by c b bytes)) None
+pub write_granted : (c : Client) (v : DiskView) (b : ℕ) (bytes : List ℕ) → IsValidNow v → MayWrite c v b → length bytes ≤ block_len v.world.geometry → ◌≡◌ {A = Option Rule} (verdict v.world v.sessions (write_by c b bytes)) None
 write_granted c v b bytes now may fits =
     write_is_granted v.world v.sessions now.valid c.session (is_numbered v.sessions c.session may.begun) may.number may.begun b (shown_at c b) bytes may.live fits may.attains
 
-pub delete_granted : (c : Client) (v : View) (a b : ℕ) → IsValidNow v → MayWrite c v a → holds v.world.pairs a b ≡ true → ◌≡◌ {A = Option Rule} (verdict v.world v.sessions (unlink_by c a b)) None
+pub delete_granted : (c : Client) (v : DiskView) (a b : ℕ) → IsValidNow v → MayWrite c v a → holds v.world.pairs a b ≡ true → ◌≡◌ {A = Option Rule} (verdict v.world v.sessions (unlink_by c a b)) None
 delete_granted c v a b now may pair =
     delete_is_granted v.world v.sessions now.valid c.session (is_numbered v.sessions c.session may.begun) may.number may.begun a b (shown_at c a) pair may.attains
 
@@ -120,7 +120,7 @@ module _ (w : World) (o : Option Rule) where
       by_test false true e = (λ n. absurd (clash o (rule.PointersFull (length w.pairs) w.geometry.slots) e n), λ r k. let same : rule.PointersFull (length w.pairs) w.geometry.slots ≡ r = inside o _ r e k in ap (λ x. Some (refusal_of x)) same)
       by_test false false e = (λ n. refl, λ r k. absurd (clash o r k e))
 
-module _ (c : Client) (v : View) (now : IsValidNow v) where
+module _ (c : Client) (v : DiskView) (now : IsValidNow v) where
   module _ (a b : ℕ) (may : MayWrite c v a) (live : is_live v.world b ≡ true) (above : v.world.geometry.primaries ≤ b) (way : attains_write (state_of v) c.session b Nothing ≡ true) (new : holds v.world.pairs a b ≡ false) where
     link_rooms : (◌≡◌ {A = Option Rule} (verdict v.world v.sessions (link_by c a b)) None → ◌≡◌ {A = Option FsRefusal} (no_room_in v.world 0 1) None) × ((r : Rule) → verdict v.world v.sessions (link_by c a b) ≡ Some r → no_room_in v.world 0 1 ≡ Some (refusal_of r))
     link_rooms = link_room v.world (verdict v.world v.sessions (link_by c a b)) c.session a b (shown_at c a)

@@ -9,7 +9,7 @@ use Rattle.tsd_model.specs.declared.requests.Request.TheVariants as ask
 use Rattle.tsd_model.specs.declared.replies.Reply.{Reply}
 use Rattle.tsd_model.specs.declared.replies.Reply.TheVariants as reply
 use Rattle.disk_laws.proofs.AnswerLaws.{refused_answer}
-use Rattle.fs_port.specs.View.{View, state_of}
+use Rattle.fs_port.specs.View.{DiskView, state_of}
 use Rattle.fs_laws.specs.Ways.{is_steady as steady_there}
 use Rattle.fs_port.specs.Calls.{IsAskCarriedOut, is_steady}
 use Rattle.fs_client.specs.Asks.{refusal_in, has_wanted_form, IsRefused}
@@ -69,7 +69,7 @@ granted_form kind s q want h e =
     ap (λ o. has_wanted_form q o.reply) (same_answer kind s q want h)
     ∙ (ap (λ x. has_wanted_form q (judged kind s q x).reply) e ∙ judged_form kind s q h)
 
-pub other_form : (old new : View) (q : Request) (r : Reply) → is_of_files q ≡ true → IsAskCarriedOut old new q r → has_wanted_form q r ≡ false → IsRefused old q (refusal_in r) × (state_of new ≡ state_of old)
+pub other_form : (old new : DiskView) (q : Request) (r : Reply) → is_of_files q ≡ true → IsAskCarriedOut old new q r → has_wanted_form q r ≡ false → IsRefused old q (refusal_in r) × (state_of new ≡ state_of old)
 other_form old new q r h done other = elim (verdict old.world old.sessions q) as (λ x. verdict old.world old.sessions q ≡ x → IsRefused old q (refusal_in r) × (state_of new ≡ state_of old)) [
   | None ↦ λ e.
       let formed = granted_form old.kind (state_of old) q done.0 h e in

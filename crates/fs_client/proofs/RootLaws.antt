@@ -9,7 +9,7 @@ use Rattle.tsd_model.specs.declared.caps.Shown.TheVariants.{Nothing, Key}
 use Rattle.tsd_model.specs.declared.requests.Level.TheVariants as level
 use Rattle.disk_laws.proofs.AttainedLaws.{attained_where}
 use Rattle.fs_trees.specs.declared.ask.ShellKind.{ShellKind}
-use Rattle.fs_port.specs.View.{View, IsSound}
+use Rattle.fs_port.specs.View.{DiskView, IsDiskSound}
 use Rattle.fs_port.specs.Calls.{IsValidNow}
 use Rattle.fs_port.specs.Files.{FilesView, IsClientReady}
 use Rattle.fs_client.specs.declared.client.Client.{Client}
@@ -20,7 +20,7 @@ use Rattle.fs_client.specs.May.{MayWrite}
 abbrev pub mounted_as : ShellKind → Client → FilesView
 mounted_as kind c = record { kind = kind; root = c.root; cap = c.cap; session = c.session; mounted = true }
 
-pub root_may : (kind : ShellKind) (c : Client) (v : View) → IsClientReady (mounted_as kind c) v → IsValidNow v → IsSound v → MayWrite c v c.root
+pub root_may : (kind : ShellKind) (c : Client) (v : DiskView) → IsClientReady (mounted_as kind c) v → IsValidNow v → IsDiskSound v → MayWrite c v c.root
 root_may kind c v ready valid sound = record {
   number = ready.number;
   begun = ready.begun;

@@ -14,7 +14,7 @@ use Rattle.fs_trees.specs.Refusals.{Need}
 use Rattle.fs_trees.specs.declared.ask.ShellAsk.{ShellAsk}
 use Rattle.fs_trees.specs.declared.refusal.FsRefusal.{FsRefusal}
 use Rattle.fs_trees.specs.declared.refusal.FsRefusal.TheVariants as no
-use Rattle.fs_port.specs.View.{View, state_of}
+use Rattle.fs_port.specs.View.{DiskView, state_of}
 use Rattle.fs_port.specs.Calls.{Counts, IsLedTo, IsValidNow, LeavesWorldsOnly, Stays}
 use Rattle.fs_port.specs.Files.{FilesView, IsClientReady, IsEitherTree, IsTreeAlone, IsLeft, KeepsRoom, LeavesTidyWorld, OnAnswer, need_on}
 use Rattle.fs_port.proofs.RunLaws.{both_leave, leaves_more, on_answer, if_fault, both_stay, both_count, led_both}
@@ -53,7 +53,7 @@ device_alone (Err e) h = inr h
 
 -- ---- one after the other
 
-pub runs_look : {X : Type 0} (told : Type 0) (old new : View) (P : World → Type 0) (result : Result X FsRefusal) → (told → (w : World) → w ≡ old.world → P w) → OnlyLooks told old new result → Runs told old new P result
+pub runs_look : {X : Type 0} (told : Type 0) (old new : DiskView) (P : World → Type 0) (result : Result X FsRefusal) → (told → (w : World) → w ≡ old.world → P w) → OnlyLooks told old new result → Runs told old new P result
 runs_look told old new P result on looks = record {
   valid = λ t. on_answer (Looked old new) (IsValidNow new) result (λ l. l.valid) (looks.looked t);
   led = λ t. on_answer (Looked old new) (IsLedTo old new) result (λ l. l.led) (looks.looked t);
@@ -66,7 +66,7 @@ runs_look told old new P result on looks = record {
   spent = looks.spent;
 }
 
-pub runs_step : {X : Type 0} (told : Type 0) (c : Client) (old new : View) (q : Request) (a : ℕ) (after : World) (P : World → Type 0) (result : Result X FsRefusal) → (told → IsValidNow old)
+pub runs_step : {X : Type 0} (told : Type 0) (c : Client) (old new : DiskView) (q : Request) (a : ℕ) (after : World) (P : World → Type 0) (result : Result X FsRefusal) → (told → IsValidNow old)
     → (told → (w : World) → (w ≡ old.world) ⊎ ((w ≡ after) × Leads old.world q after) → P w) → Steps told c old new q a after result → Runs told old new P result
 runs_step {X} told c old new q a after P result now on steps = record {
   valid = λ t. stays_valid result (steps.went t) (steps.same t) (now t);
@@ -94,7 +94,7 @@ runs_step {X} told c old new q a after P result now on steps = record {
       },
     )
 
-pub then_runs : {X Y : Type 0} (told : Type 0) (old mid new : View) (P : World → Type 0) (x : X) (result : Result Y FsRefusal) → Runs told old mid P (Ok x) → Runs told mid new P result → Runs told old new P result
+pub then_runs : {X Y : Type 0} (told : Type 0) (old mid new : DiskView) (P : World → Type 0) (x : X) (result : Result Y FsRefusal) → Runs told old mid P (Ok x) → Runs told mid new P result → Runs told old new P result
 then_runs told old mid new P x result first second = record {
   valid = second.valid;
   led = λ t. on_answer (IsLedTo mid new) (IsLedTo old new) result (led_both old mid new first.counts.kind (first.led t).0) (second.led t);
@@ -107,14 +107,14 @@ then_runs told old mid new P x result first second = record {
   spent = second.spent;
 }
 
-pub runs_as : {X Y : Type 0} (told : Type 0) (old new : View) (P : World → Type 0) (x : X) (y : Y) → Runs told old new P (Ok x) → Runs told old new P (Ok y)
+pub runs_as : {X Y : Type 0} (told : Type 0) (old new : DiskView) (P : World → Type 0) (x : X) (y : Y) → Runs told old new P (Ok x) → Runs told old new P (Ok y)
 runs_as told old new P x y h = record { valid = h.valid; led = h.led; crash = h.crash; stays = h.stays; counts = h.counts; unspent = h.unspent; faultless = h.faultless; cause = tt; spent = tt }
 
-pub runs_refused : {X Y : Type 0} (told : Type 0) (old new : View) (P : World → Type 0) (e : FsRefusal) → Runs {X = X} told old new P (Err e) → Runs {X = Y} told old new P (Err e)
+pub runs_refused : {X Y : Type 0} (told : Type 0) (old new : DiskView) (P : World → Type 0) (e : FsRefusal) → Runs {X = X} told old new P (Err e) → Runs {X = Y} told old new P (Err e)
 runs_refused told old new P e h = record { valid = h.valid; led = h.led; crash = h.crash; stays = h.stays; counts = h.counts; unspent = h.unspent; faultless = h.faultless; cause = h.cause; spent = h.spent }
 
 -- a refusal of its own, not the disk's
-pub runs_but_refuses : {X Y : Type 0} (told : Type 0) (old new : View) (P : World → Type 0) (x : X) (e : FsRefusal) → e ≢ no.Device → Runs told old new P (Ok x) → Runs {X = Y} told old new P (Err e)
+pub runs_but_refuses : {X Y : Type 0} (told : Type 0) (old new : DiskView) (P : World → Type 0) (x : X) (e : FsRefusal) → e ≢ no.Device → Runs told old new P (Ok x) → Runs {X = Y} told old new P (Err e)
 runs_but_refuses told old new P x e ne h = record {
   valid = λ t. (tt, λ _. (h.valid t).0);
   led = λ t. (tt, λ _. (h.led t).0);
@@ -128,7 +128,7 @@ runs_but_refuses told old new P x e ne h = record {
 }
 
 -- what a stop leaves has Q as well
-pub runs_more : {X : Type 0} (told : Type 0) (old new : View) (P Q : World → Type 0) (result : Result X FsRefusal) → (told → (w : World) → P w → Q w) → Runs told old new P result → Runs told old new Q result
+pub runs_more : {X : Type 0} (told : Type 0) (old new : DiskView) (P Q : World → Type 0) (result : Result X FsRefusal) → (told → (w : World) → P w → Q w) → Runs told old new P result → Runs told old new Q result
 runs_more told old new P Q result on h = record {
   valid = h.valid;
   led = h.led;
@@ -144,7 +144,7 @@ runs_more told old new P Q result on h = record {
 -- ---- what a file system's calls leave
 
 -- a call that ran so, took no more and left the world so, changes no more than its ask does
-pub changes_so : {X : Type 0} (told : Type 0) (f : FilesView) (old new : View) (a : ShellAsk) (result : Result X FsRefusal) → (told → OnOk result (KeepsRoom (need_on f old a) old.world new.world)) → (told → OnAnswer result (LeavesTidyWorld f old new))
+pub changes_so : {X : Type 0} (told : Type 0) (f : FilesView) (old new : DiskView) (a : ShellAsk) (result : Result X FsRefusal) → (told → OnOk result (KeepsRoom (need_on f old a) old.world new.world)) → (told → OnAnswer result (LeavesTidyWorld f old new))
     → (told → f.mounted ≡ false → LeavesWorldsOnly old new (λ w. w ≡ old.world)) → Runs told old new (IsEitherTree f old a) result → Changes told f old new a result
 changes_so told f old new a result room world unmounted h = record {
   world = world;
@@ -162,14 +162,14 @@ changes_so told f old new a result room world unmounted h = record {
 }
 
 -- where a tree is mounted
-pub changes_of : {X : Type 0} (told : Type 0) (f : FilesView) → f.mounted ≡ true → (old new : View) (a : ShellAsk) (result : Result X FsRefusal) → (told → OnOk result (KeepsRoom (need_on f old a) old.world new.world)) → (told → OnAnswer result (LeavesTidyWorld f old new)) → Runs told old new (IsEitherTree f old a) result → Changes told f old new a result
+pub changes_of : {X : Type 0} (told : Type 0) (f : FilesView) → f.mounted ≡ true → (old new : DiskView) (a : ShellAsk) (result : Result X FsRefusal) → (told → OnOk result (KeepsRoom (need_on f old a) old.world new.world)) → (told → OnAnswer result (LeavesTidyWorld f old new)) → Runs told old new (IsEitherTree f old a) result → Changes told f old new a result
 changes_of told f is old new a result room world h = changes_so told f old new a result room world (λ t off. absurd (clash f.mounted is off)) h
   where
     clash : (m : Bool) → m ≡ true → m ≡ false → ⊥
     clash m p q = cc
 
 -- the client stays ready
-pub ready_still : (f : FilesView) (old new : View) → Stays old new → Counts old new → new.spent ≡ false → IsClientReady f old → IsClientReady f new
+pub ready_still : (f : FilesView) (old new : DiskView) → Stays old new → Counts old new → new.spent ≡ false → IsClientReady f old → IsClientReady f new
 ready_still f old new stays counts unspent ready = record {
   unspent = unspent;
   number = ready.number;
@@ -183,16 +183,16 @@ ready_still f old new stays counts unspent ready = record {
 pub others_same : (root : ℕ) (w : World) → OthersStay root w w
 others_same root w = record { records = refl; bytes = λ b live away. refl; pairs = λ x y live away. refl; apart = λ b live away. away }
 
-left_same : (f : FilesView) (old : View) → IsValid old.world → IsLeft f old old.world
+left_same : (f : FilesView) (old : DiskView) → IsValid old.world → IsLeft f old old.world
 left_same f old valid = record { valid = valid; geometry = refl; others = others_same f.root old.world }
 
 pub same_room : (n : Need) (w next : World) → next ≡ w → KeepsRoom n w next
 same_room n w next e = subst (KeepsRoom n w) (sym e) (record { blocks = omega arith; pairs = omega arith })
 
-pub as_before : (f : FilesView) (old : View) (a : ShellAsk) (w : World) → IsValid old.world → w ≡ old.world → IsEitherTree f old a w
+pub as_before : (f : FilesView) (old : DiskView) (a : ShellAsk) (w : World) → IsValid old.world → w ≡ old.world → IsEitherTree f old a w
 as_before f old a w valid e = subst (IsEitherTree f old a) (sym e) (inl refl, left_same f old valid)
 
-pub alone_same : (f : FilesView) (v : View) (w : World) → IsValid v.world → w ≡ v.world → IsTreeAlone f v w
+pub alone_same : (f : FilesView) (v : DiskView) (w : World) → IsValid v.world → w ≡ v.world → IsTreeAlone f v w
 alone_same f v w valid e = subst (IsTreeAlone f v) (sym e) (refl, left_same f v valid, record { pairs = λ a b h. h; bytes = λ b h. refl; named = refl; none = λ off. refl })
 
 clash_by : (t : Bool) (o : Option (List ℕ)) → (t && is_none o) ≡ true → is_some o ≡ true → ⊥
@@ -204,7 +204,7 @@ clash_by false o h k = cc
 pub clash_free_live : (w : World) (b : ℕ) → is_free w b ≡ true → is_live w b ≡ true → ⊥
 clash_free_live w b h k = clash_by (nat_lt b (length w.blocks)) (contents w b) h k
 
-pub leaves_same : (f : FilesView) (old new : View) → new.world ≡ old.world → new.spent ≡ false → LeavesTidyWorld f old new
+pub leaves_same : (f : FilesView) (old new : DiskView) → new.world ≡ old.world → new.spent ≡ false → LeavesTidyWorld f old new
 leaves_same f old new e unspent = record {
   unspent = unspent;
   tidy = subst (λ w. IsTidy f.kind w f.root) (sym e);
@@ -213,7 +213,7 @@ leaves_same f old new e unspent = record {
 }
 
 -- a call that only looked
-pub looks_change : {X : Type 0} (told : Type 0) (f : FilesView) (old new : View) (a : ShellAsk) (result : Result X FsRefusal) → (told → IsValid old.world) → OnlyLooks told old new result → Changes told f old new a result
+pub looks_change : {X : Type 0} (told : Type 0) (f : FilesView) (old new : DiskView) (a : ShellAsk) (result : Result X FsRefusal) → (told → IsValid old.world) → OnlyLooks told old new result → Changes told f old new a result
 looks_change {X} told f old new a result valid looks = changes_so told f old new a result (λ t. ok_of (Looked old new) (KeepsRoom (need_on f old a) old.world new.world) result (λ l. same_room (need_on f old a) old.world new.world l.world) (looks.looked t))
     (λ t. left result (looks.looked t) looks.unspent) (λ t off. looks.crash t)
     (runs_look told old new (IsEitherTree f old a) result (λ t w e. as_before f old a w (valid t) e) looks)
@@ -223,5 +223,5 @@ looks_change {X} told f old new a result valid looks = changes_so told f old new
     left (Err e) seen unspent = (tt, λ ne. leaves_same f old new (seen.1 ne).world (unspent.1 ne))
 
 -- what is refused by the disk leaves the world
-pub leaves_refused : (f : FilesView) (first mid new : View) → mid.world ≡ first.world → new.spent ≡ false → state_of new ≡ state_of mid → LeavesTidyWorld f first new
+pub leaves_refused : (f : FilesView) (first mid new : DiskView) → mid.world ≡ first.world → new.spent ≡ false → state_of new ≡ state_of mid → LeavesTidyWorld f first new
 leaves_refused f first mid new e unspent same = leaves_same f first new (ap (λ st. st.world) same ∙ e) unspent

@@ -2,13 +2,13 @@
 use Rattle.std.proofs.Common.{◌≡◌, ℕ, ◌<◌, Bool, true, false, not, ◌||◌, ◌==◌, List, [], ◌∷◌, sym, ◌∙◌, ap, arith}
 use Rattle.tsd_model.specs.World.{is_live, has_number}
 use Rattle.disk_laws.proofs.DoomLaws.{live_below}
-use Rattle.fs_port.specs.View.{View}
+use Rattle.fs_port.specs.View.{DiskView}
 use Rattle.fs_port.specs.Calls.{IsValidNow}
 use Rattle.fs_client.specs.Marked.{has_block, HasNone, Gains, Agrees}
 use Rattle.fs_client.specs.declared.block_set.BlockSet.{BlockSet}
 
 -- a live block is within every set
-pub on_disk : (v : View) (b : ℕ) → IsValidNow v → is_live v.world b ≡ true → b < 1048576
+pub on_disk : (v : DiskView) (b : ℕ) → IsValidNow v → is_live v.world b ≡ true → b < 1048576
 on_disk v b now live =
     let below = live_below v.world.blocks b live in
     let many = now.valid.raw.sized.each_block in

@@ -22,7 +22,7 @@ use Rattle.fs_laws.proofs.OutsideLaws.{outside_stays}
 use Rattle.fs_laws.proofs.NamedLaws.{named_stays}
 use Rattle.fs_laws.specs.Ways.{HoldsWrite, is_steady, writes_through}
 use Rattle.fs_laws.proofs.WayLaws.{ways_stay, ways_are_gained}
-use Rattle.fs_port.specs.View.{View, state_of}
+use Rattle.fs_port.specs.View.{DiskView, state_of}
 use Rattle.fs_port.specs.Calls.{IsAskCarriedOut, IsEitherSide, IsValidNow, LeavesWorldsOnly}
 use Rattle.fs_port.proofs.RunLaws.{leaves_more, led_by}
 use Rattle.fs_trees.specs.declared.refusal.FsRefusal.{FsRefusal}
@@ -44,7 +44,7 @@ unformed (ask.List s a shown start) k h = cc
 unformed q k h = cc
 
 -- what has the wanted form was granted
-pub granted_by_form : (old new : View) (q : Request) (r : Reply) → IsAskCarriedOut old new q r → has_wanted_form q r ≡ true → ◌≡◌ {A = Option Rule} (verdict old.world old.sessions q) None
+pub granted_by_form : (old new : DiskView) (q : Request) (r : Reply) → IsAskCarriedOut old new q r → has_wanted_form q r ≡ true → ◌≡◌ {A = Option Rule} (verdict old.world old.sessions q) None
 granted_by_form old new q r done form = elim (verdict old.world old.sessions q) as (λ o. verdict old.world old.sessions q ≡ o → o ≡ None) [
   | None ↦ λ e. refl
   | Some rule ↦ λ e.
@@ -52,7 +52,7 @@ granted_by_form old new q r done form = elim (verdict old.world old.sessions q) 
       absurd (unformed q rule (ap (has_wanted_form q) (sym is) ∙ form))
 ] refl
 
-module _ (c : Client) (old new : View) (q : Request) (a : ℕ) (after : World) (own : is_of_files q ≡ true) (is : (judged old.kind (state_of old) q None).state.world ≡ after) where
+module _ (c : Client) (old new : DiskView) (q : Request) (a : ℕ) (after : World) (own : is_of_files q ≡ true) (is : (judged old.kind (state_of old) q None).state.world ≡ after) where
   module _ (now : IsValidNow old) (local : is_local q ≡ true) where
     -- what it leads to where it is granted
     leads : ◌≡◌ {A = Option Rule} (verdict old.world old.sessions q) None → Leads old.world q after
@@ -133,7 +133,7 @@ module _ (c : Client) (old new : View) (q : Request) (a : ℕ) (after : World) (
 
 -- ---- the new blocks
 
-pub blocks_are : (c : Client) (old new : View) (a count : ℕ) (bs : List ℕ) → IsAskCarriedOut old new (alloc_by c a count) (reply.Blocks bs) → bs ≡ chosen old.kind old.world (At a) count
+pub blocks_are : (c : Client) (old new : DiskView) (a count : ℕ) (bs : List ℕ) → IsAskCarriedOut old new (alloc_by c a count) (reply.Blocks bs) → bs ≡ chosen old.kind old.world (At a) count
 blocks_are c old new a count bs done =
     let q = alloc_by c a count in
     let is : (answer old.kind (state_of old) q done.0).reply ≡ reply.Blocks (chosen old.kind old.world (At a) count) =

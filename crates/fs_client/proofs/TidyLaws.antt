@@ -13,7 +13,7 @@ use Rattle.fs_laws.specs.Stays.{IsUnder, hang_from}
 use Rattle.fs_laws.proofs.NamedLaws.{each_named}
 use Rattle.fs_laws.proofs.TreeLaws.{read_from_named}
 use Rattle.fs_laws.proofs.UnderLaws.{each_under, root_under, target_under}
-use Rattle.fs_port.specs.View.{View}
+use Rattle.fs_port.specs.View.{DiskView}
 use Rattle.fs_port.specs.Files.{LeavesTidyWorld, IsTreeAlone, OnlyDeletes}
 use Rattle.fs_client.specs.declared.client.Client.{Client}
 use Rattle.fs_client.specs.Changing.{files_by}
@@ -65,8 +65,8 @@ clean_unnamed n w a off named b held = absurd (clash_of (has_number n.blocks a) 
 
 -- ---- what is left
 
-module _ (kind : ShellKind) (c : Client) (old : View) (there : is_there (tree_at kind old.world c.root) ≡ true) where
-  pub same_tree : (new : View) → Trimmed c (named_at kind old.world c.root) old new → SameTree kind c.root old.world new.world
+module _ (kind : ShellKind) (c : Client) (old : DiskView) (there : is_there (tree_at kind old.world c.root) ≡ true) where
+  pub same_tree : (new : DiskView) → Trimmed c (named_at kind old.world c.root) old new → SameTree kind c.root old.world new.world
   same_tree new h = read_from_named kind old.world new.world c.root there h.keeps
 
   pub tree_alone : (w : World) → IsTrim c (named_at kind old.world c.root) old w → IsTreeAlone (files_by kind c) old w
@@ -77,10 +77,10 @@ module _ (kind : ShellKind) (c : Client) (old : View) (there : is_there (tree_at
         record { pairs = h.fewer; bytes = h.bytes; named = same.named; none = λ off. absurd (clash_of (is_there (tree_at kind old.world c.root)) there off) },
       )
 
-  pub only_deletes : (new : View) → Trimmed c (named_at kind old.world c.root) old new → OnlyDeletes (files_by kind c) old.world new.world
+  pub only_deletes : (new : DiskView) → Trimmed c (named_at kind old.world c.root) old new → OnlyDeletes (files_by kind c) old.world new.world
   only_deletes new h = record { pairs = h.fewer; bytes = h.bytes; named = (same_tree new h).named; none = λ off. absurd (clash_of (is_there (tree_at kind old.world c.root)) there off) }
 
-pub trimmed_left : (kind : ShellKind) (c : Client) (n : Named) (old new : View) → new.spent ≡ false → IsTidy kind new.world c.root → Trimmed c n old new → LeavesTidyWorld (files_by kind c) old new
+pub trimmed_left : (kind : ShellKind) (c : Client) (n : Named) (old new : DiskView) → new.spent ≡ false → IsTidy kind new.world c.root → Trimmed c n old new → LeavesTidyWorld (files_by kind c) old new
 trimmed_left kind c n old new unspent tidy trimmed = record {
   unspent = unspent;
   tidy = λ _. tidy;

@@ -22,7 +22,7 @@ use Rattle.fs_laws.proofs.NamedLaws.{each_named}
 use Rattle.fs_laws.proofs.OutsideLaws.{outside_twice}
 use Rattle.fs_laws.proofs.UnderLaws.{root_under, target_under}
 use Rattle.fs_laws.proofs.WayLaws.{ways_lead_on}
-use Rattle.fs_port.specs.View.{View, state_of, IsSound}
+use Rattle.fs_port.specs.View.{DiskView, state_of, IsDiskSound}
 use Rattle.fs_port.specs.Calls.{IsValidNow, Stays}
 use Rattle.fs_client.specs.declared.client.Client.{Client}
 use Rattle.fs_client.specs.Client.{shown_at, unlink_by}
@@ -41,10 +41,10 @@ named_live w root n valid under b m = each_named (λ c. is_live w c ≡ true) ro
 pub keeps_all : (w : World) (root : ℕ) (n : Named) → IsValid w → IsUnder w root n → Keeps w w n
 keeps_all w root n valid under = record { geometry = refl; live = named_live w root n valid under; bytes = λ b m. refl; pairs = under.held }
 
-pub is_trim : (c : Client) (n : Named) (v : View) (w : World) → IsValid v.world → IsUnder v.world c.root n → w ≡ v.world → IsTrim c n v w
+pub is_trim : (c : Client) (n : Named) (v : DiskView) (w : World) → IsValid v.world → IsUnder v.world c.root n → w ≡ v.world → IsTrim c n v w
 is_trim c n v w valid under same = subst (IsTrim c n v) (sym same) (record { valid = valid; keeps = keeps_all v.world c.root n valid under; others = others_same c.root v.world; fewer = λ a b h. h; bytes = λ b h. refl })
 
-pub trimmed_by_looks : (c : Client) (n : Named) (old new : View) → IsValidNow old → IsUnder old.world c.root n → Looked old new → Trimmed c n old new
+pub trimmed_by_looks : (c : Client) (n : Named) (old new : DiskView) → IsValidNow old → IsUnder old.world c.root n → Looked old new → Trimmed c n old new
 trimmed_by_looks c n old new valid under seen =
     let as_trim = is_trim c n old new.world valid.valid under seen.world in
     record {
@@ -57,17 +57,17 @@ trimmed_by_looks c n old new valid under seen =
       ways = λ s b held live. seen.ways s b held;
     }
 
-pub trims_by_looks : {X : Type 0} (told : Type 0) (c : Client) (n : Named) (old new : View) (result : Result X FsRefusal) → (told → IsValidNow old) → (told → IsUnder old.world c.root n) → (told → IfErr result (λ e. e ≡ no.Device)) → OnlyLooks told old new result → Trims told c n old new result
+pub trims_by_looks : {X : Type 0} (told : Type 0) (c : Client) (n : Named) (old new : DiskView) (result : Result X FsRefusal) → (told → IsValidNow old) → (told → IsUnder old.world c.root n) → (told → IfErr result (λ e. e ≡ no.Device)) → OnlyLooks told old new result → Trims told c n old new result
 trims_by_looks told c n old new result valid under only looks = record {
   trimmed = λ t. ok_of (Looked old new) (Trimmed c n old new) result (trimmed_by_looks c n old new (valid t) (under t)) (looks.looked t);
   only = only;
   runs = runs_look told old new (IsTrim c n old) result (λ t w e. is_trim c n old w (valid t).valid (under t) e) looks;
 }
 
-pub trims_as : {X Y : Type 0} (told : Type 0) (c : Client) (n : Named) (old new : View) (x : X) (y : Y) → Trims told c n old new (Ok x) → Trims told c n old new (Ok y)
+pub trims_as : {X Y : Type 0} (told : Type 0) (c : Client) (n : Named) (old new : DiskView) (x : X) (y : Y) → Trims told c n old new (Ok x) → Trims told c n old new (Ok y)
 trims_as told c n old new x y h = record { trimmed = h.trimmed; only = h.only; runs = runs_as told old new (IsTrim c n old) x y h.runs }
 
-pub trims_refused : {X Y : Type 0} (told : Type 0) (c : Client) (n : Named) (old new : View) (e : FsRefusal) → Trims {X = X} told c n old new (Err e) → Trims {X = Y} told c n old new (Err e)
+pub trims_refused : {X Y : Type 0} (told : Type 0) (c : Client) (n : Named) (old new : DiskView) (e : FsRefusal) → Trims {X = X} told c n old new (Err e) → Trims {X = Y} told c n old new (Err e)
 trims_refused told c n old new e h = record { trimmed = h.trimmed; only = h.only; runs = runs_refused told old new (IsTrim c n old) e h.runs }
 
 -- ---- one after the other
@@ -89,10 +89,10 @@ under_still w mid root n under keeps = record {
 }
 
 -- what is live was
-pub freed : (c : Client) (n : Named) (old new : View) → Trimmed c n old new → (b : ℕ) → is_live new.world b ≡ true → is_live old.world b ≡ true
+pub freed : (c : Client) (n : Named) (old new : DiskView) → Trimmed c n old new → (b : ℕ) → is_live new.world b ≡ true → is_live old.world b ≡ true
 freed c n old new h b live = ap is_some (sym (h.bytes b live)) ∙ live
 
-pub trimmed_both : (c : Client) (n : Named) (old mid new : View) → Trimmed c n old mid → Trimmed c n mid new → Trimmed c n old new
+pub trimmed_both : (c : Client) (n : Named) (old mid new : DiskView) → Trimmed c n old mid → Trimmed c n mid new → Trimmed c n old new
 trimmed_both c n old mid new first second = record {
   valid = second.valid;
   version = second.version ∙ first.version;
@@ -103,7 +103,7 @@ trimmed_both c n old mid new first second = record {
   ways = λ s b held live. second.ways s b (first.ways s b held (freed c n mid new second b live)) live;
 }
 
-later_trim : (c : Client) (n : Named) (old mid : View) (w : World) → Trimmed c n old mid → IsTrim c n mid w → IsTrim c n old w
+later_trim : (c : Client) (n : Named) (old mid : DiskView) (w : World) → Trimmed c n old mid → IsTrim c n mid w → IsTrim c n old w
 later_trim c n old mid w first h = record {
   valid = h.valid;
   keeps = keeps_both old.world mid.world w n first.keeps h.keeps;
@@ -112,7 +112,7 @@ later_trim c n old mid w first h = record {
   bytes = λ b live. h.bytes b live ∙ first.bytes b (ap is_some (sym (h.bytes b live)) ∙ live);
 }
 
-pub then_trims : {X Y : Type 0} (told : Type 0) (c : Client) (n : Named) (old mid new : View) (x : X) (result : Result Y FsRefusal) → Trims told c n old mid (Ok x) → Trims told c n mid new result → Trims told c n old new result
+pub then_trims : {X Y : Type 0} (told : Type 0) (c : Client) (n : Named) (old mid new : DiskView) (x : X) (result : Result Y FsRefusal) → Trims told c n old mid (Ok x) → Trims told c n mid new result → Trims told c n old new result
 then_trims told c n old mid new x result first second = record {
   trimmed = λ t. on_ok (Trimmed c n mid new) (Trimmed c n old new) result (trimmed_both c n old mid new (first.trimmed t)) (second.trimmed t);
   only = second.only;
@@ -122,7 +122,7 @@ then_trims told c n old mid new x result first second = record {
 
 -- ---- a deletion under the root of a pair that isn't named
 
-module _ (c : Client) (n : Named) (old : View) (a b : ℕ) (valid : IsValidNow old) (under : IsUnder old.world c.root n) (named : has_number n.blocks a ≡ true) (held : holds old.world.pairs a b ≡ true) (spared : holds n.pairs a b ≡ false) where
+module _ (c : Client) (n : Named) (old : DiskView) (a b : ℕ) (valid : IsValidNow old) (under : IsUnder old.world c.root n) (named : has_number n.blocks a ≡ true) (held : holds old.world.pairs a b ≡ true) (spared : holds n.pairs a b ≡ false) where
   named_under : (d : ℕ) → has_number n.blocks d ≡ true → is_under old.world c.root d ≡ true
   named_under d m = each_named (λ x. is_under old.world c.root x ≡ true) c.root n.pairs n.blocks under.order (root_under old.world valid.valid.raw c.root under.primary)
       (λ x y h k. target_under old.world valid.valid.raw c.root under.primary x y (under.held x y h) k) d m
@@ -145,7 +145,7 @@ module _ (c : Client) (n : Named) (old : View) (a b : ℕ) (valid : IsValidNow o
     bytes = same_bytes old.world a b;
   }
 
-  pub trimmed_by_step : (new : View) → Went c old new (unlink_by c a b) a (dropped old.world a b) → Trimmed c n old new
+  pub trimmed_by_step : (new : DiskView) → Went c old new (unlink_by c a b) a (dropped old.world a b) → Trimmed c n old new
   trimmed_by_step new went = record {
     valid = went.valid;
     version = ap (λ w. w.version) went.world;
@@ -162,7 +162,7 @@ module _ (c : Client) (n : Named) (old : View) (a b : ℕ) (valid : IsValidNow o
     | inr after ↦ subst (IsTrim c n old) (sym after.0) (led after.1)
   ]
 
-pub trims_by_step : {X : Type 0} (told : Type 0) (c : Client) (n : Named) (old new : View) (a b : ℕ) (result : Result X FsRefusal)
+pub trims_by_step : {X : Type 0} (told : Type 0) (c : Client) (n : Named) (old new : DiskView) (a b : ℕ) (result : Result X FsRefusal)
     → (told → IsValidNow old) → (told → IsUnder old.world c.root n) → (told → has_number n.blocks a ≡ true) → (told → holds old.world.pairs a b ≡ true) → (told → holds n.pairs a b ≡ false)
     → (told → IfErr result (λ e. e ≡ no.Device)) → Steps told c old new (unlink_by c a b) a (dropped old.world a b) result → Trims told c n old new result
 trims_by_step told c n old new a b result valid under named held spared only steps = record {
@@ -173,7 +173,7 @@ trims_by_step told c n old new a b result valid under named held spared only ste
 
 -- ---- and the next may be asked
 
-module _ (c : Client) (n : Named) (old new : View) (trimmed : Trimmed c n old new) (stays : Stays old new) where
+module _ (c : Client) (n : Named) (old new : DiskView) (trimmed : Trimmed c n old new) (stays : Stays old new) where
   pub way_still : (a : ℕ) → IsUnder old.world c.root n → IsWay c n old a → IsWay c n new a
   way_still a under (inl e) = inl e
   way_still a under (inr h) = inr (h.0, h.1, trimmed.ways c.session h.0 h.2 (trimmed.keeps.live h.0 (under.from h.0 a h.1)))
@@ -216,12 +216,12 @@ module _ (c : Client) (n : Named) (old new : View) (trimmed : Trimmed c n old ne
         may = may_by_way a h.under way h.may;
       }
 
-pub delete_still : {X : Type 0} (told : Type 0) (c : Client) (n : Named) (old new : View) (a : ℕ) (names : List ℕ) (x : X) → MayDelete told c n old a names → Trims told c n old new (Ok x) → MayDelete told c n new a names
+pub delete_still : {X : Type 0} (told : Type 0) (c : Client) (n : Named) (old new : DiskView) (a : ℕ) (names : List ℕ) (x : X) → MayDelete told c n old a names → Trims told c n old new (Ok x) → MayDelete told c n new a names
 delete_still told c n old new a names x may trims = record {
   unspent = trims.runs.unspent.0;
   valid = λ t. (trims.trimmed t).valid;
   trim = λ t. trim_still c n old new (trims.trimmed t) trims.runs.stays.0 a names (may.trim t);
 }
 
-pub none_deleted : (told : Type 0) (c : Client) (n : Named) (v : View) (a : ℕ) (names : List ℕ) → (told → IsSound v) → MayDelete told c n v a names → Trims {X = Unit {0}} told c n v v (Ok tt)
+pub none_deleted : (told : Type 0) (c : Client) (n : Named) (v : DiskView) (a : ℕ) (names : List ℕ) → (told → IsDiskSound v) → MayDelete told c n v a names → Trims {X = Unit {0}} told c n v v (Ok tt)
 none_deleted told c n v a names sound may = trims_by_looks told c n v v (Ok tt) may.valid (λ t. (may.trim t).under) (λ t. tt) (no_look told v may.unspent sound may.valid)

@@ -10,7 +10,7 @@ use Rattle.tsd_model.specs.declared.replies.Rule.{Rule}
 use Rattle.tsd_model.specs.declared.replies.Rule.TheVariants as rule
 use Rattle.fs_trees.specs.declared.refusal.FsRefusal.{FsRefusal}
 use Rattle.fs_trees.specs.declared.refusal.FsRefusal.TheVariants as no
-use Rattle.fs_port.specs.View.{View, state_of}
+use Rattle.fs_port.specs.View.{DiskView, state_of}
 use Rattle.fs_port.specs.Calls.{Counts, IsEitherSide, LeavesWorldsOnly, Stays}
 use Rattle.fs_port.specs.Files.{OnAnswer}
 
@@ -57,11 +57,12 @@ has_wanted_form (ask.List s a shown start) (reply.Targets blocks) = true
 has_wanted_form q r = false
 
 -- a rule of the disk refuses the request, and so the file system
-abbrev pub IsRefused : View → Request → FsRefusal → Type 0
+abbrev pub IsRefused : DiskView → Request → FsRefusal → Type 0
 IsRefused v q e = (r : Rule) × (verdict v.world v.sessions q ≡ Some r) × (refusal_of r ≡ e)
 
 -- A request was asked once, of a disk that may tell its world: what holds whatever came of it.
-pub record AsksOnce {X : Type 0} (told : Type 0) (old new : View) (q : Request) (result : Result X FsRefusal) : Type 0 where
+pub record AsksOnce {X : Type 0} (told : Type 0) (old new : DiskView) (q : Request)
+    (result : Result X FsRefusal) : Type 0 where
   -- it is refused by a rule of the disk alone, and then nothing has changed
   pub refused : told → IfErr result (λ e. e ≢ no.Device → IsRefused old q e × (state_of new ≡ state_of old))
   -- a stop leaves the world before it or the one after it

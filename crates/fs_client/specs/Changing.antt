@@ -11,7 +11,7 @@ use Rattle.fs_trees.specs.Step.{empty_tree}
 use Rattle.fs_trees.specs.declared.ask.ShellAsk.{ShellAsk}
 use Rattle.fs_trees.specs.declared.ask.ShellKind.{ShellKind}
 use Rattle.fs_trees.specs.declared.refusal.FsRefusal.{FsRefusal}
-use Rattle.fs_port.specs.View.{View}
+use Rattle.fs_port.specs.View.{DiskView}
 use Rattle.fs_port.specs.Calls.{IsValidNow}
 use Rattle.fs_port.specs.Files.{FilesView, IsClientReady, tree_on}
 use Rattle.fs_client.specs.declared.client.Client.{Client}
@@ -30,7 +30,7 @@ pub record IsEmptied (kind : ShellKind) (w : World) (root : ℕ) : Type 0 where
   pub named : named_at kind w root ≡ root_alone root
 
 -- before the root is written so that its tree is empty
-pub record MayMake (told : Type 0) (kind : ShellKind) (c : Client) (v : View) (bytes : List ℕ) : Type 0 where
+pub record MayMake (told : Type 0) (kind : ShellKind) (c : Client) (v : DiskView) (bytes : List ℕ) : Type 0 where
   pub ready : IsClientReady (files_by kind c) v
   pub valid : told → IsValidNow v
   pub fits : told → length bytes ≤ block_len v.world.geometry
@@ -39,8 +39,10 @@ pub record MayMake (told : Type 0) (kind : ShellKind) (c : Client) (v : View) (b
 -- ---- asking
 
 -- the refusal that applies first to an ask there
-abbrev pub refused_on : FilesView → View → ShellAsk → Option FsRefusal
-refused_on f v a = refusal f.kind v.world.geometry (tree_on f v) (free_count v.world) (length v.world.pairs) (need_of f.kind v.world f.root (tree_on f v) a) a
+abbrev pub refused_on : FilesView → DiskView → ShellAsk → Option FsRefusal
+refused_on f v a =
+    refusal f.kind v.world.geometry (tree_on f v) (free_count v.world) (length v.world.pairs)
+    (need_of f.kind v.world f.root (tree_on f v) a) a
 
 -- why a path leads to no entry: `/` is none
 abbrev pub no_place_found : Tree → Path → FsRefusal → Option FsRefusal

@@ -1,5 +1,6 @@
 -- The pairs out of a block, some of which its contents name.
-use Rattle.std.specs.Prelude.{ℕ, ◌+◌, ◌-◌, ◌==◌, not, cond, ◌&&◌, nat_lt, nat_le, List, map, filter, length, slice_index}
+use Rattle.std.specs.Prelude.{ℕ, ◌+◌, ◌-◌, ◌==◌, not, cond, ◌&&◌, nat_lt, nat_le, List, map, filter, length}
+use Rattle.std.specs.Prelude.{slice_index}
 use Rattle.tsd_model.specs.World.{World, has_number}
 use Rattle.fs_trees.specs.declared.refusal.FsRefusal.{FsRefusal}
 use Rattle.fs_trees.specs.declared.refusal.FsRefusal.TheVariants as no

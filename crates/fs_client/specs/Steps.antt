@@ -18,7 +18,7 @@ use Rattle.fs_trees.specs.declared.refusal.FsRefusal.TheVariants as no
 use Rattle.fs_laws.specs.Outside.{is_inside}
 use Rattle.fs_laws.specs.Stays.{IsUnder, Keeps, spares}
 use Rattle.fs_laws.specs.Ways.{HoldsWrite}
-use Rattle.fs_port.specs.View.{View, state_of}
+use Rattle.fs_port.specs.View.{DiskView, state_of}
 use Rattle.fs_port.specs.Calls.{Counts, IsLedTo, IsValidNow, LeavesWorldsOnly, Stays}
 use Rattle.fs_port.specs.Files.{OnAnswer}
 use Rattle.fs_client.specs.declared.client.Client.{Client}
@@ -37,7 +37,7 @@ abbrev pub dropped : World → ℕ → ℕ → World
 dropped w a b = settle (without_pointer w a b)
 
 -- with so many new blocks, which the disk chooses
-abbrev pub taken : View → ℕ → ℕ → World
+abbrev pub taken : DiskView → ℕ → ℕ → World
 taken v a count = with_new_blocks v.world a (chosen v.kind v.world (At a) count)
 
 -- there is no room for so many blocks and pairs more
@@ -46,16 +46,17 @@ no_room_in w blocks pairs = first_of (no_room w.geometry (free_count w) (length 
 
 -- ---- what holds of a step
 
--- What a request that is granted there leads to: a valid world of the same size. Inside a root it leaves what is outside, and what is
--- named under a root stays where the request spares it.
+-- What a request that is granted there leads to: a valid world of the same size. Inside a root it leaves what is
+-- outside, and what is named under a root stays where the request spares it.
 pub record Leads (w : World) (q : Request) (after : World) : Type 0 where
   pub valid : IsValid after
   pub geometry : after.geometry ≡ w.geometry
   pub others : (root : ℕ) → root < w.geometry.primaries → IsTrue (is_inside w root q) → OthersStay root w after
   pub keeps : (root : ℕ) (n : Named) → IsUnder w root n → IsTrue (spares n q) → Keeps w after n
 
--- The world is the one after, and what was held for writing, or attained where it was asked, is held where the block is live.
-pub record Went (c : Client) (old new : View) (q : Request) (a : ℕ) (after : World) : Type 0 where
+-- The world is the one after, and what was held for writing, or attained where it was asked, is held where the block is
+-- live.
+pub record Went (c : Client) (old new : DiskView) (q : Request) (a : ℕ) (after : World) : Type 0 where
   pub world : new.world ≡ after
   pub leads : Leads old.world q after
   pub valid : IsValidNow new
@@ -64,7 +65,8 @@ pub record Went (c : Client) (old new : View) (q : Request) (a : ℕ) (after : W
   pub led : IsLedTo old new
 
 -- A request at block a that was asked once, of a disk that may tell its world: what holds whatever came of it.
-pub record Steps {X : Type 0} (told : Type 0) (c : Client) (old new : View) (q : Request) (a : ℕ) (after : World) (result : Result X FsRefusal) : Type 0 where
+pub record Steps {X : Type 0} (told : Type 0) (c : Client) (old new : DiskView) (q : Request) (a : ℕ) (after : World)
+    (result : Result X FsRefusal) : Type 0 where
   pub went : told → OnOk result (Went c old new q a after)
   -- it was refused, and nothing has changed
   pub same : told → IfErr result (λ e. e ≢ no.Device → state_of new ≡ state_of old)

@@ -5,7 +5,7 @@ ghost use Rattle.tsd_model.specs.World.{has_number};
 ghost use Rattle.tsd_model.specs.Pairs.{holds};
 ghost use Rattle.fs_trees.specs.Inode.{are_apart};
 ghost use Rattle.fs_trees.specs.Layouts.{Named};
-ghost use Rattle.fs_client.specs.Trimming.{MayDelete, Trims, OthersHeld, AreHeld, AreGone, OnlyNamed};
+ghost use Rattle.fs_client.specs.Trimming.{MayDelete, Trims, OthersHeld, AreLedTo, AreGone, OnlyNamed};
 
 use crate::client::Client;
 use crate::leftovers::{Names, next_start};
@@ -51,7 +51,7 @@ fn delete_page<K: Blocks, N: Names>(
 ) -> Result<(), FsRefusal>
     ghost kept: { Named }
     requires may { MayDelete K.told client.now kept (K.view disk.old) source (N.blocks namer.now) }
-    requires held { K.told → AreHeld (K.view disk.old).world source targets.now }
+    requires held { K.told → AreLedTo (K.view disk.old).world source targets.now }
     requires apart { K.told → IsTrue (are_apart targets.now) }
     ensures trims { Trims K.told client.now kept (K.view disk.old) (K.view disk.new) result }
     ensures gone { K.told → OnOk result (AreGone (K.view disk.new).world source targets.now (N.blocks namer.now)) }

@@ -22,14 +22,14 @@ use Rattle.fs_trees.specs.declared.refusal.FsRefusal.{FsRefusal}
 use Rattle.fs_trees.specs.declared.refusal.FsRefusal.TheVariants as fs
 use Rattle.fs_laws.specs.Apart.{AreApart, StaysApart}
 use Rattle.fs_laws.proofs.ListingLaws.{tree_listed_at, NamesListed}
-use Rattle.fs_port.specs.View.{View, IsSound}
+use Rattle.fs_port.specs.View.{DiskView, IsDiskSound}
 use Rattle.fs_port.specs.Calls.{IsLedTo, IsValidNow, LeavesWorldsOnly, Stays}
 use Rattle.fs_port.specs.Files.{FilesView, IsClientReady, IsEitherTree, IsLeft, OnAnswer, mounted_now, step_on, has_dirs}
 use Rattle.fs_port.specs.Runs.{Looks, IsMade, Runs}
 use Rattle.fs_port.proofs.RunLaws.{leaves_more, on_answer}
 use Rattle.fs_copy.specs.Copies.{refused, IsPartOfCopy, IsRefusedHere, IsAnswered, OnCopyAnswer, SourceStays, CopiesTree, CopyRuns}
 use Rattle.fs_copy.specs.Counted.{IsCount}
-use Rattle.fs_copy.specs.Going.{tree_under, AreSet, IsSource, IsPartly, IsRefusedAmong, Goes}
+use Rattle.fs_copy.specs.Going.{tree_under, AreSet, IsSource, IsPartly, IsRefusedAmong, MakesSteps}
 use Rattle.fs_copy.specs.Nesting.{CanHold, CanMake, IsNested, first_dir, first_made}
 use Rattle.fs_copy.specs.Walk.{inside}
 use Rattle.fs_copy.specs.declared.copied.Copied.{Copied}
@@ -55,7 +55,7 @@ root_dir ByChains w root h = by (chains_under w root) h
     by None k = absurd (cc)
     by (Some c) k = refl
 
-pub source_dir : (told : Type 0) (f : FilesView) (v : View) → IsSource told f v → told → is_dir (tree_under f v) ≡ true
+pub source_dir : (told : Type 0) (f : FilesView) (v : DiskView) → IsSource told f v → told → is_dir (tree_under f v) ≡ true
 source_dir told f v source t = root_dir f.kind v.world f.root (source.there t)
 
 pub steps_are : (t : Tree) → is_dir t ≡ true → copy_steps t ≡ ask.Make ∷ entry_steps [] (inside t)
@@ -71,7 +71,7 @@ whole (a_dir d es) h listed = whole_copy d es listed.0.1 (in_order es listed.1)
 
 -- ---- the first step
 
-module _ (told : Type 0) (g : FilesView) (old new : View) (result : Result (Unit {0}) FsRefusal) (sound_old : told → IsSound old) (sound_new : told → OnAnswer result (IsSound new)) where
+module _ (told : Type 0) (g : FilesView) (old new : DiskView) (result : Result (Unit {0}) FsRefusal) (sound_old : told → IsDiskSound old) (sound_new : told → OnAnswer result (IsDiskSound new)) where
   left_mounted : (w : World) → IsLeft g old w → IsLeft (mounted_now g) old w
   left_mounted w h = record { valid = h.valid; geometry = h.geometry; others = h.others }
 
@@ -81,13 +81,13 @@ module _ (told : Type 0) (g : FilesView) (old new : View) (result : Result (Unit
     | inr after ↦ record { front = ask.Make ∷ []; back = []; parts = refl; tree = after; left = left_mounted w either.1 }
   ]
 
-  pub make_goes : (told → MatchResult result (λ _. IsMade g old new) (λ e. e ≡ fs.Device)) → Runs told old new (IsEitherTree g old ask.Make) result → Goes told (mounted_now g) old new (ask.Make ∷ []) result
+  pub make_goes : (told → MatchResult result (λ _. IsMade g old new) (λ e. e ≡ fs.Device)) → Runs told old new (IsEitherTree g old ask.Make) result → MakesSteps told (mounted_now g) old new (ask.Make ∷ []) result
   make_goes made runs = record {
     done = λ t. by_done result (made t);
     refused = λ t. by_refused result (made t);
     there = λ t. by_there result (made t);
     tidy = λ t. by_tidy result (made t);
-    size = λ t. on_answer (IsSound new) (new.world.geometry ≡ old.world.geometry) result (λ s. s.geometry ∙ (runs.counts.geometry ∙ sym (sound_old t).geometry)) (sound_new t);
+    size = λ t. on_answer (IsDiskSound new) (new.world.geometry ≡ old.world.geometry) result (λ s. s.geometry ∙ (runs.counts.geometry ∙ sym (sound_old t).geometry)) (sound_new t);
     others = λ t. by_others result (made t);
     runs = runs_more told old new (IsEitherTree g old ask.Make) (IsPartly (mounted_now g) old (ask.Make ∷ [])) result (λ t w either. partly w either) runs;
   }
@@ -140,7 +140,7 @@ never_fault fs.TooBig h = cc
 never_fault (fs.Full free wanted) h = cc
 never_fault (fs.PointersFull held most) h = cc
 
-answered_by : (f g : FilesView) (old new : View) (e : FsRefusal) → (e ≢ fs.Device → IsRefusedHere f g old new e × CanHold g.kind (tree_under f old)) → IsAnswered f g old new (refused e)
+answered_by : (f g : FilesView) (old new : DiskView) (e : FsRefusal) → (e ≢ fs.Device → IsRefusedHere f g old new e × CanHold g.kind (tree_under f old)) → IsAnswered f g old new (refused e)
 answered_by f g old new fs.Device h = tt
 answered_by f g old new fs.NotThisFs h = h (λ e. cc)
 answered_by f g old new fs.NoEntry h = h (λ e. cc)
@@ -183,7 +183,7 @@ after_make t a rest is = ap (λ b. after_asks t (b ∷ rest)) is ∙ sym (ap (λ
 
 -- ---- all of it
 
-module _ (told : Type 0) (f g : FilesView) (old new : View) (sound : told → IsSound old) (source : IsSource told f old) (apart : told → AreApart old.world f.root g.root) where
+module _ (told : Type 0) (f g : FilesView) (old new : DiskView) (sound : told → IsDiskSound old) (source : IsSource told f old) (apart : told → AreApart old.world f.root g.root) where
   abbrev t : Tree
   t = tree_under f old
 
@@ -191,7 +191,7 @@ module _ (told : Type 0) (f g : FilesView) (old new : View) (sound : told → Is
   abbrev into : FilesView
   into = mounted_now g
 
-  module _ {X : Type 0} (result : Result X FsRefusal) (goes : Goes told into old new (copy_steps t) result) where
+  module _ {X : Type 0} (result : Result X FsRefusal) (goes : MakesSteps told into old new (copy_steps t) result) where
     part_left : told → (w : World) → IsPartly into old (copy_steps t) w → IsPartOfCopy f g old w
     part_left h w partly = record {
       source = source_left told f into old new (copy_steps t) result sound source apart goes h w partly;
@@ -220,7 +220,7 @@ module _ (told : Type 0) (f g : FilesView) (old new : View) (sound : told → Is
         both (Err e) s o = (tt, λ ne. so (s.1 ne) (o.1 ne))
 
   -- it was copied
-  pub copied_so : (c : Copied) → (told → IsCount t c) → (told → CanHold g.kind t) → (told → OnAnswer {X = Copied} (Ok c) (IsTidy g.kind new.world g.root)) → Goes told into old new (copy_steps t) (Ok c) → told → CopiesTree f g old new (Ok c)
+  pub copied_so : (c : Copied) → (told → IsCount t c) → (told → CanHold g.kind t) → (told → OnAnswer {X = Copied} (Ok c) (IsTidy g.kind new.world g.root)) → MakesSteps told into old new (copy_steps t) (Ok c) → told → CopiesTree f g old new (Ok c)
   copied_so c count holds tidy goes h =
       let dir = source_dir told f old source h in
       let made : tree_under g new ≡ after_asks nothing (copy_steps t) =
@@ -234,11 +234,11 @@ module _ (told : Type 0) (f g : FilesView) (old new : View) (sound : told → Is
         led = as_ok Copied Copied (IsLedTo old new) c c (goes.runs.led h);
       }
 
-  pub copied_runs : {X : Type 0} (c : X) (qs : List ShellAsk) → Goes told into old new qs (Ok c) → CopyRuns old new (Ok c)
+  pub copied_runs : {X : Type 0} (c : X) (qs : List ShellAsk) → MakesSteps told into old new qs (Ok c) → CopyRuns old new (Ok c)
   copied_runs c qs goes = record { stays = (goes.runs.stays.0, tt); counts = goes.runs.counts; unspent = (goes.runs.unspent.0, tt); faultless = (goes.runs.faultless.0, tt); cause = tt; no_fault = tt }
 
   -- it was refused
-  refused_here : {X : Type 0} (e : FsRefusal) → Goes {X = X} told into old new (copy_steps t) (Err e) → told → e ≢ fs.Device → IsTidy g.kind new.world g.root → IsRefusedHere f g old new e
+  refused_here : {X : Type 0} (e : FsRefusal) → MakesSteps {X = X} told into old new (copy_steps t) (Err e) → told → e ≢ fs.Device → IsTidy g.kind new.world g.root → IsRefusedHere f g old new e
   refused_here e goes h ne tidy = let k = goes.refused h ne in by k.front k.here k.back k.parts k.tree k.answer
     where
       by : (front : List ShellAsk) (here : ShellAsk) (back : List ShellAsk) → copy_steps t ≡ front ++ here ∷ back → tree_under g new ≡ after_asks (tree_under g old) front → (step_on into new here).answer ≡ answer.refused e → IsRefusedHere f g old new e
@@ -258,7 +258,7 @@ module _ (told : Type 0) (f g : FilesView) (old new : View) (sound : told → Is
             answer = says;
           }
 
-  pub refused_so : {X : Type 0} (e : FsRefusal) → (told → CanHold g.kind t) → (told → OnAnswer {X = X} (Err e) (IsTidy g.kind new.world g.root)) → Goes {X = X} told into old new (copy_steps t) (Err e) → told → CopiesTree f g old new (Err (refused e))
+  pub refused_so : {X : Type 0} (e : FsRefusal) → (told → CanHold g.kind t) → (told → OnAnswer {X = X} (Err e) (IsTidy g.kind new.world g.root)) → MakesSteps {X = X} told into old new (copy_steps t) (Err e) → told → CopiesTree f g old new (Err (refused e))
   refused_so {X} e holds tidy goes h = record {
     ok = tt;
     err = answered_by f g old new e (λ ne. (refused_here e goes h ne ((tidy h).1 ne), holds h));
@@ -347,8 +347,8 @@ can_entries kind t dir (inr never) = inr (sym (ap first_made (steps_are t dir)) 
 -- ---- what the copy is put together from
 
 -- both may go on, once the empty tree is made
-pub set_made : {X : Type 0} (told : Type 0) (f g : FilesView) (old now : View) (x : X) → (told → IsSound old) → IsSource told f old → (told → AreApart old.world f.root g.root) → IsClientReady g old
-    → Goes told (mounted_now g) old now (ask.Make ∷ []) (Ok x) → AreSet told f (mounted_now g) now
+pub set_made : {X : Type 0} (told : Type 0) (f g : FilesView) (old now : DiskView) (x : X) → (told → IsDiskSound old) → IsSource told f old → (told → AreApart old.world f.root g.root) → IsClientReady g old
+    → MakesSteps told (mounted_now g) old now (ask.Make ∷ []) (Ok x) → AreSet told f (mounted_now g) now
 set_made {X} told f g old now x sound source apart ready goes = record {
   from_ready = ready_still f old now goes.runs.stays.0 goes.runs.counts goes.runs.unspent.0 source.ready;
   into_ready = mounted_ready (ready_still g old now goes.runs.stays.0 goes.runs.counts goes.runs.unspent.0 ready);
@@ -366,20 +366,20 @@ set_made {X} told f g old now x sound source apart ready goes = record {
     mounted_ready : IsClientReady g now → IsClientReady (mounted_now g) now
     mounted_ready h = record { unspent = h.unspent; number = h.number; begun = h.begun; primary = h.primary; attains = h.attains }
 
-module _ (told : Type 0) (f g : FilesView) (old mid now : View) (sound : told → IsSound old) (source : IsSource told f old) (apart : told → AreApart old.world f.root g.root) where
+module _ (told : Type 0) (f g : FilesView) (old mid now : DiskView) (sound : told → IsDiskSound old) (source : IsSource told f old) (apart : told → AreApart old.world f.root g.root) where
   abbrev s : Tree
   s = tree_under f old
 
   -- after the look and the first step
-  pub begun_goes : {X Y : Type 0} (x : X) (result : Result Y FsRefusal) → Looks told old mid (Ok x) → Goes told (mounted_now g) mid now (ask.Make ∷ []) result → Goes told (mounted_now g) old now (ask.Make ∷ []) result
+  pub begun_goes : {X Y : Type 0} (x : X) (result : Result Y FsRefusal) → Looks told old mid (Ok x) → MakesSteps told (mounted_now g) mid now (ask.Make ∷ []) result → MakesSteps told (mounted_now g) old now (ask.Make ∷ []) result
   begun_goes x result looks goes = then_goes told (mounted_now g) old mid now [] (ask.Make ∷ []) x result (look_goes told (mounted_now g) old mid (Ok x) (λ t. (source.valid t).valid) (λ t. tt) looks) goes
 
   -- the first step failed
-  pub first_lost : {X Y : Type 0} (e : FsRefusal) → Goes {X = X} told (mounted_now g) old now (ask.Make ∷ []) (Err e) → Goes {X = Y} told (mounted_now g) old now (copy_steps s) (Err e)
+  pub first_lost : {X Y : Type 0} (e : FsRefusal) → MakesSteps {X = X} told (mounted_now g) old now (ask.Make ∷ []) (Err e) → MakesSteps {X = Y} told (mounted_now g) old now (copy_steps s) (Err e)
   first_lost {X} {Y} e goes = goes_as told (mounted_now g) old now (ask.Make ∷ entry_steps [] (inside s)) (copy_steps s) (Err e) (λ t. sym (steps_are s (source_dir told f old source t)))
       (err_as told (mounted_now g) {X = X} {Y = Y} old now (ask.Make ∷ []) e (entry_steps [] (inside s)) goes)
 
-module _ {X : Type 0} (told : Type 0) (f g h k : FilesView) (old mid now : View) (sound : told → IsSound old) (source : IsSource told f old) (apart : told → AreApart old.world f.root g.root) (f_is : h ≡ f) (g_is : k ≡ mounted_now g) (x : X) (begun : Goes told (mounted_now g) old mid (ask.Make ∷ []) (Ok x)) where
+module _ {X : Type 0} (told : Type 0) (f g h k : FilesView) (old mid now : DiskView) (sound : told → IsDiskSound old) (source : IsSource told f old) (apart : told → AreApart old.world f.root g.root) (f_is : h ≡ f) (g_is : k ≡ mounted_now g) (x : X) (begun : MakesSteps told (mounted_now g) old mid (ask.Make ∷ []) (Ok x)) where
   abbrev z : Tree
   z = tree_under f old
 
@@ -395,15 +395,15 @@ module _ {X : Type 0} (told : Type 0) (f g h k : FilesView) (old mid now : View)
       (subst (λ y. CanMake g.kind (entry_steps [] (inside y))) (sym (tree_begun t)) (can_entries g.kind z (source_dir told f old source t) (holds t)))
 
   -- all the steps
-  pub all_goes : {Y : Type 0} (result : Result Y FsRefusal) → Goes told k mid now (entry_steps [] (inside (tree_under h mid))) result → Goes told (mounted_now g) old now (copy_steps z) result
+  pub all_goes : {Y : Type 0} (result : Result Y FsRefusal) → MakesSteps told k mid now (entry_steps [] (inside (tree_under h mid))) result → MakesSteps told (mounted_now g) old now (copy_steps z) result
   all_goes result goes =
       let steps = entry_steps [] (inside (tree_under h mid)) in
       goes_as told (mounted_now g) old now (ask.Make ∷ steps) (copy_steps z) result
       (λ t. ap (λ y. ask.Make ∷ entry_steps [] (inside y)) (tree_begun t) ∙ sym (steps_are z (source_dir told f old source t)))
-      (then_goes told (mounted_now g) old mid now (ask.Make ∷ []) steps x result begun (subst (λ w. Goes told w mid now steps result) g_is goes))
+      (then_goes told (mounted_now g) old mid now (ask.Make ∷ []) steps x result begun (subst (λ w. MakesSteps told w mid now steps result) g_is goes))
 
   -- the target is tidy then, since it was once the empty tree was made
-  pub tidy_goes : {Y : Type 0} (result : Result Y FsRefusal) → (told → IsTidy g.kind mid.world g.root) → Goes told k mid now (entry_steps [] (inside (tree_under h mid))) result → told → OnAnswer result (IsTidy g.kind now.world g.root)
+  pub tidy_goes : {Y : Type 0} (result : Result Y FsRefusal) → (told → IsTidy g.kind mid.world g.root) → MakesSteps told k mid now (entry_steps [] (inside (tree_under h mid))) result → told → OnAnswer result (IsTidy g.kind now.world g.root)
   tidy_goes {Y} result tidy goes t =
       let on : OnAnswer result (IsTidy g.kind mid.world g.root → IsTidy g.kind now.world g.root) = subst (λ w. OnAnswer result (IsTidy w.kind mid.world w.root → IsTidy w.kind now.world w.root)) g_is (goes.tidy t) in
       on_answer (IsTidy g.kind mid.world g.root → IsTidy g.kind now.world g.root) (IsTidy g.kind now.world g.root) result (λ go. go (tidy t)) on

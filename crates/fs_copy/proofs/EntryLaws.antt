@@ -7,18 +7,18 @@ use Rattle.fs_trees.specs.Tree.{nothing, a_file, a_dir, Tree, at, is_dir, is_the
 use Rattle.fs_trees.specs.declared.ask.ShellAsk.TheVariants as ask
 use Rattle.fs_trees.specs.declared.refusal.FsRefusal.{FsRefusal}
 use Rattle.fs_trees.specs.declared.refusal.FsRefusal.TheVariants as no
-use Rattle.fs_port.specs.View.{View, IsSound}
+use Rattle.fs_port.specs.View.{DiskView, IsDiskSound}
 use Rattle.fs_port.specs.Files.{FilesView, Answers, TellsSize}
 use Rattle.fs_port.specs.Runs.{Looks}
-use Rattle.fs_copy.specs.Going.{tree_under, AreSet, Goes, IsFileAt, own_steps, size_of}
+use Rattle.fs_copy.specs.Going.{tree_under, AreSet, MakesSteps, IsFileAt, own_steps, size_of}
 use Rattle.fs_copy.proofs.GoingLaws.{goes_as, then_goes, looked, now_set, same_source}
 use Rattle.fs_copy.proofs.ReadLaws.{size_tells, size_refused}
 
-module _ {X : Type 0} (told : Type 0) (f h to : FilesView) (same : h ≡ f) (old mid : View) (set : AreSet told f to old) (sound : told → IsSound old) (x : X) (looks : Looks told old mid (Ok x)) where
+module _ {X : Type 0} (told : Type 0) (f h to : FilesView) (same : h ≡ f) (old mid : DiskView) (set : AreSet told f to old) (sound : told → IsDiskSound old) (x : X) (looks : Looks told old mid (Ok x)) where
   abbrev t : Tree
   t = tree_under f old
 
-  pub after_look : Goes told to old mid [] (Ok x)
+  pub after_look : MakesSteps told to old mid [] (Ok x)
   after_look = looked told f to old mid set x looks
 
   pub look_set : AreSet told h to mid
@@ -29,7 +29,7 @@ module _ {X : Type 0} (told : Type 0) (f h to : FilesView) (same : h ≡ f) (old
 
 -- ---- a file
 
-module _ (told : Type 0) (f h to : FilesView) (same : h ≡ f) (old mid : View) (set : AreSet told f to old) (sound : told → IsSound old) (path : Path) (there : told → is_there (at (tree_under f old) path) ≡ true) (n : ℕ) (looks : Looks told old mid (Ok n)) (answers : told → Answers f old mid (ask.Cat path) (Ok n) TellsSize) where
+module _ (told : Type 0) (f h to : FilesView) (same : h ≡ f) (old mid : DiskView) (set : AreSet told f to old) (sound : told → IsDiskSound old) (path : Path) (there : told → is_there (at (tree_under f old) path) ≡ true) (n : ℕ) (looks : Looks told old mid (Ok n)) (answers : told → Answers f old mid (ask.Cat path) (Ok n) TellsSize) where
   tree_now : told → tree_under h mid ≡ tree_under f old
   tree_now w = look_tree told f h to same old mid set sound n looks w
 
@@ -48,7 +48,7 @@ module _ (told : Type 0) (f h to : FilesView) (same : h ≡ f) (old mid : View) 
   steps_so : told → file_steps path (bytes_in (at (tree_under h mid) path)) ≡ own_steps path (at (tree_under f old) path)
   steps_so w = let is = file_is w in ap (λ y. file_steps path (bytes_in y)) (ap (λ u. at u path) (tree_now w) ∙ is.1) ∙ ap (own_steps path) (sym is.1)
 
-  pub file_goes : {Y : Type 0} (new : View) (result : Result Y FsRefusal) → Goes told to mid new (file_steps path (bytes_in (at (tree_under h mid) path))) result → Goes told to old new (own_steps path (at (tree_under f old) path)) result
+  pub file_goes : {Y : Type 0} (new : DiskView) (result : Result Y FsRefusal) → MakesSteps told to mid new (file_steps path (bytes_in (at (tree_under h mid) path))) result → MakesSteps told to old new (own_steps path (at (tree_under f old) path)) result
   file_goes new result goes =
       let steps = file_steps path (bytes_in (at (tree_under h mid) path)) in
       goes_as told to old new steps (own_steps path (at (tree_under f old) path)) result steps_so
@@ -56,7 +56,7 @@ module _ (told : Type 0) (f h to : FilesView) (same : h ≡ f) (old mid : View) 
 
 -- ---- a directory
 
-module _ (told : Type 0) (f to : FilesView) (old mid : View) (set : AreSet told f to old) (path : Path) (there : told → is_there (at (tree_under f old) path) ≡ true) (e : FsRefusal) (answers : told → Answers {X = ℕ} f old mid (ask.Cat path) (Err e) TellsSize) where
+module _ (told : Type 0) (f to : FilesView) (old mid : DiskView) (set : AreSet told f to old) (path : Path) (there : told → is_there (at (tree_under f old) path) ≡ true) (e : FsRefusal) (answers : told → Answers {X = ℕ} f old mid (ask.Cat path) (Err e) TellsSize) where
   pub refused_dir : told → e ≢ no.Device → (is_dir (at (tree_under f old) path) ≡ true) × (e ≡ no.IsDir)
   refused_dir w ne = size_refused f old set.from_mounted path (there w) e ((answers w).err ne).0
 

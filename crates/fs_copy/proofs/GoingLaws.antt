@@ -22,16 +22,16 @@ use Rattle.fs_trees.specs.declared.refusal.FsRefusal.TheVariants as no
 use Rattle.fs_laws.specs.Apart.{AreApart, StaysApart}
 use Rattle.fs_laws.proofs.ApartLaws.{apart_stays}
 use Rattle.fs_laws.proofs.OutsideLaws.{outside_twice}
-use Rattle.fs_port.specs.View.{View, IsSound}
+use Rattle.fs_port.specs.View.{DiskView, IsDiskSound}
 use Rattle.fs_port.specs.Calls.{Counts, IsLedTo, IsValidNow, LeavesWorldsOnly, Stays}
 use Rattle.fs_port.specs.Files.{FilesView, Answers, IsClientReady, IsEitherTree, LeavesTidyWorld, OnAnswer, step_on, tree_on, tree_after, unless_refused}
 use Rattle.fs_port.specs.Runs.{Changes, Looks, Runs}
 use Rattle.fs_port.proofs.RunLaws.{both_leave, leaves_more, on_answer, if_fault, both_stay, both_count, led_both}
-use Rattle.fs_copy.specs.Going.{tree_under, AreSet, IsSource, IsPartly, IsRefusedAmong, Goes}
+use Rattle.fs_copy.specs.Going.{tree_under, AreSet, IsSource, IsPartly, IsRefusedAmong, MakesSteps}
 
 -- ---- runs
 
-pub runs_more : {X : Type 0} (told : Type 0) (old new : View) (P Q : World → Type 0) (result : Result X FsRefusal) → (told → (w : World) → P w → Q w) → Runs told old new P result → Runs told old new Q result
+pub runs_more : {X : Type 0} (told : Type 0) (old new : DiskView) (P Q : World → Type 0) (result : Result X FsRefusal) → (told → (w : World) → P w → Q w) → Runs told old new P result → Runs told old new Q result
 runs_more told old new P Q result on h = record {
   valid = h.valid;
   led = h.led;
@@ -44,7 +44,7 @@ runs_more told old new P Q result on h = record {
   spent = h.spent;
 }
 
-pub then_runs : {X Y : Type 0} (told : Type 0) (old mid new : View) (P : World → Type 0) (x : X) (result : Result Y FsRefusal) → Runs told old mid P (Ok x) → Runs told mid new P result → Runs told old new P result
+pub then_runs : {X Y : Type 0} (told : Type 0) (old mid new : DiskView) (P : World → Type 0) (x : X) (result : Result Y FsRefusal) → Runs told old mid P (Ok x) → Runs told mid new P result → Runs told old new P result
 then_runs told old mid new P x result first second = record {
   valid = second.valid;
   led = λ t. on_answer (IsLedTo mid new) (IsLedTo old new) result (led_both old mid new first.counts.kind (first.led t).0) (second.led t);
@@ -58,7 +58,7 @@ then_runs told old mid new P x result first second = record {
 }
 
 -- the client stays ready
-pub ready_still : (f : FilesView) (old new : View) → Stays old new → Counts old new → new.spent ≡ false → IsClientReady f old → IsClientReady f new
+pub ready_still : (f : FilesView) (old new : DiskView) → Stays old new → Counts old new → new.spent ≡ false → IsClientReady f old → IsClientReady f new
 ready_still f old new stays counts unspent ready = record {
   unspent = unspent;
   number = ready.number;
@@ -137,9 +137,9 @@ others_same root w = record { records = refl; bytes = λ b live away. refl; pair
 
 -- ---- one call
 
-module _ {X : Type 0} (told : Type 0) (g : FilesView) (old new : View) (result : Result X FsRefusal) (valid : told → IsValid old.world) where
+module _ {X : Type 0} (told : Type 0) (g : FilesView) (old new : DiskView) (result : Result X FsRefusal) (valid : told → IsValid old.world) where
   -- where it only looked, and wasn't refused
-  pub look_goes : (told → IfErr result (λ e. e ≢ no.Device → ⊥)) → Looks told old new result → Goes told g old new [] result
+  pub look_goes : (told → IfErr result (λ e. e ≢ no.Device → ⊥)) → Looks told old new result → MakesSteps told g old new [] result
   look_goes only looks = record {
     done = λ t. ok_tree result (looks.world t);
     refused = λ t. never result (only t);
@@ -165,20 +165,20 @@ module _ {X : Type 0} (told : Type 0) (g : FilesView) (old new : View) (result :
       never (Err e) h = λ ne. absurd (h ne)
 
   -- where it was asked to change the tree
-  pub change_goes : (a : ShellAsk) → Makes a → g.mounted ≡ true → (told → IsSound old) → (told → OnAnswer result (IsSound new))
-      → (told → Answers g old new a result (λ _ answer. answer ≡ done)) → Changes told g old new a result → Goes told g old new (a ∷ []) result
+  pub change_goes : (a : ShellAsk) → Makes a → g.mounted ≡ true → (told → IsDiskSound old) → (told → OnAnswer result (IsDiskSound new))
+      → (told → Answers g old new a result (λ _ answer. answer ≡ done)) → Changes told g old new a result → MakesSteps told g old new (a ∷ []) result
   change_goes a makes mounted sound_old sound_new answers changes = record {
     done = λ t. ok_tree result (answers t);
     refused = λ t. is_refused result (answers t);
     there = λ t. still_there result (answers t);
     tidy = λ t. on_answer (LeavesTidyWorld g old new) (IsTidy g.kind old.world g.root → IsTidy g.kind new.world g.root) result (λ l. l.tidy) (changes.world t);
-    size = λ t. on_answer (IsSound new) (new.world.geometry ≡ old.world.geometry) result (λ s. s.geometry ∙ (changes.counts.geometry ∙ sym (sound_old t).geometry)) (sound_new t);
+    size = λ t. on_answer (IsDiskSound new) (new.world.geometry ≡ old.world.geometry) result (λ s. s.geometry ∙ (changes.counts.geometry ∙ sym (sound_old t).geometry)) (sound_new t);
     others = λ t. on_answer (LeavesTidyWorld g old new) (OthersStay g.root old.world new.world) result (λ l. l.others) (changes.world t);
     runs = runs_more told old new (IsEitherTree g old a) (IsPartly g old (a ∷ [])) result (λ t w either. partly w either)
         (record { valid = changes.valid; led = changes.led; crash = changes.crash; stays = changes.stays; counts = changes.counts; unspent = changes.unspent; faultless = changes.faultless; cause = changes.cause; spent = changes.spent });
   }
     where
-      on_tree : (v : View) → tree_on g v ≡ tree_under g v
+      on_tree : (v : DiskView) → tree_on g v ≡ tree_under g v
       on_tree v = ap (λ m. cond m (tree_under g v) nothing) mounted
 
       tree_done : (step_on g old a).answer ≡ done → (step_on g old a).tree ≡ (change (tree_under g old) 0 a).tree
@@ -222,7 +222,7 @@ module _ {X : Type 0} (told : Type 0) (g : FilesView) (old new : View) (result :
 
 module _ (told : Type 0) (g : FilesView) where
   -- nothing was asked yet
-  pub none_goes : (v : View) → v.spent ≡ false → (told → IsSound v) → (told → IsValidNow v) → Goes {X = Unit {0}} told g v v [] (Ok tt)
+  pub none_goes : (v : DiskView) → v.spent ≡ false → (told → IsDiskSound v) → (told → IsValidNow v) → MakesSteps {X = Unit {0}} told g v v [] (Ok tt)
   none_goes v unspent sound valid = record {
     done = λ t. refl;
     refused = λ t. tt;
@@ -249,7 +249,7 @@ module _ (told : Type 0) (g : FilesView) where
     };
   }
 
-  module _ (old mid new : View) (qs rs : List ShellAsk) where
+  module _ (old mid new : DiskView) (qs rs : List ShellAsk) where
     further : (size : mid.world.geometry ≡ old.world.geometry) → OthersStay g.root old.world mid.world → tree_under g mid ≡ after_asks (tree_under g old) qs → (w : World) → IsPartly g mid rs w → IsPartly g old (qs ++ rs) w
     further size others tree w h = record {
       front = qs ++ h.front;
@@ -262,7 +262,7 @@ module _ (told : Type 0) (g : FilesView) where
     earlier : (w : World) → IsPartly g old qs w → IsPartly g old (qs ++ rs) w
     earlier w h = record { front = h.front; back = h.back ++ rs; parts = ap (λ s. s ++ rs) h.parts ∙ append_assoc h.front h.back rs; tree = h.tree; left = h.left }
 
-    pub then_goes : {X Y : Type 0} (x : X) (result : Result Y FsRefusal) → Goes told g old mid qs (Ok x) → Goes told g mid new rs result → Goes told g old new (qs ++ rs) result
+    pub then_goes : {X Y : Type 0} (x : X) (result : Result Y FsRefusal) → MakesSteps told g old mid qs (Ok x) → MakesSteps told g mid new rs result → MakesSteps told g old new (qs ++ rs) result
     then_goes {X} {Y} x result first second = record {
       done = λ t. ok_tree result (first.done t) (second.done t);
       refused = λ t. is_refused result (first.done t) (second.refused t);
@@ -290,12 +290,12 @@ module _ (told : Type 0) (g : FilesView) where
           answer = k.answer;
         }
 
-  module _ {X Y : Type 0} (old new : View) (qs : List ShellAsk) where
-    pub ok_as : (x : X) (y : Y) → Goes told g old new qs (Ok x) → Goes told g old new qs (Ok y)
+  module _ {X Y : Type 0} (old new : DiskView) (qs : List ShellAsk) where
+    pub ok_as : (x : X) (y : Y) → MakesSteps told g old new qs (Ok x) → MakesSteps told g old new qs (Ok y)
     ok_as x y h = record { done = h.done; refused = λ t. tt; there = h.there; tidy = h.tidy; size = h.size; others = h.others; runs = record { valid = h.runs.valid; led = h.runs.led; crash = h.runs.crash; stays = h.runs.stays; counts = h.runs.counts; unspent = h.runs.unspent; faultless = h.runs.faultless; cause = tt; spent = tt } }
 
     -- what was refused was refused of more
-    pub err_as : (e : FsRefusal) (rs : List ShellAsk) → Goes {X = X} told g old new qs (Err e) → Goes {X = Y} told g old new (qs ++ rs) (Err e)
+    pub err_as : (e : FsRefusal) (rs : List ShellAsk) → MakesSteps {X = X} told g old new qs (Err e) → MakesSteps {X = Y} told g old new (qs ++ rs) (Err e)
     err_as e rs h = record {
       done = λ t. tt;
       refused = λ t ne. let k = h.refused t ne in record {
@@ -325,10 +325,10 @@ module _ (told : Type 0) (g : FilesView) where
 
 -- ---- both file systems afterwards
 
-pub source_of : (told : Type 0) (f g : FilesView) (v : View) → AreSet told f g v → IsSource told f v
+pub source_of : (told : Type 0) (f g : FilesView) (v : DiskView) → AreSet told f g v → IsSource told f v
 source_of told f g v set = record { ready = set.from_ready; mounted = set.from_mounted; valid = set.valid; there = set.from_there }
 
-module _ {X : Type 0} (told : Type 0) (f g : FilesView) (old new : View) (qs : List ShellAsk) (result : Result X FsRefusal) (sound : told → IsSound old) (source : IsSource told f old) (apart : told → AreApart old.world f.root g.root) (goes : Goes told g old new qs result) where
+module _ {X : Type 0} (told : Type 0) (f g : FilesView) (old new : DiskView) (qs : List ShellAsk) (result : Result X FsRefusal) (sound : told → IsDiskSound old) (source : IsSource told f old) (apart : told → AreApart old.world f.root g.root) (goes : MakesSteps told g old new qs result) where
   primary : told → f.root < old.world.geometry.primaries
   primary t = subst (λ h. f.root < h.primaries) (sym (sound t).geometry) source.ready.primary
 
@@ -344,7 +344,7 @@ module _ {X : Type 0} (told : Type 0) (f g : FilesView) (old new : View) (qs : L
   pub source_left : told → (w : World) → IsPartly g old qs w → tree_at f.kind w f.root ≡ tree_under f old
   source_left t w h = (apart_stays f.kind old.world w f.root g.root (source.valid t).valid h.left.valid h.left.geometry (primary t) (source.there t) (apart t) h.left.others).same.tree
 
-module _ {X : Type 0} (told : Type 0) (f g : FilesView) (old new : View) (qs : List ShellAsk) (x : X) (sound : told → IsSound old) (set : AreSet told f g old) (goes : Goes told g old new qs (Ok x)) where
+module _ {X : Type 0} (told : Type 0) (f g : FilesView) (old new : DiskView) (qs : List ShellAsk) (x : X) (sound : told → IsDiskSound old) (set : AreSet told f g old) (goes : MakesSteps told g old new qs (Ok x)) where
   apart_now : told → StaysApart f.kind f.root g.root old.world new.world
   apart_now t = (source_stays told f g old new qs (Ok x) sound (source_of told f g old set) set.apart goes t).0
 
@@ -365,7 +365,7 @@ module _ {X : Type 0} (told : Type 0) (f g : FilesView) (old new : View) (qs : L
 
 -- ---- the same, said of other asks
 
-pub goes_as : {X : Type 0} (told : Type 0) (g : FilesView) (old new : View) (qs rs : List ShellAsk) (result : Result X FsRefusal) → (told → qs ≡ rs) → Goes told g old new qs result → Goes told g old new rs result
+pub goes_as : {X : Type 0} (told : Type 0) (g : FilesView) (old new : DiskView) (qs rs : List ShellAsk) (result : Result X FsRefusal) → (told → qs ≡ rs) → MakesSteps told g old new qs result → MakesSteps told g old new rs result
 goes_as {X} told g old new qs rs result e h = record {
   done = λ t. subst (λ s. OnOk result (tree_under g new ≡ after_asks (tree_under g old) s)) (e t) (h.done t);
   refused = λ t. subst (λ s. IfErr result (λ r. r ≢ no.Device → IsRefusedAmong g old new s r)) (e t) (h.refused t);
@@ -387,7 +387,7 @@ goes_as {X} told g old new qs rs result e h = record {
 }
 
 -- an answer that is none where the disk tells its world
-pub lost_goes : {X Y : Type 0} (told : Type 0) (g : FilesView) (old new : View) (qs rs : List ShellAsk) (x : X) (e : FsRefusal) → (told → ⊥) → e ≢ no.Device → Goes told g old new qs (Ok x) → Goes {X = Y} told g old new rs (Err e)
+pub lost_goes : {X Y : Type 0} (told : Type 0) (g : FilesView) (old new : DiskView) (qs rs : List ShellAsk) (x : X) (e : FsRefusal) → (told → ⊥) → e ≢ no.Device → MakesSteps told g old new qs (Ok x) → MakesSteps {X = Y} told g old new rs (Err e)
 lost_goes told g old new qs rs x e never ne h = record {
   done = λ t. absurd (never t);
   refused = λ t. absurd (never t);
@@ -409,13 +409,13 @@ lost_goes told g old new qs rs x e never ne h = record {
 }
 
 -- a refusal of nothing more
-pub err_same : {X Y : Type 0} (told : Type 0) (g : FilesView) (old new : View) (qs : List ShellAsk) (e : FsRefusal) → Goes {X = X} told g old new qs (Err e) → Goes {X = Y} told g old new qs (Err e)
+pub err_same : {X Y : Type 0} (told : Type 0) (g : FilesView) (old new : DiskView) (qs : List ShellAsk) (e : FsRefusal) → MakesSteps {X = X} told g old new qs (Err e) → MakesSteps {X = Y} told g old new qs (Err e)
 err_same {X} {Y} told g old new qs e h = goes_as told g old new (qs ++ []) qs (Err e) (λ t. append-nil qs) (err_as told g {X = X} {Y = Y} old new qs e [] h)
 
 -- the source only looked
-module _ {X : Type 0} (told : Type 0) (f g : FilesView) (old new : View) (set : AreSet told f g old) where
-  pub looked : (x : X) → Looks told old new (Ok x) → Goes told g old new [] (Ok x)
+module _ {X : Type 0} (told : Type 0) (f g : FilesView) (old new : DiskView) (set : AreSet told f g old) where
+  pub looked : (x : X) → Looks told old new (Ok x) → MakesSteps told g old new [] (Ok x)
   looked x looks = look_goes told g old new (Ok x) (λ t. (set.valid t).valid) (λ t. tt) looks
 
-  pub look_lost : (e : FsRefusal) → (told → e ≢ no.Device → ⊥) → Looks {X = X} told old new (Err e) → Goes {X = X} told g old new [] (Err e)
+  pub look_lost : (e : FsRefusal) → (told → e ≢ no.Device → ⊥) → Looks {X = X} told old new (Err e) → MakesSteps {X = X} told g old new [] (Err e)
   look_lost e only looks = look_goes told g old new (Err e) (λ t. (set.valid t).valid) only looks

@@ -9,7 +9,7 @@ use Rattle.fs_trees.specs.declared.ask.ShellAsk.TheVariants as ask
 use Rattle.fs_trees.specs.declared.refusal.FsRefusal.{FsRefusal}
 use Rattle.fs_trees.specs.declared.refusal.FsRefusal.TheVariants as no
 use Rattle.fs_laws.specs.Small.{IsNameListing}
-use Rattle.fs_port.specs.View.{View, IsSound}
+use Rattle.fs_port.specs.View.{DiskView, IsDiskSound}
 use Rattle.fs_port.specs.Calls.{IsValidNow}
 use Rattle.fs_port.specs.Files.{FilesView, Answers, TellsNext, above}
 use Rattle.fs_port.specs.Runs.{Looks}
@@ -26,7 +26,7 @@ use Rattle.fs_copy.proofs.TurnLaws.{listing_of}
 
 -- ---- looks, one after the other
 
-module _ {X Y : Type 0} (told : Type 0) (old mid new : View) where
+module _ {X Y : Type 0} (told : Type 0) (old mid new : DiskView) where
   pub then_looks : (x : X) (result : Result Y FsRefusal) → Looks told old mid (Ok x) → Looks told mid new result → Looks told old new result
   then_looks x result first second = record {
     world = λ t. on_answer (new.world ≡ mid.world) (new.world ≡ old.world) result (λ e. e ∙ (first.world t).0) (second.world t);
@@ -34,20 +34,20 @@ module _ {X Y : Type 0} (told : Type 0) (old mid new : View) where
         (runs_more told mid new (λ w. w ≡ mid.world) (λ w. w ≡ old.world) result (λ t w e. e ∙ (first.world t).0) second.runs);
   }
 
-pub looks_as : {X Y : Type 0} (told : Type 0) (old new : View) (x : X) (y : Y) → Looks told old new (Ok x) → Looks told old new (Ok y)
+pub looks_as : {X Y : Type 0} (told : Type 0) (old new : DiskView) (x : X) (y : Y) → Looks told old new (Ok x) → Looks told old new (Ok y)
 looks_as told old new x y h = record {
   world = h.world;
   runs = record { valid = h.runs.valid; led = h.runs.led; crash = h.runs.crash; stays = h.runs.stays; counts = h.runs.counts; unspent = h.runs.unspent; faultless = h.runs.faultless; cause = tt; spent = tt };
 }
 
-pub looks_err : {X Y : Type 0} (told : Type 0) (old new : View) (e : FsRefusal) → Looks {X = X} told old new (Err e) → Looks {X = Y} told old new (Err e)
+pub looks_err : {X Y : Type 0} (told : Type 0) (old new : DiskView) (e : FsRefusal) → Looks {X = X} told old new (Err e) → Looks {X = Y} told old new (Err e)
 looks_err told old new e h = record {
   world = h.world;
   runs = record { valid = h.runs.valid; led = h.runs.led; crash = h.runs.crash; stays = h.runs.stays; counts = h.runs.counts; unspent = h.runs.unspent; faultless = h.runs.faultless; cause = h.runs.cause; spent = h.runs.spent };
 }
 
 -- an answer that is none where the disk tells its world
-pub looks_lost : {X Y : Type 0} (told : Type 0) (old new : View) (x : X) (e : FsRefusal) → (told → ⊥) → e ≢ no.Device → Looks told old new (Ok x) → Looks {X = Y} told old new (Err e)
+pub looks_lost : {X Y : Type 0} (told : Type 0) (old new : DiskView) (x : X) (e : FsRefusal) → (told → ⊥) → e ≢ no.Device → Looks told old new (Ok x) → Looks {X = Y} told old new (Err e)
 looks_lost told old new x e never ne h = record {
   world = λ t. absurd (never t);
   runs = record {
@@ -64,7 +64,7 @@ looks_lost told old new x e never ne h = record {
 }
 
 -- a directory is no refusal of a look at what there is
-pub looks_dir : {X Y : Type 0} (told : Type 0) (old new : View) (y : Y) (e : FsRefusal) → e ≢ no.Device → Looks {X = X} told old new (Err e) → Looks told old new (Ok y)
+pub looks_dir : {X Y : Type 0} (told : Type 0) (old new : DiskView) (y : Y) (e : FsRefusal) → e ≢ no.Device → Looks {X = X} told old new (Err e) → Looks told old new (Ok y)
 looks_dir told old new y e ne h = record {
   world = λ t. ((h.world t).1 ne, tt);
   runs = record {
@@ -81,7 +81,7 @@ looks_dir told old new y e ne h = record {
 }
 
 -- nothing was asked yet
-pub none_looks : (told : Type 0) (v : View) → v.spent ≡ false → (told → IsSound v) → (told → IsValidNow v) → Looks {X = Unit {0}} told v v (Ok tt)
+pub none_looks : (told : Type 0) (v : DiskView) → v.spent ≡ false → (told → IsDiskSound v) → (told → IsValidNow v) → Looks {X = Unit {0}} told v v (Ok tt)
 none_looks told v unspent sound valid = record {
   world = λ t. (refl, tt);
   runs = record {
@@ -104,7 +104,7 @@ none_looks told v unspent sound valid = record {
 }
 
 -- the source afterwards
-module _ {X : Type 0} (told : Type 0) (f : FilesView) (old new : View) (x : X) (source : IsSource told f old) (looks : Looks told old new (Ok x)) where
+module _ {X : Type 0} (told : Type 0) (f : FilesView) (old new : DiskView) (x : X) (source : IsSource told f old) (looks : Looks told old new (Ok x)) where
   pub same_tree : told → tree_under f new ≡ tree_under f old
   same_tree t = ap (λ w. tree_under f (record old { world = w })) (looks.world t).0
 
@@ -119,7 +119,7 @@ module _ {X : Type 0} (told : Type 0) (f : FilesView) (old new : View) (x : X) (
 -- ---- the names of `/`
 
 -- the search stands behind this name: no directory stands before it, and so many names may come
-pub record Searched (told : Type 0) (t : Tree) (old now : View) (a : Name) (left : ℕ) : Type 0 where
+pub record Searched (told : Type 0) (t : Tree) (old now : DiskView) (a : Name) (left : ℕ) : Type 0 where
   pub looks : Looks {X = Unit {0}} told old now (Ok tt)
   pub first : told → first_dir t ≡ first_made (entry_steps [] (behind a (inside t)))
   pub few : told → length (names (behind a (inside t))) < left
@@ -198,7 +198,7 @@ path_is n path r e is = let both = some_of (is_path (n ∷ [])) (n ∷ []) path 
 pub path_never : (n : Name) (r : Option Path) → r ≡ cond (is_path (n ∷ [])) (Some (n ∷ [])) None → r ≡ None → is_path (n ∷ []) ≡ true → ⊥
 path_never n r e is named = none_of (is_path (n ∷ [])) (n ∷ []) named (sym e ∙ is)
 
-module _ {X : Type 0} (told : Type 0) (f h : FilesView) (same : h ≡ f) (old now : View) (x : X) (source : IsSource told f old) (looks : Looks told old now (Ok x)) where
+module _ {X : Type 0} (told : Type 0) (f h : FilesView) (same : h ≡ f) (old now : DiskView) (x : X) (source : IsSource told f old) (looks : Looks told old now (Ok x)) where
   pub source_now : IsSource told h now
   source_now = subst (λ k. IsSource told k now) (sym same) (still_source told f old now x source looks)
 
@@ -210,15 +210,15 @@ module _ {X : Type 0} (told : Type 0) (f h : FilesView) (same : h ≡ f) (old no
     root_dir t = ap (λ p. is_dir (at (tree_under h now) p)) at_root ∙ (ap is_dir (tree_now t) ∙ source_dir told f old source t)
 
     -- the next name of `/`
-    pub next_root : (new : View) (after : Name) (next : Option Name) → (told → Answers h now new (ask.Ls root) (Ok next) (TellsNext after)) → told → next ≡ above after (names_in (tree_under f old))
+    pub next_root : (new : DiskView) (after : Name) (next : Option Name) → (told → Answers h now new (ask.Ls root) (Ok next) (TellsNext after)) → told → next ≡ above after (names_in (tree_under f old))
     next_root new after next answers t =
         next_tells h now source_now.mounted root (root_dir t) after next (answers t).ok.0
         ∙ ap (λ x. above after (names_in x)) (ap (at (tree_under h now)) at_root ∙ tree_now t)
 
-    pub never_root : (new : View) (after : Name) (e : FsRefusal) → (told → Answers {X = Option Name} h now new (ask.Ls root) (Err e) (TellsNext after)) → told → e ≢ no.Device → ⊥
+    pub never_root : (new : DiskView) (after : Name) (e : FsRefusal) → (told → Answers {X = Option Name} h now new (ask.Ls root) (Err e) (TellsNext after)) → told → e ≢ no.Device → ⊥
     never_root new after e answers t = never_refused h now new (ask.Ls root) (Err e) (TellsNext after) (next_refused h now source_now.mounted root (root_dir t)) (answers t)
 
-module _ (told : Type 0) (f : FilesView) (old now : View) (source : IsSource told f old) (a : Name) (left : ℕ) (searched : Searched told (tree_under f old) old now a left) where
+module _ (told : Type 0) (f : FilesView) (old now : DiskView) (source : IsSource told f old) (a : Name) (left : ℕ) (searched : Searched told (tree_under f old) old now a left) where
   abbrev u : Tree
   u = tree_under f old
 
@@ -243,7 +243,7 @@ module _ (told : Type 0) (f : FilesView) (old now : View) (source : IsSource tol
     found_dir path same t is = sym (searched.first t ∙ (search_dir u (stands_dir t) (listing_u t) a n (next t) is ∙ ap (λ p. Some p) same))
 
     -- it is a file: the search stands behind it
-    pub searched_on : (new : View) (b : Name) → b ≡ n → 0 < left → Looks {X = Unit {0}} told old new (Ok tt) → (told → is_dir (at u (n ∷ [])) ≡ false) → Searched told u old new b (left - 1)
+    pub searched_on : (new : DiskView) (b : Name) → b ≡ n → 0 < left → Looks {X = Unit {0}} told old new (Ok tt) → (told → is_dir (at u (n ∷ [])) ≡ false) → Searched told u old new b (left - 1)
     searched_on new b same some looks is = record {
       looks = looks;
       first = λ t. searched.first t ∙ ((search_file u (stands_dir t) (listing_u t) a n (next t) (is t)).0 ∙ ap (λ m. first_made (entry_steps [] (behind m (inside u)))) (sym same));
@@ -252,7 +252,7 @@ module _ (told : Type 0) (f : FilesView) (old now : View) (source : IsSource tol
           omega (arith, searched.few t, one, ap (λ m. length (names (behind m (inside u)))) same, some);
     }
 
-pub searched_first : (told : Type 0) (f : FilesView) (old : View) (source : IsSource told f old) (a : Name) (left : ℕ) → a ≡ [] → left ≡ names_max + 1 → Looks {X = Unit {0}} told old old (Ok tt) → Searched told (tree_under f old) old old a left
+pub searched_first : (told : Type 0) (f : FilesView) (old : DiskView) (source : IsSource told f old) (a : Name) (left : ℕ) → a ≡ [] → left ≡ names_max + 1 → Looks {X = Unit {0}} told old old (Ok tt) → Searched told (tree_under f old) old old a left
 searched_first told f old source a left empty many looks = record {
   looks = looks;
   first = λ t. subst (λ m. first_dir (tree_under f old) ≡ first_made (entry_steps [] (behind m (inside (tree_under f old))))) (sym empty) (begun t).0;
@@ -263,7 +263,7 @@ searched_first told f old source a left empty many looks = record {
     begun t = search_first (tree_under f old) (source_dir told f old source t) (listing_of f old [] (source.valid t).valid)
 
 -- there are always names left
-pub searched_never : (told : Type 0) (t : Tree) (old now : View) (a : Name) (left : ℕ) → Searched told t old now a left → left ≡ 0 → told → ⊥
+pub searched_never : (told : Type 0) (t : Tree) (old now : DiskView) (a : Name) (left : ℕ) → Searched told t old now a left → left ≡ 0 → told → ⊥
 searched_never told t old now a left searched is h = absurd (omega (arith, searched.few h, is))
 
 -- the target has no directories

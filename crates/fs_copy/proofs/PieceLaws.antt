@@ -8,9 +8,9 @@ use Rattle.fs_trees.specs.Names.{Path}
 use Rattle.fs_trees.specs.declared.ask.ShellAsk.{ShellAsk}
 use Rattle.fs_trees.specs.declared.ask.ShellAsk.TheVariants as ask
 use Rattle.fs_trees.specs.declared.refusal.FsRefusal.{FsRefusal}
-use Rattle.fs_port.specs.View.{View}
+use Rattle.fs_port.specs.View.{DiskView}
 use Rattle.fs_port.specs.Files.{FilesView}
-use Rattle.fs_copy.specs.Going.{Goes}
+use Rattle.fs_copy.specs.Going.{MakesSteps}
 use Rattle.fs_copy.proofs.GoingLaws.{goes_as, then_goes, err_as}
 
 abbrev pub Done : Type 0
@@ -24,9 +24,9 @@ abbrev pub piece_at : Path → ℕ → List ℕ → ShellAsk
 piece_at path i x = ask.Append path (take 4096 (drop (i * 4096) x))
 
 -- the first i of n pieces of a file are copied
-pub record UpTo (told : Type 0) (g : FilesView) (old now : View) (path : Path) (x : List ℕ) (n i : ℕ) : Type 0 where
+pub record UpTo (told : Type 0) (g : FilesView) (old now : DiskView) (path : Path) (x : List ℕ) (n i : ℕ) : Type 0 where
   pub made : List ShellAsk
-  pub goes : Goes {X = Unit {0}} told g old now made (Ok tt)
+  pub goes : MakesSteps {X = Unit {0}} told g old now made (Ok tt)
   pub rest : told → made ++ pieces_from path n i x ≡ file_steps path x
   pub some : 1 ≤ i
 
@@ -50,8 +50,8 @@ none_from path n i x h = ap (λ k. map (ask.Append path) (pieces k (drop (i * 40
     none_left : (n i : ℕ) → n ≤ i → n - i ≡ 0
     none_left n i h = omega (arith, h)
 
-module _ (told : Type 0) (g : FilesView) (old now : View) (path : Path) (x : List ℕ) (n : ℕ) where
-  pub up_first : (told → n ≡ div_ceil (length x) 4096) → Goes {X = Unit {0}} told g old now (ask.Put path (take 4096 x) ∷ []) (Ok tt) → UpTo told g old now path x n 1
+module _ (told : Type 0) (g : FilesView) (old now : DiskView) (path : Path) (x : List ℕ) (n : ℕ) where
+  pub up_first : (told → n ≡ div_ceil (length x) 4096) → MakesSteps {X = Unit {0}} told g old now (ask.Put path (take 4096 x) ∷ []) (Ok tt) → UpTo told g old now path x n 1
   up_first many goes = record {
     made = ask.Put path (take 4096 x) ∷ [];
     goes = goes;
@@ -60,15 +60,15 @@ module _ (told : Type 0) (g : FilesView) (old now : View) (path : Path) (x : Lis
   }
 
   module _ (i : ℕ) (up : UpTo told g old now path x n i) where
-    pub up_end : n ≤ i → Goes {X = Unit {0}} told g old now (file_steps path x) (Ok tt)
+    pub up_end : n ≤ i → MakesSteps {X = Unit {0}} told g old now (file_steps path x) (Ok tt)
     up_end h = goes_as told g old now up.made (file_steps path x) (Ok tt)
         (λ t. sym (append-nil up.made) ∙ (ap (λ s. up.made ++ s) (sym (none_from path n i x h)) ∙ up.rest t)) up.goes
 
-    module _ (new : View) (y : List ℕ) (same : told → y ≡ x) (h : i < n) where
+    module _ (new : DiskView) (y : List ℕ) (same : told → y ≡ x) (h : i < n) where
       parts : told → up.made ++ piece_at path i y ∷ pieces_from path n (i + 1) x ≡ file_steps path x
       parts t = ap (λ z. up.made ++ piece_at path i z ∷ pieces_from path n (i + 1) x) (same t) ∙ (ap (λ s. up.made ++ s) (sym (next_from path n i x h)) ∙ up.rest t)
 
-      pub up_next : Goes {X = Unit {0}} told g now new (piece_at path i y ∷ []) (Ok tt) → UpTo told g old new path x n (i + 1)
+      pub up_next : MakesSteps {X = Unit {0}} told g now new (piece_at path i y ∷ []) (Ok tt) → UpTo told g old new path x n (i + 1)
       up_next goes = record {
         made = up.made ++ piece_at path i y ∷ [];
         goes = then_goes told g old now new up.made (piece_at path i y ∷ []) tt (Ok tt) up.goes goes;
@@ -76,7 +76,7 @@ module _ (told : Type 0) (g : FilesView) (old now : View) (path : Path) (x : Lis
         some = omega arith;
       }
 
-      pub up_lost : (e : FsRefusal) → Goes {X = Unit {0}} told g now new (piece_at path i y ∷ []) (Err e) → Goes {X = Unit {0}} told g old new (file_steps path x) (Err e)
+      pub up_lost : (e : FsRefusal) → MakesSteps {X = Unit {0}} told g now new (piece_at path i y ∷ []) (Err e) → MakesSteps {X = Unit {0}} told g old new (file_steps path x) (Err e)
       up_lost e goes =
           let all = then_goes told g old now new up.made (piece_at path i y ∷ []) tt (Err e) up.goes goes in
           goes_as told g old new ((up.made ++ piece_at path i y ∷ []) ++ pieces_from path n (i + 1) x) (file_steps path x) (Err e)

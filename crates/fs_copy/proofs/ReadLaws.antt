@@ -15,7 +15,7 @@ use Rattle.fs_trees.specs.declared.ask.ShellAsk.TheVariants as ask
 use Rattle.fs_trees.specs.declared.ask.ShellKind.{ShellKind}
 use Rattle.fs_trees.specs.declared.refusal.FsRefusal.{FsRefusal}
 use Rattle.fs_trees.specs.declared.refusal.FsRefusal.TheVariants as no
-use Rattle.fs_port.specs.View.{View}
+use Rattle.fs_port.specs.View.{DiskView}
 use Rattle.fs_port.specs.Files.{FilesView, Answers, TellsNext, TellsPart, TellsSize, above, step_on}
 use Rattle.fs_copy.specs.Going.{tree_under, IsFileAt}
 
@@ -102,7 +102,7 @@ same_refusal d e h = cc
 listed_same : (ms ns : List Name) → listed ms ≡ listed ns → ms ≡ ns
 listed_same ms ns e = cc
 
-module _ (f : FilesView) (v : View) (mounted : f.mounted ≡ true) (p : Path) where
+module _ (f : FilesView) (v : DiskView) (mounted : f.mounted ≡ true) (p : Path) where
   abbrev t : Tree
   t = tree_under f v
 
@@ -145,7 +145,7 @@ module _ (f : FilesView) (v : View) (mounted : f.mounted ≡ true) (p : Path) wh
   next_refused dir e is = never_listed (names_in (at t p)) e (sym (says_names dir) ∙ is)
 
 -- a call that no tree refuses
-pub never_refused : {X : Type 0} (f : FilesView) (v new : View) (a : ShellAsk) (r : Result X FsRefusal) (tells : X → Answer → Type 0) → ((e : FsRefusal) → (step_on f v a).answer ≡ refused e → ⊥) → Answers f v new a r tells → IfErr r (λ e. e ≢ no.Device → ⊥)
+pub never_refused : {X : Type 0} (f : FilesView) (v new : DiskView) (a : ShellAsk) (r : Result X FsRefusal) (tells : X → Answer → Type 0) → ((e : FsRefusal) → (step_on f v a).answer ≡ refused e → ⊥) → Answers f v new a r tells → IfErr r (λ e. e ≢ no.Device → ⊥)
 never_refused f v new a (Ok x) tells never h = tt
 never_refused f v new a (Err e) tells never h = λ ne. never e (h.err ne).0
 

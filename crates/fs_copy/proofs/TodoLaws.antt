@@ -16,7 +16,7 @@ use Rattle.fs_port.specs.Files.{above}
 use Rattle.fs_copy.specs.Counted.{file_count, byte_count}
 use Rattle.fs_copy.specs.Going.{own_steps}
 use Rattle.fs_copy.specs.Nesting.{first_made}
-use Rattle.fs_copy.specs.Walk.{inside, behind, outer, todo, files_made, bytes_made, turns, IsNext}
+use Rattle.fs_copy.specs.Walk.{inside, behind, outer, todo, files_made, bytes_made, turns, IsNextName}
 use Rattle.fs_copy.proofs.NameLaws.{none_behind, stands_next, behind_empty, names_inside}
 
 -- ---- paths
@@ -81,7 +81,7 @@ next_after n nothing = n
 next_after n (a_file x) = n
 next_after n (a_dir d es) = []
 
-module _ (t : Tree) (p : Path) (a n : Name) (next : IsNext t p a n) where
+module _ (t : Tree) (p : Path) (a n : Name) (next : IsNextName t p a n) where
   abbrev es : Entries ⊤ (List ℕ)
   es = inside (at t p)
 

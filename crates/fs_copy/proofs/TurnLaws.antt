@@ -11,12 +11,12 @@ use Rattle.fs_trees.specs.declared.refusal.FsRefusal.{FsRefusal}
 use Rattle.fs_laws.specs.Small.{IsNameListing}
 use Rattle.fs_laws.proofs.ListingLaws.{tree_lists}
 use Rattle.fs_laws.proofs.SizeLaws.{tree_depth}
-use Rattle.fs_port.specs.View.{View}
+use Rattle.fs_port.specs.View.{DiskView}
 use Rattle.fs_port.specs.Files.{FilesView, above, has_dirs}
 use Rattle.fs_copy.specs.Counted.{capped}
-use Rattle.fs_copy.specs.Going.{Goes, own_steps, size_of, tree_under}
+use Rattle.fs_copy.specs.Going.{MakesSteps, own_steps, size_of, tree_under}
 use Rattle.fs_copy.specs.Nesting.{CanMake}
-use Rattle.fs_copy.specs.Walk.{outer, todo, files_made, bytes_made, turns, turns_left, IsNext, CountsOn, IsCountedOn, Turns}
+use Rattle.fs_copy.specs.Walk.{outer, todo, files_made, bytes_made, turns, turns_left, IsNextName, CountsOn, IsCountedOn, WalksOn}
 use Rattle.fs_copy.specs.declared.copied.Copied.{Copied}
 use Rattle.fs_copy.proofs.NameLaws.{found_named}
 use Rattle.fs_copy.proofs.TodoLaws.{at_last, path_front, path_with, outer_last, todo_none, next_path, next_after, there_now, todo_enter, turns-append, file_turns, file_files, file_bytes, made_later}
@@ -85,9 +85,9 @@ path_left : (p q : Path) (b : Name) (more : Bool) → Leaves p q b more → is_p
 path_left p q b true left h = path_front q b (subst (λ z. is_path z ≡ true) (left.on refl) h)
 path_left p q b false left h = ap is_path (left.there refl)
 
-module _ (told : Type 0) (g : FilesView) (t : Tree) (old new : View) (p q : Path) (a b : Name) (c : Copied) where
+module _ (told : Type 0) (g : FilesView) (t : Tree) (old new : DiskView) (p q : Path) (a b : Name) (c : Copied) where
   -- the directory has no other name
-  pub turn_left : (more : Bool) → Leaves p q b more → is_path p ≡ true → (told → is_dir (at t p) ≡ true) → (told → above a (names_in (at t p)) ≡ None) → Goes told g old new [] (Ok more) → Turns told g t old new p q a b c c (Ok more)
+  pub turn_left : (more : Bool) → Leaves p q b more → is_path p ≡ true → (told → is_dir (at t p) ≡ true) → (told → above a (names_in (at t p)) ≡ None) → MakesSteps told g old new [] (Ok more) → WalksOn told g t old new p q a b c c (Ok more)
   turn_left more left path stands last goes = record {
     made = [];
     rest = outer [] t p;
@@ -108,13 +108,13 @@ module _ (told : Type 0) (g : FilesView) (t : Tree) (old new : View) (p q : Path
 -- ---- an entry
 
 -- a path of a tree fits
-pub depth_of : (f : FilesView) (v : View) (p : Path) → is_there (at (tree_under f v) p) ≡ true → length p ≤ path_max
+pub depth_of : (f : FilesView) (v : DiskView) (p : Path) → is_there (at (tree_under f v) p) ≡ true → length p ≤ path_max
 depth_of f v p h = tree_depth f.kind v.world f.root p h
 
-pub listing_of : (f : FilesView) (v : View) (p : Path) → IsValid v.world → IsNameListing (names_in (at (tree_under f v) p))
+pub listing_of : (f : FilesView) (v : DiskView) (p : Path) → IsValid v.world → IsNameListing (names_in (at (tree_under f v) p))
 listing_of f v p valid = tree_lists f.kind v.world f.root p valid.raw.sized.lawful
 
-module _ (t : Tree) (p : Path) (a n : Name) (next : IsNext t p a n) where
+module _ (t : Tree) (p : Path) (a n : Name) (next : IsNextName t p a n) where
   pub is_name_next : is_name n ≡ true
   is_name_next = found_named a n (names_in (at t p)) next.listing.0 next.next
 
@@ -130,7 +130,7 @@ own_turns path nothing h = absurd (cc)
 own_turns path (a_file x) h = file_turns path x
 own_turns path (a_dir d es) h = refl
 
-module _ (told : Type 0) (g : FilesView) (t : Tree) (old new : View) (p : Path) (a n : Name) (c d : Copied) (next : told → IsNext t p a n) (listing : told → IsNameListing (names_in (at t (p ++ n ∷ [])))) where
+module _ (told : Type 0) (g : FilesView) (t : Tree) (old new : DiskView) (p : Path) (a n : Name) (c d : Copied) (next : told → IsNextName t p a n) (listing : told → IsNameListing (names_in (at t (p ++ n ∷ [])))) where
   abbrev y : Tree
   y = at t (p ++ n ∷ [])
 
@@ -144,12 +144,12 @@ module _ (told : Type 0) (g : FilesView) (t : Tree) (old new : View) (p : Path) 
   counts_of h = ap turns (parts_of h) ∙ (turns-append (own_steps (p ++ n ∷ []) y) (behind_entry t p n) ∙ ap (λ k. k + turns (behind_entry t p n)) (own_turns (p ++ n ∷ []) y (there_of h)))
 
   -- it failed, or was refused
-  pub entry_lost : (q : Path) (b : Name) (e : FsRefusal) → Goes {X = Bool} told g old new (own_steps (p ++ n ∷ []) y) (Err e) → Turns told g t old new p q a b c d (Err e)
+  pub entry_lost : (q : Path) (b : Name) (e : FsRefusal) → MakesSteps {X = Bool} told g old new (own_steps (p ++ n ∷ []) y) (Err e) → WalksOn told g t old new p q a b c d (Err e)
   entry_lost q b e goes = record { made = own_steps (p ++ n ∷ []) y; rest = behind_entry t p n; parts = λ h. sym (parts_of h); goes = goes; count = λ h. tt; named = tt; on = λ h. tt; over = λ h. tt }
 
   module _ (counted : told → IsCountedOn c d (size_of y)) (path : is_path (p ++ n ∷ []) ≡ true) where
     -- a directory is entered
-    pub dir_entered : (b : Name) → b ≡ [] → (told → size_of y ≡ None) → Goes told g old new (own_steps (p ++ n ∷ []) y) (Ok true) → Turns told g t old new p (p ++ n ∷ []) a b c d (Ok true)
+    pub dir_entered : (b : Name) → b ≡ [] → (told → size_of y ≡ None) → MakesSteps told g old new (own_steps (p ++ n ∷ []) y) (Ok true) → WalksOn told g t old new p (p ++ n ∷ []) a b c d (Ok true)
     dir_entered b empty no_size goes = record {
       made = own_steps (p ++ n ∷ []) y;
       rest = behind_entry t p n;
@@ -177,7 +177,7 @@ module _ (told : Type 0) (g : FilesView) (t : Tree) (old new : View) (p : Path) 
         place (a_dir f es) k = refl
 
     -- a file is left behind
-    pub file_passed : (q : Path) (b : Name) (more : Bool) (size : ℕ) → Leaves (p ++ n ∷ []) q b more → (told → size_of y ≡ Some size) → Goes told g old new (own_steps (p ++ n ∷ []) y) (Ok more) → Turns told g t old new p q a b c d (Ok more)
+    pub file_passed : (q : Path) (b : Name) (more : Bool) (size : ℕ) → Leaves (p ++ n ∷ []) q b more → (told → size_of y ≡ Some size) → MakesSteps told g old new (own_steps (p ++ n ∷ []) y) (Ok more) → WalksOn told g t old new p q a b c d (Ok more)
     file_passed q b more size left some goes = record {
       made = own_steps (p ++ n ∷ []) y;
       rest = behind_entry t p n;
@@ -207,8 +207,8 @@ module _ (told : Type 0) (g : FilesView) (t : Tree) (old new : View) (p : Path) 
 
 -- ---- a turn that begins where the source only looked before
 
-module _ {X : Type 0} (told : Type 0) (g : FilesView) (t u : Tree) (old mid new : View) (p q : Path) (a b : Name) (c d : Copied) (x : X) (result : Result Bool FsRefusal) where
-  pub turn_again : (told → u ≡ t) → Goes told g old mid [] (Ok x) → Turns told g u mid new p q a b c d result → Turns told g t old new p q a b c d result
+module _ {X : Type 0} (told : Type 0) (g : FilesView) (t u : Tree) (old mid new : DiskView) (p q : Path) (a b : Name) (c d : Copied) (x : X) (result : Result Bool FsRefusal) where
+  pub turn_again : (told → u ≡ t) → MakesSteps told g old mid [] (Ok x) → WalksOn told g u mid new p q a b c d result → WalksOn told g t old new p q a b c d result
   turn_again same look turn = record {
     made = turn.made;
     rest = turn.rest;

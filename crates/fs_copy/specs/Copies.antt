@@ -10,7 +10,7 @@ use Rattle.fs_trees.specs.declared.ask.ShellAsk.{ShellAsk}
 use Rattle.fs_trees.specs.declared.refusal.FsRefusal.{FsRefusal}
 use Rattle.fs_trees.specs.declared.refusal.FsRefusal.TheVariants as fs
 use Rattle.fs_laws.specs.Apart.{AreApart}
-use Rattle.fs_port.specs.View.{View}
+use Rattle.fs_port.specs.View.{DiskView}
 use Rattle.fs_port.specs.Calls.{Counts, IsLedTo, IsValidNow, LeavesWorldsOnly, Stays}
 use Rattle.fs_port.specs.Files.{FilesView, IsLeft, mounted_now, step_on}
 use Rattle.fs_copy.specs.Counted.{IsCount}
@@ -29,14 +29,15 @@ refused e = no.Into e
 
 -- What a crash at any moment of a copy leaves: the source's tree as it is, and under the target's root what was there
 -- before, or the tree after some of the steps.
-pub record IsPartOfCopy (f g : FilesView) (old : View) (w : World) : Type 0 where
+pub record IsPartOfCopy (f g : FilesView) (old : DiskView) (w : World) : Type 0 where
   pub source : tree_at f.kind w f.root ≡ tree_under f old
-  pub target : (tree_at g.kind w g.root ≡ tree_under g old) ⊎ ((j : ℕ) × (1 ≤ j) × (tree_at g.kind w g.root ≡ partial (tree_under f old) j))
+  pub target : (tree_at g.kind w g.root ≡ tree_under g old)
+      ⊎ ((j : ℕ) × (1 ≤ j) × (tree_at g.kind w g.root ≡ partial (tree_under f old) j))
   pub left : IsLeft g old w
 
 -- The step that comes next is refused, in the world as it is now; the target has the tree after those before it, and no
 -- block under its root is lost to it.
-pub record IsRefusedHere (f g : FilesView) (old new : View) (e : FsRefusal) : Type 0 where
+pub record IsRefusedHere (f g : FilesView) (old new : DiskView) (e : FsRefusal) : Type 0 where
   pub j : ℕ
   pub here : ShellAsk
   pub later : 1 ≤ j
@@ -46,13 +47,13 @@ pub record IsRefusedHere (f g : FilesView) (old new : View) (e : FsRefusal) : Ty
   pub answer : (step_on (mounted_now g) new here).answer ≡ answer.refused e
 
 -- the source's tree is under the target's root, no block there is lost to it, and what was copied is counted
-pub record IsWhole (f g : FilesView) (old new : View) (c : Copied) : Type 0 where
+pub record IsWhole (f g : FilesView) (old new : DiskView) (c : Copied) : Type 0 where
   pub target : tree_under g new ≡ tree_under f old
   pub tidy : IsTidy g.kind new.world g.root
   pub count : IsCount (tree_under f old) c
   pub holds : CanHold g.kind (tree_under f old)
 
-abbrev pub IsAnswered : FilesView → FilesView → View → View → CopyRefusal → Type 0
+abbrev pub IsAnswered : FilesView → FilesView → DiskView → DiskView → CopyRefusal → Type 0
 IsAnswered f g old new (no.Nested path) = IsNested g.kind (tree_under f old) path × (new.world ≡ old.world)
 IsAnswered f g old new (no.Into e) = IsRefusedHere f g old new e × CanHold g.kind (tree_under f old)
 IsAnswered f g old new no.Device = Unit {0}
@@ -61,15 +62,15 @@ IsAnswered f g old new no.Device = Unit {0}
 abbrev pub OnCopyAnswer : {X : Type 0} → Result X CopyRefusal → Type 0 → Type 0
 OnCopyAnswer result P = OnOk result P × IfErr result (λ e. e ≢ no.Device → P)
 
--- The source's tree is as it was, still none of its blocks is reached from the target's root, and what that didn't reach
--- is as it was.
-pub record SourceStays (f g : FilesView) (old new : View) : Type 0 where
+-- The source's tree is as it was, still none of its blocks is reached from the target's root, and what that didn't
+-- reach is as it was.
+pub record SourceStays (f g : FilesView) (old new : DiskView) : Type 0 where
   pub source : tree_under f new ≡ tree_under f old
   pub tidy : IsTidy f.kind old.world f.root → IsTidy f.kind new.world f.root
   pub apart : AreApart new.world f.root g.root
   pub others : OthersStay g.root old.world new.world
 
-pub record CopiesTree (f g : FilesView) (old new : View) (result : Result Copied CopyRefusal) : Type 0 where
+pub record CopiesTree (f g : FilesView) (old new : DiskView) (result : Result Copied CopyRefusal) : Type 0 where
   pub ok : IfOk result (λ c. IsWhole f g old new c)
   pub err : IfErr result (λ e. IsAnswered f g old new e)
   pub stays : OnCopyAnswer result (SourceStays f g old new)
@@ -79,9 +80,9 @@ pub record CopiesTree (f g : FilesView) (old new : View) (result : Result Copied
 
 -- ---- told or not
 
--- An answer other than Device leaves the count of faults as it was; Device comes only where that rose, and then the disk
--- is spent. The target's refusal is never a fault.
-pub record CopyRuns {X : Type 0} (old new : View) (result : Result X CopyRefusal) : Type 0 where
+-- An answer other than Device leaves the count of faults as it was; Device comes only where that rose, and then the
+-- disk is spent. The target's refusal is never a fault.
+pub record CopyRuns {X : Type 0} (old new : DiskView) (result : Result X CopyRefusal) : Type 0 where
   pub stays : OnCopyAnswer result (Stays old new)
   pub counts : Counts old new
   pub unspent : OnCopyAnswer result (new.spent ≡ false)

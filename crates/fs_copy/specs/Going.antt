@@ -1,5 +1,6 @@
 -- Some of the asks of a copy, made one after the other.
-use Rattle.std.specs.Prelude.{◌≡◌, ◌≢◌, ℕ, List, [], ◌∷◌, ◌++◌, Result, OnOk, IfErr, IsTrue, true, Option, Some, None, length}
+use Rattle.std.specs.Prelude.{◌≡◌, ◌≢◌, ℕ, List, [], ◌∷◌, ◌++◌, Result, OnOk, IfErr, IsTrue, true, Option, Some, None}
+use Rattle.std.specs.Prelude.{length}
 use Rattle.tsd_model.specs.World.{World}
 use Rattle.fs_trees.specs.Answer.{refused}
 use Rattle.fs_trees.specs.Copying.{after_asks, file_steps}
@@ -12,16 +13,16 @@ use Rattle.fs_trees.specs.declared.ask.ShellAsk.TheVariants as ask
 use Rattle.fs_trees.specs.declared.refusal.FsRefusal.{FsRefusal}
 use Rattle.fs_trees.specs.declared.refusal.FsRefusal.TheVariants as no
 use Rattle.fs_laws.specs.Apart.{AreApart}
-use Rattle.fs_port.specs.View.{View}
+use Rattle.fs_port.specs.View.{DiskView}
 use Rattle.fs_port.specs.Calls.{IsValidNow}
 use Rattle.fs_port.specs.Files.{FilesView, IsClientReady, IsLeft, OnAnswer, step_on}
 use Rattle.fs_port.specs.Runs.{Runs}
 
-abbrev pub tree_under : FilesView → View → Tree
+abbrev pub tree_under : FilesView → DiskView → Tree
 tree_under f v = tree_at f.kind v.world f.root
 
 -- Both file systems may ask, each has its tree, and no block is reached from both roots.
-pub record AreSet (told : Type 0) (f g : FilesView) (v : View) : Type 0 where
+pub record AreSet (told : Type 0) (f g : FilesView) (v : DiskView) : Type 0 where
   pub from_ready : IsClientReady f v
   pub into_ready : IsClientReady g v
   pub from_mounted : f.mounted ≡ true
@@ -32,14 +33,14 @@ pub record AreSet (told : Type 0) (f g : FilesView) (v : View) : Type 0 where
   pub apart : told → AreApart v.world f.root g.root
 
 -- the source may ask, and has its tree
-pub record IsSource (told : Type 0) (f : FilesView) (v : View) : Type 0 where
+pub record IsSource (told : Type 0) (f : FilesView) (v : DiskView) : Type 0 where
   pub ready : IsClientReady f v
   pub mounted : f.mounted ≡ true
   pub valid : told → IsValidNow v
   pub there : told → IsTrue (is_there (tree_under f v))
 
 -- what a crash leaves: the tree after some of the asks, the first ones
-pub record IsPartly (g : FilesView) (old : View) (qs : List ShellAsk) (w : World) : Type 0 where
+pub record IsPartly (g : FilesView) (old : DiskView) (qs : List ShellAsk) (w : World) : Type 0 where
   pub front : List ShellAsk
   pub back : List ShellAsk
   pub parts : qs ≡ front ++ back
@@ -47,7 +48,7 @@ pub record IsPartly (g : FilesView) (old : View) (qs : List ShellAsk) (w : World
   pub left : IsLeft g old w
 
 -- One of the asks is refused; the tree is that after those before it.
-pub record IsRefusedAmong (g : FilesView) (old new : View) (qs : List ShellAsk) (e : FsRefusal) : Type 0 where
+pub record IsRefusedAmong (g : FilesView) (old new : DiskView) (qs : List ShellAsk) (e : FsRefusal) : Type 0 where
   pub front : List ShellAsk
   pub here : ShellAsk
   pub back : List ShellAsk
@@ -55,9 +56,10 @@ pub record IsRefusedAmong (g : FilesView) (old new : View) (qs : List ShellAsk) 
   pub tree : tree_under g new ≡ after_asks (tree_under g old) front
   pub answer : (step_on g new here).answer ≡ refused e
 
--- These asks were made of a file system in which a tree is mounted, one after the other. If there was one, there is one,
--- and the world is tidy if it was.
-pub record Goes {X : Type 0} (told : Type 0) (g : FilesView) (old new : View) (qs : List ShellAsk) (result : Result X FsRefusal) : Type 0 where
+-- These asks were made of a file system in which a tree is mounted, one after the other. If there was one, there is
+-- one, and the world is tidy if it was.
+pub record MakesSteps {X : Type 0} (told : Type 0) (g : FilesView) (old new : DiskView) (qs : List ShellAsk)
+    (result : Result X FsRefusal) : Type 0 where
   pub done : told → OnOk result (tree_under g new ≡ after_asks (tree_under g old) qs)
   pub refused : told → IfErr result (λ e. e ≢ no.Device → IsRefusedAmong g old new qs e)
   pub there : told → OnAnswer result (IsTrue (is_there (tree_under g old)) → IsTrue (is_there (tree_under g new)))

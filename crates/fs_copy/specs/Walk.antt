@@ -1,5 +1,6 @@
 -- Where a walk over a tree is: in a directory, behind one of its names. What is left of the copy then.
-use Rattle.std.specs.Prelude.{◌≡◌, ◌+◌, ◌<◌, ℕ, suc, cond, List, [], ◌∷◌, ◌++◌, length, Result, IfOk, Bool, true, false, IsTrue, Some, None, Option, ⊤}
+use Rattle.std.specs.Prelude.{◌≡◌, ◌+◌, ◌<◌, ℕ, suc, cond, List, [], ◌∷◌, ◌++◌, length, Result, IfOk, Bool, true, false}
+use Rattle.std.specs.Prelude.{IsTrue, Some, None, Option, ⊤}
 use Rattle.fs_trees.specs.Copying.{entry_steps}
 use Rattle.fs_trees.specs.Names.{Name, Path, name_lt, is_path}
 use Rattle.fs_trees.specs.Tree.{Entries, none, file, dir, nothing, a_file, a_dir, Tree, child, at, is_dir, names_in}
@@ -7,10 +8,10 @@ use Rattle.fs_trees.specs.declared.ask.ShellAsk.{ShellAsk}
 use Rattle.fs_trees.specs.declared.ask.ShellAsk.TheVariants as ask
 use Rattle.fs_trees.specs.declared.refusal.FsRefusal.{FsRefusal}
 use Rattle.fs_laws.specs.Small.{IsNameListing}
-use Rattle.fs_port.specs.View.{View}
+use Rattle.fs_port.specs.View.{DiskView}
 use Rattle.fs_port.specs.Files.{FilesView, above}
 use Rattle.fs_copy.specs.Counted.{capped}
-use Rattle.fs_copy.specs.Going.{Goes}
+use Rattle.fs_copy.specs.Going.{MakesSteps}
 use Rattle.fs_copy.specs.declared.copied.Copied.{Copied}
 
 abbrev pub inside : Tree → Entries ⊤ (List ℕ)
@@ -59,7 +60,7 @@ turns_left t path after = turns (todo t path after) + length path
 -- ---- one turn
 
 -- this is the next name of the directory
-pub record IsNext (t : Tree) (path : Path) (after n : Name) : Type 0 where
+pub record IsNextName (t : Tree) (path : Path) (after n : Name) : Type 0 where
   pub dir : is_dir (at t path) ≡ true
   pub listing : IsNameListing (names_in (at t path))
   pub next : above after (names_in (at t path)) ≡ Some n
@@ -75,12 +76,14 @@ IsCountedOn old new None = new ≡ old
 IsCountedOn old new (Some n) = (new.files ≡ capped (old.files + 1)) × (new.bytes ≡ capped (old.bytes + n))
 
 -- These steps were made, and it goes on elsewhere, where the others are left; or it is at its end.
-pub record Turns (told : Type 0) (g : FilesView) (t : Tree) (old new : View) (p q : Path) (a b : Name) (c d : Copied) (result : Result Bool FsRefusal) : Type 0 where
+pub record WalksOn (told : Type 0) (g : FilesView) (t : Tree) (old new : DiskView) (p q : Path) (a b : Name)
+    (c d : Copied) (result : Result Bool FsRefusal) : Type 0 where
   pub made : List ShellAsk
   pub rest : List ShellAsk
   pub parts : told → made ++ rest ≡ todo t p a
-  pub goes : Goes told g old new made result
+  pub goes : MakesSteps told g old new made result
   pub count : told → IfOk result (λ more. CountsOn c d made)
   pub named : IfOk result (λ more. IsTrue (is_path q))
-  pub on : told → IfOk result (λ more. more ≡ true → (is_dir (at t q) ≡ true) × (rest ≡ todo t q b) × (turns_left t q b < turns_left t p a))
+  pub on : told → IfOk result (λ more. more ≡ true
+      → (is_dir (at t q) ≡ true) × (rest ≡ todo t q b) × (turns_left t q b < turns_left t p a))
   pub over : told → IfOk result (λ more. more ≡ false → rest ≡ [])

@@ -5,7 +5,7 @@ ghost use Rattle.fs_trees.specs.Names.{is_path};
 ghost use Rattle.fs_trees.specs.Tree.{at, is_dir, is_there};
 ghost use Rattle.fs_trees.specs.declared.ask.ShellAsk.TheVariants as ask;
 ghost use Rattle.fs_port.specs.Files.{has_dirs};
-ghost use Rattle.fs_copy.specs.Going.{AreSet, Goes, IsSource, own_steps, size_of, tree_under};
+ghost use Rattle.fs_copy.specs.Going.{AreSet, MakesSteps, IsSource, own_steps, size_of, tree_under};
 
 use crate::pieces::copy_file;
 use fs_port::{Blocks, Files};
@@ -24,7 +24,7 @@ pub fn copy_entry<K: Blocks, A: Files, B: Files>(
     requires there { K.told → IsTrue (is_there (at (tree_under (A.view from.old) (K.view disk.old)) path.now)) }
     requires hold { K.told → is_dir (at (tree_under (A.view from.old) (K.view disk.old)) path.now) ≡ true
         → has_dirs (B.view into.old).kind ≡ true }
-    ensures goes { Goes K.told (B.view into.old) (K.view disk.old) (K.view disk.new) (own_steps path.now
+    ensures goes { MakesSteps K.told (B.view into.old) (K.view disk.old) (K.view disk.new) (own_steps path.now
         (at (tree_under (A.view from.old) (K.view disk.old)) path.now)) result }
     ensures told { K.told → IfOk result (λ size. size ≡ size_of (at (tree_under (A.view from.old) (K.view disk.old))
         path.now)) }
@@ -50,7 +50,8 @@ fn copy_dir<K: Blocks, B: Files>(
     requires set { IsSource K.told (B.view into.old) (K.view disk.old) }
     requires named { IsTrue (is_path path.now) }
     requires hold { K.told → has_dirs (B.view into.old).kind ≡ true }
-    ensures goes { Goes K.told (B.view into.old) (K.view disk.old) (K.view disk.new) (ask.MakeDir path.now ∷ []) result }
+    ensures goes { MakesSteps K.told (B.view into.old) (K.view disk.old) (K.view disk.new)
+        (ask.MakeDir path.now ∷ []) result }
     ensures told { IfOk result (λ size. size ≡ None) }
     ensures same { B.view into.new ≡ B.view into.old }
 {

@@ -5,7 +5,7 @@ ghost use Rattle.fs_trees.specs.Copying.{file_steps, piece_max};
 ghost use Rattle.fs_trees.specs.Names.{is_path};
 ghost use Rattle.fs_trees.specs.Tree.{at, bytes_in};
 ghost use Rattle.fs_trees.specs.declared.ask.ShellAsk.TheVariants as ask;
-ghost use Rattle.fs_copy.specs.Going.{AreSet, Goes, IsFileAt, tree_under};
+ghost use Rattle.fs_copy.specs.Going.{AreSet, MakesSteps, IsFileAt, tree_under};
 
 use fs_port::{Blocks, Files};
 use fs_trees::{FsRefusal, Path};
@@ -24,7 +24,7 @@ fn put_piece<K: Blocks, A: Files, B: Files>(
     requires set { AreSet K.told (A.view from.old) (B.view into.old) (K.view disk.old) }
     requires named { IsTrue (is_path path.now) }
     requires file { K.told → IsFileAt (tree_under (A.view from.old) (K.view disk.old)) path.now }
-    ensures goes { Goes K.told (B.view into.old) (K.view disk.old) (K.view disk.new) (ask.Put path.now
+    ensures goes { MakesSteps K.told (B.view into.old) (K.view disk.old) (K.view disk.new) (ask.Put path.now
         (take piece_max (bytes_in (at (tree_under (A.view from.old) (K.view disk.old)) path.now))) ∷ []) result }
     ensures from_same { A.view from.new ≡ A.view from.old }
     ensures into_same { B.view into.new ≡ B.view into.old }
@@ -47,7 +47,7 @@ fn append_piece<K: Blocks, A: Files, B: Files>(
     requires set { AreSet K.told (A.view from.old) (B.view into.old) (K.view disk.old) }
     requires named { IsTrue (is_path path.now) }
     requires file { K.told → IsFileAt (tree_under (A.view from.old) (K.view disk.old)) path.now }
-    ensures goes { Goes K.told (B.view into.old) (K.view disk.old) (K.view disk.new) (ask.Append path.now
+    ensures goes { MakesSteps K.told (B.view into.old) (K.view disk.old) (K.view disk.new) (ask.Append path.now
         (take piece_max (drop start (bytes_in (at (tree_under (A.view from.old) (K.view disk.old)) path.now)))) ∷ [])
         result }
     ensures from_same { A.view from.new ≡ A.view from.old }
@@ -72,7 +72,7 @@ pub fn copy_file<K: Blocks, A: Files, B: Files>(
     requires named { IsTrue (is_path path.now) }
     requires file { K.told → IsFileAt (tree_under (A.view from.old) (K.view disk.old)) path.now }
     requires sized { K.told → size ≡ length (bytes_in (at (tree_under (A.view from.old) (K.view disk.old)) path.now)) }
-    ensures goes { Goes K.told (B.view into.old) (K.view disk.old) (K.view disk.new) (file_steps path.now
+    ensures goes { MakesSteps K.told (B.view into.old) (K.view disk.old) (K.view disk.new) (file_steps path.now
         (bytes_in (at (tree_under (A.view from.old) (K.view disk.old)) path.now))) result }
     ensures from_same { A.view from.new ≡ A.view from.old }
     ensures into_same { B.view into.new ≡ B.view into.old }

@@ -6,9 +6,9 @@ ghost use Rattle.fs_trees.specs.Copying.{entry_steps};
 ghost use Rattle.fs_trees.specs.Names.{is_path};
 ghost use Rattle.fs_trees.specs.Tree.{at, is_dir};
 ghost use Rattle.fs_copy.specs.Counted.{IsCount};
-ghost use Rattle.fs_copy.specs.Going.{AreSet, Goes, tree_under};
+ghost use Rattle.fs_copy.specs.Going.{AreSet, MakesSteps, tree_under};
 ghost use Rattle.fs_copy.specs.Nesting.{CanMake};
-ghost use Rattle.fs_copy.specs.Walk.{IsCountedOn, IsNext, Turns, inside, todo};
+ghost use Rattle.fs_copy.specs.Walk.{IsCountedOn, IsNextName, WalksOn, inside, todo};
 
 use crate::copied::Copied;
 use crate::entry::copy_entry;
@@ -68,10 +68,10 @@ fn enter<K: Blocks, A: Files, B: Files>(
 ) -> Result<bool, FsRefusal>
     requires set { AreSet K.told (A.view from.old) (B.view into.old) (K.view disk.old) }
     requires named { IsTrue (is_path path.old) }
-    requires next { K.told → IsNext (tree_under (A.view from.old) (K.view disk.old)) path.old after.old name }
+    requires next { K.told → IsNextName (tree_under (A.view from.old) (K.view disk.old)) path.old after.old name }
     requires hold { K.told → CanMake (B.view into.old).kind (todo (tree_under (A.view from.old) (K.view disk.old))
         path.old after.old) }
-    ensures turns { Turns K.told (B.view into.old) (tree_under (A.view from.old) (K.view disk.old)) (K.view disk.old)
+    ensures turns { WalksOn K.told (B.view into.old) (tree_under (A.view from.old) (K.view disk.old)) (K.view disk.old)
         (K.view disk.new) path.old path.new after.old after.new copied.old copied.new result }
     ensures from_same { A.view from.new ≡ A.view from.old }
     ensures into_same { B.view into.new ≡ B.view into.old }
@@ -111,7 +111,7 @@ fn turn<K: Blocks, A: Files, B: Files>(
     requires dir { K.told → is_dir (at (tree_under (A.view from.old) (K.view disk.old)) path.old) ≡ true }
     requires hold { K.told → CanMake (B.view into.old).kind (todo (tree_under (A.view from.old) (K.view disk.old))
         path.old after.old) }
-    ensures turns { Turns K.told (B.view into.old) (tree_under (A.view from.old) (K.view disk.old)) (K.view disk.old)
+    ensures turns { WalksOn K.told (B.view into.old) (tree_under (A.view from.old) (K.view disk.old)) (K.view disk.old)
         (K.view disk.new) path.old path.new after.old after.new copied.old copied.new result }
     ensures from_same { A.view from.new ≡ A.view from.old }
     ensures into_same { B.view into.new ≡ B.view into.old }
@@ -126,9 +126,9 @@ fn turn<K: Blocks, A: Files, B: Files>(
     }
 }
 
-/// Copies all entries of a tree, depth first with names ascending. Where the walk is, is the path of a directory and the
-/// last name there that was copied; the empty name stands before all. A disk that tells nothing may go on without end:
-/// NotThisFs after more entries than it can have.
+/// Copies all entries of a tree, depth first with names ascending. Where the walk is, is the path of a directory and
+/// the last name there that was copied; the empty name stands before all. A disk that tells nothing may go on without
+/// end: NotThisFs after more entries than it can have.
 pub fn copy_entries<K: Blocks, A: Files, B: Files>(
     disk: &mut K,
     from: &mut A,
@@ -137,7 +137,7 @@ pub fn copy_entries<K: Blocks, A: Files, B: Files>(
     requires set { AreSet K.told (A.view from.old) (B.view into.old) (K.view disk.old) }
     requires hold { K.told → CanMake (B.view into.old).kind (entry_steps []
         (inside (tree_under (A.view from.old) (K.view disk.old)))) }
-    ensures goes { Goes K.told (B.view into.old) (K.view disk.old) (K.view disk.new) (entry_steps []
+    ensures goes { MakesSteps K.told (B.view into.old) (K.view disk.old) (K.view disk.new) (entry_steps []
         (inside (tree_under (A.view from.old) (K.view disk.old)))) result }
     ensures count { K.told → IfOk result (λ copied. IsCount (tree_under (A.view from.old) (K.view disk.old)) copied) }
     ensures from_same { A.view from.new ≡ A.view from.old }

@@ -19,7 +19,8 @@ use Rattle.tsd_model.specs.declared.requests.Request.TheVariants as ask
 
 -- the session holds write at the block, from some primary block
 abbrev pub HoldsWrite : State → ℕ → ℕ → Type 0
-HoldsWrite st s a = (o : ℕ) × (o < st.world.geometry.primaries) × IsTrue (level_le level.Write (level_from st.sessions s o a))
+HoldsWrite st s a = (o : ℕ) × (o < st.world.geometry.primaries)
+    × IsTrue (level_le level.Write (level_from st.sessions s o a))
 
 abbrev pub attains_write : State → ℕ → ℕ → Shown → Bool
 attains_write st s b shown = level_le level.Write (attained st.world st.sessions s b shown)
@@ -39,7 +40,8 @@ writes_through st q s a = list_any (λ n. (n.block == a) && attains_write st s a
 abbrev pub WaysLeadOn : Type 0
 WaysLeadOn =
     (st : State) (s a b : ℕ) (shown : Shown)
-    → st.world.geometry.primaries ≤ b → IsTrue (holds st.world.pairs a b) → HoldsWrite st s a → IsTrue (attains_write st s b shown)
+    → st.world.geometry.primaries ≤ b → IsTrue (holds st.world.pairs a b) → HoldsWrite st s a
+    → IsTrue (attains_write st s b shown)
 
 -- A granted request that needs something at a block where it attains write leaves it held so: a Read does.
 abbrev pub WaysAreGained : Type 0

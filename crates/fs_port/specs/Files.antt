@@ -1,5 +1,6 @@
 -- What a call of a file system does.
-use Rattle.std.specs.Prelude.{◌≡◌, ◌≢◌, ℕ, ◌+◌, ◌<◌, ◌≤◌, ◌⊎◌, Bool, true, false, cond, List, length, take, drop, find, slice_get, Option, Result, IfOk, IfErr, OnOk, IsTrue}
+use Rattle.std.specs.Prelude.{◌≡◌, ◌≢◌, ℕ, ◌+◌, ◌<◌, ◌≤◌, ◌⊎◌, Bool, true, false, cond, List, length, take, drop, find}
+use Rattle.std.specs.Prelude.{slice_get, Option, Result, IfOk, IfErr, OnOk, IsTrue}
 use Rattle.tsd_model.specs.World.{World, contents, is_live, is_free, free_count, has_number}
 use Rattle.tsd_model.specs.Pairs.{holds}
 use Rattle.tsd_model.specs.Records.{kept_of}
@@ -11,7 +12,7 @@ use Rattle.tsd_model.specs.declared.requests.Level.TheVariants as level
 use Rattle.fs_trees.specs.Names.{Name, name_lt}
 use Rattle.fs_trees.specs.Tree.{Tree, nothing, is_there}
 use Rattle.fs_trees.specs.Answer.{Answer, bytes, listed, refused}
-use Rattle.fs_trees.specs.Step.{Outcome}
+use Rattle.fs_trees.specs.Step.{AskOutcome}
 use Rattle.fs_trees.specs.Needs.{need_of}
 use Rattle.fs_trees.specs.Refusals.{Need}
 use Rattle.fs_trees.specs.Outside.{OthersStay}
@@ -21,7 +22,7 @@ use Rattle.fs_trees.specs.declared.ask.ShellKind.{ShellKind}
 use Rattle.fs_trees.specs.declared.ask.ShellKind.TheVariants.{Inode, Chain}
 use Rattle.fs_trees.specs.declared.refusal.FsRefusal.{FsRefusal}
 use Rattle.fs_trees.specs.declared.refusal.FsRefusal.TheVariants as no
-use Rattle.fs_port.specs.View.{View}
+use Rattle.fs_port.specs.View.{DiskView}
 
 -- A file system: its layout, the block that its tree hangs from, what it shows there, as which session it asks, and
 -- whether a tree is mounted.
@@ -40,7 +41,7 @@ has_dirs Chain = false
 -- ---- before a call
 
 -- the disk isn't spent, the session is open there, the root is primary, and what is shown attains write at it
-pub record IsClientReady (f : FilesView) (v : View) : Type 0 where
+pub record IsClientReady (f : FilesView) (v : DiskView) : Type 0 where
   pub unspent : v.spent ≡ false
   pub number : f.session ≤ sessions_max
   pub begun : IsTrue (is_open v.sessions f.session)
@@ -48,27 +49,29 @@ pub record IsClientReady (f : FilesView) (v : View) : Type 0 where
   pub attains : record_level (slice_get v.records f.root) (kept_of v.version f.cap) ≡ level.Write
 
 -- where a tree is mounted, it is there
-abbrev pub HasTree : FilesView → View → Type 0
+abbrev pub HasTree : FilesView → DiskView → Type 0
 HasTree f v = f.mounted ≡ true → IsTrue (is_there (tree_at f.kind v.world f.root))
 
 -- ---- what a call answers
 
 -- the tree of a file system on a disk
-abbrev pub tree_on : FilesView → View → Tree
+abbrev pub tree_on : FilesView → DiskView → Tree
 tree_on f v = cond f.mounted (tree_at f.kind v.world f.root) nothing
 
 -- the step of an ask there
-abbrev pub step_on : FilesView → View → ShellAsk → Outcome
+abbrev pub step_on : FilesView → DiskView → ShellAsk → AskOutcome
 step_on f v a = step_in f.kind v.world f.root (tree_on f v) a
 
 -- the blocks and pairs that it needs there
-abbrev pub need_on : FilesView → View → ShellAsk → Need
+abbrev pub need_on : FilesView → DiskView → ShellAsk → Need
 need_on f v a = need_of f.kind v.world f.root (tree_on f v) a
 
--- The answer is that of the step, and so is the tree afterwards. A refusal leaves the disk as it was, also where nothing
--- is mounted. Nothing is said of Device.
-pub record Answers {X : Type 0} (f : FilesView) (old new : View) (a : ShellAsk) (result : Result X FsRefusal) (tells : X → Answer → Type 0) : Type 0 where
-  pub ok : IfOk result (λ x. tells x (step_on f old a).answer × (tree_at f.kind new.world f.root ≡ (step_on f old a).tree))
+-- The answer is that of the step, and so is the tree afterwards. A refusal leaves the disk as it was, also where
+-- nothing is mounted. Nothing is said of Device.
+pub record Answers {X : Type 0} (f : FilesView) (old new : DiskView) (a : ShellAsk) (result : Result X FsRefusal)
+    (tells : X → Answer → Type 0) : Type 0 where
+  pub ok : IfOk result (λ x. tells x (step_on f old a).answer
+      × (tree_at f.kind new.world f.root ≡ (step_on f old a).tree))
   pub err : IfErr result (λ e. e ≢ no.Device → ((step_on f old a).answer ≡ refused e) × (new.world ≡ old.world))
 
 -- ---- what a call leaves
@@ -78,11 +81,12 @@ abbrev pub OnAnswer : {X : Type 0} → Result X FsRefusal → Type 0 → Type 0
 OnAnswer result P = OnOk result P × IfErr result (λ e. e ≢ no.Device → P)
 
 -- The world afterwards: tidy if it was, what the root didn't reach is as it was, and what was free is the tree's.
-pub record LeavesTidyWorld (f : FilesView) (old new : View) : Type 0 where
+pub record LeavesTidyWorld (f : FilesView) (old new : DiskView) : Type 0 where
   pub unspent : new.spent ≡ false
   pub tidy : IsTidy f.kind old.world f.root → IsTidy f.kind new.world f.root
   pub others : OthersStay f.root old.world new.world
-  pub taken : (b : ℕ) → IsTrue (is_free old.world b) → IsTrue (is_live new.world b) → IsTrue (has_number (named_at f.kind new.world f.root).blocks b)
+  pub taken : (b : ℕ) → IsTrue (is_free old.world b) → IsTrue (is_live new.world b)
+      → IsTrue (has_number (named_at f.kind new.world f.root).blocks b)
 
 -- Room is kept to: no more blocks are taken than this, and no more pairs are added.
 pub record KeepsRoom (need : Need) (w next : World) : Type 0 where
@@ -95,17 +99,17 @@ unless_refused (refused r) after before = before
 unless_refused answer after before = after
 
 -- the tree under the root once an ask is answered
-abbrev pub tree_after : FilesView → View → ShellAsk → Tree
+abbrev pub tree_after : FilesView → DiskView → ShellAsk → Tree
 tree_after f old a = unless_refused (step_on f old a).answer (step_on f old a).tree (tree_at f.kind old.world f.root)
 
 -- what every crash within a call leaves: a valid world of the same size, and what the root didn't reach as it was
-pub record IsLeft (f : FilesView) (old : View) (w : World) : Type 0 where
+pub record IsLeft (f : FilesView) (old : DiskView) (w : World) : Type 0 where
   pub valid : IsValid w
   pub geometry : w.geometry ≡ old.world.geometry
   pub others : OthersStay f.root old.world w
 
 -- what a crash within the call leaves: the tree before or the tree after
-abbrev pub IsEitherTree : FilesView → View → ShellAsk → World → Type 0
+abbrev pub IsEitherTree : FilesView → DiskView → ShellAsk → World → Type 0
 IsEitherTree f old a w =
     ((tree_at f.kind w f.root ≡ tree_at f.kind old.world f.root) ⊎ (tree_at f.kind w f.root ≡ tree_after f old a))
     × IsLeft f old w
@@ -119,7 +123,7 @@ pub record OnlyDeletes (f : FilesView) (old new : World) : Type 0 where
   pub none : is_there (tree_at f.kind old f.root) ≡ false → new ≡ old
 
 -- what a crash within mounting leaves: the tree as it was, and no more than was there
-abbrev pub IsTreeAlone : FilesView → View → World → Type 0
+abbrev pub IsTreeAlone : FilesView → DiskView → World → Type 0
 IsTreeAlone f old w =
     (tree_at f.kind w f.root ≡ tree_at f.kind old.world f.root) × IsLeft f old w × OnlyDeletes f old.world w
 

@@ -13,7 +13,8 @@ use Rattle.fs_port.specs.Calls.{LeadTo}
 -- the block is live after each of these requests
 abbrev pub LivesOn : PlaceKind → State → List (Request × Bool) → ℕ → Type 0
 LivesOn kind st [] b = Unit {0}
-LivesOn kind st (q ∷ qs) b = IsTrue (is_live (answer kind st q.0 q.1).state.world b) × LivesOn kind (answer kind st q.0 q.1).state qs b
+LivesOn kind st (q ∷ qs) b = IsTrue (is_live (answer kind st q.0 q.1).state.world b)
+    × LivesOn kind (answer kind st q.0 q.1).state qs b
 
 -- The level that a session holds at such a block from a primary one never falls, where none of these requests opens or
 -- closes a session or sets a capability.

@@ -2,7 +2,7 @@
 
 ghost use Rattle.std.specs.Prelude.{◌≡◌, true, false, IsTrue, IsOk, IsErr, OnOk, OnErr, IfOk};
 ghost use Rattle.image_device.specs.Counts.{CountsFault};
-ghost use Rattle.fs_port.specs.View.{View, IsSound};
+ghost use Rattle.fs_port.specs.View.{DiskView, IsDiskSound};
 ghost use Rattle.fs_port.specs.Calls.{Counts, IsAskCarriedOut, IsEitherSide, LeavesWorldsOnly, Stays, is_steady};
 
 use image_device::Failed;
@@ -15,7 +15,7 @@ pub trait Blocks {
     ghost told: { Type 0 };
 
     /// What it is. The world, the bytes sent and what a crash leaves are said only where it is told.
-    ghost view: { Self → View };
+    ghost view: { Self → DiskView };
 
     /// How large the disk is.
     fn geometry(&self) -> Geometry
@@ -40,5 +40,5 @@ pub trait Blocks {
         ensures { result ≡ (view self.now).spent };
 
     /// What holds of it at each moment.
-    ghost sound: { (d : Self) → told → (view d).spent ≡ false → IsSound (view d) };
+    ghost sound: { (d : Self) → told → (view d).spent ≡ false → IsDiskSound (view d) };
 }

@@ -9,4 +9,6 @@ level_of_bits reads writes = cond writes level.Write (cond reads level.Read leve
 
 -- at each block the level that its two bits say
 abbrev pub levels_of_bits : List Bool → List Bool → List Level
-levels_of_bits reads writes = map (λ b. level_of_bits (slice_index_or reads b false) (slice_index_or writes b false)) (range_with_len 0 (length reads))
+levels_of_bits reads writes =
+    map (λ b. level_of_bits (slice_index_or reads b false) (slice_index_or writes b false))
+    (range_with_len 0 (length reads))

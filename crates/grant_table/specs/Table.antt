@@ -1,5 +1,6 @@
 -- What a grant table tells: for how many blocks and primary blocks it was made, and what each session holds.
-use Rattle.std.specs.Prelude.{◌≡◌, ℕ, ◌<◌, ◌≤◌, [], length, map, replicate, slice_index_or, slice_set, Option, Some, None, option_map, IfSome}
+use Rattle.std.specs.Prelude.{◌≡◌, ℕ, ◌<◌, ◌≤◌, [], length, map, replicate, slice_index_or, slice_set, Option, Some}
+use Rattle.std.specs.Prelude.{None, option_map, IfSome}
 use Rattle.tsd_model.specs.World.{World}
 use Rattle.tsd_model.specs.Sessions.{Held, Sessions, sessions_max, with_held}
 use Rattle.tsd_model.specs.Verdict.{first_rule, session_rules}

@@ -10,7 +10,8 @@ use Rattle.graph_laws.specs.Marking.{IsMarking, IsMarkingBut, IsCountedOff}
 use Rattle.graph_laws.specs.RawGraph.{IsLaidOut, IsRawGraph}
 use Rattle.graph_laws.specs.Steps.{stepped, IsStep, IsLost}
 
--- A live block that isn't primary is doomed exactly where its count is 0; and the count is that of all pairs of the settled world.
+-- A live block that isn't primary is doomed exactly where its count is 0; and the count is that of all pairs of the
+-- settled world.
 abbrev pub DoomedByCount : Type 0
 DoomedByCount =
     (r : World) (b : ℕ) → length r.blocks ≡ r.geometry.blocks
@@ -25,7 +26,8 @@ CountsAfterCreate =
     × (doomed (with_pointer r a t) ≡ doomed r)
     × (length (doomed_pairs (with_pointer r a t)) ≡ length (doomed_pairs r))
 
--- Where nothing is doomed and free blocks become live, nothing is doomed then, and the count of each of them is one more.
+-- Where nothing is doomed and free blocks become live, nothing is doomed then, and the count of each of them is one
+-- more.
 abbrev pub CountsAfterAlloc : Type 0
 CountsAfterAlloc =
     (w : World) (a : ℕ) (bs : List ℕ) → IsRawGraph w → doomed w ≡ []
@@ -41,8 +43,8 @@ CountsAfterStep =
 
 -- ---- a deletion: a work list finds what it dooms
 
--- A pair from a block that stays is deleted. What was doomed is marked, all pairs from it are counted off, the target of the
--- deleted pair is looked at next, and of its count one is counted off.
+-- A pair from a block that stays is deleted. What was doomed is marked, all pairs from it are counted off, the target
+-- of the deleted pair is looked at next, and of its count one is counted off.
 abbrev pub MarkingBegins : Type 0
 MarkingBegins =
     (r : World) (a t : ℕ) → IsLaidOut r → IsTrue (holds r.pairs a t) → IsTrue (stays r a)
@@ -62,11 +64,13 @@ MarkingGoesOn =
     × (count_where (left_but left a t) w.pairs t ≡ 0 → IsMarking w (λ b. gone b || (b == t)) (left_but left a t))
     × (¬ (count_where (left_but left a t) w.pairs t ≡ 0) → IsMarking w gone (left_but left a t))
 
--- Once no pair from a marked block is left, exactly the doomed blocks are marked, each count is right, and as many pairs are counted off as come from doomed blocks.
+-- Once no pair from a marked block is left, exactly the doomed blocks are marked, each count is right, and as many
+-- pairs are counted off as come from doomed blocks.
 pub record IsMarked (w : World) (gone : ℕ → Bool) (left : (ℕ × ℕ) → Bool) : Type 0 where
   pub blocks : (b : ℕ) → gone b ≡ has_number (doomed w) b
   pub counts : (b : ℕ) → count_where left w.pairs b ≡ kept_count w b
   pub pairs : length (filter (λ e. not (left e)) w.pairs) ≡ length (doomed_pairs w)
 
 abbrev pub MarkingEnds : Type 0
-MarkingEnds = (w : World) (gone : ℕ → Bool) (left : (ℕ × ℕ) → Bool) → IsMarking w gone left → IsCountedOff w gone left → IsMarked w gone left
+MarkingEnds = (w : World) (gone : ℕ → Bool) (left : (ℕ × ℕ) → Bool) → IsMarking w gone left → IsCountedOff w gone left
+    → IsMarked w gone left

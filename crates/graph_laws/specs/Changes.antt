@@ -11,13 +11,17 @@ use Rattle.graph_laws.specs.RawGraph.{IsLaidOut}
 
 -- A pair is deleted: it comes to the same whether what was doomed before is taken away first or not.
 abbrev pub DeleteSettles : Type 0
-DeleteSettles = (r : World) (a b : ℕ) → IsLaidOut r → settle (without_pointer r a b) ≡ settle (without_pointer (settle r) a b)
+DeleteSettles = (r : World) (a b : ℕ) → IsLaidOut r
+    → settle (without_pointer r a b) ≡ settle (without_pointer (settle r) a b)
 
 -- What a deletion dooms is what it dooms in the settled world, and what was doomed is doomed still.
 pub record IsDoomedBesides (r : World) (a b : ℕ) : Type 0 where
-  pub either : (c : ℕ) → has_number (doomed (without_pointer r a b)) c ≡ (has_number (doomed r) c || has_number (doomed (without_pointer (settle r) a b)) c)
-  pub blocks : length (doomed (without_pointer r a b)) ≡ length (doomed r) + length (doomed (without_pointer (settle r) a b))
-  pub pairs : length (doomed_pairs (without_pointer r a b)) ≡ length (doomed_pairs r) + length (doomed_pairs (without_pointer (settle r) a b))
+  pub either : (c : ℕ) → has_number (doomed (without_pointer r a b)) c
+      ≡ (has_number (doomed r) c || has_number (doomed (without_pointer (settle r) a b)) c)
+  pub blocks : length (doomed (without_pointer r a b))
+      ≡ length (doomed r) + length (doomed (without_pointer (settle r) a b))
+  pub pairs : length (doomed_pairs (without_pointer r a b))
+      ≡ length (doomed_pairs r) + length (doomed_pairs (without_pointer (settle r) a b))
 
 abbrev pub DeleteDooms : Type 0
 DeleteDooms = (r : World) (a b : ℕ) → IsLaidOut r → IsTrue (holds (settle r).pairs a b) → IsDoomedBesides r a b
@@ -39,5 +43,11 @@ BytesPass =
 abbrev pub RecordsPass : Type 0
 RecordsPass =
     (r : World) (version : ℕ) (records : List Record)
-    → (settle (record r { version = version; records = records }) ≡ record (settle r) { version = version; records = records })
-    × (swept (record r { version = version; records = records }) ≡ record (swept r) { version = version; records = records })
+    → (settle (record r { version = version; records = records }) ≡ record (settle r) {
+      version = version;
+      records = records;
+    })
+    × (swept (record r { version = version; records = records }) ≡ record (swept r) {
+      version = version;
+      records = records;
+    })

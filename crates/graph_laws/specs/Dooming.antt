@@ -7,7 +7,8 @@ use Rattle.graph_laws.specs.Counts.{stays}
 
 -- A set of blocks takes in each live block, not primary, to which only blocks of the set lead.
 abbrev pub TakesIn : World → (ℕ → Bool) → Type 0
-TakesIn w set = (b : ℕ) → IsTrue (is_live w b) → w.geometry.primaries ≤ b → ((a : ℕ) → IsTrue (holds w.pairs a b) → IsTrue (set a)) → IsTrue (set b)
+TakesIn w set = (b : ℕ) → IsTrue (is_live w b) → w.geometry.primaries ≤ b
+    → ((a : ℕ) → IsTrue (holds w.pairs a b) → IsTrue (set a)) → IsTrue (set b)
 
 -- The doomed blocks are the least set that does.
 abbrev pub DoomedIsLeast : Type 0
@@ -22,7 +23,8 @@ StaysByPairs =
     (w : World) (b : ℕ) → length w.blocks ≡ w.geometry.blocks → IsTrue (is_live w b)
     → IsTrue (stays w b) ↔ ((b < w.geometry.primaries) ⊎ ((a : ℕ) × IsTrue (holds w.pairs a b) × IsTrue (stays w a)))
 
--- Blocks each of which is led to by one of them stay, whatever else leads to them: so does each block on a ring of pairs.
+-- Blocks each of which is led to by one of them stay, whatever else leads to them: so does each block on a ring of
+-- pairs.
 abbrev pub RingsStay : Type 0
 RingsStay =
     (w : World) (ring : ℕ → Bool)

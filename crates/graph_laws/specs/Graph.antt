@@ -1,5 +1,6 @@
 -- Worlds of one graph, and the world that tables tell which know no bytes.
-use Rattle.std.specs.Prelude.{◌≡◌, ℕ, ◌<◌, Bool, false, cond, List, [], map, replicate, length, slice_index_or, Some, None}
+use Rattle.std.specs.Prelude.{◌≡◌, ℕ, ◌<◌, Bool, false, cond, List, [], map, replicate, length, slice_index_or, Some}
+use Rattle.std.specs.Prelude.{None}
 use Rattle.std.specs.List.{range_with_len}
 use Rattle.tsd_model.specs.Geometry.{block_len}
 use Rattle.tsd_model.specs.World.{World, is_live, free_count}
@@ -57,7 +58,8 @@ GraphIsRaw =
     → ((b : ℕ) → b < w.geometry.blocks → slice_index_or live b false ≡ is_live w b)
     → IsRaw (graph w.geometry live w.pairs) × HasGraphOf (graph w.geometry live w.pairs) w
 
--- Worlds of one graph have as many free blocks, the same blocks doomed, reached and lost, the same counts and the same steps.
+-- Worlds of one graph have as many free blocks, the same blocks doomed, reached and lost, the same counts and the same
+-- steps.
 pub record AreAsOne (v w : World) : Type 0 where
   pub raw : IsRawGraph v → IsRawGraph w
   pub free : free_count v ≡ free_count w
@@ -75,11 +77,13 @@ GraphTells = (v w : World) → HasGraphOf v w → AreAsOne v w
 pub record StayAsOne (v w : World) : Type 0 where
   pub settled : HasGraphOf (settle v) (settle w)
   pub swept : HasGraphOf (swept v) (swept w)
-  pub stepped : (a : ℕ) (targets : List ℕ) (freed : Bool) → HasGraphOf (stepped v a targets freed) (stepped w a targets freed)
+  pub stepped : (a : ℕ) (targets : List ℕ) (freed : Bool)
+      → HasGraphOf (stepped v a targets freed) (stepped w a targets freed)
 
 abbrev pub GraphStays : Type 0
 GraphStays = (v w : World) → HasGraphOf v w → StayAsOne v w
 
 -- Worlds that differ in bytes alone have one graph, and settle and sweep to worlds that differ in bytes alone.
 abbrev pub BytesStayApart : Type 0
-BytesStayApart = (v w : World) → AreLike v w → HasGraphOf v w × AreLike (settle v) (settle w) × AreLike (swept v) (swept w)
+BytesStayApart = (v w : World) → AreLike v w → HasGraphOf v w × AreLike (settle v) (settle w)
+    × AreLike (swept v) (swept w)

@@ -20,7 +20,8 @@ SettlesOnce = (r : World) → IsLaidOut r → settle (settle r) ≡ settle r
 abbrev pub EachIsLedTo : World → Type 0
 EachIsLedTo w = (b : ℕ) → w.geometry.primaries ≤ b → IsTrue (is_live w b) → (a : ℕ) × IsTrue (holds w.pairs a b)
 
--- Nothing is doomed exactly where each live block that isn't primary has a pair to it, and exactly where no block is lost. There settling changes nothing.
+-- Nothing is doomed exactly where each live block that isn't primary has a pair to it, and exactly where no block is
+-- lost. There settling changes nothing.
 abbrev pub NothingDoomed : Type 0
 NothingDoomed =
     (r : World) → IsLaidOut r

@@ -1,5 +1,6 @@
 -- Steps that take pairs and blocks away, of reclamation or of a sweep.
-use Rattle.std.specs.Prelude.{◌≡◌, ℕ, ◌+◌, ◌≤◌, Bool, true, false, cond, List, [], ◌∷◌, length, filter, slice_set, None, IsTrue}
+use Rattle.std.specs.Prelude.{◌≡◌, ℕ, ◌+◌, ◌≤◌, Bool, true, false, cond, List, [], ◌∷◌, length, filter, slice_set, None}
+use Rattle.std.specs.Prelude.{IsTrue}
 use Rattle.tsd_model.specs.Pairs.{holds}
 use Rattle.tsd_model.specs.World.{World, is_live, has_number, free_count}
 use Rattle.tsd_model.specs.Step.{without_pointer}

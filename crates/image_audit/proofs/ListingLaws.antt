@@ -17,7 +17,7 @@ use Rattle.script_text.proofs.SpellingLaws.{bind_some, weaker}
 use Rattle.script_text.proofs.WordLaws.{are_digits, num_is, num_back, hint_is, hint_back}
 use Rattle.image_audit.specs.declared.entry.Entry.{Entry}
 use Rattle.image_audit.specs.declared.listing.Listing.{Listing}
-use Rattle.image_audit.specs.Listing.{parent_word, listing_fields, IsListing, IsAdded, IsRefused, IsTaken, IsNotTaken, MayFollow, IsNextBlock}
+use Rattle.image_audit.specs.Listing.{parent_word, listing_fields, IsListing, IsAdded, ListsNone, IsListingTaken, IsNotTaken, MayFollow, IsNextBlock}
 use Rattle.image_audit.specs.ListingReading.{name_of, block_in, parent_of, if_last, listing_in, listing_of}
 
 -- ---- what one word says
@@ -218,10 +218,10 @@ too_low entries next b is below f = low next refl
     low (suc p) e = let under = f.above p (is.last p e) in omega (arith, e, under, below)
 
 -- what a line says is taken, or it isn't
-pub added_line : {T E : Type 0} (r : Result T E) (line : List ℕ) (said : Option Listing) (old new : List (Option Entry)) → said ≡ listing_of line → OnOk r (IsTaken said old new) → OnOk r (IsAdded line old new)
+pub added_line : {T E : Type 0} (r : Result T E) (line : List ℕ) (said : Option Listing) (old new : List (Option Entry)) → said ≡ listing_of line → OnOk r (IsListingTaken said old new) → OnOk r (IsAdded line old new)
 added_line (Ok x) line said old new is taken = record { listing = taken.listing; spelled = line_is line taken.listing (sym is ∙ taken.says); follows = taken.follows; entries = taken.entries }
 added_line (Err e) line said old new is taken = taken
 
-pub refused_line : {T E : Type 0} (r : Result T E) (line : List ℕ) (said : Option Listing) (old : List (Option Entry)) → said ≡ listing_of line → OnErr r (IsNotTaken said old) → OnErr r (IsRefused line old)
+pub refused_line : {T E : Type 0} (r : Result T E) (line : List ℕ) (said : Option Listing) (old : List (Option Entry)) → said ≡ listing_of line → OnErr r (IsNotTaken said old) → OnErr r (ListsNone line old)
 refused_line (Ok x) line said old is not = not
 refused_line (Err e) line said old is not = λ l h follows. not l (is ∙ line_back line l h) follows

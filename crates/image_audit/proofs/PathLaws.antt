@@ -11,7 +11,7 @@ use Rattle.disk_laws.proofs.GraphLaws.{has_number-filter, length-range, rounds_f
 use Rattle.disk_laws.proofs.DoomLaws.{live_below, in_all}
 use Rattle.disk_laws.proofs.ReachLaws.{leads, leads_stays, leads_grows, found_any}
 use Rattle.image_audit.specs.Depths.{IsPath}
-use Rattle.image_audit.specs.Laws.{IsWhole, ReachedByPaths}
+use Rattle.image_audit.specs.Laws.{IsWholeWorld, ReachedByPaths}
 
 -- the pair leads to b from one of these blocks
 led : (es : List (ℕ × ℕ)) (from : List ℕ) (a b : ℕ) → holds es a b ≡ true → has_number from a ≡ true → list_any (λ e. (e.1 == b) && has_number from e.0) es ≡ true
@@ -22,7 +22,7 @@ led (e ∷ es) from a b h k = elim (or_cases (is_pair a b e) (holds es a b) h) [
   | inr later ↦ or_right ((e.1 == b) && has_number from e.0) _ (led es from a b later k)
 ]
 
-module _ (w : World) (roots : List ℕ) (whole : IsWhole w) (inside : (b : ℕ) → has_number roots b ≡ true → b < w.geometry.blocks) where
+module _ (w : World) (roots : List ℕ) (whole : IsWholeWorld w) (inside : (b : ℕ) → has_number roots b ≡ true → b < w.geometry.blocks) where
   below_in : (b : ℕ) → b < w.geometry.blocks → has_number (all_blocks w) b ≡ true
   below_in b h = in_all w b (omega (arith, whole.each_block))
 

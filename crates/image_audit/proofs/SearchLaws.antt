@@ -10,7 +10,7 @@ use Rattle.image_audit.specs.Depths.{IsPath, IsDepth, IsParent, IsEntryOf}
 use Rattle.tsd_model.specs.Reach.{reach_from}
 use Rattle.tsd_model.proofs.PairLaws.{same_tests}
 use Rattle.image_audit.specs.Depths.{AreReached}
-use Rattle.image_audit.specs.Laws.{IsWhole}
+use Rattle.image_audit.specs.Laws.{IsWholeWorld}
 use Rattle.image_audit.proofs.PathLaws.{path_of_round, reached_by_path}
 use Rattle.image_audit.specs.Searching.{lesser, noted, HasDepth, HasDepthTo, IsFirstSeen, IsSearching, IsSearched, root_entry, HasRoots, NoneSeen}
 
@@ -298,7 +298,7 @@ module _ (w : World) (roots : List ℕ) (d : ℕ) (level : List ℕ) (entries : 
         ]
       ]
 
-  module _ (whole : IsWhole w) (inside : (b : ℕ) → has_number roots b ≡ true → b < w.geometry.blocks)
+  module _ (whole : IsWholeWorld w) (inside : (b : ℕ) → has_number roots b ≡ true → b < w.geometry.blocks)
       (ended : (d ≡ w.geometry.blocks) ⊎ ((b : ℕ) → has_number level b ≡ false)) where
     found : (b : ℕ) → has_number (reach_from w roots) b ≡ true → is_listed entries b ≡ true
     found b h =
@@ -342,5 +342,5 @@ each_below n (x ∷ xs) all b h = elim (or_cases (x == b) (has_number xs b) h) [
   | inr later ↦ each_below n xs (λ k e inside. all (suc k) e (omega arith)) b later
 ]
 
-pub search_done : (w : World) (roots : List ℕ) (entries : List (Option Entry)) → IsWhole w → ((k e : ℕ) → k < length roots → slice_index_or roots k e < w.geometry.blocks) → IsSearched w roots entries → AreReached w roots entries
+pub search_done : (w : World) (roots : List ℕ) (entries : List (Option Entry)) → IsWholeWorld w → ((k e : ℕ) → k < length roots → slice_index_or roots k e < w.geometry.blocks) → IsSearched w roots entries → AreReached w roots entries
 search_done w roots entries whole inside s = are_reached w roots s.depth s.level entries s.searched whole (each_below w.geometry.blocks roots inside) s.ended

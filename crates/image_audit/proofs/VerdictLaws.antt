@@ -10,11 +10,11 @@ use Rattle.disk_laws.proofs.GraphLaws.{has_number-range}
 use Rattle.image_audit.specs.declared.entry.Entry.{Entry}
 use Rattle.image_audit.specs.Entries.{entry_at, is_listed}
 use Rattle.image_audit.specs.Depths.{IsPath, IsDepth, IsParent, IsEntryOf, AreReached}
-use Rattle.image_audit.specs.Certificates.{IsFirst, HasParent, IsGood, IsBad, HasPrimaries, HasGoodEntries, IsClosed}
-use Rattle.image_audit.specs.Laws.{IsWhole}
+use Rattle.image_audit.specs.Certificates.{IsPrimaryEntry, HasParent, IsGoodEntry, IsBad, ListsPrimaries, HasGoodEntries, IsClosed}
+use Rattle.image_audit.specs.Laws.{IsWholeWorld}
 use Rattle.image_audit.proofs.PathLaws.{reached_by_path, reached_at_path}
 
-module _ (w : World) (whole : IsWhole w) (few : w.geometry.primaries < w.geometry.blocks) where
+module _ (w : World) (whole : IsWholeWorld w) (few : w.geometry.primaries < w.geometry.blocks) where
   primary_is : (b : ℕ) → has_number (primary_blocks w) b ≡ true → is_primary w b ≡ true
   primary_is b h = at (sym (has_number-range 0 w.geometry.primaries b) ∙ h)
     where
@@ -42,7 +42,7 @@ module _ (w : World) (whole : IsWhole w) (few : w.geometry.primaries < w.geometr
 
     -- ---- what has all three to show
 
-    module _ (primaries : HasPrimaries w entries) (good : HasGoodEntries w entries) (closed : IsClosed w entries) where
+    module _ (primaries : ListsPrimaries w entries) (good : HasGoodEntries w entries) (closed : IsClosed w entries) where
       -- over a block's parent, to which a path leads
       over_parent : (k : ℕ) → ((a : ℕ) (f : Entry) → entry_at entries a ≡ Some f → suc f.depth ≡ k → (n : ℕ) × IsPath w (primary_blocks w) n a)
           → (b : ℕ) (e : Entry) → e.depth ≡ k → (o : Option ℕ) → HasParent w entries b e.depth o → (n : ℕ) × IsPath w (primary_blocks w) n b
@@ -57,7 +57,7 @@ module _ (w : World) (whole : IsWhole w) (few : w.geometry.primaries < w.geometr
           → (b : ℕ) (e : Entry) → entry_at entries b ≡ Some e → e.depth ≡ k → (n : ℕ) × IsPath w (primary_blocks w) n b
       root_or_over k above b e is at = elim (cases_Bool (is_primary w b)) [
         | inl root ↦ (zero, is_root b root)
-        | inr apart ↦ over_parent k above b e at e.parent (subst (λ t. MatchBool t (IsFirst e) (HasParent w entries b e.depth e.parent)) apart (at_entry (IsGood w entries b) b e is (good b)))
+        | inr apart ↦ over_parent k above b e at e.parent (subst (λ t. MatchBool t (IsPrimaryEntry e) (HasParent w entries b e.depth e.parent)) apart (at_entry (IsGoodEntry w entries b) b e is (good b)))
       ]
 
       path_of : (d b : ℕ) (e : Entry) → entry_at entries b ≡ Some e → e.depth ≡ d → (n : ℕ) × IsPath w (primary_blocks w) n b
@@ -82,7 +82,7 @@ module _ (w : World) (whole : IsWhole w) (few : w.geometry.primaries < w.geometr
       path_listed : (n b : ℕ) → IsPath w (primary_blocks w) n b → is_listed entries b ≡ true
       path_listed n b p = found.listed b ∙ path_reached n b p
 
-      pub found_primaries : HasPrimaries w entries
+      pub found_primaries : ListsPrimaries w entries
       found_primaries b h = path_listed zero b (is_root b h)
 
       pub found_closed : IsClosed w entries
@@ -93,14 +93,14 @@ module _ (w : World) (whole : IsWhole w) (few : w.geometry.primaries < w.geometr
       entry_is : (b : ℕ) (e : Entry) → entry_at entries b ≡ Some e → IsEntryOf w (primary_blocks w) b e
       entry_is b e is = at_entry (IsEntryOf w (primary_blocks w) b) b e is (found.each b)
 
-      found_good : (b : ℕ) (e : Entry) → entry_at entries b ≡ Some e → IsGood w entries b e
+      found_good : (b : ℕ) (e : Entry) → entry_at entries b ≡ Some e → IsGoodEntry w entries b e
       found_good b e is = elim (cases_Bool (is_primary w b)) [
         | inl root ↦
             let top = (entry_is b e is).depth.shortest zero (is_root b root) in
             let none : e.depth ≡ 0 = omega (arith, top) in
-            subst (λ t. MatchBool t (IsFirst e) (HasParent w entries b e.depth e.parent)) (sym root)
+            subst (λ t. MatchBool t (IsPrimaryEntry e) (HasParent w entries b e.depth e.parent)) (sym root)
             (record { depth = none; parent = no_parent e.parent (subst (λ k. IsParent w (primary_blocks w) b k e.parent) none (entry_is b e is).parent) })
-        | inr apart ↦ subst (λ t. MatchBool t (IsFirst e) (HasParent w entries b e.depth e.parent)) (sym apart) (below e.depth e.parent refl apart (entry_is b e is).depth (entry_is b e is).parent)
+        | inr apart ↦ subst (λ t. MatchBool t (IsPrimaryEntry e) (HasParent w entries b e.depth e.parent)) (sym apart) (below e.depth e.parent refl apart (entry_is b e is).depth (entry_is b e is).parent)
       ]
         where
           no_parent : (o : Option ℕ) → IsParent w (primary_blocks w) b 0 o → o ≡ None
@@ -122,7 +122,7 @@ module _ (w : World) (whole : IsWhole w) (few : w.geometry.primaries < w.geometr
               }
 
       pub found_good_entries : HasGoodEntries w entries
-      found_good_entries b = elim (entry_at entries b) as (λ o. entry_at entries b ≡ o → IfSome o (IsGood w entries b)) [
+      found_good_entries b = elim (entry_at entries b) as (λ o. entry_at entries b ≡ o → IfSome o (IsGoodEntry w entries b)) [
         | None ↦ λ _. tt
         | Some e ↦ λ is. found_good b e is
       ] refl

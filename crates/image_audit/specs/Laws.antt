@@ -1,5 +1,6 @@
 -- What follows of the definitions.
-use Rattle.std.specs.Prelude.{◌≡◌, ℕ, suc, ◌<◌, ◌↔◌, List, [], ◌∷◌, Option, Some, None, length, replicate, slice_set, IsTrue}
+use Rattle.std.specs.Prelude.{◌≡◌, ℕ, suc, ◌<◌, ◌↔◌, List, [], ◌∷◌, Option, Some, None, length, replicate, slice_set}
+use Rattle.std.specs.Prelude.{IsTrue}
 use Rattle.tsd_model.specs.Pairs.{holds}
 use Rattle.tsd_model.specs.World.{World, is_live, has_number}
 use Rattle.tsd_model.specs.Reach.{reach_from}
@@ -9,14 +10,14 @@ use Rattle.image_audit.specs.Depths.{IsPath}
 use Rattle.image_audit.specs.Listing.{IsListing, MayFollow}
 
 -- a world whose blocks have the sizes that its geometry says, and whose pairs lead to live blocks
-pub record IsWhole (w : World) : Type 0 where
+pub record IsWholeWorld (w : World) : Type 0 where
   pub each_block : length w.blocks ≡ w.geometry.blocks
   pub targets : (a b : ℕ) → IsTrue (holds w.pairs a b) → IsTrue (is_live w b)
 
 -- What is reached from roots is what a path leads to from one of them.
 abbrev pub ReachedByPaths : Type 0
 ReachedByPaths =
-    (w : World) (roots : List ℕ) → IsWhole w → ((b : ℕ) → IsTrue (has_number roots b) → b < w.geometry.blocks)
+    (w : World) (roots : List ℕ) → IsWholeWorld w → ((b : ℕ) → IsTrue (has_number roots b) → b < w.geometry.blocks)
     → (b : ℕ) → IsTrue (has_number (reach_from w roots) b) ↔ ((n : ℕ) × IsPath w roots n b)
 
 -- ---- the lines of a certificate
@@ -34,7 +35,8 @@ AreTaken (l ∷ ls) old new = MayFollow old l.block × AreTaken ls (slice_set ol
 
 -- A new certificate takes the lines of any entries, and has these entries then.
 abbrev pub ListingsAreTaken : Type 0
-ListingsAreTaken = (entries : List (Option Entry)) → AreTaken (listings_from 0 entries) (replicate (length entries) None) entries
+ListingsAreTaken = (entries : List (Option Entry))
+    → AreTaken (listings_from 0 entries) (replicate (length entries) None) entries
 
 -- A line spells one listing at most.
 abbrev pub ListingsAreOne : Type 0

@@ -1,5 +1,6 @@
 -- A line of a certificate, and what is listed once it was taken.
-use Rattle.std.specs.Prelude.{◌≡◌, ℕ, suc, ◌<◌, List, [], ◌∷◌, Option, Some, None, length, codes, option_map, slice_set, IsTrue}
+use Rattle.std.specs.Prelude.{◌≡◌, ℕ, suc, ◌<◌, List, [], ◌∷◌, Option, Some, None, length, codes, option_map, slice_set}
+use Rattle.std.specs.Prelude.{IsTrue}
 use Rattle.std.specs.List.{join_with_byte}
 use Rattle.tsd_model.specs.declared.requests.Hint.{Hint}
 use Rattle.tsd_model.specs.declared.requests.Hint.TheVariants.{Null, At}
@@ -47,11 +48,11 @@ pub record IsAdded (line : List ℕ) (old new : List (Option Entry)) : Type 0 wh
   pub entries : new ≡ slice_set old listing.block (Some listing.entry)
 
 -- it lists none
-abbrev pub IsRefused : List ℕ → List (Option Entry) → Type 0
-IsRefused line old = (l : Listing) → IsListing line l → MayFollow old l.block → ⊥
+abbrev pub ListsNone : List ℕ → List (Option Entry) → Type 0
+ListsNone line old = (l : Listing) → IsListing line l → MayFollow old l.block → ⊥
 
 -- what a line says is taken: it lists a block that may follow
-pub record IsTaken (said : Option Listing) (old new : List (Option Entry)) : Type 0 where
+pub record IsListingTaken (said : Option Listing) (old new : List (Option Entry)) : Type 0 where
   pub listing : Listing
   pub says : said ≡ Some listing
   pub follows : MayFollow old listing.block

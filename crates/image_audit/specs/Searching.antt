@@ -1,5 +1,6 @@
 -- A search level by level: what it has found while it looks at the pairs from the blocks of one depth.
-use Rattle.std.specs.Prelude.{◌≡◌, ℕ, suc, ◌<◌, ◌≤◌, ◌==◌, ◌⊎◌, ◌++◌, ◌∷◌, [], false, min, cond, List, Option, Some, None, IsTrue}
+use Rattle.std.specs.Prelude.{◌≡◌, ℕ, suc, ◌<◌, ◌≤◌, ◌==◌, ◌⊎◌, ◌++◌, ◌∷◌, [], false, min, cond, List, Option, Some}
+use Rattle.std.specs.Prelude.{None, IsTrue}
 use Rattle.tsd_model.specs.Pairs.{holds}
 use Rattle.tsd_model.specs.World.{World, has_number}
 use Rattle.image_audit.specs.declared.entry.Entry.{Entry}
@@ -28,9 +29,11 @@ HasDepthTo entries b n = (e : Entry) × (entry_at entries b ≡ Some e) × (e.de
 abbrev pub IsFirstSeen : (ℕ → ℕ → Type 0) → ℕ → Option ℕ → Type 0
 IsFirstSeen seen b parent = (a : ℕ) × (parent ≡ Some a) × seen a b × ((c : ℕ) → seen c b → a ≤ c)
 
--- Every block of depth d or less is listed as it will be, and `level` has those of depth d. Of the pairs from them some were
--- looked at, and the blocks to which these led are listed too: with depth d + 1 those that weren't before, which are in `next`.
-pub record IsSearching (w : World) (roots : List ℕ) (d : ℕ) (level next : List ℕ) (seen : ℕ → ℕ → Type 0) (entries : List (Option Entry)) : Type 0 where
+-- Every block of depth d or less is listed as it will be, and `level` has those of depth d. Of the pairs from them some
+-- were looked at, and the blocks to which these led are listed too: with depth d + 1 those that weren't before, which
+-- are in `next`.
+pub record IsSearching (w : World) (roots : List ℕ) (d : ℕ) (level next : List ℕ) (seen : ℕ → ℕ → Type 0)
+    (entries : List (Option Entry)) : Type 0 where
   pub sound : (b : ℕ) (e : Entry) → entry_at entries b ≡ Some e → IsPath w roots e.depth b
   pub complete : (n b : ℕ) → n ≤ d → IsPath w roots n b → HasDepthTo entries b n
   pub bound : (b : ℕ) (e : Entry) → entry_at entries b ≡ Some e → e.depth ≤ suc d
@@ -67,8 +70,8 @@ abbrev pub SeenTo : World → List ℕ → ℕ → ℕ → ℕ → ℕ → Type 
 SeenTo w done source end a b = IsTrue (holds w.pairs a b) × (IsTrue (has_number done a) ⊎ ((a ≡ source) × (b < end)))
 
 -- the pairs from one block of the level more were looked at
-abbrev pub GoesOn : World → ℕ → ℕ → List ℕ → List ℕ → List (Option Entry) → List (Option Entry) → Type 0
-GoesOn w d source before after old new =
+abbrev pub SearchesOn : World → ℕ → ℕ → List ℕ → List ℕ → List (Option Entry) → List (Option Entry) → Type 0
+SearchesOn w d source before after old new =
     (roots level done : List ℕ) → IsTrue (has_number level source)
     → IsSearching w roots d level before (SeenFrom w done) old
     → IsSearching w roots d level after (SeenFrom w (done ++ source ∷ [])) new

@@ -2,7 +2,7 @@
 
 ghost use Rattle.std.specs.Prelude.{◌≡◌, ◌↔◌, ◌+◌, ◌-◌, ◌^◌, min, cond, Some, None, length, replicate, slice_set};
 ghost use Rattle.std.specs.Prelude.{IfOk, OnOk, OnErr, IfErr, IsTrue};
-ghost use Rattle.image_audit.specs.Listing.{IsAdded, IsRefused, IsTaken, IsNotTaken, MayFollow};
+ghost use Rattle.image_audit.specs.Listing.{IsAdded, ListsNone, IsListingTaken, IsNotTaken, MayFollow};
 
 use crate::entry::Entry;
 use crate::listing::{Listing, parse_listing};
@@ -66,7 +66,7 @@ impl Certificate {
     /// below the number of blocks or isn't above each that is listed, and then nothing changes but the number of lines.
     pub fn add(&mut self, line: &[u8]) -> Result<(), FormFault>
         ensures added { OnOk result (IsAdded line.now self.old.entries self.new.entries) }
-        ensures refused { OnErr result (IsRefused line.now self.old.entries) }
+        ensures refused { OnErr result (ListsNone line.now self.old.entries) }
         ensures blocks { length self.new.entries ≡ length self.old.entries }
         ensures kept { OnErr result (self.new.entries ≡ self.old.entries) }
         ensures line { IfErr result (λ fault. fault.line ≡ self.new.lines) }
@@ -78,7 +78,7 @@ impl Certificate {
     /// Takes what the next line says, None where it isn't of the form. It is refused as [`add`](Certificate::add) would
     /// refuse the line.
     pub fn take(&mut self, said: Option<Listing>) -> Result<(), FormFault>
-        ensures taken { OnOk result (IsTaken said self.old.entries self.new.entries) }
+        ensures taken { OnOk result (IsListingTaken said self.old.entries self.new.entries) }
         ensures refused { OnErr result (IsNotTaken said self.old.entries) }
         ensures blocks { length self.new.entries ≡ length self.old.entries }
         ensures kept { OnErr result (self.new.entries ≡ self.old.entries) }

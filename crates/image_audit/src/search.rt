@@ -6,7 +6,7 @@ ghost use Rattle.std.specs.List.{All};
 ghost use Rattle.volume_laws.specs.Volume.{IsVolumeReady, told_by};
 ghost use Rattle.image_audit.specs.Entries.{entry_at, is_listed};
 ghost use Rattle.image_audit.specs.Searching.{HasRoots, NoneSeen, IsSearching, IsSearched};
-ghost use Rattle.image_audit.specs.Searching.{GoesOn, noted, lesser};
+ghost use Rattle.image_audit.specs.Searching.{SearchesOn, noted, lesser};
 
 use crate::entry::Entry;
 use crate::targets::Targets;
@@ -112,8 +112,8 @@ fn search_from(
     requires depth { depth < volume.now.tables.geometry.blocks }
     requires inside { source < volume.now.tables.geometry.blocks }
     ensures size { OnOk result (length entries.new ≡ length entries.old) }
-    ensures searched { OnOk result (GoesOn (told_by volume.now) depth source next.old.items next.new.items entries.old
-        entries.new) }
+    ensures searched { OnOk result (SearchesOn (told_by volume.now) depth source next.old.items next.new.items
+        entries.old entries.new) }
 {
     let blocks = volume.geometry().blocks;
     let mut targets = Targets::of(source);

@@ -5,9 +5,11 @@ ghost use Rattle.std.specs.Prelude.{IfSome, IsTrue};
 ghost use Rattle.tsd_model.specs.Reach.{reach};
 ghost use Rattle.tsd_model.specs.World.{has_number, primary_blocks};
 ghost use Rattle.volume_laws.specs.Volume.{IsVolumeReady, told_by};
-ghost use Rattle.image_audit.specs.Certificates.{HasPrimaries, HasGoodEntries, IsClosed, IsClosedAt, IsGood, IsVerdict};
-ghost use Rattle.image_audit.specs.Certificates.{IsLeastPrimaryOut, IsLeastBad, IsLeastOut, IsLeastOutAt, HasParent};
-ghost use Rattle.image_audit.specs.Certificates.{IsBelow, IsFirst};
+ghost use Rattle.image_audit.specs.Certificates.{ListsPrimaries, HasGoodEntries, IsClosed, IsClosedAt, IsGoodEntry};
+ghost use Rattle.image_audit.specs.Certificates.{IsVerdict};
+ghost use Rattle.image_audit.specs.Certificates.{IsLeastPrimaryOut, IsLeastBadEntry, IsLeastOut, IsLeastOutAt};
+ghost use Rattle.image_audit.specs.Certificates.{HasParent};
+ghost use Rattle.image_audit.specs.Certificates.{IsBelow, IsPrimaryEntry};
 ghost use Rattle.image_audit.specs.Depths.{AreReached};
 ghost use Rattle.image_audit.specs.Entries.{entry_at, is_listed};
 
@@ -57,7 +59,7 @@ fn count_listed(entries: &[Option<Entry>]) -> u32
 /// The least primary block that isn't listed.
 fn primary_out(volume: &Volume, entries: &[Option<Entry>]) -> Option<u32>
     requires blocks { length entries.now ≡ volume.now.tables.geometry.blocks }
-    ensures { MatchOption result (HasPrimaries (told_by volume.now) entries.now)
+    ensures { MatchOption result (ListsPrimaries (told_by volume.now) entries.now)
         (IsLeastPrimaryOut (told_by volume.now) entries.now) }
 {
     for block in 0..volume.geometry().primaries {
@@ -73,7 +75,7 @@ fn first_bad(volume: &Volume, entries: &[Option<Entry>]) -> Option<u32>
     requires ready { IsVolumeReady volume.now }
     requires blocks { length entries.now ≡ volume.now.tables.geometry.blocks }
     ensures { MatchOption result (HasGoodEntries (told_by volume.now) entries.now)
-        (IsLeastBad (told_by volume.now) entries.now) }
+        (IsLeastBadEntry (told_by volume.now) entries.now) }
 {
     for block in 0..volume.geometry().blocks {
         if !is_good_at(volume, entries, block) {
@@ -88,7 +90,7 @@ fn is_good_at(volume: &Volume, entries: &[Option<Entry>], block: u32) -> bool
     requires ready { IsVolumeReady volume.now }
     requires blocks { length entries.now ≡ volume.now.tables.geometry.blocks }
     requires inside { block < volume.now.tables.geometry.blocks }
-    ensures { IsTrue result ↔ IfSome (entry_at entries.now block) (IsGood (told_by volume.now) entries.now block) }
+    ensures { IsTrue result ↔ IfSome (entry_at entries.now block) (IsGoodEntry (told_by volume.now) entries.now block) }
 {
     match entries[block as usize] {
         Some(entry) => {
@@ -104,7 +106,7 @@ fn is_good_at(volume: &Volume, entries: &[Option<Entry>], block: u32) -> bool
 
 /// Whether an entry is one of a primary block.
 fn is_first(entry: Entry) -> bool
-    ensures { IsTrue result ↔ IsFirst entry }
+    ensures { IsTrue result ↔ IsPrimaryEntry entry }
 {
     entry.depth == 0 && entry.parent.is_none()
 }

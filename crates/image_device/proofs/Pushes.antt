@@ -8,17 +8,17 @@ use Rattle.image_device.specs.declared.event.Event.TheVariants.{Write, Sync, Put
 use Rattle.image_device.specs.Image.{Image}
 use Rattle.image_device.specs.View.{View, IsLeftNow, IsLeftWithin, IsLeftInPut}
 use Rattle.image_device.specs.Calls.{Elapses, Includes, Rests, Touches, Settles, Appends}
-use Rattle.image_device.specs.History.{State, step, after, IsNow, IsDuring, Had, HadSince}
+use Rattle.image_device.specs.History.{HistoryState, step, after, IsNow, IsDuring, Had, HadSince}
 use Rattle.image_device.specs.Laws.{counts_now}
 use Rattle.image_device.specs.MemStation.{history_view}
 use Rattle.image_device.proofs.Sets.{or_false_left, or_false_right}
 
-pub after_push : (es : List Event) (s : State) (e : Event) → after (es ++ e ∷ []) s ≡ step (after es s) e
+pub after_push : (es : List Event) (s : HistoryState) (e : Event) → after (es ++ e ∷ []) s ≡ step (after es s) e
 after_push [] s e = refl
 after_push (d ∷ es) s e = after_push es (step s d) e
 
 -- A station began as s' now, which is s, and its record is this now.
-module _ (s s' : State) (es new : List Event) (start : s' ≡ s) where
+module _ (s s' : HistoryState) (es new : List Event) (start : s' ≡ s) where
   -- nothing was recorded
   pub after_same : new ≡ es → after new s' ≡ after es s
   after_same is i = after (is i) (start i)
@@ -28,46 +28,46 @@ module _ (s s' : State) (es new : List Event) (start : s' ≡ s) where
   after_one e is = (λ i. after (is i) (start i)) ∙ after_push es s e
 
 -- what a crash left before counts
-had_keeps : (es : List Event) (s : State) (e : Event) (x : Image) (f : List ℕ) → ((x : Image) (f : List ℕ) → IsNow (after es s) x f → IsDuring (after es s) e x f)
+had_keeps : (es : List Event) (s : HistoryState) (e : Event) (x : Image) (f : List ℕ) → ((x : Image) (f : List ℕ) → IsNow (after es s) x f → IsDuring (after es s) e x f)
     → Had es s x f → Had (es ++ e ∷ []) s x f
 had_keeps [] s e x f begins now = inl (begins x f now)
 had_keeps (d ∷ es) s e x f begins (inl here) = inl here
 had_keeps (d ∷ es) s e x f begins (inr later) = inr (had_keeps es (step s d) e x f begins later)
 
 -- nothing else does but what is left inside the new event and after it
-had_more : (es : List Event) (s : State) (e : Event) (x : Image) (f : List ℕ) → Had (es ++ e ∷ []) s x f → Had es s x f ⊎ (IsDuring (after es s) e x f ⊎ IsNow (step (after es s) e) x f)
+had_more : (es : List Event) (s : HistoryState) (e : Event) (x : Image) (f : List ℕ) → Had (es ++ e ∷ []) s x f → Had es s x f ⊎ (IsDuring (after es s) e x f ⊎ IsNow (step (after es s) e) x f)
 had_more [] s e x f (inl here) = inr (inl here)
 had_more [] s e x f (inr now) = inr (inr now)
 had_more (d ∷ es) s e x f (inl here) = inl (inl here)
 had_more (d ∷ es) s e x f (inr later) = ⊎_elim (λ had. inl (inr had)) inr (had_more es (step s d) e x f later)
 
-had_inside : (es : List Event) (s : State) (e : Event) (x : Image) (f : List ℕ) → IsDuring (after es s) e x f → Had (es ++ e ∷ []) s x f
+had_inside : (es : List Event) (s : HistoryState) (e : Event) (x : Image) (f : List ℕ) → IsDuring (after es s) e x f → Had (es ++ e ∷ []) s x f
 had_inside [] s e x f during = inl during
 had_inside (d ∷ es) s e x f during = inr (had_inside es (step s d) e x f during)
 
 -- the same since a moment
-keeps : (t : ℕ) (es : List Event) (s : State) (e : Event) (x : Image) (f : List ℕ) → ((x : Image) (f : List ℕ) → IsNow (after es s) x f → IsDuring (after es s) e x f) → t ≤ length es
+keeps : (t : ℕ) (es : List Event) (s : HistoryState) (e : Event) (x : Image) (f : List ℕ) → ((x : Image) (f : List ℕ) → IsNow (after es s) x f → IsDuring (after es s) e x f) → t ≤ length es
     → HadSince t es s x f → HadSince t (es ++ e ∷ []) s x f
 keeps zero es s e x f begins le had = had_keeps es s e x f begins had
 keeps (suc t) [] s e x f begins le had = absurd (omega arith)
 keeps (suc t) (d ∷ es) s e x f begins le had = keeps t es (step s d) e x f begins (omega arith) had
 
-more : (t : ℕ) (es : List Event) (s : State) (e : Event) (x : Image) (f : List ℕ) → t ≤ length es
+more : (t : ℕ) (es : List Event) (s : HistoryState) (e : Event) (x : Image) (f : List ℕ) → t ≤ length es
     → HadSince t (es ++ e ∷ []) s x f → HadSince t es s x f ⊎ (IsDuring (after es s) e x f ⊎ IsNow (step (after es s) e) x f)
 more zero es s e x f le had = had_more es s e x f had
 more (suc t) [] s e x f le had = absurd (omega arith)
 more (suc t) (d ∷ es) s e x f le had = more t es (step s d) e x f (omega arith) had
 
-inside : (t : ℕ) (es : List Event) (s : State) (e : Event) (x : Image) (f : List ℕ) → t ≤ length es → IsDuring (after es s) e x f → HadSince t (es ++ e ∷ []) s x f
+inside : (t : ℕ) (es : List Event) (s : HistoryState) (e : Event) (x : Image) (f : List ℕ) → t ≤ length es → IsDuring (after es s) e x f → HadSince t (es ++ e ∷ []) s x f
 inside zero es s e x f le during = had_inside es s e x f during
 inside (suc t) [] s e x f le during = absurd (omega arith)
 inside (suc t) (d ∷ es) s e x f le during = inside t es (step s d) e x f (omega arith) during
 
 -- A station began as s, and es came since. Its counts are a, b and c before a call, and a', b' and c' after it.
-module _ (s : State) (es : List Event) (a b c a' b' c' : ℕ) where
+module _ (s : HistoryState) (es : List Event) (a b c a' b' c' : ℕ) where
   -- it began as s, whichever way that is said
-  began : (P : View → Type 0) (s' : State) (new : List Event) → s' ≡ s → P (history_view s new a' b' c') → P (history_view s' new a' b' c')
-  began P s' new same p = subst (λ (z : State). P (history_view z new a' b' c')) (sym same) p
+  began : (P : View → Type 0) (s' : HistoryState) (new : List Event) → s' ≡ s → P (history_view s new a' b' c') → P (history_view s' new a' b' c')
+  began P s' new same p = subst (λ (z : HistoryState). P (history_view z new a' b' c')) (sym same) p
 
   elapses_push : (e : Event) → ((x : Image) (f : List ℕ) → IsNow (after es s) x f → IsDuring (after es s) e x f)
       → ((x : Image) (f : List ℕ) → IsNow (step (after es s) e) x f → IsDuring (after es s) e x f)
@@ -82,7 +82,7 @@ module _ (s : State) (es : List Event) (a b c a' b' c' : ℕ) where
   elapses_same P = record { later = omega arith; nothing_else = λ t x f le left. inl left; keeps = λ t x f le left. left }
 
   -- a call that records nothing
-  module _ (s' : State) (start : s' ≡ s) (new : List Event) (is : new ≡ es) where
+  module _ (s' : HistoryState) (start : s' ≡ s) (new : List Event) (is : new ≡ es) where
     moved : (P : View → Type 0) → P (history_view s es a' b' c') → P (history_view s' new a' b' c')
     moved P p = began P s' new start (subst (λ l. P (history_view s l a' b' c')) (sym is) p)
 
@@ -111,7 +111,7 @@ module _ (s : State) (es : List Event) (a b c a' b' c' : ℕ) where
     time = elapses_push Sync (λ x f now. now) (λ x f now. (record { agrees = λ n h. now.0.agrees n refl; whole = now.0.whole }, now.1));
   }
 
-  pub settles : (s' : State) → s' ≡ s → (new : List Event) → new ≡ es ++ Sync ∷ [] → Settles (history_view s es a b c) (history_view s' new a' b' c')
+  pub settles : (s' : HistoryState) → s' ≡ s → (new : List Event) → new ≡ es ++ Sync ∷ [] → Settles (history_view s es a b c) (history_view s' new a' b' c')
   settles s' start new is = began (λ v. Settles (history_view s es a b c) v) s' new start (subst (λ l. Settles (history_view s es a b c) (history_view s l a' b' c')) (sym is) settles_at)
 
   -- a write that is done
@@ -142,15 +142,15 @@ module _ (s : State) (es : List Event) (a b c a' b' c' : ℕ) where
           now.1,
         )
 
-    module _ (s' : State) (start : s' ≡ s) (new : List Event) (is : new ≡ es ++ Write sector box ∷ []) where
+    module _ (s' : HistoryState) (start : s' ≡ s) (new : List Event) (is : new ≡ es ++ Write sector box ∷ []) where
       pub touches : Touches sector (history_view s es a b c) (history_view s' new a' b' c')
       touches = began (λ v. Touches sector (history_view s es a b c) v) s' new start (subst (λ l. Touches sector (history_view s es a b c) (history_view s l a' b' c')) (sym is) touches_at)
 
       pub written : (after new s').reads sector ≡ box.value
-      written = ap (λ (z : State). (after new z).reads sector) start ∙ ap (λ l. (after l s).reads sector) is ∙ ap (λ z. z.reads sector) (after_push es s (Write sector box)) ∙ ap (λ t. cond t box.value ((after es s).reads sector)) is_same
+      written = ap (λ (z : HistoryState). (after new z).reads sector) start ∙ ap (λ l. (after l s).reads sector) is ∙ ap (λ z. z.reads sector) (after_push es s (Write sector box)) ∙ ap (λ t. cond t box.value ((after es s).reads sector)) is_same
 
       pub loose : (after new s').loose sector ≡ true
-      loose = ap (λ (z : State). (after new z).loose sector) start ∙ ap (λ l. (after l s).loose sector) is ∙ ap (λ z. z.loose sector) (after_push es s (Write sector box)) ∙ ap (λ t. t || (after es s).loose sector) is_same
+      loose = ap (λ (z : HistoryState). (after new z).loose sector) start ∙ ap (λ l. (after l s).loose sector) is ∙ ap (λ z. z.loose sector) (after_push es s (Write sector box)) ∙ ap (λ t. t || (after es s).loose sector) is_same
 
   -- a poke that is done
   module _ (sector : ℕ) (box : Box (List ℕ)) where
@@ -161,7 +161,7 @@ module _ (s : State) (es : List Event) (a b c a' b' c' : ℕ) where
       keeps = λ t x f le left. keeps t es s (Poke sector box) x f (λ x f now. now) le left;
     }
 
-    pub pokes : (s' : State) → s' ≡ s → (new : List Event) → new ≡ es ++ Poke sector box ∷ [] → Elapses (history_view s es a b c) (history_view s' new a' b' c') (IsLeftNow (history_view s' new a' b' c'))
+    pub pokes : (s' : HistoryState) → s' ≡ s → (new : List Event) → new ≡ es ++ Poke sector box ∷ [] → Elapses (history_view s es a b c) (history_view s' new a' b' c') (IsLeftNow (history_view s' new a' b' c'))
     pokes s' start new is = began (λ v. Elapses (history_view s es a b c) v (IsLeftNow v)) s' new start
         (subst (λ l. Elapses (history_view s es a b c) (history_view s l a' b' c') (IsLeftNow (history_view s l a' b' c'))) (sym is) pokes_at)
 
@@ -183,7 +183,7 @@ module _ (s : State) (es : List Event) (a b c a' b' c' : ℕ) where
     includes_at : Includes (history_view s es a b c) (history_view s (es ++ Put piece ∷ []) a' b' c') (IsLeftInPut piece.items (history_view s es a b c))
     includes_at t x f le during = inside t es s (Put piece) x f le during
 
-    module _ (s' : State) (start : s' ≡ s) (text : List ℕ) (same : piece.items ≡ text) (new : List Event) (is : new ≡ es ++ Put piece ∷ []) where
+    module _ (s' : HistoryState) (start : s' ≡ s) (text : List ℕ) (same : piece.items ≡ text) (new : List Event) (is : new ≡ es ++ Put piece ∷ []) where
       pub appends : Appends text (history_view s es a b c) (history_view s' new a' b' c')
       appends = began (λ v. Appends text (history_view s es a b c) v) s' new start
           (subst (λ p. Appends p (history_view s es a b c) (history_view s new a' b' c')) same (subst (λ l. Appends piece.items (history_view s es a b c) (history_view s l a' b' c')) (sym is) appends_at))

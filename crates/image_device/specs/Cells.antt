@@ -1,15 +1,16 @@
 -- The sectors that a station in memory holds.
-use Rattle.std.specs.Prelude.{ℕ, ◌<◌, ◌≤◌, ◌≡◌, ◌∷◌, ◌++◌, nat_eq, nat_lt, if◌then◌else◌, Bool, false, List, [], replicate, Option, Some, None}
+use Rattle.std.specs.Prelude.{ℕ, ◌<◌, ◌≤◌, ◌≡◌, ◌∷◌, ◌++◌, nat_eq, nat_lt, if◌then◌else◌, Bool, false, List, []}
+use Rattle.std.specs.Prelude.{replicate, Option, Some, None}
 use Rattle.image_device.specs.declared.cell.Cell.{Cell}
 use Rattle.image_device.specs.declared.cell.Pick.{Pick}
 use Rattle.image_device.specs.declared.event.Event.{Event}
 use Rattle.image_device.specs.declared.cell.Pick.TheVariants.{Old, New, Torn}
 use Rattle.image_device.specs.Image.{IsSector, zeros}
-use Rattle.image_device.specs.History.{State}
+use Rattle.image_device.specs.History.{HistoryState}
 
 -- the cell of each sector that was ever written
-abbrev pub Found : Type 0
-Found = ℕ → Option Cell
+abbrev pub FoundCells : Type 0
+FoundCells = ℕ → Option Cell
 
 -- the cell of a sector never written
 abbrev pub blank : Cell
@@ -47,14 +48,24 @@ left_in pick synced c = if is_loose synced c then picked pick c else c.last
 
 -- the cell of a station that starts from there
 abbrev pub settled_cell : Pick → ℕ → Cell → Cell
-settled_cell pick synced c = record { start = left_in pick synced c; firm = left_in pick synced c; last = left_in pick synced c; written = 0 }
+settled_cell pick synced c = record {
+  start = left_in pick synced c;
+  firm = left_in pick synced c;
+  last = left_in pick synced c;
+  written = 0;
+}
 
 -- the disk as the station was made
-abbrev pub begun : Found → State
-begun found = record { reads = λ n. (cell_or_blank (found n)).start; synced = λ n. (cell_or_blank (found n)).start; loose = λ n. false; sent = [] }
+abbrev pub begun : FoundCells → HistoryState
+begun found = record {
+  reads = λ n. (cell_or_blank (found n)).start;
+  synced = λ n. (cell_or_blank (found n)).start;
+  loose = λ n. false;
+  sent = [];
+}
 
 -- the disk as it stands
-abbrev pub standing : Found → ℕ → List ℕ → State
+abbrev pub standing : FoundCells → ℕ → List ℕ → HistoryState
 standing found synced sent = record {
   reads = λ n. (cell_or_blank (found n)).last;
   synced = λ n. held synced (cell_or_blank (found n));
@@ -63,7 +74,7 @@ standing found synced sent = record {
 }
 
 -- the cell holds whole sectors, and its last write is one of so many events
-pub record IsWhole (events : ℕ) (c : Cell) : Type 0 where
+pub record IsWholeCell (events : ℕ) (c : Cell) : Type 0 where
   pub last : IsSector c.last
   pub firm : IsSector c.firm
   pub within : c.written ≤ events
@@ -75,15 +86,16 @@ FitsPick New = Unit {0}
 FitsPick (Torn b) = b < 256
 
 -- the cells with another one at a sector
-abbrev pub updated : ℕ → Cell → Found → Found
+abbrev pub updated : ℕ → Cell → FoundCells → FoundCells
 updated sector c found n = if nat_eq sector n then Some c else found n
 
 -- an event was kept, and the cell that it leaves at a sector
-pub record IsKept (e : Event) (sector : ℕ) (c : Cell) (old_log new_log : List Event) (old new : Found) : Type 0 where
+pub record IsEventKept (e : Event) (sector : ℕ) (c : Cell) (old_log new_log : List Event)
+    (old new : FoundCells) : Type 0 where
   pub log : new_log ≡ old_log ++ e ∷ []
   pub cells : (n : ℕ) → new n ≡ updated sector c old n
 
 -- nothing was kept
-pub record IsSame (old_log new_log : List Event) (old new : Found) : Type 0 where
+pub record IsSame (old_log new_log : List Event) (old new : FoundCells) : Type 0 where
   pub log : new_log ≡ old_log
   pub cells : (n : ℕ) → new n ≡ old n

@@ -29,15 +29,19 @@ pick_of d = d.pick
 
 -- the view of the station within, with the counts of both
 abbrev pub fuse_view : FuseStation → View
-fuse_view d = history_view (begun (found_in d.inner)) d.inner.log.items (both d.inner.faults (own_faults_of d)) (both d.inner.put_faults (own_put_faults_of d)) d.inner.writes
+fuse_view d =
+    history_view (begun (found_in d.inner)) d.inner.log.items (both d.inner.faults (own_faults_of d))
+    (both d.inner.put_faults (own_put_faults_of d)) d.inner.writes
 
 pub fuse_sound : (d : FuseStation) → IsSound (fuse_view d)
 fuse_sound d = let s = station_sound d.inner in record { counts_now = s.counts_now; only_now = s.only_now; own = s.own }
 
--- One call came. It went to the station within where some calls pass yet, and else it failed and left that station as it was.
+-- One call came. It went to the station within where some calls pass yet, and else it failed and left that station as
+-- it was.
 pub record IsPassed {T E : Type 0} (old new : FuseStation) (result : Result T E) : Type 0 where
   pub passes : passes_of new ≡ passes_of old - 1
   pub pick : pick_of new ≡ pick_of old
   pub spent : passes_of old ≡ 0 → IsErr result × (within new ≡ within old)
   pub called : 0 < passes_of old → IsCalled (within old) (within new) result
-  pub own : 0 < passes_of old → (own_faults_of new ≡ own_faults_of old) × (own_put_faults_of new ≡ own_put_faults_of old)
+  pub own : 0 < passes_of old → (own_faults_of new ≡ own_faults_of old)
+      × (own_put_faults_of new ≡ own_put_faults_of old)

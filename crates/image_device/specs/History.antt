@@ -5,7 +5,7 @@ use Rattle.image_device.specs.declared.event.Event.TheVariants.{Write, Sync, Put
 use Rattle.image_device.specs.Image.{Image, IsImage, put_at}
 use Rattle.image_device.specs.View.{IsPart}
 
-pub record State : Type 0 where
+pub record HistoryState : Type 0 where
   -- what a read gives
   pub reads : Image
   -- what the last sync held
@@ -24,35 +24,45 @@ abbrev pub firmed : ℕ → (ℕ → Bool) → ℕ → Bool
 firmed sector loose n = if n == sector then false else loose n
 
 -- one event
-abbrev pub step : State → Event → State
-step s (Write sector bytes) = record { reads = put_at sector bytes.value s.reads; synced = s.synced; loose = loosened sector s.loose; sent = s.sent }
+abbrev pub step : HistoryState → Event → HistoryState
+step s (Write sector bytes) = record {
+  reads = put_at sector bytes.value s.reads;
+  synced = s.synced;
+  loose = loosened sector s.loose;
+  sent = s.sent;
+}
 step s Sync = record { reads = s.reads; synced = s.reads; loose = λ n. false; sent = s.sent }
 step s (Put piece) = record { reads = s.reads; synced = s.synced; loose = s.loose; sent = s.sent ++ piece.items }
-step s (Poke sector bytes) = record { reads = put_at sector bytes.value s.reads; synced = put_at sector bytes.value s.synced; loose = firmed sector s.loose; sent = s.sent }
+step s (Poke sector bytes) = record {
+  reads = put_at sector bytes.value s.reads;
+  synced = put_at sector bytes.value s.synced;
+  loose = firmed sector s.loose;
+  sent = s.sent;
+}
 
 -- all of them
-abbrev pub after : List Event → State → State
+abbrev pub after : List Event → HistoryState → HistoryState
 after [] s = s
 after (e ∷ es) s = after es (step s e)
 
 -- what a crash leaves between two events
-abbrev pub IsNow : State → Image → List ℕ → Type 0
+abbrev pub IsNow : HistoryState → Image → List ℕ → Type 0
 IsNow s x f = IsImage s.reads s.loose x × (f ≡ s.sent)
 
 -- what a crash inside an event leaves
-abbrev pub IsDuring : State → Event → Image → List ℕ → Type 0
+abbrev pub IsDuring : HistoryState → Event → Image → List ℕ → Type 0
 IsDuring s (Write sector bytes) x f = IsImage s.reads (loosened sector s.loose) x × (f ≡ s.sent)
 IsDuring s Sync x f = IsNow s x f
 IsDuring s (Put piece) x f = IsImage s.reads s.loose x × IsPart s.sent piece.items f
 IsDuring s (Poke sector bytes) x f = IsNow s x f
 
 -- what a crash at some moment leaves
-abbrev pub Had : List Event → State → Image → List ℕ → Type 0
+abbrev pub Had : List Event → HistoryState → Image → List ℕ → Type 0
 Had [] s x f = IsNow s x f
 Had (e ∷ es) s x f = IsDuring s e x f ⊎ Had es (step s e) x f
 
 -- the same from a moment on, where each event is one moment
-abbrev pub HadSince : ℕ → List Event → State → Image → List ℕ → Type 0
+abbrev pub HadSince : ℕ → List Event → HistoryState → Image → List ℕ → Type 0
 HadSince zero es s x f = Had es s x f
 HadSince (suc t) [] s x f = IsNow s x f
 HadSince (suc t) (e ∷ es) s x f = HadSince t es (step s e) x f

@@ -32,7 +32,7 @@ abbrev pub is_failing_take : MemSource → Bool
 is_failing_take s = list_any (λ n. n == s.calls) s.fail.items
 
 -- One take came. It failed exactly where its number is one of those that are to fail.
-pub record IsTaken {T E : Type 0} (old new : MemSource) (result : Result T E) : Type 0 where
+pub record IsTakeCalled {T E : Type 0} (old new : MemSource) (result : Result T E) : Type 0 where
   pub takes : takes_of new ≡ raised (takes_of old)
   pub fail : failing_takes_of new ≡ failing_takes_of old
   pub cut : cut_of new ≡ cut_of old

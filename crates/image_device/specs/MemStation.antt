@@ -9,12 +9,12 @@ use Rattle.image_device.specs.Image.{Image, IsImage}
 use Rattle.image_device.specs.View.{View, IsSound}
 use Rattle.image_device.specs.Runs.{IsFirm}
 use Rattle.image_device.specs.Counts.{raised}
-use Rattle.image_device.specs.History.{State, after, HadSince}
-use Rattle.image_device.specs.Cells.{Found, begun, IsSame}
+use Rattle.image_device.specs.History.{HistoryState, after, HadSince}
+use Rattle.image_device.specs.Cells.{FoundCells, begun, IsSame}
 use Rattle.image_device.specs.Laws.{counts_now, only_now}
 
 -- what a record of events says of a disk that began so, with the counts of failed calls, of failed puts and of writes
-abbrev pub history_view : State → List Event → ℕ → ℕ → ℕ → View
+abbrev pub history_view : HistoryState → List Event → ℕ → ℕ → ℕ → View
 history_view s es faults put_faults writes = record {
   reads = (after es s).reads;
   loose = (after es s).loose;
@@ -26,7 +26,7 @@ history_view s es faults put_faults writes = record {
   writes = writes;
 }
 
-abbrev pub found_in : MemStation → Found
+abbrev pub found_in : MemStation → FoundCells
 found_in m n = get nat_eq m.cells n
 
 abbrev pub station_view : MemStation → View
@@ -40,7 +40,11 @@ pub station_sound : (m : MemStation) → IsSound (station_view m)
 station_sound m = record {
   counts_now = λ t x f le now. counts_now t m.log.items (begun (found_in m)) x f now;
   only_now = λ x f left. only_now m.log.items (begun (found_in m)) x f left;
-  own = subst (λ (s : State). IsImage s.reads s.loose s.reads) (sym m.agrees) (record { agrees = λ n h. refl; whole = λ n. (m.whole n).last });
+  own =
+      subst (λ (s : HistoryState). IsImage s.reads s.loose s.reads) (sym m.agrees) (record {
+        agrees = λ n h. refl;
+        whole = λ n. (m.whole n).last;
+      });
 }
 
 -- how many calls came, which of them are to fail, and how often memory was short
@@ -62,7 +66,7 @@ abbrev pub KeepsNothing : MemStation → MemStation → Type 0
 KeepsNothing old new = IsSame old.log.items new.log.items (found_in old) (found_in new)
 
 -- nothing is loose, nothing was sent, and no call came yet
-pub record IsNew (m : MemStation) : Type 0 where
+pub record IsUnused (m : MemStation) : Type 0 where
   pub firm : IsFirm (station_view m)
   pub sent : (station_view m).sent ≡ []
   pub clock : (station_view m).clock ≡ 0

@@ -11,7 +11,8 @@ pub record View : Type 1 where
   pub sent : List ℕ
   -- the time, which never falls
   pub clock : ℕ
-  -- Whether a crash at some moment since then may have left this image, with these bytes sent. Moments inside calls count.
+  -- Whether a crash at some moment since then may have left this image, with these bytes sent. Moments inside calls
+  -- count.
   pub left : ℕ → Image → List ℕ → Type 0
   -- how often a read, a write or a sync failed
   pub faults : ℕ

@@ -16,7 +16,7 @@ pub struct FuseStation {
 impl FuseStation {
     ghost use Rattle.image_device.specs.FuseStation.{fuse_view, own_faults_of, own_put_faults_of, passes_of, pick_of};
     ghost use Rattle.image_device.specs.FuseStation.{within};
-    ghost use Rattle.image_device.specs.MemStation.{failing_of, station_view, synced_reads, IsNew};
+    ghost use Rattle.image_device.specs.MemStation.{failing_of, station_view, synced_reads, IsUnused};
     ghost use Rattle.image_device.specs.Image.{IsImage};
     ghost use Rattle.std.specs.Prelude.{◌≡◌, [], ℕ, true, replicate};
 
@@ -56,7 +56,7 @@ impl FuseStation {
         ensures new { pick_of self ≡ Pick.New → (station_view result).reads ≡ (fuse_view self).reads }
         ensures torn { (b : ℕ) → pick_of self ≡ Pick.Torn b → (n : ℕ) → (fuse_view self).loose n ≡ true
             → (station_view result).reads n ≡ replicate 512 b }
-        ensures unused { IsNew result }
+        ensures unused { IsUnused result }
         ensures fail { failing_of result ≡ [] }
     {
         let FuseStation {

@@ -3,7 +3,7 @@ ghost use Rattle.std.specs.HashMap.{get};
 ghost use Rattle.std.specs.Prelude.{◌≡◌, ◌+◌, ◌++◌, [], ◌∷◌, ℕ, nat_eq, length, option_map, OnOk};
 ghost use Rattle.std.specs.Prelude.{OnErr};
 ghost use Rattle.image_device.specs.declared.event.Event.TheVariants.{Poke, Put, Write};
-ghost use Rattle.image_device.specs.Cells.{cell_or_blank, poked_cell, settled_cell, written_cell, IsKept, IsSame};
+ghost use Rattle.image_device.specs.Cells.{cell_or_blank, poked_cell, settled_cell, written_cell, IsEventKept, IsSame};
 
 use crate::Pick;
 use crate::cell::{Cell, blank_cell};
@@ -29,7 +29,7 @@ fn keep_cell(
     sector: u32,
     cell: Cell,
 ) -> Result<(), AllocError>
-    ensures ok { OnOk result (IsKept event sector cell log.old.items log.new.items (get nat_eq cells.old)
+    ensures ok { OnOk result (IsEventKept event sector cell log.old.items log.new.items (get nat_eq cells.old)
         (get nat_eq cells.new)) }
     ensures err { OnErr result (IsSame log.old.items log.new.items (get nat_eq cells.old) (get nat_eq cells.new)) }
 {
@@ -48,7 +48,7 @@ pub(crate) fn keep_write(
     sector: u32,
     from: &[u8; 512],
 ) -> Result<(), AllocError>
-    ensures ok { OnOk result ((bytes : _) × (bytes.value ≡ from.now) × IsKept (Write sector bytes) sector
+    ensures ok { OnOk result ((bytes : _) × (bytes.value ≡ from.now) × IsEventKept (Write sector bytes) sector
         (written_cell synced (length log.old.items + 1) from.now (cell_or_blank (get nat_eq cells.old sector)))
         log.old.items log.new.items (get nat_eq cells.old) (get nat_eq cells.new)) }
     ensures err { OnErr result (IsSame log.old.items log.new.items (get nat_eq cells.old) (get nat_eq cells.new)) }
@@ -67,7 +67,7 @@ pub(crate) fn keep_poke(
     sector: u32,
     from: &[u8; 512],
 ) -> Result<(), AllocError>
-    ensures ok { OnOk result ((bytes : _) × (bytes.value ≡ from.now) × IsKept (Poke sector bytes) sector
+    ensures ok { OnOk result ((bytes : _) × (bytes.value ≡ from.now) × IsEventKept (Poke sector bytes) sector
         (poked_cell from.now (cell_or_blank (get nat_eq cells.old sector)))
         log.old.items log.new.items (get nat_eq cells.old) (get nat_eq cells.new)) }
     ensures err { OnErr result (IsSame log.old.items log.new.items (get nat_eq cells.old) (get nat_eq cells.new)) }

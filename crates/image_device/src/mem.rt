@@ -3,7 +3,7 @@ ghost use Rattle.std.specs.HashMap.{get};
 ghost use Rattle.std.specs.Prelude.{◌≡◌, ◌≤◌, ◌<◌, ◌++◌, [], ℕ, nat_eq, true, false, length};
 ghost use Rattle.std.specs.Prelude.{take, OnOk, OnErr, IfOk, IsOk};
 ghost use Rattle.image_device.specs.History.{after};
-ghost use Rattle.image_device.specs.Cells.{begun, cell_or_blank, standing, IsWhole};
+ghost use Rattle.image_device.specs.Cells.{begun, cell_or_blank, standing, IsWholeCell};
 
 use crate::cell::{Cell, pick_fits};
 use crate::event::Event;
@@ -30,20 +30,20 @@ pub struct MemStation {
     put_faults: u64,
     writes: u64,
     short: u64,
-    ghost whole: { (n : ℕ) → IsWhole (length log.items) (cell_or_blank (get nat_eq cells n)) },
+    ghost whole: { (n : ℕ) → IsWholeCell (length log.items) (cell_or_blank (get nat_eq cells n)) },
     ghost reached: { synced ≤ length log.items },
     ghost agrees: { after log.items (begun (λ n. get nat_eq cells n))
         ≡ standing (λ n. get nat_eq cells n) synced sent.items },
 }
 
 impl MemStation {
-    ghost use Rattle.image_device.specs.MemStation.{station_view, calls_of, failing_of, short_of, IsNew};
+    ghost use Rattle.image_device.specs.MemStation.{station_view, calls_of, failing_of, short_of, IsUnused};
     ghost use Rattle.image_device.specs.Image.{zeros};
 
     /// A disk of zeros, with nothing sent. Its calls are numbered from 0, and those in `fail` fail.
     pub fn new(alloc: Global, fail: Vec<u64>) -> MemStation
         ensures reads { (station_view result).reads ≡ (λ n. zeros) }
-        ensures unused { IsNew result }
+        ensures unused { IsUnused result }
         ensures fail { failing_of result ≡ fail.items }
     {
         MemStation {
@@ -144,7 +144,7 @@ impl MemStation {
 }
 
 impl MemStation {
-    ghost use Rattle.image_device.specs.MemStation.{station_view, failing_of, synced_reads, IsNew};
+    ghost use Rattle.image_device.specs.MemStation.{station_view, failing_of, synced_reads, IsUnused};
     ghost use Rattle.image_device.specs.Image.{IsImage};
     ghost use Rattle.std.specs.Prelude.{replicate};
 
@@ -155,7 +155,7 @@ impl MemStation {
         ensures new { pick ≡ Pick.New → (station_view result).reads ≡ (station_view self).reads }
         ensures torn { (b : ℕ) → pick ≡ Pick.Torn b → (n : ℕ) → (station_view self).loose n ≡ true
             → (station_view result).reads n ≡ replicate 512 b }
-        ensures unused { IsNew result }
+        ensures unused { IsUnused result }
         ensures fail { failing_of result ≡ [] }
     {
         let MemStation {

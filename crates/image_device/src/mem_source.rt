@@ -42,7 +42,7 @@ impl MemSource {
 }
 
 impl Source for MemSource {
-    ghost use Rattle.image_device.specs.MemSource.{cut_of, faults_of, front_of, rest_of, IsTaken};
+    ghost use Rattle.image_device.specs.MemSource.{cut_of, faults_of, front_of, rest_of, IsTakeCalled};
     ghost use Rattle.image_device.specs.Counts.{CountsFault};
     ghost use Rattle.std.specs.Prelude.{◌≡◌, ◌≤◌, ◌++◌, ◌↔◌, [], length, take, drop, min, IfOk};
     ghost use Rattle.std.specs.Prelude.{OnOk, OnErr};
@@ -75,7 +75,7 @@ impl Source for MemSource {
         ensures cut { IfOk result (λ count. count ≤ cut_of self.old) }
         ensures exact { IfOk result (λ count. count ≡ min (min (length (rest_of self.old)) (cut_of self.old))
             (length into.old)) }
-        ensures called { IsTaken self.old self.new result }
+        ensures called { IsTakeCalled self.old self.new result }
     {
         let number = self.calls;
         self.calls = number.saturating_add(1);

@@ -5,7 +5,7 @@ use Rattle.tsd_model.specs.Geometry.{IsLawful}
 use Rattle.image_layout.specs.declared.fault.HeaderFault.{HeaderFault}
 use Rattle.image_layout.specs.declared.fault.HeaderFault.TheVariants.{Magic, Version, Field}
 use Rattle.image_layout.specs.declared.header.Header.{Header}
-use Rattle.image_layout.specs.Header.{IsReading, IsVersion, IsFirstBad, header_of}
+use Rattle.image_layout.specs.Header.{IsHeaderReading, IsVersion, IsFirstBad, header_of}
 
 -- a lawful geometry has no bad field
 pub none_bad : (g : Geometry) (number found : ℕ) → IsLawful g → IsFirstBad g number found → ⊥
@@ -34,14 +34,14 @@ one_bad g n f m h (inr (inr (inr a))) (inr (inr (inl b))) = absurd (b.4 a.4)
 one_bad g n f m h (inr (inr (inr a))) (inr (inr (inr b))) = (a.0 ∙ sym b.0, a.1 ∙ sym b.1)
 
 -- a sector that reads as a header has no fault
-pub none_wrong : (bytes : List ℕ) (h : Header) (why : HeaderFault) → IsReading bytes (Ok h) → IsReading bytes (Err why) → ⊥
+pub none_wrong : (bytes : List ℕ) (h : Header) (why : HeaderFault) → IsHeaderReading bytes (Ok h) → IsHeaderReading bytes (Err why) → ⊥
 none_wrong bytes h Magic p q = q p.0
 none_wrong bytes h (Version found) p q = q.2 (subst IsVersion (ap (λ (k : Header). k.version) p.3 ∙ sym q.1) p.1)
 none_wrong bytes h (Field number found) p q =
     none_bad (header_of bytes).geometry number found (subst IsLawful (ap (λ (k : Header). k.geometry) p.3) p.2) q.2
 
 -- two faults of a sector are one
-pub one_fault : (bytes : List ℕ) (one other : HeaderFault) → IsReading bytes (Err one) → IsReading bytes (Err other) → one ≡ other
+pub one_fault : (bytes : List ℕ) (one other : HeaderFault) → IsHeaderReading bytes (Err one) → IsHeaderReading bytes (Err other) → one ≡ other
 one_fault bytes Magic Magic p q = refl
 one_fault bytes Magic (Version found) p q = absurd (p q.0)
 one_fault bytes Magic (Field number found) p q = absurd (p q.0)
@@ -53,7 +53,7 @@ one_fault bytes (Field number found) (Version other) p q = absurd (q.2 (subst Is
 one_fault bytes (Field n f) (Field m h) p q =
     let both = one_bad (header_of bytes).geometry n f m h p.2 q.2 in λ i. Field (both.0 i) (both.1 i)
 
-pub one_reading : (bytes : List ℕ) (one other : Result Header HeaderFault) → IsReading bytes one → IsReading bytes other → one ≡ other
+pub one_reading : (bytes : List ℕ) (one other : Result Header HeaderFault) → IsHeaderReading bytes one → IsHeaderReading bytes other → one ≡ other
 one_reading bytes (Ok h) (Ok k) p q = ap Ok (p.3 ∙ sym q.3)
 one_reading bytes (Ok h) (Err why) p q = absurd (none_wrong bytes h why p q)
 one_reading bytes (Err why) (Ok h) p q = absurd (none_wrong bytes h why q p)

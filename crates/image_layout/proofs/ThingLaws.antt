@@ -6,14 +6,14 @@ use Rattle.std.proofs.lemmas.Grind.{common_steps}
 use Rattle.tsd_model.specs.declared.geometry.Geometry.{Geometry}
 use Rattle.tsd_model.specs.Geometry.{IsLawful}
 use Rattle.image_layout.specs.Places.{data_sector}
-use Rattle.image_layout.specs.Things.{Thing, IsOn, IsInside, AreApart}
+use Rattle.image_layout.specs.Things.{Thing, IsOn, IsInside, DontOverlap}
 
 -- all of a thing is on its image
 pub things_inside : (version : ℕ) (g : Geometry) (thing : Thing) → IsLawful g → IsOn g thing → IsInside version g thing
 things_inside = search rules
 
 -- no two things share a bit
-pub things_apart : (version : ℕ) (g : Geometry) (one other : Thing) → IsLawful g → IsOn g one → IsOn g other → one ≢ other → AreApart version g one other
+pub things_apart : (version : ℕ) (g : Geometry) (one other : Thing) → IsLawful g → IsOn g one → IsOn g other → one ≢ other → DontOverlap version g one other
 things_apart version g one other lawful here there apart = grind (arith, common_steps)
 
 -- so do data sectors of different blocks, whatever the geometry

@@ -1,4 +1,5 @@
--- What the header's sector means. It begins with a magic of eight bytes and five numbers of four bytes, the lowest byte first.
+-- What the header's sector means. It begins with a magic of eight bytes and five numbers of four bytes, the lowest byte
+-- first.
 use Rattle.std.specs.Prelude.{◌≡◌, ℕ, ◌<◌, ◌≤◌, ◌⊎◌, List, ◌++◌, take, replicate, codes, Result, Ok, Err}
 use Rattle.byteorder.specs.Endian.{little_from, little_bytes}
 use Rattle.tsd_model.specs.declared.geometry.Geometry.{Geometry}
@@ -62,10 +63,11 @@ IsFirstBad g number found =
     ⊎ ((number ≡ 3) × (found ≡ g.primaries) × IsSectors g × IsBlocks g × (¬ IsPrimaries g))
     ⊎ ((number ≡ 4) × (found ≡ g.slots) × IsSectors g × IsBlocks g × IsPrimaries g × (¬ IsSlots g))
 
--- what a reading of a sector answers: each answer comes exactly where its line holds, since no two of them hold together
-abbrev pub IsReading : List ℕ → Result Header HeaderFault → Type 0
-IsReading bytes (Ok h) = HasMagic bytes × IsVersion h.version × IsLawful h.geometry × (h ≡ header_of bytes)
-IsReading bytes (Err Magic) = ¬ HasMagic bytes
-IsReading bytes (Err (Version found)) = HasMagic bytes × (found ≡ (header_of bytes).version) × (¬ IsVersion found)
-IsReading bytes (Err (Field number found)) =
+-- what a reading of a sector answers: each answer comes exactly where its line holds, since no two of them hold
+-- together
+abbrev pub IsHeaderReading : List ℕ → Result Header HeaderFault → Type 0
+IsHeaderReading bytes (Ok h) = HasMagic bytes × IsVersion h.version × IsLawful h.geometry × (h ≡ header_of bytes)
+IsHeaderReading bytes (Err Magic) = ¬ HasMagic bytes
+IsHeaderReading bytes (Err (Version found)) = HasMagic bytes × (found ≡ (header_of bytes).version) × (¬ IsVersion found)
+IsHeaderReading bytes (Err (Field number found)) =
     HasMagic bytes × IsVersion (header_of bytes).version × IsFirstBad (header_of bytes).geometry number found

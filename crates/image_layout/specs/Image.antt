@@ -1,10 +1,12 @@
 -- What the bytes of an image mean, before any rule says whether they are right.
-use Rattle.std.specs.Prelude.{ℕ, zero, suc, ◌+◌, ◌==◌, Bool, if◌then◌else◌, List, [], ◌∷◌, ◌++◌, take, drop, replicate, slice_index}
+use Rattle.std.specs.Prelude.{ℕ, zero, suc, ◌+◌, ◌==◌, Bool, if◌then◌else◌, List, [], ◌∷◌, ◌++◌, take, drop, replicate}
+use Rattle.std.specs.Prelude.{slice_index}
 use Rattle.std.specs.Int.{bit_at}
 use Rattle.byteorder.specs.Endian.{little_from}
 use Rattle.tsd_model.specs.declared.geometry.Geometry.{Geometry}
 use Rattle.image_layout.specs.declared.place.Place.{Place}
-use Rattle.image_layout.specs.Places.{further, count_place, bit_place, bit_of, slot_place, cap_place, digest_place, data_sector}
+use Rattle.image_layout.specs.Places.{further, count_place, bit_place, bit_of, slot_place, cap_place, digest_place}
+use Rattle.image_layout.specs.Places.{data_sector}
 
 -- the 512 bytes of each sector
 abbrev pub Image : Type 0

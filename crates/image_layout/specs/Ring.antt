@@ -1,4 +1,5 @@
--- Where the journal stands: a ring of eight records in sectors 2 to 130. A record has a gate, a descriptor and its share of the bodies.
+-- Where the journal stands: a ring of eight records in sectors 2 to 130. A record has a gate, a descriptor and its
+-- share of the bodies.
 use Rattle.std.specs.Prelude.{ℕ, ◌+◌, ◌*◌, ◌==◌, if◌then◌else◌}
 
 -- the first sector and the last one

@@ -7,8 +7,8 @@ use Rattle.image_layout.specs.Ring.{records, bodies, gate_sector, descriptor_sec
 use Rattle.image_layout.specs.Places.{count_place, bit_place, bit_of, slot_place, data_sector}
 use Rattle.image_layout.specs.Image.{kept_place, kept_len}
 
--- what stands on an image: gates, descriptors and bodies of the journal by their index, then by its number what a primary
--- block keeps, a block's count and bit, and a slot, then the sectors of a block's data
+-- what stands on an image: gates, descriptors and bodies of the journal by their index, then by its number what a
+-- primary block keeps, a block's count and bit, and a slot, then the sectors of a block's data
 pub data Thing : Type 0 where
   the_header : Thing
   the_format_gate : Thing
@@ -72,8 +72,8 @@ bits_of version (slot index) = 64
 bits_of version (part block index) = 4096
 
 -- one of two things ends before the other begins
-abbrev pub AreApart : ℕ → Geometry → Thing → Thing → Type 0
-AreApart version g one other =
+abbrev pub DontOverlap : ℕ → Geometry → Thing → Thing → Type 0
+DontOverlap version g one other =
     (before version g one + bits_of version one ≤ before version g other)
     ⊎ (before version g other + bits_of version other ≤ before version g one)
 

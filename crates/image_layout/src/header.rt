@@ -17,7 +17,7 @@ ghost use Rattle.byteorder.specs.Endian.{little_from, little_bytes};
 ghost use Rattle.tsd_model.specs.Geometry.{IsLawful};
 ghost use Rattle.image_layout.specs.declared.fault.HeaderFault.{HeaderFault};
 ghost use Rattle.image_layout.specs.declared.header.Header.{Header};
-ghost use Rattle.image_layout.specs.Header.{header_bytes, IsReading, IsVersion, IsFirstBad};
+ghost use Rattle.image_layout.specs.Header.{header_bytes, IsHeaderReading, IsVersion, IsFirstBad};
 
 use crate::fault::HeaderFault;
 use crate::sectors::SECTOR_BYTES;
@@ -99,7 +99,7 @@ fn first_bad_field(geometry: &Geometry) -> Option<(u32, u32)>
 /// the geometry. Primary blocks are a bad field also where they are not fewer than the blocks. Other bytes don't
 /// matter.
 pub fn read_header(sector: &[u8; SECTOR_BYTES]) -> Result<Header, HeaderFault>
-    ensures { IsReading sector.now result }
+    ensures { IsHeaderReading sector.now result }
 {
     if !sector.starts_with(&MAGIC) {
         return Err(HeaderFault::Magic);
@@ -122,15 +122,15 @@ pub fn read_header(sector: &[u8; SECTOR_BYTES]) -> Result<Header, HeaderFault>
 
 /// A sector has one reading.
 pub fn readings_are_one()
-    ensures { (bytes : List ℕ) (one other : Result Header HeaderFault) → IsReading bytes one
-        → IsReading bytes other → one ≡ other }
+    ensures { (bytes : List ℕ) (one other : Result Header HeaderFault) → IsHeaderReading bytes one
+        → IsHeaderReading bytes other → one ≡ other }
 {}
 
 /// The sector of a header. Every value is taken, right or not; one of version 1 or 2 with a lawful geometry reads back.
 pub fn write_header(header: &Header) -> [u8; SECTOR_BYTES]
     ensures bytes { result ≡ header_bytes header.now }
     ensures reads_back { IsVersion header.now.version → IsLawful header.now.geometry
-        → IsReading result (Ok header.now) }
+        → IsHeaderReading result (Ok header.now) }
 {
     let mut sector = [0; SECTOR_BYTES];
     sector[..VERSION_AT].copy_from_slice(&MAGIC);

@@ -1,7 +1,7 @@
 //! That the things of an image stand apart.
 
 ghost use Rattle.std.specs.Prelude.{ℕ, ◌≢◌};
-ghost use Rattle.image_layout.specs.Things.{Thing, IsOn, IsInside, AreApart};
+ghost use Rattle.image_layout.specs.Things.{Thing, IsOn, IsInside, DontOverlap};
 ghost use Rattle.tsd_model.specs.Geometry.{IsLawful};
 ghost use Rattle.tsd_model.specs.declared.geometry.Geometry.{Geometry};
 
@@ -11,5 +11,5 @@ pub fn things_stand_apart()
     ensures inside { (version : ℕ) (g : Geometry) (thing : Thing) → IsLawful g → IsOn g thing
         → IsInside version g thing }
     ensures apart { (version : ℕ) (g : Geometry) (one other : Thing) → IsLawful g → IsOn g one → IsOn g other
-        → one ≢ other → AreApart version g one other }
+        → one ≢ other → DontOverlap version g one other }
 {}

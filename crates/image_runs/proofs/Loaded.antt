@@ -21,7 +21,7 @@ use Rattle.tsd_words.specs.Lines.{line_of, load_words}
 use Rattle.tsd_words.specs.declared.lines.Summary.{Summary}
 use Rattle.image_runs.specs.Opened.{IsJudged, IsUnopened}
 use Rattle.image_runs.specs.Sending.{IsStopped}
-use Rattle.image_runs.specs.Load.{HasLoaded, IsLeftOfLoad, IsLoaded, IsLoadedBy, grants, load_line, loaded, loaded_replies, refusals}
+use Rattle.image_runs.specs.Load.{HasLoaded, IsLeftOfLoad, IsLoadDone, IsLoadedBy, grants, load_line, loaded, loaded_replies, refusals}
 use Rattle.image_runs.specs.Applying.{HasApplied, IsSummary, LeavesRun}
 use Rattle.image_runs.proofs.Saying.{put_over, still_firm}
 use Rattle.image_runs.proofs.Upgraded.{alike_of}
@@ -44,7 +44,7 @@ summed kind seed w count c new s granted refused free pointers had at state free
     }
 
 pub loaded_there : (kind : PlaceKind) (seed : List ℕ) (image : Image) (count : ℕ) (c : Core) (new : View) (s : State) (granted refused : ℕ) → HasApplied kind seed (world_of image) count s granted refused
-    → IsGood image → IsCoreAt c new → state_on c new.reads ≡ s → IsQuiet new.reads → IsLoaded kind seed image count new
+    → IsGood image → IsCoreAt c new → state_on c new.reads ≡ s → IsQuiet new.reads → IsLoadDone kind seed image count new
 loaded_there kind seed image count c new s granted refused had good at state quiet = record {
   firm = at.0;
   load = record { good = good; stands = record { good = at.1.good; world = sym (ap (λ (u : State). u.world) (state ∙ had.state)) } };
@@ -53,7 +53,7 @@ loaded_there kind seed image count c new s granted refused had good at state qui
 
 -- ---- from the image that was opened
 
-loaded_from : (kind : PlaceKind) (seed : List ℕ) (old mid : Image) (count : ℕ) (v : View) → IsGood old → world_of mid ≡ world_of old → IsLoaded kind seed mid count v → IsLoaded kind seed old count v
+loaded_from : (kind : PlaceKind) (seed : List ℕ) (old mid : Image) (count : ℕ) (v : View) → IsGood old → world_of mid ≡ world_of old → IsLoadDone kind seed mid count v → IsLoadDone kind seed old count v
 loaded_from kind seed old mid count v good same is = record {
   firm = is.firm;
   load = record { good = good; stands = subst (λ (w : World). Stands v.reads (loaded kind seed w count).world) same is.load.stands };
@@ -61,7 +61,7 @@ loaded_from kind seed old mid count v good same is = record {
 }
 
 pub loaded_on : {T : Type 0} → (kind : PlaceKind) (seed : List ℕ) (old mid : Image) (count : ℕ) (v : View) (result : Result T Status) → IsGood old → world_of mid ≡ world_of old
-    → OnOk result (IsLoaded kind seed mid count v) → OnOk result (IsLoaded kind seed old count v)
+    → OnOk result (IsLoadDone kind seed mid count v) → OnOk result (IsLoadDone kind seed old count v)
 loaded_on kind seed old mid count v (Ok x) good same is = loaded_from kind seed old mid count v good same is
 loaded_on kind seed old mid count v (Err why) good same is = tt
 
@@ -141,14 +141,14 @@ line_is kind seed image count s is =
     ∙ ap (λ (n : ℕ). line_of (load_words count (grants (loaded_replies kind seed (world_of image) count)) (refusals (loaded_replies kind seed (world_of image) count)) n s.pointers)) is.free_is
     ∙ ap (λ (n : ℕ). line_of (load_words count (grants (loaded_replies kind seed (world_of image) count)) (refusals (loaded_replies kind seed (world_of image) count)) (free_count (loaded kind seed (world_of image) count).world) n)) is.pointers_are
 
-pub loaded_still : (kind : PlaceKind) (seed : List ℕ) (image : Image) (count : ℕ) (mid new : View) → IsLoaded kind seed image count mid → new.reads ≡ mid.reads → new.loose ≡ mid.loose → IsLoaded kind seed image count new
+pub loaded_still : (kind : PlaceKind) (seed : List ℕ) (image : Image) (count : ℕ) (mid new : View) → IsLoadDone kind seed image count mid → new.reads ≡ mid.reads → new.loose ≡ mid.loose → IsLoadDone kind seed image count new
 loaded_still kind seed image count mid new is reads loose = record {
   firm = still_firm mid new is.firm loose;
   load = subst (λ (x : Image). IsLoadedBy kind seed image count x) (sym reads) is.load;
   quiet = subst (λ (x : Image). IsQuiet x) (sym reads) is.quiet;
 }
 
-pub line_moments : (kind : PlaceKind) (seed : List ℕ) (count : ℕ) (old mid new : View) → IsLoaded kind seed old.reads count mid → mid.sent ≡ old.sent
+pub line_moments : (kind : PlaceKind) (seed : List ℕ) (count : ℕ) (old mid new : View) → IsLoadDone kind seed old.reads count mid → mid.sent ≡ old.sent
     → LeavesOnly old mid (λ x f. (StandAlike old.reads x ⊎ ((n : ℕ) × (n ≤ count) × IsLoadedBy kind seed old.reads n x)) × (f ≡ old.sent))
     → LeavesOnly mid new (IsLeftInPut (load_line kind seed old.reads count) mid) → LeavesOnly old new (IsLeftOfLoad kind seed count old)
 line_moments kind seed count old mid new is sent before putting =

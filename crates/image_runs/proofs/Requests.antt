@@ -20,7 +20,7 @@ use Rattle.rand_chacha.specs.ChaCha.{key_of}
 use Rattle.cap_store.specs.Seeds.{seed_pairs}
 use Rattle.load_gen.specs.Requests.{seed_request, request_of_words, request_of_kind, shown_at, stream_word, window, words_place}
 use Rattle.image_runs.specs.Load.{requests_of, loaded, loaded_replies, is_refused, grants, refusals}
-use Rattle.image_runs.specs.Applying.{HasApplied, IsNext, more_granted, more_refused}
+use Rattle.image_runs.specs.Applying.{HasApplied, IsRequestNext, more_granted, more_refused}
 
 -- ---- runs
 
@@ -152,7 +152,7 @@ counted_more : (f : Reply → Bool) (rs : List Reply) (r : Reply) → count_by f
 counted_more f rs r = sum_by_push (λ (x : Reply). cond (f x) 1 0) rs r
 
 pub applied_more : (kind : PlaceKind) (seed : List ℕ) (w : World) (n : ℕ) (s t : State) (q : Request) (granted refused all_granted all_refused : ℕ) → HasApplied kind seed w n s granted refused
-    → q ≡ seed_request seed w.geometry n → IsNext kind s q t granted refused all_granted all_refused → HasApplied kind seed w (n + 1) t all_granted all_refused
+    → q ≡ seed_request seed w.geometry n → IsRequestNext kind s q t granted refused all_granted all_refused → HasApplied kind seed w (n + 1) t all_granted all_refused
 applied_more kind seed w n s t q granted refused all_granted all_refused had asked next =
     let is = answer_is_step kind s q next.given.want (λ e. next.found (next.given.reply ∙ e)) in
     let stepped : step kind s q ≡ step kind (loaded kind seed w n) (seed_request seed w.geometry n) = ap (λ (u : State). step kind u q) had.state ∙ ap (λ (p : Request). step kind (loaded kind seed w n) p) asked in

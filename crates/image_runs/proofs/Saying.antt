@@ -12,7 +12,7 @@ use Rattle.recovery.specs.Opening.{StandAlike}
 use Rattle.tsd_words.specs.declared.status.Status.{Status}
 use Rattle.tsd_words.specs.declared.status.Status.TheVariants as status
 use Rattle.tsd_words.specs.Lines.{clean_line, clean_words, line_of}
-use Rattle.image_runs.specs.Sending.{IsCut, IsStopped}
+use Rattle.image_runs.specs.Sending.{ProperFrontWasSent, IsStopped}
 use Rattle.image_runs.specs.Check.{HasChecked, IsFinding, IsCheckFound, IsSaying}
 
 -- ---- what a crash leaves
@@ -67,8 +67,8 @@ unchecked status.Truncated image before now stops sent = absurd stops
 unchecked (status.RootDenied level) image before now stops sent = absurd stops
 
 -- a text that was cut, from what was sent before the work
-pub cut_from : (before mid : List ℕ) (text now : List ℕ) → mid ≡ before → IsCut mid text now → IsCut before text now
-cut_from before mid text now sent cut = subst (λ (b : List ℕ). IsCut b text now) sent cut
+pub cut_from : (before mid : List ℕ) (text now : List ℕ) → mid ≡ before → ProperFrontWasSent mid text now → ProperFrontWasSent before text now
+cut_from before mid text now sent cut = subst (λ (b : List ℕ). ProperFrontWasSent b text now) sent cut
 
 -- ---- a line put over a disk where nothing is loose
 

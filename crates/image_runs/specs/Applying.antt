@@ -14,7 +14,8 @@ use Rattle.image_runs.specs.Load.{is_refused, grants, refusals, loaded, loaded_r
 use Rattle.tsd_words.specs.declared.lines.Summary.{Summary}
 
 -- after so many requests over a world: the state, and how many were granted and how many refused
-pub record HasApplied (kind : PlaceKind) (seed : List ℕ) (w : World) (count : ℕ) (s : State) (granted refused : ℕ) : Type 0 where
+pub record HasApplied (kind : PlaceKind) (seed : List ℕ) (w : World) (count : ℕ) (s : State)
+    (granted refused : ℕ) : Type 0 where
   pub state : s ≡ loaded kind seed w count
   pub granted_are : granted ≡ grants (loaded_replies kind seed w count)
   pub refused_are : refused ≡ refusals (loaded_replies kind seed w count)
@@ -35,14 +36,17 @@ abbrev pub more_granted : Reply → ℕ
 more_granted r = cond (is_refused r) 0 1
 
 -- a request is given a reply, not for want of memory, and is counted
-pub record IsNext (kind : PlaceKind) (s : State) (q : Request) (t : State) (granted refused all_granted all_refused : ℕ) : Type 0 where
+pub record IsRequestNext (kind : PlaceKind) (s : State) (q : Request) (t : State)
+    (granted refused all_granted all_refused : ℕ) : Type 0 where
   pub reply : Reply
   pub given : IsAnswer kind s q reply t
   pub found : reply ≢ replied.NoMemory
   pub granted_are : all_granted ≡ granted + more_granted reply
   pub refused_are : all_refused ≡ refused + more_refused reply
 
--- a crash at any moment leaves the world after some of so many requests over the world at the start, and what was sent stays
+-- a crash at any moment leaves the world after some of so many requests over the world at the start, and what was sent
+-- stays
 abbrev pub LeavesRun : PlaceKind → List ℕ → ℕ → View → View → Type 0
 LeavesRun kind seed count old new =
-    LeavesOnly old new (λ x f. ((n : ℕ) × (n ≤ count) × Stands x (loaded kind seed (world_of old.reads) n).world) × (f ≡ old.sent))
+    LeavesOnly old new (λ x f. ((n : ℕ) × (n ≤ count) × Stands x (loaded kind seed (world_of old.reads) n).world)
+    × (f ≡ old.sent))

@@ -14,7 +14,7 @@ use Rattle.tsd_words.specs.declared.commands.Format.{Format}
 use Rattle.tsd_words.specs.declared.status.Status.{Status}
 use Rattle.tsd_words.specs.declared.status.Status.TheVariants as status
 use Rattle.tsd_words.specs.Lines.{cap_lines}
-use Rattle.image_runs.specs.Sending.{IsCut}
+use Rattle.image_runs.specs.Sending.{ProperFrontWasSent}
 
 -- the capabilities of the primary blocks, which the seed gives
 abbrev pub caps_of : Format → List CapPair
@@ -34,16 +34,18 @@ pub record IsFormatted (words : Format) (v : View) : Type 0 where
   pub stands : Stands v.reads (world_for words)
   pub quiet : IsQuiet v.reads
 
--- What it has done by the time that it ended so: the disk is formatted, and the lines are sent whole or a proper front of them;
--- or nothing is sent.
+-- What it has done by the time that it ended so: the disk is formatted, and the lines are sent whole or a proper front
+-- of them; or nothing is sent.
 abbrev pub HasFormatted : Status → Format → View → View → Type 0
 HasFormatted status.Done words old new = IsFormatted words new × (new.sent ≡ old.sent ++ lines_for words)
-HasFormatted status.PutFault words old new = IsFormatted words new × IsCut old.sent (lines_for words) new.sent
+HasFormatted status.PutFault words old new = IsFormatted words new
+    × ProperFrontWasSent old.sent (lines_for words) new.sent
 HasFormatted status.DeviceFault words old new = new.sent ≡ old.sent
 HasFormatted r words old new = ⊥
 
--- What a crash leaves: with nothing sent, what formatting leaves; wherever a byte was sent, the fresh world, and a front of the
--- lines is sent.
+-- What a crash leaves: with nothing sent, what formatting leaves; wherever a byte was sent, the fresh world, and a
+-- front of the lines is sent.
 abbrev pub IsLeftOfFormat : Format → View → Image → List ℕ → Type 0
 IsLeftOfFormat words old x f =
-    (IsFormatting old (world_for words) x f × (f ≡ old.sent)) ⊎ (Stands x (world_for words) × IsPart old.sent (lines_for words) f)
+    (IsFormatting old (world_for words) x f × (f ≡ old.sent))
+    ⊎ (Stands x (world_for words) × IsPart old.sent (lines_for words) f)

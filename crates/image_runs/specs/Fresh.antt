@@ -38,7 +38,8 @@ single_world geometry caps = fresh_world geometry (caps ∷ [])
 abbrev pub format_writes : Geometry → ℕ
 format_writes g = fresh_end g - 120
 
--- Formatting failed, or what it made wasn't opened: no request was asked, the source is as it was, and nothing was sent.
+-- Formatting failed, or what it made wasn't opened: no request was asked, the source is as it was, and nothing was
+-- sent.
 pub record NotServed (r : Status) (source : Taking) (port : Moments) (asked : List Request) : Type 0 where
   pub why : IsUnopened r
   pub untouched : source.untouched
@@ -52,25 +53,35 @@ pub record IsUnformatted (r : Status) (w : World) (old new : View) (asked : List
   pub sent : new.sent ≡ old.sent
   pub leaves : LeavesOnly old new (λ x f. IsFormatting old w x f × (f ≡ old.sent))
 
--- How a run over these requests ended. What was sent; what a crash at any moment may have left, with nothing sent also what
--- formatting leaves; and that the device failed in formatting, or else the disk was formatted at some moment, from which on a crash
--- leaves only what the replies say, however the run ended. A disk that was formatted is an image. How much is still to be reclaimed in what a crash leaves, and how often
--- was written besides the format, with no sweep among the requests; and after Done, what the disk is.
-pub record FreshEnds (r : Status) (v : Voice) (kind : PlaceKind) (w : World) (old new : View) (asked : List Request) (final : Placed) : Type 0 where
+-- How a run over these requests ended. What was sent; what a crash at any moment may have left, with nothing sent also
+-- what formatting leaves; and that the device failed in formatting, or else the disk was formatted at some moment, from
+-- which on a crash leaves only what the replies say, however the run ended. A disk that was formatted is an image. How
+-- much is still to be reclaimed in what a crash leaves, and how often was written besides the format, with no sweep
+-- among the requests; and after Done, what the disk is.
+pub record FreshEnds (r : Status) (v : Voice) (kind : PlaceKind) (w : World) (old new : View) (asked : List Request)
+    (final : Placed) : Type 0 where
   pub sent : ByStatus r (disk_service v) (fresh_start kind w) old.sent asked final new.sent
-  pub any_moment : LeavesOnly old new (λ x f. (IsFormatting old w x f × (f ≡ old.sent)) ⊎ IsAcknowledged (disk_service v) (fresh_start kind w) old.sent asked x f)
-  pub formatted : IsUnformatted r w old new asked ⊎ ((from : ℕ) × (old.clock ≤ from) × (from ≤ new.clock) × ((x : Image) (f : List ℕ) → new.left from x f → IsAcknowledged (disk_service v) (fresh_start kind w) old.sent asked x f))
+  pub any_moment : LeavesOnly old new (λ x f. (IsFormatting old w x f × (f ≡ old.sent))
+      ⊎ IsAcknowledged (disk_service v) (fresh_start kind w) old.sent asked x f)
+  pub formatted : IsUnformatted r w old new asked
+      ⊎ ((from : ℕ) × (old.clock ≤ from) × (from ≤ new.clock)
+      × ((x : Image) (f : List ℕ) → new.left from x f
+      → IsAcknowledged (disk_service v) (fresh_start kind w) old.sent asked x f))
   pub opens : (why : ImageFault) → r ≢ status.NotImage why
-  pub debt : All disk_work.bounded asked → LeavesOnly old new (λ x f. (IsFormatting old w x f × (f ≡ old.sent)) ⊎ HasDebt (disk_service v) disk_work (fresh_start kind w) old.sent 0 asked x f)
-  pub writes : IsPaidFor (disk_service v) disk_work (fresh_start kind w) old.sent asked new.sent (old.writes + format_writes w.geometry) new.writes
+  pub debt : All disk_work.bounded asked → LeavesOnly old new (λ x f. (IsFormatting old w x f × (f ≡ old.sent))
+      ⊎ HasDebt (disk_service v) disk_work (fresh_start kind w) old.sent 0 asked x f)
+  pub writes : IsPaidFor (disk_service v) disk_work (fresh_start kind w) old.sent asked new.sent
+      (old.writes + format_writes w.geometry) new.writes
   pub done : r ≡ status.Done → IsAtEase new final.state.world
 
 -- how promptly a run answered, the format besides
 abbrev pub IsPromptFresh : Status → Voice → PlaceKind → World → (Mark → Type 0) → View → View → Type 0
-IsPromptFresh r v kind w port old new = IsPromptFrom r v port (fresh_start kind w) old.sent ⊤ (old.writes + format_writes w.geometry) (mark new)
+IsPromptFresh r v kind w port old new =
+    IsPromptFrom r v port (fresh_start kind w) old.sent ⊤ (old.writes + format_writes w.geometry) (mark new)
 
 -- Bytes that came in, the requests that were asked by them, and how the run over these ended, where the port tells.
-pub record FreshRan (r : Status) (v : Voice) (p : Spelling Request) (kind : PlaceKind) (w : World) (limit : ℕ) (source : Taking) (port : Moments) : Type 0 where
+pub record FreshRan (r : Status) (v : Voice) (p : Spelling Request) (kind : PlaceKind) (w : World) (limit : ℕ)
+    (source : Taking) (port : Moments) : Type 0 where
   pub bytes : List ℕ
   pub came_in : source.came bytes
   pub asked : List Request

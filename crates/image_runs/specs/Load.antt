@@ -20,7 +20,7 @@ use Rattle.volume_laws.specs.Quiet.{IsQuiet}
 use Rattle.tsd_words.specs.declared.status.Status.{Status}
 use Rattle.tsd_words.specs.declared.status.Status.TheVariants as status
 use Rattle.tsd_words.specs.Lines.{line_of, load_words}
-use Rattle.image_runs.specs.Sending.{IsCut}
+use Rattle.image_runs.specs.Sending.{ProperFrontWasSent}
 
 -- the first requests of a seed for a disk of this size
 abbrev pub requests_of : List ℕ → Geometry → ℕ → List Request
@@ -57,23 +57,26 @@ pub record IsLoadedBy (kind : PlaceKind) (seed : List ℕ) (image : Image) (coun
   pub stands : Stands x (loaded kind seed (world_of image) count).world
 
 -- nothing is loose, the disk stands for the world after all requests, and nothing is left to be done
-pub record IsLoaded (kind : PlaceKind) (seed : List ℕ) (image : Image) (count : ℕ) (v : View) : Type 0 where
+pub record IsLoadDone (kind : PlaceKind) (seed : List ℕ) (image : Image) (count : ℕ) (v : View) : Type 0 where
   pub firm : IsFirm v
   pub load : IsLoadedBy kind seed image count v.reads
   pub quiet : IsQuiet v.reads
 
--- What it has done by the time that it ended so: all requests are carried out, and its line is sent whole or a proper front of it;
--- or nothing is sent.
+-- What it has done by the time that it ended so: all requests are carried out, and its line is sent whole or a proper
+-- front of it; or nothing is sent.
 abbrev pub HasLoaded : Status → PlaceKind → List ℕ → ℕ → View → View → Type 0
-HasLoaded status.Done kind seed count old new = IsLoaded kind seed old.reads count new × (new.sent ≡ old.sent ++ load_line kind seed old.reads count)
-HasLoaded status.PutFault kind seed count old new = IsLoaded kind seed old.reads count new × IsCut old.sent (load_line kind seed old.reads count) new.sent
+HasLoaded status.Done kind seed count old new =
+    IsLoadDone kind seed old.reads count new × (new.sent ≡ old.sent ++ load_line kind seed old.reads count)
+HasLoaded status.PutFault kind seed count old new =
+    IsLoadDone kind seed old.reads count new
+    × ProperFrontWasSent old.sent (load_line kind seed old.reads count) new.sent
 HasLoaded (status.NotImage why) kind seed count old new = IsFirstFault old.reads why × (new.sent ≡ old.sent)
 HasLoaded status.DeviceFault kind seed count old new = new.sent ≡ old.sent
 HasLoaded status.NoMemory kind seed count old new = new.sent ≡ old.sent
 HasLoaded r kind seed count old new = ⊥
 
--- What a crash leaves: with nothing sent, a world of the run of the requests, or none where there was none at the start; wherever a
--- byte was sent, the world after all requests, and a front of the line is sent.
+-- What a crash leaves: with nothing sent, a world of the run of the requests, or none where there was none at the
+-- start; wherever a byte was sent, the world after all requests, and a front of the line is sent.
 abbrev pub IsLeftOfLoad : PlaceKind → List ℕ → ℕ → View → Image → List ℕ → Type 0
 IsLeftOfLoad kind seed count old x f =
     ((StandAlike old.reads x ⊎ ((done : ℕ) × (done ≤ count) × IsLoadedBy kind seed old.reads done x)) × (f ≡ old.sent))

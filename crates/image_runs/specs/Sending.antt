@@ -4,8 +4,8 @@ use Rattle.tsd_words.specs.declared.status.Status.{Status}
 use Rattle.tsd_words.specs.declared.status.Status.TheVariants as status
 
 -- a proper front of a text was sent behind what was sent before
-abbrev pub IsCut : List ℕ → List ℕ → List ℕ → Type 0
-IsCut before text now = (count : ℕ) × (count < length text) × (now ≡ before ++ take count text)
+abbrev pub ProperFrontWasSent : List ℕ → List ℕ → List ℕ → Type 0
+ProperFrontWasSent before text now = (count : ℕ) × (count < length text) × (now ≡ before ++ take count text)
 
 -- A command that takes no input ends so: it did its work, the image stands for no world, a call on the device or a put
 -- failed, or there was no memory.

@@ -19,8 +19,8 @@ use Rattle.tsd_core.specs.Work.{made_in, cost_in}
 abbrev pub disk_rules : DiskRules
 disk_rules = model_rules Stands
 
--- how often is written at most before the reply to a request that is granted, where so much is left to be done: new blocks and a new
--- pointer may have to wait for that
+-- how often is written at most before the reply to a request that is granted, where so much is left to be done: new
+-- blocks and a new pointer may have to wait for that
 abbrev pub limit_with : ℕ → Request → ℕ
 limit_with owed (ask.Delete s a shown b) = 130
 limit_with owed (ask.Alloc s a shown h count) = 600 + 12 * owed

@@ -15,8 +15,9 @@ ghost use Rattle.tsd_core.specs.Applying.{next_world};
 ghost use Rattle.tsd_core.specs.Core.{IsCoreAt, IsCoreReady, state_on, told_world};
 ghost use Rattle.tsd_model.specs.declared.replies.Reply.TheVariants as replied;
 ghost use Rattle.image_runs.specs.Sending.{IsEnding, IsStopped};
-ghost use Rattle.image_runs.specs.Load.{HasLoaded, IsLeftOfLoad, IsLoaded, IsLoadedBy};
-ghost use Rattle.image_runs.specs.Applying.{HasApplied, IsNext, IsSummary, LeavesRun, more_granted, more_refused};
+ghost use Rattle.image_runs.specs.Load.{HasLoaded, IsLeftOfLoad, IsLoadDone, IsLoadedBy};
+ghost use Rattle.image_runs.specs.Applying.{HasApplied, IsRequestNext, IsSummary, LeavesRun, more_granted};
+ghost use Rattle.image_runs.specs.Applying.{more_refused};
 ghost use Rattle.image_runs.specs.Opened.{IsJudged, IsNotImage, IsUnopened};
 
 use crate::opening::open_volume;
@@ -100,7 +101,7 @@ fn carry_out<D: Device>(
     dev: &mut D,
 ) -> Result<Summary, Status>
     requires few { load.now.count ≤ 200000 }
-    ensures loaded { D.told → OnOk result (IsLoaded place.now.kind load.now.seed (D.view dev.old).reads load.now.count
+    ensures loaded { D.told → OnOk result (IsLoadDone place.now.kind load.now.seed (D.view dev.old).reads load.now.count
         (D.view dev.new)) }
     ensures summary { D.told
         → IfOk result (λ s. IsSummary place.now.kind load.now.seed (world_of (D.view dev.old).reads) load.now.count
@@ -144,7 +145,7 @@ fn run<D: Device>(
     requires at { D.told → IsCoreAt core.old (D.view dev.old) }
     requires start { D.told → state_on core.old (D.view dev.old).reads ≡ at_rest (world_of (D.view dev.old).reads) }
     requires draws { draws.old ≡ load_of load.now.seed (told_world core.old).geometry 0 }
-    ensures loaded { D.told → OnOk result (IsLoaded place.now.kind load.now.seed (D.view dev.old).reads load.now.count
+    ensures loaded { D.told → OnOk result (IsLoadDone place.now.kind load.now.seed (D.view dev.old).reads load.now.count
         (D.view dev.new)) }
     ensures summary { D.told
         → IfOk result (λ s. IsSummary place.now.kind load.now.seed (world_of (D.view dev.old).reads) load.now.count
@@ -224,7 +225,8 @@ fn apply_next<D: Device>(
     requires at { D.told → IsCoreAt core.old (D.view dev.old) }
     ensures ready { OnOk result (IsCoreReady core.new) }
     ensures at { D.told → OnOk result (IsCoreAt core.new (D.view dev.new)) }
-    ensures next { D.told → OnOk result (IsNext place.now.kind (state_on core.old (D.view dev.old).reads) request.now
+    ensures next { D.told
+        → OnOk result (IsRequestNext place.now.kind (state_on core.old (D.view dev.old).reads) request.now
         (state_on core.new (D.view dev.new).reads) tally.old.granted tally.old.refused tally.new.granted
         tally.new.refused) }
     ensures one { OnOk result (tally.new.granted + tally.new.refused ≡ tally.old.granted + tally.old.refused + 1) }

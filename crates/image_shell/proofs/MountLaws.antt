@@ -11,7 +11,7 @@ use Rattle.image_world.specs.Stands.{world_of}
 use Rattle.fs_trees.specs.Tree.{Tree, is_there}
 use Rattle.fs_trees.specs.Layouts.{tree_at}
 use Rattle.fs_trees.specs.declared.refusal.FsRefusal.{FsRefusal}
-use Rattle.fs_port.specs.View.{View}
+use Rattle.fs_port.specs.View.{DiskView}
 use Rattle.fs_port.specs.Calls.{IsValidNow, Stays}
 use Rattle.fs_port.specs.Files.{FilesView, IsTreeAlone, LeavesTidyWorld, OnAnswer, mounted_now, unmounted_now}
 use Rattle.fs_port.specs.Runs.{FindsTree, Runs}
@@ -29,10 +29,10 @@ there_or_not : {b : Bool} → IsTrue b → b ≡ false → ⊥
 there_or_not is not = let both : true ≡ false = sym is ∙ not in cc
 
 module _ (start : World) (f g : FilesView) (l m : ℕ × ℕ) (kind place : PlaceKind) (c0 c1 : Core) (v w : DeviceView) where
-  abbrev old : View
+  abbrev old : DiskView
   old = core_view l kind c0 v
 
-  abbrev new : View
+  abbrev new : DiskView
   new = core_view m place c1 w
 
   -- the tree of the world before

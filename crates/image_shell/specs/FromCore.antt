@@ -40,7 +40,8 @@ pub record IsAtStart (start : World) (c : Core) (v : View) : Type 0 where
   pub fits : Fits start (sessions_of c)
 
 -- Session 1 was begun. The world stays.
-pub record IsSessionBegun {X : Type 0} (told : Type 0) (start : World) (c0 c1 : Core) (v w : View) (result : Result X Status) : Type 0 where
+pub record IsSessionBegun {X : Type 0} (told : Type 0) (start : World) (c0 c1 : Core) (v w : View)
+    (result : Result X Status) : Type 0 where
   pub ready : OnOk result (IsCoreReady c1)
   pub begun : OnOk result (IsTrue (is_open (sessions_of c1) 1))
   pub like : OnOk result (AreLike (told_world c1) (told_world c0))
@@ -53,7 +54,8 @@ pub record IsSessionBegun {X : Type 0} (told : Type 0) (start : World) (c0 c1 : 
   pub faults : CountsFaultOf status.DeviceFault result v.faults w.faults
 
 -- A tree was mounted where one is there. The core may be used but after Device.
-pub record IsMounted {X : Type 0} (told : Type 0) (start : World) (f0 f1 : FilesView) (c0 c1 : Core) (v w : View) (result : Result X FsRefusal) : Type 0 where
+pub record IsMounted {X : Type 0} (told : Type 0) (start : World) (f0 f1 : FilesView) (c0 c1 : Core) (v w : View)
+    (result : Result X FsRefusal) : Type 0 where
   pub ready : OnAnswer result (AreReady f1 c1)
   pub at : told → OnAnswer result (FitsDevice (FitsShell start f1 c1) w)
   pub first : told → OnAnswer result (IsFirstState f0 start (shell_state f1 w.reads))
@@ -92,10 +94,12 @@ IsLetIn r = ⊤
 
 -- the image stands for the world at the start, or where the device failed, for one that mounting may leave of it
 abbrev pub IsAsAtStart : Status → FilesView → World → Image → Type 0
-IsAsAtStart r f start x = Stands x start ⊎ ((r ≡ status.DeviceFault) × IsLeftOf start (record { files = f; world = start }) x)
+IsAsAtStart r f start x = Stands x start ⊎ ((r ≡ status.DeviceFault)
+    × IsLeftOf start (record { files = f; world = start }) x)
 
 -- No ask was served.
-pub record NoAskServedFrom (r : Status) (f : FilesView) (source : Taking) (start : World) (port : Moments) (asked : List ShellAsk) : Type 0 where
+pub record NoAskServedFrom (r : Status) (f : FilesView) (source : Taking) (start : World) (port : Moments)
+    (asked : List ShellAsk) : Type 0 where
   pub why : IsNotServed r
   pub untouched : source.untouched
   pub none : asked ≡ []
@@ -112,16 +116,19 @@ pub record EndsFrom (r : Status) (f : FilesView) (start : World) (old new : View
   pub sent : ByStatus r (shell_service start) first old.sent asked final new.sent
   pub any_moment : LeavesOnly old new (IsAcknowledged (shell_service start) first old.sent asked)
   pub seen : (t : ℕ) → t ≤ old.clock → IsSeenRun (shell_service start) (new.left t) first old.sent asked new.sent
-  pub all_seen : r ≢ status.DeviceFault → (t : ℕ) (le : t ≤ old.clock) → (shell_service start).acked (seen t le).front ≡ 0
+  pub all_seen : r ≢ status.DeviceFault → (t : ℕ) (le : t ≤ old.clock)
+      → (shell_service start).acked (seen t le).front ≡ 0
   pub done : r ≡ status.Done → IsAtEase new final.world
 
 -- Bytes that came in, the asks that they hold, and how the run over these ended, where the port tells.
-pub record RanFrom (r : Status) (f : FilesView) (kind : ShellKind) (limit : ℕ) (source : Taking) (start : World) (port : Moments) : Type 0 where
+pub record RanFrom (r : Status) (f : FilesView) (kind : ShellKind) (limit : ℕ) (source : Taking) (start : World)
+    (port : Moments) : Type 0 where
   pub bytes : List ℕ
   pub came_in : source.came bytes
   pub asked : List ShellAsk
   pub these : NoAskServedFrom r f source start port asked
-      ⊎ (AskedBy r (shell_spelling kind) limit bytes source.at_end asked × (port.tells → EndsFrom r f start port.old port.new asked))
+      ⊎ (AskedBy r (shell_spelling kind) limit bytes source.at_end asked
+      × (port.tells → EndsFrom r f start port.old port.new asked))
 
 -- A count of faults rose only where the status is that fault's.
 pub record TellsFaults (r : Status) (source_before source_now : ℕ) (old new : View) : Type 0 where

@@ -30,16 +30,18 @@ use Rattle.shell_server.specs.Shell.{ShellState, IsKeptSince, IsLeftOf, IsTidyIn
 
 -- what a capability attains at a block of a world: nothing where that isn't primary
 abbrev pub level_at : World → ℕ → Cap → Level
-level_at w root cap = cond (nat_lt root w.geometry.primaries) (record_level (slice_get w.records root) (kept_of w.version cap)) level.Bare
+level_at w root cap =
+    cond (nat_lt root w.geometry.primaries) (record_level (slice_get w.records root) (kept_of w.version cap)) level.Bare
 
 -- it doesn't attain write, but this
 abbrev pub IsRootDenied : World → ℕ → Cap → Level → Type 0
 IsRootDenied w root cap attained = (attained ≡ level_at w root cap) × (attained ≢ level.Write)
 
--- What a status says of the image at the start: NotImage comes exactly where it stands for no world, and RootDenied exactly where
--- the capability doesn't attain write at the root.
+-- What a status says of the image at the start: NotImage comes exactly where it stands for no world, and RootDenied
+-- exactly where the capability doesn't attain write at the root.
 abbrev pub IsShellJudged : ℕ → Cap → Image → Status → Type 0
-IsShellJudged root cap image (status.RootDenied attained) = IsGood image × IsRootDenied (world_of image) root cap attained
+IsShellJudged root cap image (status.RootDenied attained) =
+    IsGood image × IsRootDenied (world_of image) root cap attained
 IsShellJudged root cap image (status.NotImage why) = IsJudged image (status.NotImage why)
 IsShellJudged root cap image status.DeviceFault = ⊤
 IsShellJudged root cap image status.NoMemory = ⊤
@@ -47,8 +49,8 @@ IsShellJudged root cap image r = IsGood image × (level_at (world_of image) root
 
 -- ---- where the run begins
 
--- The tree of the world at the start is mounted where one is there: the world has the same tree, what the root doesn't reach is as it
--- was, and it is tidy. Where none is there, nothing is mounted, and the world is as it was.
+-- The tree of the world at the start is mounted where one is there: the world has the same tree, what the root doesn't
+-- reach is as it was, and it is tidy. Where none is there, nothing is mounted, and the world is as it was.
 pub record IsFirstState (f : FilesView) (w : World) (s : ShellState) : Type 0 where
   pub files : s.files ≡ record f { mounted = is_there (tree_under f w) }
   pub tree : tree_under f s.world ≡ tree_under f w
@@ -66,35 +68,42 @@ IsNotServed status.NoMemory = ⊤
 IsNotServed status.DeviceFault = ⊤
 IsNotServed r = ⊥
 
--- The image stands for the world of the one at the start, or for none where that stands for none. Where the device failed, which it may
--- while a tree is mounted, the tree is as it was, and what the root doesn't reach.
+-- The image stands for the world of the one at the start, or for none where that stands for none. Where the device
+-- failed, which it may while a tree is mounted, the tree is as it was, and what the root doesn't reach.
 abbrev pub IsAsItWas : Status → FilesView → Image → Image → Type 0
-IsAsItWas r f old x = StandAlike old x ⊎ ((r ≡ status.DeviceFault) × IsLeftOf (world_of old) (record { files = f; world = world_of old }) x)
+IsAsItWas r f old x = StandAlike old x ⊎ ((r ≡ status.DeviceFault)
+    × IsLeftOf (world_of old) (record { files = f; world = world_of old }) x)
 
 -- No ask was served: none was taken, and nothing was sent. A crash at any moment leaves all as it was.
-pub record NoAskServed (r : Status) (f : FilesView) (source : Taking) (port : Moments) (asked : List ShellAsk) : Type 0 where
+pub record NoAskServed (r : Status) (f : FilesView) (source : Taking) (port : Moments)
+    (asked : List ShellAsk) : Type 0 where
   pub why : IsNotServed r
   pub untouched : source.untouched
   pub none : asked ≡ []
   pub sent : port.tells → port.new.sent ≡ port.old.sent
-  pub alike : port.tells → IsFirm port.old → LeavesOnly port.old port.new (λ x sent. IsAsItWas r f port.old.reads x × (sent ≡ port.old.sent))
+  pub alike : port.tells → IsFirm port.old → LeavesOnly port.old port.new (λ x sent. IsAsItWas r f port.old.reads x
+      × (sent ≡ port.old.sent))
 
--- How a run over these asks ended that began in that state: what was sent; where the disk was firm, what a crash at any moment may have
--- left, opening and mounting included; in which images the states of the run rested; and after Done, what the disk is.
+-- How a run over these asks ended that began in that state: what was sent; where the disk was firm, what a crash at any
+-- moment may have left, opening and mounting included; in which images the states of the run rested; and after Done,
+-- what the disk is.
 pub record ShellEnds (r : Status) (f : FilesView) (old new : View) (asked : List ShellAsk) : Type 0 where
   pub first : ShellState
   pub is_first : IsFirstState f (world_of old.reads) first
   pub final : ShellState
   pub sent : ByStatus r (shell_service (world_of old.reads)) first old.sent asked final new.sent
-  pub any_moment : IsFirm old → LeavesOnly old new (IsAcknowledged (shell_service (world_of old.reads)) first old.sent asked)
+  pub any_moment : IsFirm old
+      → LeavesOnly old new (IsAcknowledged (shell_service (world_of old.reads)) first old.sent asked)
   pub seen : IsSeenRun (shell_service (world_of old.reads)) (new.left old.clock) first old.sent asked new.sent
   pub all_seen : r ≢ status.DeviceFault → (shell_service (world_of old.reads)).acked seen.front ≡ 0
   pub done : r ≡ status.Done → IsAtEase new final.world
 
 -- Bytes that came in, the asks that they hold, and how the run over these ended, where the port tells.
-pub record ShellRan (r : Status) (kind : ShellKind) (root : ℕ) (cap : Cap) (limit : ℕ) (source : Taking) (port : Moments) : Type 0 where
+pub record ShellRan (r : Status) (kind : ShellKind) (root : ℕ) (cap : Cap) (limit : ℕ) (source : Taking)
+    (port : Moments) : Type 0 where
   pub bytes : List ℕ
   pub came_in : source.came bytes
   pub asked : List ShellAsk
   pub these : NoAskServed r (unmounted kind root cap) source port asked
-      ⊎ (AskedBy r (shell_spelling kind) limit bytes source.at_end asked × (port.tells → ShellEnds r (unmounted kind root cap) port.old port.new asked))
+      ⊎ (AskedBy r (shell_spelling kind) limit bytes source.at_end asked
+      × (port.tells → ShellEnds r (unmounted kind root cap) port.old port.new asked))

@@ -11,19 +11,23 @@ use Rattle.image_world.specs.Stands.{world_of}
 use Rattle.shell_server.specs.Shell.{ShellState, IsTidyIn, shell_service, tree_under}
 use Rattle.image_shell.specs.Served.{IsFirstState}
 
--- The tree of a state of the one run is the tree that the other begins with: mounted where it is there, in a tidy world, and with what
--- the root didn't reach at the start of the first run as it was then.
+-- The tree of a state of the one run is the tree that the other begins with: mounted where it is there, in a tidy
+-- world, and with what the root didn't reach at the start of the first run as it was then.
 pub record IsFoundAgain (start : World) (s second : ShellState) : Type 0 where
   pub tree : tree_under second.files second.world ≡ tree_under s.files s.world
   pub mounted : second.files.mounted ≡ is_there (tree_under s.files s.world)
   pub tidy : IsTidyIn second
   pub others : OthersStay s.files.root start second.world
 
--- A crash of a run from this world left this image, with these bytes sent. A run over that image, of the same layout and root, begins with
--- the tree after as many asks as whole answers were sent, or where there is one ask more, with that tree or the one after it.
+-- A crash of a run from this world left this image, with these bytes sent. A run over that image, of the same layout
+-- and root, begins with the tree after as many asks as whole answers were sent, or where there is one ask more, with
+-- that tree or the one after it.
 abbrev pub WhatACrashLeftIsMounted : Type 0
 WhatACrashLeftIsMounted =
-    (f : FilesView) (start : World) (first second : ShellState) (before : List ℕ) (asked : List ShellAsk) (x : Image) (sent : List ℕ)
-    → IsFirstState f start first → IsAcknowledged (shell_service start) first before asked x sent → IsFirstState f (world_of x) second
+    (f : FilesView) (start : World) (first second : ShellState) (before : List ℕ) (asked : List ShellAsk) (x : Image)
+    (sent : List ℕ)
+    → IsFirstState f start first → IsAcknowledged (shell_service start) first before asked x sent
+    → IsFirstState f (world_of x) second
     → ((b : IsBroken (shell_service start) first before asked sent) × IsFoundAgain start b.state second)
-    ⊎ ((c : IsCutOff (shell_service start) first before asked sent) × (IsFoundAgain start c.state second ⊎ IsFoundAgain start c.next second))
+    ⊎ ((c : IsCutOff (shell_service start) first before asked sent)
+    × (IsFoundAgain start c.state second ⊎ IsFoundAgain start c.next second))

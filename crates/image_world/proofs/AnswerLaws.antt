@@ -11,7 +11,7 @@ use Rattle.image_layout.specs.declared.fault.ImageFault.TheVariants as fault
 use Rattle.image_layout.specs.declared.fault.HeaderFault.{HeaderFault}
 use Rattle.image_layout.specs.declared.fault.HeaderFault.TheVariants.{Magic, Version, Field}
 use Rattle.image_layout.specs.Areas.{header_sector, format_gate}
-use Rattle.image_layout.specs.Header.{magic, header_of, IsVersion, IsSectors, IsPrimaries, IsFirstBad, IsReading}
+use Rattle.image_layout.specs.Header.{magic, header_of, IsVersion, IsSectors, IsPrimaries, IsFirstBad, IsHeaderReading}
 use Rattle.image_layout.specs.Image.{Image, is_open, is_marked, stored_count, source_field, target_field}
 use Rattle.intent_journal.specs.Home.{home}
 use Rattle.intent_journal.specs.Records.{has_valid_records}
@@ -98,7 +98,7 @@ lawful_or_bad g = elim (sectors_or_not g) [
   ]
 ]
 
-pub header_or_fault : (bytes : List ℕ) → IsReading bytes (Ok (header_of bytes)) ⊎ ((why : HeaderFault) × IsReading bytes (Err why))
+pub header_or_fault : (bytes : List ℕ) → IsHeaderReading bytes (Ok (header_of bytes)) ⊎ ((why : HeaderFault) × IsHeaderReading bytes (Err why))
 header_or_fault bytes = elim (same_numbers (take 8 bytes) magic) [
   | inr fails ↦ inr (Magic, fails)
   | inl does ↦ elim (version_or_not (header_of bytes).version) [

@@ -5,10 +5,10 @@ use Rattle.tsd_model.specs.declared.geometry.Geometry.{Geometry}
 use Rattle.tsd_model.specs.Geometry.{IsLawful}
 use Rattle.image_layout.specs.declared.fault.ImageFault.{ImageFault}
 use Rattle.image_layout.specs.declared.fault.ImageFault.TheVariants as fault
-use Rattle.image_layout.specs.Header.{IsReading}
+use Rattle.image_layout.specs.Header.{IsHeaderReading}
 use Rattle.image_layout.specs.Image.{Image}
 use Rattle.intent_journal.specs.Home.{home}
-use Rattle.pointer_table.specs.Loading.{HasNoBad, IsLeastBad, IsLeastRepeated}
+use Rattle.pointer_table.specs.Loading.{HasNoBad, IsLeastBadSlot, IsLeastRepeated}
 use Rattle.image_world.specs.Alike.{ReadAlike}
 use Rattle.image_world.specs.Faults.{IsLeastPrimary, IsLeastEnd, IsLeastCount, IsTableFault, IsDamaged, IsFirstFault}
 use Rattle.image_world.specs.Tables.{header_on}
@@ -18,7 +18,7 @@ use Rattle.image_world.proofs.AreaLaws.{SameAreas, same_marks, same_stored_count
 use Rattle.image_world.proofs.StandLaws.{bad_alike, no_bad_alike, repeated_alike, none_repeated_alike, primaries_alike, held_alike, marked_alike, ends_alike, found_alike, header_alike}
 
 module _ (g : Geometry) (x y : Image) (lawful : IsLawful g) (same : SameAreas g x y) (back : SameAreas g y x) where
-  slot_alike : (k s t : ℕ) → IsLeastBad x g k s t → IsLeastBad y g k s t
+  slot_alike : (k s t : ℕ) → IsLeastBadSlot x g k s t → IsLeastBadSlot y g k s t
   slot_alike k s t least = record {
     inside = least.inside;
     source_is = least.source_is ∙ sym (same_sources g x y same k least.inside);
@@ -79,7 +79,7 @@ damage_alike image y agree why p =
 pub fault_alike : (image y : Image) → ReadAlike image y → (why : ImageFault) → IsFirstFault image why → IsFirstFault y why
 fault_alike image y agree fault.NotFormatted p = agree.gate ∙ p
 fault_alike image y agree fault.Descriptor p = (agree.gate ∙ p.0, agree.journal ∙ p.1)
-fault_alike image y agree (fault.Header why) p = (agree.gate ∙ p.0, agree.journal ∙ p.1, subst (λ bytes. IsReading bytes (Err why)) (sym agree.homes.header) p.2)
+fault_alike image y agree (fault.Header why) p = (agree.gate ∙ p.0, agree.journal ∙ p.1, subst (λ bytes. IsHeaderReading bytes (Err why)) (sym agree.homes.header) p.2)
 fault_alike image y agree (fault.Slot k s t) p = damage_alike image y agree (fault.Slot k s t) p
 fault_alike image y agree (fault.Repeated a b) p = damage_alike image y agree (fault.Repeated a b) p
 fault_alike image y agree (fault.Primary b) p = damage_alike image y agree (fault.Primary b) p

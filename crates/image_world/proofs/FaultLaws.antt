@@ -11,15 +11,15 @@ use Rattle.image_layout.proofs.ReadingLaws.{one_fault as one_why}
 use Rattle.image_layout.specs.Image.{Image, is_open, is_marked, stored_count, source_field, target_field}
 use Rattle.intent_journal.specs.Home.{home}
 use Rattle.intent_journal.specs.Records.{has_valid_records}
-use Rattle.pointer_table.specs.Loading.{is_bad, is_bad_at, HasNoBad, IsLeastBad, IsLeastRepeated}
+use Rattle.pointer_table.specs.Loading.{is_bad, is_bad_at, HasNoBad, IsLeastBadSlot, IsLeastRepeated}
 use Rattle.image_world.specs.Faults.{HasPrimaries, HasEnds, HasCounts, AreRight, are_marked, found_count, IsLeastPrimary, IsLeastEnd, IsLeastCount, IsTableFault, IsGood, IsFirstFault}
 use Rattle.image_world.specs.Tables.{header_on}
 
 -- ---- a test that passes has no fault
-bad_there : (x : Image) (g : Geometry) (k s t : ℕ) → IsLeastBad x g k s t → is_bad_at x g k ≡ true
+bad_there : (x : Image) (g : Geometry) (k s t : ℕ) → IsLeastBadSlot x g k s t → is_bad_at x g k ≡ true
 bad_there x g k s t least = ap (λ a. is_bad g a (target_field x g k)) (sym least.source_is) ∙ (ap (is_bad g s) (sym least.target_is) ∙ least.bad)
 
-not_bad : (x : Image) (g : Geometry) (k s t : ℕ) → HasNoBad x g → IsLeastBad x g k s t → ⊥
+not_bad : (x : Image) (g : Geometry) (k s t : ℕ) → HasNoBad x g → IsLeastBadSlot x g k s t → ⊥
 not_bad x g k s t none least = both_ways (is_bad_at x g k) (none k least.inside) (bad_there x g k s t least)
 
 not_free : (x : Image) (g : Geometry) (b : ℕ) → HasPrimaries x g → IsLeastPrimary x g b → ⊥
@@ -32,7 +32,7 @@ not_counted : (x : Image) (g : Geometry) (b s f : ℕ) → HasCounts x g → IsL
 not_counted x g b s f all least = least.wrong (least.stored_is ∙ (all b least.inside ∙ sym least.found_is))
 
 -- ---- the least is one
-one_slot : (x : Image) (g : Geometry) (k s t j u v : ℕ) → IsLeastBad x g k s t → IsLeastBad x g j u v → fault.Slot k s t ≡ fault.Slot j u v
+one_slot : (x : Image) (g : Geometry) (k s t j u v : ℕ) → IsLeastBadSlot x g k s t → IsLeastBadSlot x g j u v → fault.Slot k s t ≡ fault.Slot j u v
 one_slot x g k s t j u v one other = elim (cases_order k j) [
   | inl same ↦
       let source : s ≡ u = one.source_is ∙ (ap (source_field x g) same ∙ sym other.source_is) in

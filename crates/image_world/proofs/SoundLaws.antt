@@ -10,11 +10,11 @@ use Rattle.tsd_model.specs.declared.geometry.Geometry.{Geometry}
 use Rattle.tsd_model.specs.Pairs.{count_to, holds}
 use Rattle.image_layout.specs.declared.header.Header.{Header}
 use Rattle.image_layout.specs.Areas.{header_sector, sweep_flag}
-use Rattle.image_layout.specs.Header.{IsReading}
+use Rattle.image_layout.specs.Header.{IsHeaderReading}
 use Rattle.image_layout.specs.Image.{Image, is_open, is_marked, stored_count, source_field, target_field}
 use Rattle.intent_journal.specs.Home.{home}
 use Rattle.pointer_table.specs.Slots.{slot_at, pairs_in}
-use Rattle.pointer_table.specs.Table.{IsWithin}
+use Rattle.pointer_table.specs.Table.{MayBeHeld}
 use Rattle.pointer_table.specs.Sectors.{slot_of, stored_slot}
 use Rattle.pointer_table.specs.Loading.{is_bad}
 use Rattle.pointer_table.proofs.LoadingLaws.{one_table, stored_elsewhere}
@@ -67,7 +67,7 @@ has_one t x sound had =
 -- it has them still where only other sectors change
 pub had_elsewhere : (t : Tables) (x y : Image) → AreSound t → y header_sector ≡ x header_sector → SameAreas t.geometry x y → HasTables t x → HasTables t y
 had_elsewhere t x y sound header same had = record {
-  header = subst (λ bytes. IsReading bytes (Ok (record { version = t.version; geometry = t.geometry }))) (sym header) had.header;
+  header = subst (λ bytes. IsHeaderReading bytes (Ok (record { version = t.version; geometry = t.geometry }))) (sym header) had.header;
   live = same_bits t.live t.geometry x y (λ n from to. same n (omega arith) (omega arith)) had.live;
   slots = stored_elsewhere t.slots t.geometry x y (λ n from to. same n (omega arith) (omega arith)) had.slots;
   counts = same_counts t.counts t.geometry x y (λ n from to. same n (omega arith) (omega arith)) had.counts;
@@ -76,7 +76,7 @@ had_elsewhere t x y sound header same had = record {
 }
 
 -- ---- the tests
-bad_within : (g : Geometry) (source target : ℕ) → ((e : ℕ × ℕ) → slot_of source target ≡ Some e → IsWithin g e) → is_bad g source target ≡ false
+bad_within : (g : Geometry) (source target : ℕ) → ((e : ℕ × ℕ) → slot_of source target ≡ Some e → MayBeHeld g e) → is_bad g source target ≡ false
 bad_within g source target within = elim (cases_eq source 0) [
   | inl none ↦ grind (arith, nat_tests)
   | inr some ↦
@@ -109,7 +109,7 @@ sound_right t x sound had = record {
     pairs : pairs_of t ≡ pairs_in (slots_on x g)
     pairs = ap pairs_in (one_table t.slots g x had.slots)
 
-    within_of : (a b : ℕ) → holds (pairs_in (slots_on x g)) a b ≡ true → IsWithin g (a, b)
+    within_of : (a b : ℕ) → holds (pairs_in (slots_on x g)) a b ≡ true → MayBeHeld g (a, b)
     within_of a b h = pair_within x g (λ k inside. bad_within g (source_field x g k) (target_field x g k) (λ e is. sound.slots.ends k e (sym (had.slots.each k inside) ∙ is))) a b h
 
 pub right_sound : (x : Image) → HasHeader x → AreRight x (header_on x).geometry → AreSound (tables_of x)
@@ -157,6 +157,6 @@ pub tables_good : (t : Tables) (image : Image) → IsFormatGateOpen image → Ha
 tables_good t image formatted journal sound had = record {
   formatted = formatted;
   journal = journal;
-  header = subst (λ h. IsReading (home image header_sector) (Ok h)) had.header.3 had.header;
+  header = subst (λ h. IsHeaderReading (home image header_sector) (Ok h)) had.header.3 had.header;
   tables = subst (λ (h : Header). AreRight (home image) h.geometry) had.header.3 (sound_right t (home image) sound had);
 }

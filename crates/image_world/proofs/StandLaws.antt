@@ -6,11 +6,11 @@ use Rattle.tsd_model.specs.declared.geometry.Geometry.{Geometry}
 use Rattle.tsd_model.specs.Geometry.{IsLawful}
 use Rattle.tsd_model.specs.Pairs.{count_to, holds}
 use Rattle.tsd_model.specs.World.{World}
-use Rattle.image_layout.specs.Header.{IsReading, header_of}
+use Rattle.image_layout.specs.Header.{IsHeaderReading, header_of}
 use Rattle.image_layout.specs.Image.{Image, source_field, target_field}
 use Rattle.intent_journal.specs.Home.{home}
 use Rattle.pointer_table.specs.Slots.{pairs_in}
-use Rattle.pointer_table.specs.Table.{IsWithin}
+use Rattle.pointer_table.specs.Table.{MayBeHeld}
 use Rattle.pointer_table.specs.Sectors.{stored_slot}
 use Rattle.pointer_table.specs.Loading.{is_bad, is_bad_at, HasNoBad, IsRepeatedOn}
 use Rattle.pointer_table.proofs.LoadLaws.{good_slot}
@@ -25,7 +25,7 @@ use Rattle.image_world.proofs.AreaLaws.{SameAreas, same_marks, same_slots, same_
 use Rattle.image_world.proofs.AlikeLaws.{alike_header, alike_tables, alike_raw}
 
 -- ---- pairs of slots of which none is bad
-pub pair_within : (x : Image) (g : Geometry) → HasNoBad x g → (a b : ℕ) → holds (pairs_in (slots_on x g)) a b ≡ true → IsWithin g (a, b)
+pub pair_within : (x : Image) (g : Geometry) → HasNoBad x g → (a b : ℕ) → holds (pairs_in (slots_on x g)) a b ≡ true → MayBeHeld g (a, b)
 pair_within x g good a b held =
     let found = slot_from_holds (slots_on x g) a b held in
     let long = length-map-range_with_len (stored_slot x g) 0 g.slots in
@@ -86,7 +86,7 @@ right_alike g x y lawful same right = record {
 
 -- ---- all of them
 pub header_alike : (x y : Image) → HasHeader x → AreAlike x y → HasHeader y
-header_alike x y right alike = subst (λ bytes. IsReading bytes (Ok (header_of bytes))) (sym alike.header) right
+header_alike x y right alike = subst (λ bytes. IsHeaderReading bytes (Ok (header_of bytes))) (sym alike.header) right
 
 pub good_alike : (image y : Image) → IsGood image → AreAlike (home image) (home y) → IsFormatGateOpen y → HasJournal y → IsGood y
 good_alike image y good alike formatted journal = record {

@@ -6,7 +6,7 @@ use Rattle.tsd_model.specs.declared.geometry.Geometry.{Geometry}
 use Rattle.image_device.specs.Image.{put_at}
 use Rattle.image_device.specs.View.{View}
 use Rattle.image_layout.specs.Areas.{header_sector, format_gate, sweep_flag, data_start}
-use Rattle.image_layout.specs.Header.{IsReading}
+use Rattle.image_layout.specs.Header.{IsHeaderReading}
 use Rattle.image_layout.specs.Places.{data_sector}
 use Rattle.image_layout.specs.Image.{Image, is_open, data_bytes, gate_bytes}
 use Rattle.image_layout.specs.declared.place.Patch.{Patch}
@@ -92,7 +92,7 @@ flag_turns t open_now sound = record {
   };
   size = refl;
   has = λ z had. let other = elsewhere z in record {
-    header = subst (λ bytes. IsReading bytes (Ok (record { version = t.version; geometry = t.geometry }))) (sym (other header_sector refl)) had.header;
+    header = subst (λ bytes. IsHeaderReading bytes (Ok (record { version = t.version; geometry = t.geometry }))) (sym (other header_sector refl)) had.header;
     live = same_bits t.live t.geometry z (now z) (λ n from to. other n (above n (omega arith))) had.live;
     slots = stored_elsewhere t.slots t.geometry z (now z) (λ n from to. other n (above n (omega arith))) had.slots;
     counts = same_counts t.counts t.geometry z (now z) (λ n from to. other n (above n (omega arith))) had.counts;

@@ -17,7 +17,7 @@ use Rattle.image_layout.specs.Image.{Image, sector_bytes, data_bytes}
 use Rattle.block_alloc.specs.LiveMap.{is_live as is_marked_in}
 use Rattle.image_world.specs.Written.{IsWritten}
 use Rattle.intent_journal.specs.Home.{home, is_journal}
-use Rattle.image_layout.specs.Header.{IsReading, header_of}
+use Rattle.image_layout.specs.Header.{IsHeaderReading, header_of}
 use Rattle.image_world.specs.Faults.{IsFormatGateOpen, HasJournal, HasHeader, AreRight}
 use Rattle.image_world.specs.Stands.{world_of, Stands}
 use Rattle.image_world.specs.Tables.{Tables, header_on, tables_of}
@@ -120,7 +120,7 @@ written_stands image y w b bytes stands live long written formatted journal =
       good = record {
         formatted = formatted;
         journal = journal;
-        header = subst (λ bs. IsReading bs (Ok (header_of bs))) (sym header) right;
+        header = subst (λ bs. IsHeaderReading bs (Ok (header_of bs))) (sym header) right;
         tables = subst (λ bs. AreRight (home y) (header_of bs).geometry) (sym header) (right_alike h.geometry x (home y) right.2 (written_areas h.geometry b bytes x (home y) written) stands.good.tables);
       };
       world =

@@ -49,12 +49,14 @@ UpgradesAreChange =
 -- Once the sweep flag is open, the swept world is left, and once it is closed, the settled one.
 abbrev pub FlagsAreChange : Type 0
 FlagsAreChange =
-    (t : Tables) (w : World) → (left_of (record t { is_sweeping = true }) w ≡ swept w) × (left_of (record t { is_sweeping = false }) w ≡ settle w)
+    (t : Tables) (w : World) → (left_of (record t { is_sweeping = true }) w ≡ swept w)
+    × (left_of (record t { is_sweeping = false }) w ≡ settle w)
 
 -- A block becomes live that has zeros, and a pair leads to it.
 abbrev pub BlocksAreChange : Type 0
 BlocksAreChange =
     (t : Tables) (slots : List (Option (ℕ × ℕ))) (counts : List ℕ) (a b : ℕ) (c : ℕ → List ℕ)
-    → b < t.geometry.blocks → length t.live ≡ t.geometry.blocks → pairs_in slots ≡ with_pair (a, b) (pairs_of t) → c b ≡ zeros_of t b
+    → b < t.geometry.blocks → length t.live ≡ t.geometry.blocks → pairs_in slots ≡ with_pair (a, b) (pairs_of t)
+    → c b ≡ zeros_of t b
     → world_with (record t { live = slice_set t.live b true; slots = slots; counts = counts }) c
     ≡ with_pointer (with_contents (world_with t c) b (zeros (world_with t c))) a b

@@ -16,7 +16,9 @@ TheSameStandForTheSame = (image y : Image) → IsTheSame image y → (w : World)
 abbrev pub TheSameOweTheSame : Type 0
 TheSameOweTheSame = (image y : Image) → HasHeader (home image) → IsTheSame image y → debt y ≡ debt image
 
--- What a crash leaves of a commit before its batch counts, and what emptying the ring leaves, stands for the world as it was.
+-- What a crash leaves of a commit before its batch counts, and what emptying the ring leaves, stands for the world as
+-- it was.
 abbrev pub BeforeStandsForTheOld : Type 0
 BeforeStandsForTheOld =
-    (image y : Image) → IsGood image → AgreeBut is_journal (home image) (home y) → HasJournal y → Stands y (world_of image)
+    (image y : Image) → IsGood image → AgreeBut is_journal (home image) (home y) → HasJournal y
+    → Stands y (world_of image)

@@ -5,10 +5,10 @@ use Rattle.tsd_model.specs.Pairs.{count_to, holds, pair_lt}
 use Rattle.image_layout.specs.declared.fault.ImageFault.{ImageFault}
 use Rattle.image_layout.specs.declared.fault.ImageFault.TheVariants as fault
 use Rattle.image_layout.specs.Areas.{header_sector, format_gate}
-use Rattle.image_layout.specs.Header.{IsReading}
+use Rattle.image_layout.specs.Header.{IsHeaderReading}
 use Rattle.image_layout.specs.Image.{Image, is_open, is_marked, stored_count}
 use Rattle.pointer_table.specs.Slots.{pairs_in}
-use Rattle.pointer_table.specs.Loading.{HasNoBad, IsLeastBad, IsRepeatedOn, IsLeastRepeated}
+use Rattle.pointer_table.specs.Loading.{HasNoBad, IsLeastBadSlot, IsRepeatedOn, IsLeastRepeated}
 use Rattle.intent_journal.specs.Home.{home}
 use Rattle.intent_journal.specs.Records.{has_valid_records}
 use Rattle.image_world.specs.Tables.{header_on, slots_on}
@@ -25,7 +25,7 @@ HasJournal image = has_valid_records image ≡ true
 
 -- 3: the header is right
 abbrev pub HasHeader : Image → Type 0
-HasHeader x = IsReading (x header_sector) (Ok (header_on x))
+HasHeader x = IsHeaderReading (x header_sector) (Ok (header_on x))
 
 -- 4: no slot is bad, which is `HasNoBad`. 5: no pair stands in two slots
 abbrev pub HasNoRepeated : Image → Geometry → Type 0
@@ -53,7 +53,8 @@ HasEnds x g = (e : ℕ × ℕ) → holds (pairs_in (slots_on x g)) e.0 e.1 ≡ t
 pub record IsLeastEnd (x : Image) (g : Geometry) (e : ℕ × ℕ) : Type 0 where
   pub held : holds (pairs_in (slots_on x g)) e.0 e.1 ≡ true
   pub free : are_marked x g e ≡ false
-  pub least : (f : ℕ × ℕ) → holds (pairs_in (slots_on x g)) f.0 f.1 ≡ true → are_marked x g f ≡ false → pair_lt f e ≡ false
+  pub least : (f : ℕ × ℕ) → holds (pairs_in (slots_on x g)) f.0 f.1 ≡ true → are_marked x g f ≡ false
+      → pair_lt f e ≡ false
 
 -- the number of pairs that lead to a block
 abbrev pub found_count : Image → Geometry → ℕ → ℕ
@@ -81,13 +82,13 @@ pub record AreRight (x : Image) (g : Geometry) : Type 0 where
   pub ends : HasEnds x g
   pub counts : HasCounts x g
 
--- The first of tests 4 to 8 that fails, with what fails it. Each fault comes exactly where its line holds, since no two of
--- them hold together.
+-- The first of tests 4 to 8 that fails, with what fails it. Each fault comes exactly where its line holds, since no two
+-- of them hold together.
 abbrev pub IsTableFault : Image → Geometry → ImageFault → Type 0
 IsTableFault x g fault.NotFormatted = ⊥
 IsTableFault x g fault.Descriptor = ⊥
 IsTableFault x g (fault.Header why) = ⊥
-IsTableFault x g (fault.Slot k source target) = IsLeastBad x g k source target
+IsTableFault x g (fault.Slot k source target) = IsLeastBadSlot x g k source target
 IsTableFault x g (fault.Repeated a b) = HasNoBad x g × IsLeastRepeated x g (a, b)
 IsTableFault x g (fault.Primary b) = HasNoBad x g × HasNoRepeated x g × IsLeastPrimary x g b
 IsTableFault x g (fault.EndNotLive a b) = HasNoBad x g × HasNoRepeated x g × HasPrimaries x g × IsLeastEnd x g (a, b)
@@ -112,7 +113,8 @@ pub record IsDamaged (image : Image) (why : ImageFault) : Type 0 where
 abbrev pub IsFirstFault : Image → ImageFault → Type 0
 IsFirstFault image fault.NotFormatted = is_open (image format_gate) ≡ false
 IsFirstFault image fault.Descriptor = IsFormatGateOpen image × (has_valid_records image ≡ false)
-IsFirstFault image (fault.Header why) = IsFormatGateOpen image × HasJournal image × IsReading (home image header_sector) (Err why)
+IsFirstFault image (fault.Header why) = IsFormatGateOpen image × HasJournal image
+    × IsHeaderReading (home image header_sector) (Err why)
 IsFirstFault image (fault.Slot k source target) = IsDamaged image (fault.Slot k source target)
 IsFirstFault image (fault.Repeated a b) = IsDamaged image (fault.Repeated a b)
 IsFirstFault image (fault.Primary b) = IsDamaged image (fault.Primary b)
@@ -123,7 +125,8 @@ IsFirstFault image (fault.Count b stored found) = IsDamaged image (fault.Count b
 
 -- Two faults of one image are the same, and an image that passes has none.
 abbrev pub FaultsAreOne : Type 0
-FaultsAreOne = (image : Image) (one other : ImageFault) → IsFirstFault image one → IsFirstFault image other → one ≡ other
+FaultsAreOne = (image : Image) (one other : ImageFault) → IsFirstFault image one → IsFirstFault image other
+    → one ≡ other
 
 abbrev pub GoodHasNoFault : Type 0
 GoodHasNoFault = (image : Image) (why : ImageFault) → IsGood image → ¬ IsFirstFault image why

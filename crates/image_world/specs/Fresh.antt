@@ -7,8 +7,9 @@ use Rattle.tsd_model.specs.Run.{fresh_world}
 use Rattle.image_device.specs.Image.{zeros}
 use Rattle.image_layout.specs.Places.{data_sector}
 use Rattle.image_layout.specs.Ring.{records}
-use Rattle.image_layout.specs.Areas.{header_sector, format_gate, sweep_flag, counts_start, bitmap_start, slots_start, data_start}
-use Rattle.image_layout.specs.Header.{IsReading}
+use Rattle.image_layout.specs.Areas.{header_sector, format_gate, sweep_flag, counts_start, bitmap_start, slots_start}
+use Rattle.image_layout.specs.Areas.{data_start}
+use Rattle.image_layout.specs.Header.{IsHeaderReading}
 use Rattle.image_layout.specs.Image.{Image, is_open}
 use Rattle.pointer_table.specs.Fresh.{fresh_slots}
 use Rattle.ref_counts.specs.Fresh.{fresh_counts}
@@ -38,7 +39,8 @@ fresh_tables g caps = record {
 abbrev pub AreClosed : Image → Type 0
 AreClosed x = (index : ℕ) → index < records → is_open_gate x index ≡ false
 
--- All that formatting writes but the format gate: the tables, zeros in the primary blocks, and closed gates of the journal.
+-- All that formatting writes but the format gate: the tables, zeros in the primary blocks, and closed gates of the
+-- journal.
 pub record IsWrittenFresh (g : Geometry) (caps : List CapPair) (x : Image) : Type 0 where
   pub tables : HasTables (fresh_tables g caps) x
   pub zeroed : (b part : ℕ) → b < g.primaries → part < g.sectors → x (data_sector g b part) ≡ zeros
@@ -46,7 +48,7 @@ pub record IsWrittenFresh (g : Geometry) (caps : List CapPair) (x : Image) : Typ
 
 -- The sectors of those tables as they are written: zeros for counts and slots, a bit for each primary block.
 pub record AreFreshSectors (g : Geometry) (caps : List CapPair) (x : Image) : Type 0 where
-  pub header : IsReading (x header_sector) (Ok (record { version = 1; geometry = g }))
+  pub header : IsHeaderReading (x header_sector) (Ok (record { version = 1; geometry = g }))
   pub flag : is_open (x sweep_flag) ≡ false
   pub kept : AreKept 1 (fresh_records caps) x
   pub counts : (n : ℕ) → counts_start ≤ n → n < bitmap_start g → x n ≡ zeros
@@ -57,12 +59,14 @@ pub record AreFreshSectors (g : Geometry) (caps : List CapPair) (x : Image) : Ty
 
 -- Such sectors have those tables.
 abbrev pub FreshSectorsHaveTheTables : Type 0
-FreshSectorsHaveTheTables = (g : Geometry) (caps : List CapPair) (x : Image) → IsLawful g → AreFreshSectors g caps x → HasTables (fresh_tables g caps) x
+FreshSectorsHaveTheTables = (g : Geometry) (caps : List CapPair) (x : Image) → IsLawful g → AreFreshSectors g caps x
+    → HasTables (fresh_tables g caps) x
 
 -- With an open format gate the image stands for the fresh world.
 abbrev pub FormattedStandsForFresh : Type 0
 FormattedStandsForFresh =
-    (g : Geometry) (caps : List CapPair) (x : Image) → IsLawful g → length caps ≡ g.primaries → IsWrittenFresh g caps x → IsFormatGateOpen x
+    (g : Geometry) (caps : List CapPair) (x : Image) → IsLawful g → length caps ≡ g.primaries → IsWrittenFresh g caps x
+    → IsFormatGateOpen x
     → Stands x (fresh_world g caps)
 
 -- Whatever the gate's sector holds, the image is not formatted or stands for the fresh world.

@@ -9,8 +9,8 @@ use Rattle.image_world.specs.declared.tables.ImageTables.{ImageTables}
 use Rattle.image_world.specs.Loaded.{AreStored}
 
 -- Where neither memory nor the device is at fault, each answer comes exactly where its line holds, since no two of them
--- hold together: the tables where the tests of slots, primary blocks, ends and counts pass, else the first of these tests
--- that fails, with what fails it.
+-- hold together: the tables where the tests of slots, primary blocks, ends and counts pass, else the first of these
+-- tests that fails, with what fails it.
 abbrev pub AnswersTables : Image → Header → Result ImageTables LoadFault → Type 0
 AnswersTables x h (Ok t) = AreRight x h.geometry × AreStored h t x
 AnswersTables x h (Err fault.NoMemory) = ⊤

@@ -2,7 +2,7 @@
 use Rattle.std.specs.Prelude.{◌≡◌, ℕ, ◌<◌, ◌&&◌, true, length, slice_index, Ok}
 use Rattle.tsd_model.specs.Pairs.{count_to, holds}
 use Rattle.image_layout.specs.Areas.{header_sector, sweep_flag}
-use Rattle.image_layout.specs.Header.{IsVersion, IsReading}
+use Rattle.image_layout.specs.Header.{IsVersion, IsHeaderReading}
 use Rattle.image_layout.specs.Image.{Image, is_open}
 use Rattle.intent_journal.specs.Home.{home}
 use Rattle.pointer_table.specs.Table.{IsTable}
@@ -16,7 +16,7 @@ use Rattle.image_world.specs.Tables.{Tables, pairs_of, header_on, tables_of}
 
 -- The sectors have these tables: the header is right and gives their version and size, and each table is stored.
 pub record HasTables (t : Tables) (x : Image) : Type 0 where
-  pub header : IsReading (x header_sector) (Ok (record { version = t.version; geometry = t.geometry }))
+  pub header : IsHeaderReading (x header_sector) (Ok (record { version = t.version; geometry = t.geometry }))
   pub live : AreBits t.live t.geometry x
   pub slots : AreSlots t.slots t.geometry x
   pub counts : AreCounts t.counts t.geometry x
@@ -54,4 +54,5 @@ RightTablesAreSound = (x : Image) → HasHeader x → AreRight x (header_on x).g
 
 abbrev pub SoundTablesPass : Type 0
 SoundTablesPass =
-    (t : Tables) (image : Image) → IsFormatGateOpen image → HasJournal image → AreSound t → HasTables t (home image) → IsGood image
+    (t : Tables) (image : Image) → IsFormatGateOpen image → HasJournal image → AreSound t → HasTables t (home image)
+    → IsGood image

@@ -1,5 +1,6 @@
 -- The tests on tables in memory.
-use Rattle.std.specs.Prelude.{◌≡◌, ◌≢◌, ℕ, ◌<◌, ◌==◌, ◌&&◌, if◌then◌else◌, Bool, true, false, List, count_by, slice_index, Option, Some, None}
+use Rattle.std.specs.Prelude.{◌≡◌, ◌≢◌, ℕ, ◌<◌, ◌==◌, ◌&&◌, if◌then◌else◌, Bool, true, false, List, count_by}
+use Rattle.std.specs.Prelude.{slice_index, Option, Some, None}
 use Rattle.tsd_model.specs.Pairs.{holds, pair_lt, count_to}
 use Rattle.pointer_table.specs.Slots.{slot_at}
 use Rattle.pointer_table.specs.Table.{Table as Pointers, pairs}

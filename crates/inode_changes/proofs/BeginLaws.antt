@@ -16,7 +16,7 @@ use Rattle.fs_trees.specs.declared.refusal.FsRefusal.{FsRefusal}
 use Rattle.fs_trees.specs.declared.refusal.FsRefusal.TheVariants as no
 use Rattle.fs_laws.proofs.InodeLaws.{inodes_under_root}
 use Rattle.fs_laws.proofs.TreeLaws.{read_from_named}
-use Rattle.fs_port.specs.View.{View}
+use Rattle.fs_port.specs.View.{DiskView}
 use Rattle.fs_port.specs.Calls.{IsValidNow, Stays}
 use Rattle.fs_client.specs.declared.client.Client.{Client}
 use Rattle.fs_client.specs.Client.{alloc_by, unlink_by}
@@ -35,7 +35,7 @@ use Rattle.inode_changes.proofs.FillLaws.{aside_now, took_some}
 use Rattle.inode_changes.proofs.ShareLaws.{fault_before}
 use Rattle.inode_changes.proofs.BackLaws.{taken_back}
 
-pub began_so : (c : Client) (old new : View) (d i : ℕ) → Stage c.root old.world d → IsValidNow old → MayWrite c old d → chosen old.kind old.world (At d) 1 ≡ i ∷ []
+pub began_so : (c : Client) (old new : DiskView) (d i : ℕ) → Stage c.root old.world d → IsValidNow old → MayWrite c old d → chosen old.kind old.world (At d) 1 ≡ i ∷ []
     → Went c old new (alloc_by c d 1) d (taken old d 1) → Stays old new → Began c old new d i
 began_so c old new d i at now may only went stays =
     let took = took_some c old d 1 now new may went stays in
@@ -67,7 +67,7 @@ as_it_was root first d at = record {
 }
 
 -- the block is taken, or it isn't
-pub stop_at_take : (c : Client) (old : View) (d : ℕ) → Stage c.root old.world d → (w : World) → (w ≡ old.world) ⊎ ((w ≡ taken old d 1) × Leads old.world (alloc_by c d 1) (taken old d 1)) → IsAside c.root old.world w
+pub stop_at_take : (c : Client) (old : DiskView) (d : ℕ) → Stage c.root old.world d → (w : World) → (w ≡ old.world) ⊎ ((w ≡ taken old d 1) × Leads old.world (alloc_by c d 1) (taken old d 1)) → IsAside c.root old.world w
 stop_at_take c old d at w h = elim h [
   | inl before ↦ subst (IsAside c.root old.world) (sym before) (as_it_was c.root old.world d at)
   | inr after ↦ subst (IsAside c.root old.world) (sym after.0) (record {

@@ -23,7 +23,7 @@ use Rattle.fs_trees.specs.declared.ask.ShellAsk.TheVariants as ask
 use Rattle.fs_trees.specs.declared.ask.ShellKind.TheVariants as kind
 use Rattle.fs_trees.specs.declared.refusal.FsRefusal.{FsRefusal}
 use Rattle.fs_trees.specs.declared.refusal.FsRefusal.TheVariants as no
-use Rattle.fs_port.specs.View.{View}
+use Rattle.fs_port.specs.View.{DiskView}
 use Rattle.fs_port.specs.Calls.{IsValidNow, Stays}
 use Rattle.fs_client.specs.declared.client.Client.{Client}
 use Rattle.fs_client.specs.May.{Looked, OnlyLooks}
@@ -45,7 +45,7 @@ use Rattle.inode_changes.proofs.MakeLaws.{dir_lost, dir_taken}
 use Rattle.inode_changes.specs.Directories.{IsVacant}
 use Rattle.inode_changes.proofs.SpotLaws.{said_in_order}
 use Rattle.inode_changes.specs.declared.content.Content.{Content}
-use Rattle.inode_changes.specs.Content.{shared_count, shared_of, new_bytes, new_count, all_count, HasRoom, IsFor}
+use Rattle.inode_changes.specs.Content.{shared_count, shared_of, new_bytes, new_count, all_count, FitsInode, IsFor}
 use Rattle.inode_changes.specs.Entering as entering
 use Rattle.inode_changes.specs.Entering.{Grounds, AreOfFiles}
 use Rattle.inode_changes.specs.NewFile.{bytes_of}
@@ -85,7 +85,7 @@ module _ (g : Geometry) (t : Tree) (free held : ℕ) (n : Need) (there : is_ther
       by_way (Some r) f k = absurd (cc)
       by_way None f k = passes_by t p (no_file t p ∷ behind) f ∙ none_first (no_file t p) behind k
 
-module _ (c : Client) (v : View) (path new : Path) (there : is_there (tree_of c v) ≡ true) where
+module _ (c : Client) (v : DiskView) (path new : Path) (there : is_there (tree_of c v) ≡ true) where
   abbrev wanted : Need
   wanted = need_of kind.Inode v.world c.root (tree_of c v) (ask.Copy path new)
 
@@ -105,7 +105,7 @@ module _ (c : Client) (v : View) (path new : Path) (there : is_there (tree_of c 
 -- ---- after looks
 
 -- the client may still ask
-pub asks_still : {X : Type 0} (told : Type 0) (c : Client) (old new : View) (x : X) → OnlyLooks told old new (Ok x) → MayAsk told c old → MayAsk told c new
+pub asks_still : {X : Type 0} (told : Type 0) (c : Client) (old new : DiskView) (x : X) → OnlyLooks told old new (Ok x) → MayAsk told c old → MayAsk told c new
 asks_still told c old new x looks may = record {
   ready = record {
     unspent = looks.unspent.0;
@@ -118,7 +118,7 @@ asks_still told c old new x looks may = record {
   tree = λ t. ap (λ w. is_there (inode_tree w c.root)) (looks.looked t).0.world ∙ may.tree t;
 }
 
-at_still : (c : Client) (old new : View) (path : Path) (file : Found) → Looked old new → Stays old new → IsValidNow old → StandsAtPath c old path file → StandsAtPath c new path file
+at_still : (c : Client) (old new : DiskView) (path : Path) (file : Found) → Looked old new → Stays old new → IsValidNow old → StandsAtPath c old path file → StandsAtPath c new path file
 at_still c old new path file seen stays now x = record {
   more = x.more;
   levels = x.levels;
@@ -127,7 +127,7 @@ at_still c old new path file seen stays now x = record {
 }
 
 -- the file was found first, and then the place
-pub copies_now : (c : Client) (first mid v : View) (path : Path) (file : Found) (new : Path) (place : Place) → is_there (tree_of c first) ≡ true → c.root < first.world.geometry.primaries → is_path new ≡ true
+pub copies_now : (c : Client) (first mid v : DiskView) (path : Path) (file : Found) (new : Path) (place : Place) → is_there (tree_of c first) ≡ true → c.root < first.world.geometry.primaries → is_path new ≡ true
     → Looked first mid → StandsAtPath c mid path file → ◌≡◌ {A = Option FsRefusal} (no_file_found (tree_of c first) path) None
     → Looked mid v → Stays mid v → IsPlace c v new place → place.old ≡ None → ◌≡◌ {A = Option FsRefusal} (no_place_found (tree_of c mid) new no.Exists) None → Copies c v path file new place
 copies_now c first mid v path file new place there primary new_is seen found way seen_on stays place_is vacant new_way =
@@ -145,7 +145,7 @@ copies_now c first mid v path file new place there primary new_is seen found way
 
 -- ---- at the place of the copy
 
-module _ (c : Client) (v : View) (path : Path) (file : Found) (new : Path) (place : Place) (x : Copies c v path file new place) (dir : is_directory (inode_of place.directory.inode) ≡ true) (now : IsValidNow v) where
+module _ (c : Client) (v : DiskView) (path : Path) (file : Found) (new : Path) (place : Place) (x : Copies c v path file new place) (dir : is_directory (inode_of place.directory.inode) ≡ true) (now : IsValidNow v) where
   abbrev t : Tree
   t = tree_of c v
 
@@ -155,13 +155,13 @@ module _ (c : Client) (v : View) (path : Path) (file : Found) (new : Path) (plac
   vacant : IsVacant c v new place
   vacant = record { primary = x.primary; there = x.there; path_is = x.new_is; found = x.new_place; vacant = x.vacant; way = x.new_way }
 
-  pub grounds : entering.HasRoom place.directory.inode place.name.now → Grounds c.root v.world new place
+  pub grounds : entering.DirectoryHasRoom place.directory.inode place.name.now → Grounds c.root v.world new place
   grounds = making.grounds c v new place vacant dir now
 
   pub full_refuses : nat_le (entries_room (block_len_of place.directory.inode)) (length (blocks_said (inode_of place.directory.inode))) ≡ true → refused_on (mounted_by c) v (ask.Copy path new) ≡ Some no.DirFull
   full_refuses full = as_dir c v path new x.there x.way ∙ making.full_asks c v new place vacant dir (need_of kind.Inode v.world c.root t (ask.Copy path new)) full
 
-  pub roomy_asks : entering.HasRoom place.directory.inode place.name.now → refused_on (mounted_by c) v (ask.Copy path new) ≡ first_of (no_room g (free_count v.world) (length v.world.pairs) (need_of kind.Inode v.world c.root t (ask.Copy path new)))
+  pub roomy_asks : entering.DirectoryHasRoom place.directory.inode place.name.now → refused_on (mounted_by c) v (ask.Copy path new) ≡ first_of (no_room g (free_count v.world) (length v.world.pairs) (need_of kind.Inode v.world c.root t (ask.Copy path new)))
   roomy_asks room = as_dir c v path new x.there x.way ∙ making.roomy_asks c v new place vacant dir (need_of kind.Inode v.world c.root t (ask.Copy path new)) room
 
 -- ---- what the new file is made of
@@ -200,7 +200,7 @@ module _ (inode : layout.Inode) (no_dir : is_directory (inode_of inode) ≡ fals
   pub all_is : all_count content ≡ inode.count
   all_is = let one = shares in let two = no_new in omega (arith, one, two)
 
-  pub has_room : block_len_of inode ≤ 4096 → HasRoom content
+  pub has_room : block_len_of inode ≤ 4096 → FitsInode content
   has_room most =
       let none = ap length k.before in
       let no_bytes = ap length k.added in
@@ -213,7 +213,7 @@ module _ (inode : layout.Inode) (no_dir : is_directory (inode_of inode) ≡ fals
       }
 
 -- where it tells
-module _ (c : Client) (v : View) (path : Path) (file : Found) (new : Path) (place : Place) (x : Copies c v path file new place) (no_dir : is_directory (inode_of file.inode) ≡ false) (dir : is_directory (inode_of place.directory.inode) ≡ true) (now : IsValidNow v)
+module _ (c : Client) (v : DiskView) (path : Path) (file : Found) (new : Path) (place : Place) (x : Copies c v path file new place) (no_dir : is_directory (inode_of file.inode) ≡ false) (dir : is_directory (inode_of place.directory.inode) ≡ true) (now : IsValidNow v)
     (content : Content) (k : IsCopied file.inode content) where
   abbrev blocks : List ℕ
   blocks = blocks_said (inode_of file.inode)
@@ -285,7 +285,7 @@ module _ (c : Client) (v : View) (path : Path) (file : Found) (new : Path) (plac
       one_more = let some = no_new file.inode no_dir whole content k in omega (arith, some)
 
   -- what is refused for want of room
-  pub room_refuses : entering.HasRoom place.directory.inode place.name.now → refused_on (mounted_by c) v (ask.Copy path new) ≡ no_room_in v.world (1 + new_count content) (1 + all_count content)
+  pub room_refuses : entering.DirectoryHasRoom place.directory.inode place.name.now → refused_on (mounted_by c) v (ask.Copy path new) ≡ no_room_in v.world (1 + new_count content) (1 + all_count content)
   room_refuses room =
       roomy_asks c v path file new place x dir now room
       ∙ ap (λ n. first_of (no_room v.world.geometry (free_count v.world) (length v.world.pairs) n)) need_is

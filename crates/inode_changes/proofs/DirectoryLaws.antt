@@ -9,7 +9,7 @@ use Rattle.tsd_model.specs.Valid.{IsValid}
 use Rattle.fs_trees.specs.Step.{empty_tree}
 use Rattle.fs_trees.specs.Inode.{directory, inode_in, inode_bytes}
 use Rattle.fs_trees.specs.InodeTree.{inode_at}
-use Rattle.fs_port.specs.View.{View}
+use Rattle.fs_port.specs.View.{DiskView}
 use Rattle.fs_client.specs.declared.client.Client.{Client}
 use Rattle.fs_client.specs.Client.{write_by}
 use Rattle.fs_client.specs.Steps.{Leads, Went, written}
@@ -17,10 +17,10 @@ use Rattle.fs_client.proofs.WriteLaws.{block_long, written_here}
 use Rattle.inode_layout.proofs.BackLaws.{reads_back}
 use Rattle.inode_changes.specs.Beginning.{Began}
 use Rattle.inode_changes.specs.Filling.{Stage, IsAside}
-use Rattle.inode_changes.specs.Entering.{IsMade}
+use Rattle.inode_changes.specs.Entering.{IsMadeInode}
 use Rattle.inode_changes.proofs.FillLaws.{made_by_one, stop_at_one}
 
-module _ (c : Client) (old mid : View) (d i : ℕ) (at : Stage c.root old.world d) (b : Began c old mid d i) where
+module _ (c : Client) (old mid : DiskView) (d i : ℕ) (at : Stage c.root old.world d) (b : Began c old mid d i) where
   among : has_number (i ∷ []) i ≡ true
   among = or_left (i == i) _ (eq-eqb i i refl)
 
@@ -36,8 +36,8 @@ module _ (c : Client) (old mid : View) (d i : ℕ) (at : Stage c.root old.world 
       let zero = inode_bytes (directory []) in
       ap (option_and_then (inode_in len)) (written_here mid.world i zero b.inode.live) ∙ reads_back len (directory []) (replicate (len - length zero) 0) (omega arith, omega arith, refl) refl
 
-  pub made_so : (new : View) → Went c mid new (write_by c i (inode_bytes (directory []))) i (written mid.world i (inode_bytes (directory []))) → IsMade c.root old.world d i empty_tree new.world
-  made_so new went = subst (IsMade c.root old.world d i empty_tree) (sym went.world) (record {
+  pub made_so : (new : DiskView) → Went c mid new (write_by c i (inode_bytes (directory []))) i (written mid.world i (inode_bytes (directory []))) → IsMadeInode c.root old.world d i empty_tree new.world
+  made_so new went = subst (IsMadeInode c.root old.world d i empty_tree) (sym went.world) (record {
     inode = directory [];
     shared = [];
     fresh = [];

@@ -7,7 +7,7 @@ use Rattle.fs_trees.specs.Answer.{done}
 use Rattle.fs_trees.specs.Step.{change}
 use Rattle.fs_trees.specs.declared.ask.ShellAsk.{ShellAsk}
 use Rattle.fs_trees.specs.declared.refusal.FsRefusal.{FsRefusal}
-use Rattle.fs_port.specs.View.{View}
+use Rattle.fs_port.specs.View.{DiskView}
 use Rattle.fs_port.specs.Files.{Answers, IsEitherTree, LeavesTidyWorld}
 use Rattle.fs_client.specs.declared.client.Client.{Client}
 use Rattle.fs_client.specs.Changing.{refused_on}
@@ -17,10 +17,10 @@ use Rattle.inode_changes.specs.Filling.{IsAside}
 use Rattle.inode_changes.specs.Entering.{HasMade, HasEither}
 
 -- a stop before the deciding write
-pub either_aside : (c : Client) (v : View) (a : ShellAsk) (w : World) → IsAside c.root v.world w → IsEitherTree (mounted_by c) v a w
+pub either_aside : (c : Client) (v : DiskView) (a : ShellAsk) (w : World) → IsAside c.root v.world w → IsEitherTree (mounted_by c) v a w
 either_aside c v a w h = (inl h.tree, record { valid = h.valid; geometry = h.geometry; others = h.others })
 
-module _ (c : Client) (v : View) (a : ShellAsk) (path : Path) (none : ◌≡◌ {A = Option FsRefusal} (refused_on (mounted_by c) v a) None) (is_done : (change (tree_of c v) (free_count v.world) a).answer ≡ done) where
+module _ (c : Client) (v : DiskView) (a : ShellAsk) (path : Path) (none : ◌≡◌ {A = Option FsRefusal} (refused_on (mounted_by c) v a) None) (is_done : (change (tree_of c v) (free_count v.world) a).answer ≡ done) where
   -- a stop behind it, too
   pub either_entered : (w : World) (x : Tree) → (change (tree_of c v) (free_count v.world) a).tree ≡ with_at path x (tree_of c v) → HasEither c.root v.world path x w → IsEitherTree (mounted_by c) v a w
   either_entered w x is h = (
@@ -31,8 +31,8 @@ module _ (c : Client) (v : View) (a : ShellAsk) (path : Path) (none : ◌≡◌ 
     record { valid = h.valid; geometry = h.geometry; others = h.others },
   )
 
-  pub answers_entered : (new : View) (x : Tree) → (change (tree_of c v) (free_count v.world) a).tree ≡ with_at path x (tree_of c v) → HasMade c.root v.world path x new.world → Answers {X = Unit {0}} (mounted_by c) v new a (Ok tt) (λ _ answer. answer ≡ done)
+  pub answers_entered : (new : DiskView) (x : Tree) → (change (tree_of c v) (free_count v.world) a).tree ≡ with_at path x (tree_of c v) → HasMade c.root v.world path x new.world → Answers {X = Unit {0}} (mounted_by c) v new a (Ok tt) (λ _ answer. answer ≡ done)
   answers_entered new x is h = ask_done (mounted_by c) v new a tt none is_done (h.tree ∙ sym is)
 
-pub left_entered : (c : Client) (v new : View) (path : Path) (x : Tree) → HasMade c.root v.world path x new.world → new.spent ≡ false → LeavesTidyWorld (mounted_by c) v new
+pub left_entered : (c : Client) (v new : DiskView) (path : Path) (x : Tree) → HasMade c.root v.world path x new.world → new.spent ≡ false → LeavesTidyWorld (mounted_by c) v new
 left_entered c v new path x h unspent = record { unspent = unspent; tidy = h.tidy; others = h.others; taken = h.taken }

@@ -23,11 +23,11 @@ use Rattle.inode_changes.proofs.SpotLaws.{order}
 use Rattle.inode_changes.proofs.ListingLaws.{named_with}
 use Rattle.inode_changes.proofs.RemoveLaws.{directory_length}
 use Rattle.inode_changes.proofs.MakingLaws.{tree_same}
-use Rattle.inode_changes.specs.Entering.{Grounds, IsMade, MayEnter, HasMade, HasEither, Enters, EntersOrNot}
+use Rattle.inode_changes.specs.Entering.{Grounds, IsMadeInode, MayEnter, HasMade, HasEither, Enters, EntersOrNot}
 use Rattle.inode_changes.proofs.EntryLaws.{spot, name_is, deep, fits, of_files}
 use Rattle.inode_changes.proofs.DecideLaws as deciding
 
-module _ (c : Client) (first : World) (path : Path) (place : Place) (i : ℕ) (made : Tree) (g : Grounds c.root first path place) (w : World) (m : IsMade c.root first place.directory.block i made w) where
+module _ (c : Client) (first : World) (path : Path) (place : Place) (i : ℕ) (made : Tree) (g : Grounds c.root first path place) (w : World) (m : IsMadeInode c.root first place.directory.block i made w) where
   abbrev es : List Entry
   es = entries_said (inode_of place.directory.inode)
 

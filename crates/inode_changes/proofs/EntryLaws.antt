@@ -14,7 +14,7 @@ use Rattle.fs_trees.specs.Refusals.{directory_of}
 use Rattle.fs_laws.proofs.ListLaws.{number_left, number_right}
 use Rattle.fs_laws.proofs.InodeLaws.{found, under_is}
 use Rattle.fs_laws.proofs.DirectoryLaws.{block_at}
-use Rattle.fs_port.specs.View.{View}
+use Rattle.fs_port.specs.View.{DiskView}
 use Rattle.fs_client.specs.declared.client.Client.{Client}
 use Rattle.inode_layout.specs.declared.inode.Inode as layout
 use Rattle.inode_layout.specs.Block.{inode_of, block_len_of}
@@ -27,11 +27,11 @@ use Rattle.inode_changes.proofs.SpotLaws.{Spot, deeper_is, dir_fits}
 use Rattle.inode_changes.proofs.TidyLaws.{named_of, named_under}
 use Rattle.inode_changes.specs.Filling.{Stage}
 use Rattle.inode_changes.proofs.ListingLaws.{length_with}
-use Rattle.inode_changes.specs.Entering.{IsEntry, HasRoom, Grounds, IsOfFile}
+use Rattle.inode_changes.specs.Entering.{IsEntryRead, DirectoryHasRoom, Grounds, IsOfFile}
 
 -- ---- as it was found
 
-pub entry_of : (c : Client) (v : View) (path : Path) (place : Place) → is_directory (inode_of place.directory.inode) ≡ true → IsPlace c v path place → IsEntry c.root v.world path place
+pub entry_of : (c : Client) (v : DiskView) (path : Path) (place : Place) → is_directory (inode_of place.directory.inode) ≡ true → IsPlace c v path place → IsEntryRead c.root v.world path place
 entry_of c v path place is_dir i = record {
   more = i.above.more;
   levels = i.above.levels;
@@ -58,7 +58,7 @@ length_with_old e b (f ∷ fs) k =
       ]
     ] k
 
-pub list_fits : (inode : layout.Inode) (n : Name) (i : ℕ) → is_directory (inode_of inode) ≡ true → HasRoom inode n → length (with_listed (record { name = n; block = i }) (entries_said (inode_of inode))) ≤ entries_room (block_len_of inode)
+pub list_fits : (inode : layout.Inode) (n : Name) (i : ℕ) → is_directory (inode_of inode) ≡ true → DirectoryHasRoom inode n → length (with_listed (record { name = n; block = i }) (entries_said (inode_of inode))) ≤ entries_room (block_len_of inode)
 list_fits inode n i is_dir room = by_name (block_named n (entries_said (inode_of inode))) refl
   where
     by_name : (o : Option ℕ) → block_named n (entries_said (inode_of inode)) ≡ o → length (with_listed (record { name = n; block = i }) (entries_said (inode_of inode))) ≤ entries_room (block_len_of inode)

@@ -19,7 +19,7 @@ use Rattle.disk_laws.proofs.DoomLaws.{live_below}
 use Rattle.fs_trees.specs.Inode.{regular, are_apart, data_room, inode_in, inode_bytes}
 use Rattle.fs_trees.specs.InodeTree.{inode_at, file_bytes}
 use Rattle.fs_laws.proofs.ListLaws.{flat_map_same, in_append}
-use Rattle.fs_port.specs.View.{View}
+use Rattle.fs_port.specs.View.{DiskView}
 use Rattle.fs_port.specs.Calls.{IsValidNow, Stays}
 use Rattle.fs_client.specs.declared.client.Client.{Client}
 use Rattle.fs_client.specs.Client.{write_by}
@@ -32,7 +32,7 @@ use Rattle.inode_walks.specs.Reading.{bytes_at}
 use Rattle.inode_layout.specs.Said.{are_small}
 use Rattle.inode_layout.proofs.BackLaws.{reads_back}
 use Rattle.inode_changes.specs.Making.{Making}
-use Rattle.inode_changes.specs.Content.{AreReached}
+use Rattle.inode_changes.specs.Content.{RootReaches}
 use Rattle.inode_changes.specs.Filling.{Stage, HoldBytes, AsideWith, Wrote, AsideOf, Took, Shared, joined, IsFile, Filled}
 use Rattle.inode_changes.proofs.FillLaws.{made_by_one, stop_at_one}
 
@@ -141,14 +141,14 @@ joined_so n xs F bytes e h =
 
 -- ---- from the blocks shared to the inode written
 
-module _ (c : Client) (old vs v1 v2 : View) (i n : ℕ) (shared bytes blocks : List ℕ) (sh : Shared c old vs i shared) (took : Took c vs v1 i n blocks) (wrote : Wrote c v1 v2 blocks bytes) where
+module _ (c : Client) (old vs v1 v2 : DiskView) (i n : ℕ) (shared bytes blocks : List ℕ) (sh : Shared c old vs i shared) (took : Took c vs v1 i n blocks) (wrote : Wrote c v1 v2 blocks bytes) where
   among_inode : has_number (i ∷ []) i ≡ true
   among_inode = or_left (i == i) _ (eq-eqb i i refl)
 
-  made_one : (first : World) (d : ℕ) → Stage c.root first d → Making c.root first d i [] [] old.world → AreReached c.root first shared → Making c.root first d i shared blocks v1.world
+  made_one : (first : World) (d : ℕ) → Stage c.root first d → Making c.root first d i [] [] old.world → RootReaches c.root first shared → Making c.root first d i shared blocks v1.world
   made_one first d at m reached = took.making first d shared at (sh.making first d at m reached)
 
-  made_two : (first : World) (d : ℕ) → Stage c.root first d → Making c.root first d i [] [] old.world → AreReached c.root first shared → Making c.root first d i shared blocks v2.world
+  made_two : (first : World) (d : ℕ) → Stage c.root first d → Making c.root first d i [] [] old.world → RootReaches c.root first shared → Making c.root first d i shared blocks v2.world
   made_two first d at m reached = wrote.here.making first d i shared blocks at (made_one first d at m reached) (λ b j. or_right (i == b) _ j)
 
   inode_only : (b : ℕ) → has_number (i ∷ []) b ≡ true → has_number (i ∷ blocks) b ≡ true
@@ -160,7 +160,7 @@ module _ (c : Client) (old vs v1 v2 : View) (i n : ℕ) (shared bytes blocks : L
   pub stop_at_blocks : (v : World) → AsideWith c.root blocks v1.world v → AsideOf c.root i shared old.world v
   stop_at_blocks v h first d at m reached = h first d i shared blocks at (made_one first d at m reached) (λ b j. or_right (i == b) _ j)
 
-  module _ (v3 : View) (size : ℕ) (now : IsValidNow v2) (may : MayWrite c v2 i) (went : Went c v2 v3 (write_by c i (inode_bytes (regular size (shared ++ blocks)))) i (written v2.world i (inode_bytes (regular size (shared ++ blocks))))) (stays : Stays v2 v3)
+  module _ (v3 : DiskView) (size : ℕ) (now : IsValidNow v2) (may : MayWrite c v2 i) (went : Went c v2 v3 (write_by c i (inode_bytes (regular size (shared ++ blocks)))) i (written v2.world i (inode_bytes (regular size (shared ++ blocks))))) (stays : Stays v2 v3)
       (enough : length (shared ++ blocks) ≡ div_ceil size (block_len old.world.geometry)) (room : length (shared ++ blocks) ≤ data_room (block_len old.world.geometry)) (few : size < 2 ^ 32)
       (most : size ≤ block_len old.world.geometry * length shared + length bytes) (apart : are_apart shared ≡ true) where
     abbrev x : List ℕ
@@ -172,7 +172,7 @@ module _ (c : Client) (old vs v1 v2 : View) (i n : ℕ) (shared bytes blocks : L
     same_size : v2.world.geometry ≡ old.world.geometry
     same_size = wrote.here.geometry ∙ (took.geometry ∙ sh.geometry)
 
-    module _ (first : World) (d : ℕ) (at : Stage c.root first d) (m : Making c.root first d i [] [] old.world) (reached : AreReached c.root first shared) where
+    module _ (first : World) (d : ℕ) (at : Stage c.root first d) (m : Making c.root first d i [] [] old.world) (reached : RootReaches c.root first shared) where
       abbrev m2 : Making c.root first d i shared blocks v2.world
       m2 = made_two first d at m reached
 

@@ -14,7 +14,7 @@ use Rattle.disk_laws.proofs.StayLaws.{live-new_blocks, holds-new_blocks}
 use Rattle.fs_trees.specs.Inode.{are_apart}
 use Rattle.fs_trees.specs.declared.refusal.FsRefusal.{FsRefusal}
 use Rattle.fs_laws.proofs.WayLaws.{ways_lead_on}
-use Rattle.fs_port.specs.View.{View, IsSound, state_of}
+use Rattle.fs_port.specs.View.{DiskView, IsDiskSound, state_of}
 use Rattle.fs_port.specs.Calls.{IsValidNow, Stays}
 use Rattle.fs_client.specs.declared.client.Client.{Client}
 use Rattle.fs_client.specs.Client.{shown_at, write_by, alloc_by}
@@ -53,7 +53,7 @@ module _ (c : Client) (b : ℕ) (rest bytes : List ℕ) where
   pub made_by_write : (w : World) (x : List ℕ) → Leads w (write_by c b x) (written w b x) → MadeWith c.root (b ∷ rest) w (written w b x)
   made_by_write w x leads first d i shared fresh at m new = making_written c.root first at.valid at.primary at.there d at.dir i shared fresh w m c b x (new b (or_left (b == b) _ (eq-eqb b b refl))) leads
 
-  module _ (old mid : View) (len : ℕ) (is_len : len ≡ block_len old.world.geometry) (now : IsValidNow old) (lives : is_live old.world b ≡ true) (went : Went c old mid (write_by c b (take len bytes)) b (written old.world b (take len bytes))) (stays : Stays old mid) where
+  module _ (old mid : DiskView) (len : ℕ) (is_len : len ≡ block_len old.world.geometry) (now : IsValidNow old) (lives : is_live old.world b ≡ true) (went : Went c old mid (write_by c b (take len bytes)) b (written old.world b (take len bytes))) (stays : Stays old mid) where
     made_mid : MadeWith c.root (b ∷ rest) old.world mid.world
     made_mid = subst (MadeWith c.root (b ∷ rest) old.world) (sym went.world) (made_by_write old.world (take len bytes) went.leads)
 
@@ -108,7 +108,7 @@ aside_same root blocks w v e first d i shared fresh at m new = subst (IsAside ro
 pub aside_taking_same : (root i : ℕ) (w v : World) → v ≡ w → AsideTaking root i w v
 aside_taking_same root i w v e first d shared at m = subst (IsAside root first) (sym e) (aside_now root first d i shared [] w at m)
 
-pub took_none : (c : Client) (v : View) (i : ℕ) → Took c v v i 0 []
+pub took_none : (c : Client) (v : DiskView) (i : ℕ) → Took c v v i 0 []
 took_none c v i = record {
   geometry = refl;
   apart = refl;
@@ -117,7 +117,7 @@ took_none c v i = record {
   parts = λ b h. absurd (cc);
 }
 
-module _ (c : Client) (old : View) (i count : ℕ) (now : IsValidNow old) where
+module _ (c : Client) (old : DiskView) (i count : ℕ) (now : IsValidNow old) where
   abbrev those : List ℕ
   those = chosen old.kind old.world (At i) count
 
@@ -131,7 +131,7 @@ module _ (c : Client) (old : View) (i count : ℕ) (now : IsValidNow old) where
     | inr e ↦ subst (IsAside c.root first) (sym e.0) (aside_now c.root first d i shared (chosen old.kind old.world (At i) count) (taken old i count) at (made_by_take e.1 first d shared at m))
   ]
 
-  pub took_some : (new : View) → MayWrite c old i → Went c old new (alloc_by c i count) i (taken old i count) → Stays old new → Took c old new i count (chosen old.kind old.world (At i) count)
+  pub took_some : (new : DiskView) → MayWrite c old i → Went c old new (alloc_by c i count) i (taken old i count) → Stays old new → Took c old new i count (chosen old.kind old.world (At i) count)
   took_some new may went stays =
       let inside : (b : ℕ) → has_number those b ≡ true → b < length old.world.blocks = λ b h. (free_may old.world now.valid.raw b (chosen_free old.kind old.world (At i) count b h)).0 in
       record {
@@ -182,7 +182,7 @@ no_bytes [] h = refl
 no_bytes (x ∷ xs) h = absurd (omega arith)
 
 -- what was written so far, and what is left of the bytes
-pub record Writing (told : Type 0) (c : Client) (first now : View) (blocks bytes : List ℕ) (len place : ℕ) (rest : List ℕ) : Type 0 where
+pub record Writing (told : Type 0) (c : Client) (first now : DiskView) (blocks bytes : List ℕ) (len place : ℕ) (rest : List ℕ) : Type 0 where
   pub runs : Runs {X = Unit {0}} told first now (AsideWith c.root blocks first.world) (Ok tt)
   pub geometry : told → now.world.geometry ≡ first.world.geometry
   pub made : told → MadeWith c.root blocks first.world now.world
@@ -190,7 +190,7 @@ pub record Writing (told : Type 0) (c : Client) (first now : View) (blocks bytes
   pub left : told → length rest ≤ len * (length blocks - place)
   pub last : told → (new : World) → WroteIn c.root now.world new (drop place blocks) rest → WroteIn c.root first.world new blocks bytes
 
-pub writing_begins : (told : Type 0) (c : Client) (first : View) (blocks bytes : List ℕ) (len : ℕ) → first.spent ≡ false → (told → IsSound first) → (told → IsValidNow first) → (told → length bytes ≤ len * length blocks) → Writing told c first first blocks bytes len 0 bytes
+pub writing_begins : (told : Type 0) (c : Client) (first : DiskView) (blocks bytes : List ℕ) (len : ℕ) → first.spent ≡ false → (told → IsDiskSound first) → (told → IsValidNow first) → (told → length bytes ≤ len * length blocks) → Writing told c first first blocks bytes len 0 bytes
 writing_begins told c first blocks bytes len unspent sound now enough = record {
   runs = runs_look told first first (AsideWith c.root blocks first.world) (Ok tt) (λ t w e. aside_same c.root blocks first.world w e) (no_look told first unspent sound now);
   geometry = λ t. refl;
@@ -203,7 +203,7 @@ writing_begins told c first blocks bytes len unspent sound now enough = record {
     whole : (n : ℕ) → n ≡ n - 0
     whole n = omega arith
 
-module _ (told : Type 0) (c : Client) (first now new : View) (blocks bytes : List ℕ) (len place b : ℕ) (rest : List ℕ) (w : Writing told c first now blocks bytes len place rest)
+module _ (told : Type 0) (c : Client) (first now new : DiskView) (blocks bytes : List ℕ) (len place b : ℕ) (rest : List ℕ) (w : Writing told c first now blocks bytes len place rest)
     (inside : place < length blocks) (is : b ≡ slice_index_or blocks place 0) (is_len : told → len ≡ block_len first.world.geometry) (apart : told → are_apart blocks ≡ true) where
   parted : drop place blocks ≡ b ∷ drop (place + 1) blocks
   parted = drop_first blocks place b inside is
@@ -250,7 +250,7 @@ module _ (told : Type 0) (c : Client) (first now new : View) (blocks bytes : Lis
             fewer zero j q h = omega (arith, e, h)
             fewer (suc k) j q h = let same : j ≡ k = omega (arith, q) in subst (λ x. s ≤ len * x) (sym same) (omega (arith, e, h))
 
-pub writing_ends : (told : Type 0) (c : Client) (first now : View) (blocks bytes : List ℕ) (len place : ℕ) (rest : List ℕ) → Writing told c first now blocks bytes len place rest → length blocks ≤ place → told → Wrote c first now blocks bytes
+pub writing_ends : (told : Type 0) (c : Client) (first now : DiskView) (blocks bytes : List ℕ) (len place : ℕ) (rest : List ℕ) → Writing told c first now blocks bytes len place rest → length blocks ≤ place → told → Wrote c first now blocks bytes
 writing_ends told c first now blocks bytes len place rest w ends t =
     let none : length blocks - place ≡ 0 = omega (arith, ends) in
     let short : length rest ≤ len * 0 = subst (λ k. length rest ≤ len * k) none (w.left t) in

@@ -22,7 +22,7 @@ use Rattle.fs_trees.specs.declared.ask.ShellKind.TheVariants as kind
 use Rattle.fs_trees.specs.declared.refusal.FsRefusal.{FsRefusal}
 use Rattle.fs_trees.specs.declared.refusal.FsRefusal.TheVariants as no
 use Rattle.fs_laws.proofs.InodeLaws.{found, under_is}
-use Rattle.fs_port.specs.View.{View}
+use Rattle.fs_port.specs.View.{DiskView}
 use Rattle.fs_port.specs.Calls.{IsValidNow}
 use Rattle.fs_client.specs.declared.client.Client.{Client}
 use Rattle.fs_client.specs.Steps.{no_room_in}
@@ -42,10 +42,10 @@ use Rattle.inode_walks.proofs.FoundLaws.{a_file_there}
 use Rattle.inode_walks.proofs.TellLaws.{bytes_are}
 use Rattle.inode_changes.proofs.SpotLaws.{said_in_order}
 use Rattle.inode_changes.specs.declared.content.Content.{Content}
-use Rattle.inode_changes.specs.Content.{shared_count, shared_of, new_bytes, new_count, all_count, HasRoom, IsFor}
+use Rattle.inode_changes.specs.Content.{shared_count, shared_of, new_bytes, new_count, all_count, FitsInode, IsFor}
 use Rattle.inode_changes.specs.Filling.{joined}
 use Rattle.inode_changes.specs.Entering.{IsOfFile}
-use Rattle.inode_changes.specs.Growing.{Grows, IsGrown}
+use Rattle.inode_changes.specs.Growing.{Grows, IsGrownFile}
 use Rattle.inode_changes.proofs.AppendLaws.{append_big, append_room}
 use Rattle.inode_changes.proofs.NeedLaws.{append_need, full_blocks, full_among, ceil_more}
 use Rattle.inode_changes.proofs.GrownLaws.{in_take, grown, behind_length}
@@ -93,7 +93,7 @@ size_is_small size len whole most fits =
     not_more room n h k = grind (arith, nat_tests)
 
 -- What the new file is made of, whether the disk tells or not.
-module _ (inode : layout.Inode) (no_dir : is_directory (inode_of inode) ≡ false) (whole : 16 ≤ block_len_of inode) (front y : List ℕ) (content : Content) (g : IsGrown inode front y content) where
+module _ (inode : layout.Inode) (no_dir : is_directory (inode_of inode) ≡ false) (whole : 16 ≤ block_len_of inode) (front y : List ℕ) (content : Content) (g : IsGrownFile inode front y content) where
   abbrev k : ℕ
   k = amount_said (inode_of inode) / block_len_of inode
 
@@ -115,7 +115,7 @@ module _ (inode : layout.Inode) (no_dir : is_directory (inode_of inode) ≡ fals
       ap (λ n. numbers n content.shared.now) count_is
       ∙ (ap (numbers k) g.shared ∙ (first_numbers k inode.count (body_of inode) few_full b.fit ∙ ap (take k) (sym b.are)))
 
-  pub has_room : length front ≤ amount_said (inode_of inode) % block_len_of inode → block_len_of inode ≤ 4096 → length y ≤ 4096 → nat_lt (data_room (block_len_of inode)) (div_ceil (amount_said (inode_of inode) + length y) (block_len_of inode)) ≡ false → HasRoom content
+  pub has_room : length front ≤ amount_said (inode_of inode) % block_len_of inode → block_len_of inode ≤ 4096 → length y ≤ 4096 → nat_lt (data_room (block_len_of inode)) (div_ceil (amount_said (inode_of inode) + length y) (block_len_of inode)) ≡ false → FitsInode content
   has_room less_in_front most short fits =
       let len = block_len_of inode in
       let size = amount_said (inode_of inode) in
@@ -142,7 +142,7 @@ module _ (inode : layout.Inode) (no_dir : is_directory (inode_of inode) ≡ fals
       sum_fits : (s k n m all room : ℕ) → s ≡ k → n ≤ m → all ≡ k + m → all ≤ room → s + n ≤ room
       sum_fits s k n m all room e h f r = omega (arith, e, h, f, r)
 
-module _ (c : Client) (v : View) (path : Path) (place : Place) (file : Found) (x : Grows c v path place file) (no_dir : is_directory (inode_of file.inode) ≡ false) (now : IsValidNow v) where
+module _ (c : Client) (v : DiskView) (path : Path) (place : Place) (file : Found) (x : Grows c v path place file) (no_dir : is_directory (inode_of file.inode) ≡ false) (now : IsValidNow v) where
   abbrev size : ℕ
   size = amount_said (inode_of file.inode)
 
@@ -243,7 +243,7 @@ module _ (c : Client) (v : View) (path : Path) (place : Place) (file : Found) (x
   enough_in_row : size ≤ length (flat_map f blocks)
   enough_in_row = subst (λ xs. size ≤ length xs) row enough
 
-  module _ (front y : List ℕ) (content : Content) (g : IsGrown file.inode front y content) (front_is : front ≡ part (bytes_said v.world (inode_of file.inode)) (block_len_of file.inode * (amount_said (inode_of file.inode) / block_len_of file.inode)) (amount_said (inode_of file.inode))) where
+  module _ (front y : List ℕ) (content : Content) (g : IsGrownFile file.inode front y content) (front_is : front ≡ part (bytes_said v.world (inode_of file.inode)) (block_len_of file.inode * (amount_said (inode_of file.inode) / block_len_of file.inode)) (amount_said (inode_of file.inode))) where
     front_length : length content.front.now ≡ size % len
     front_length =
         let parts = div-add-mod size len in

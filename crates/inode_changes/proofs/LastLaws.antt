@@ -3,7 +3,7 @@ use Rattle.std.proofs.Common.{◌≡◌, ℕ, ◌+◌, ◌-◌, ◌*◌, ◌/◌
 use Rattle.std.proofs.Math.Nat.{div-add-mod, mod-lt, mul-div_cancel_left, mul-mod_right}
 use Rattle.std.specs.Prelude.{slice_index}
 use Rattle.tsd_model.specs.World.{contents}
-use Rattle.fs_port.specs.View.{View}
+use Rattle.fs_port.specs.View.{DiskView}
 use Rattle.fs_port.specs.Calls.{IsValidNow}
 use Rattle.fs_client.specs.declared.client.Client.{Client}
 use Rattle.inode_layout.specs.declared.inode.Inode.{Inode}
@@ -28,7 +28,7 @@ none_partial xs len size none =
     ap (λ n. part xs n size) same ∙ part_none xs size
 
 -- the bytes in the last block are those behind the full ones
-pub last_part : (c : Client) (v : View) (more : ℕ) (file : Found) → StandsAsRead c v more file → is_directory (inode_of file.inode) ≡ false → IsValidNow v → (len : ℕ) (bytes : List ℕ) → len ≡ block_len_of file.inode → 16 ≤ len
+pub last_part : (c : Client) (v : DiskView) (more : ℕ) (file : Found) → StandsAsRead c v more file → is_directory (inode_of file.inode) ≡ false → IsValidNow v → (len : ℕ) (bytes : List ℕ) → len ≡ block_len_of file.inode → 16 ≤ len
     → amount_said (inode_of file.inode) / len < length (blocks_said (inode_of file.inode))
     → contents v.world (slice_index (blocks_said (inode_of file.inode)) (amount_said (inode_of file.inode) / len)) ≡ Some bytes
     → part bytes 0 (amount_said (inode_of file.inode) % len) ≡ part (bytes_said v.world (inode_of file.inode)) (len * (amount_said (inode_of file.inode) / len)) (amount_said (inode_of file.inode))

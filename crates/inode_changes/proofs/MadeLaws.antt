@@ -12,7 +12,7 @@ use Rattle.fs_trees.specs.declared.refusal.FsRefusal.TheVariants as no
 use Rattle.fs_laws.proofs.InodeLaws.{found, under_is}
 use Rattle.fs_laws.proofs.ListLaws.{number_right}
 use Rattle.fs_laws.proofs.UnderLaws.{each_under}
-use Rattle.fs_port.specs.View.{View}
+use Rattle.fs_port.specs.View.{DiskView}
 use Rattle.fs_port.specs.Calls.{IsValidNow, Stays}
 use Rattle.fs_client.specs.declared.client.Client.{Client}
 use Rattle.fs_client.specs.May.{MayWrite, Looked}
@@ -22,16 +22,16 @@ use Rattle.fs_client.proofs.RunLaws.{clash_free_live}
 use Rattle.inode_changes.proofs.TidyLaws.{named_of, named_under}
 use Rattle.inode_changes.specs.declared.content.Content.{Content}
 use Rattle.inode_changes.specs.Making.{Making}
-use Rattle.inode_changes.specs.Content.{shared_of, new_bytes, IsFor, AreReached}
+use Rattle.inode_changes.specs.Content.{shared_of, new_bytes, IsFor, RootReaches}
 use Rattle.inode_changes.specs.Filling.{Stage, Filled, Stopped}
 use Rattle.inode_changes.proofs.MakingLaws.{inode_held}
 use Rattle.inode_changes.specs.Beginning.{Began}
 use Rattle.inode_changes.specs.NewFile.{bytes_of}
-use Rattle.inode_changes.specs.Entering.{AreOfFiles, IsMade}
+use Rattle.inode_changes.specs.Entering.{AreOfFiles, IsMadeInode}
 use Rattle.inode_changes.proofs.EntryLaws.{file_data}
 
 -- what was refused, but by a fault, goes on
-pub runs_on : {X Y : Type 0} (told : Type 0) (old new : View) (P : World → Type 0) (e : FsRefusal) (y : Y) → e ≢ no.Device → Runs {X = X} told old new P (Err e) → Runs {X = Y} told old new P (Ok y)
+pub runs_on : {X Y : Type 0} (told : Type 0) (old new : DiskView) (P : World → Type 0) (e : FsRefusal) (y : Y) → e ≢ no.Device → Runs {X = X} told old new P (Err e) → Runs {X = Y} told old new P (Ok y)
 runs_on told old new P e y ne h = record {
   valid = λ t. ((h.valid t).1 ne, tt);
   led = λ t. ((h.led t).1 ne, tt);
@@ -45,13 +45,13 @@ runs_on told old new P e y ne h = record {
 }
 
 -- the root reaches the blocks of its files
-pub files_reached : (root : ℕ) (first : World) (d : ℕ) (shared : List ℕ) → Stage root first d → AreOfFiles root first shared → AreReached root first shared
+pub files_reached : (root : ℕ) (first : World) (d : ℕ) (shared : List ℕ) → Stage root first d → AreOfFiles root first shared → RootReaches root first shared
 files_reached root first d shared at of b h =
     let all = found first root at.there in
     named_under first root at.valid at.primary at.there b
     (ap (λ k. has_number k.blocks b) (named_of first root all.0 all.1) ∙ number_right (root ∷ inode_blocks all.0) (data_blocks all.0) b (file_data root first all.0 (under_is first root all.0 all.1) b (of b h)))
 
-module _ (c : Client) (old mid begun : View) (d i : ℕ) (at : Stage c.root old.world d) (now : IsValidNow old) (seen : Looked old mid) (stays : Stays old mid) (b : Began c mid begun d i) where
+module _ (c : Client) (old mid begun : DiskView) (d i : ℕ) (at : Stage c.root old.world d) (now : IsValidNow old) (seen : Looked old mid) (stays : Stays old mid) (b : Began c mid begun d i) where
   pub making_first : Making c.root old.world d i [] [] begun.world
   making_first = subst (λ w. Making c.root w d i [] [] begun.world) seen.world b.making
 
@@ -96,10 +96,10 @@ module _ (c : Client) (old mid begun : View) (d i : ℕ) (at : Stage c.root old.
       dir_live = each_under old.world c.root (λ k. is_live old.world k ≡ true) (at.valid.raw.primaries c.root at.primary) (λ a k pair h. at.valid.raw.targets a k pair) d at.dir
 
   module _ (content : Content) (of : AreOfFiles c.root old.world (shared_of content)) where
-    reached : AreReached c.root old.world (shared_of content)
+    reached : RootReaches c.root old.world (shared_of content)
     reached = files_reached c.root old.world d (shared_of content) at of
 
-    pub made_so : (full : View) → Filled c begun full i content.size (shared_of content) (new_bytes content) → IsMade c.root old.world d i (a_file (bytes_of old.world content)) full.world
+    pub made_so : (full : DiskView) → Filled c begun full i content.size (shared_of content) (new_bytes content) → IsMadeInode c.root old.world d i (a_file (bytes_of old.world content)) full.world
     made_so full f =
         let file = f.file old.world d at making_first reached in
         record {
@@ -114,7 +114,7 @@ module _ (c : Client) (old mid begun : View) (d i : ℕ) (at : Stage c.root old.
           of_files = of;
         }
 
-    module _ (stop : View) (s : Stopped c begun stop i (shared_of content)) where
+    module _ (stop : DiskView) (s : Stopped c begun stop i (shared_of content)) where
       pub left_making : (shared : List ℕ) × Making c.root old.world d i shared [] stop.world
       left_making = s.making old.world d at making_first reached
 

@@ -16,7 +16,7 @@ use Rattle.fs_trees.specs.declared.ask.ShellAsk.TheVariants as ask
 use Rattle.fs_trees.specs.declared.ask.ShellKind.TheVariants as kind
 use Rattle.fs_trees.specs.declared.refusal.FsRefusal.{FsRefusal}
 use Rattle.fs_trees.specs.declared.refusal.FsRefusal.TheVariants as no
-use Rattle.fs_port.specs.View.{View}
+use Rattle.fs_port.specs.View.{DiskView}
 use Rattle.fs_port.specs.Calls.{IsValidNow}
 use Rattle.fs_client.specs.declared.client.Client.{Client}
 use Rattle.fs_client.specs.May.{Looked}
@@ -29,7 +29,7 @@ use Rattle.inode_walks.specs.declared.finding.Place.{Place}
 use Rattle.inode_walks.specs.Asking.{tree_of, mounted_by}
 use Rattle.inode_walks.specs.Finding.{IsPlace}
 use Rattle.inode_walks.proofs.FoundLaws.{names_there, dir_said}
-use Rattle.inode_changes.specs.Entering.{HasRoom, Grounds}
+use Rattle.inode_changes.specs.Entering.{DirectoryHasRoom, Grounds}
 use Rattle.inode_changes.specs.Directories.{IsVacant}
 use Rattle.inode_changes.proofs.EntryLaws.{entry_of}
 use Rattle.inode_changes.proofs.PlaceLaws.{none_at}
@@ -75,7 +75,7 @@ blocks_count : (es : List Entry) → length (map (λ e. e.block) es) ≡ length 
 blocks_count [] = refl
 blocks_count (e ∷ es) = ap suc (blocks_count es)
 
-module _ (c : Client) (v : View) (path : Path) (place : Place) (x : IsVacant c v path place) (dir : is_directory (inode_of place.directory.inode) ≡ true) where
+module _ (c : Client) (v : DiskView) (path : Path) (place : Place) (x : IsVacant c v path place) (dir : is_directory (inode_of place.directory.inode) ≡ true) where
   abbrev t : Tree
   t = tree_of c v
 
@@ -85,7 +85,7 @@ module _ (c : Client) (v : View) (path : Path) (place : Place) (x : IsVacant c v
   abbrev es : List Entry
   es = entries_said (inode_of place.directory.inode)
 
-  pub grounds : IsValidNow v → HasRoom place.directory.inode place.name.now → Grounds c.root v.world path place
+  pub grounds : IsValidNow v → DirectoryHasRoom place.directory.inode place.name.now → Grounds c.root v.world path place
   grounds now room = record { valid = now.valid; primary = x.primary; there = x.there; path_is = x.path_is; entry = entry_of c v path place dir x.found; room = room }
 
   absent : is_there (at (tree_of c v) path) ≡ false
@@ -104,7 +104,7 @@ module _ (c : Client) (v : View) (path : Path) (place : Place) (x : IsVacant c v
     full_asks full = dir_is_full g t (free_count v.world) (length v.world.pairs) n x.there path x.way absent
         (ap (nat_le (entries_room (block_len g))) (names_are ∙ sym blocks_are) ∙ (ap (λ k. nat_le (entries_room k) (length (blocks_said (inode_of place.directory.inode)))) (sym x.found.above.stands.whole) ∙ full))
 
-    pub roomy_asks : HasRoom place.directory.inode place.name.now
+    pub roomy_asks : DirectoryHasRoom place.directory.inode place.name.now
         → refusal kind.Inode v.world.geometry (tree_of c v) (free_count v.world) (length v.world.pairs) n (ask.MakeDir path) ≡ first_of (no_room v.world.geometry (free_count v.world) (length v.world.pairs) n)
     roomy_asks room = dir_room g t (free_count v.world) (length v.world.pairs) n x.there path x.way absent
         (ap (nat_le (entries_room (block_len g))) names_are ∙ below (entries_room (block_len g)) (subst (λ k. length es < entries_room k) x.found.above.stands.whole (room (sym x.found.old ∙ x.vacant))))
@@ -115,11 +115,11 @@ module _ (c : Client) (v : View) (path : Path) (place : Place) (x : IsVacant c v
   pub full_refuses : nat_le (entries_room (block_len_of place.directory.inode)) (length (blocks_said (inode_of place.directory.inode))) ≡ true → refused_on (mounted_by c) v (ask.MakeDir path) ≡ Some no.DirFull
   full_refuses = full_asks (need 1 1)
 
-  pub room_refuses : HasRoom place.directory.inode place.name.now → refused_on (mounted_by c) v (ask.MakeDir path) ≡ no_room_in v.world 1 1
+  pub room_refuses : DirectoryHasRoom place.directory.inode place.name.now → refused_on (mounted_by c) v (ask.MakeDir path) ≡ no_room_in v.world 1 1
   room_refuses = roomy_asks (need 1 1)
 
 -- nothing is changed yet
-pub vacant_now : (c : Client) (first mid : View) (path : Path) (place : Place) → c.root < first.world.geometry.primaries → is_there (tree_of c first) ≡ true → is_path path ≡ true
+pub vacant_now : (c : Client) (first mid : DiskView) (path : Path) (place : Place) → c.root < first.world.geometry.primaries → is_there (tree_of c first) ≡ true → is_path path ≡ true
     → ◌≡◌ {A = Option FsRefusal} (no_place_found (tree_of c first) path no.Exists) None → Looked first mid → IsPlace c mid path place → place.old ≡ None → IsVacant c mid path place
 vacant_now c first mid path place primary there path_is way seen found vacant = record {
   primary = subst (λ w. c.root < w.geometry.primaries) (sym seen.world) primary;

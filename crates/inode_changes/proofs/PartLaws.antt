@@ -7,7 +7,7 @@ use Rattle.std.specs.Int.{div_ceil}
 use Rattle.inode_layout.specs.declared.kind.InodeKind.TheVariants.{Regular}
 use Rattle.inode_layout.proofs.HeadLaws.{length-blocks}
 use Rattle.inode_changes.specs.declared.content.Content.{Content}
-use Rattle.inode_changes.specs.Content.{shared_of, shared_count, new_bytes, new_count, HasRoom}
+use Rattle.inode_changes.specs.Content.{shared_of, shared_count, new_bytes, new_count, FitsInode}
 
 -- what stands behind a place that isn't before the end of the first bytes
 pub drop_behind : (n : ℕ) (xs ys : List ℕ) → length xs ≤ n → drop n (xs ++ ys) ≡ drop (n - length xs) ys
@@ -23,18 +23,18 @@ enough_blocks size len n some e =
     subst (λ k. size ≤ k) (mul_comm (div_ceil size len) len ∙ ap (λ k. len * k) (sym e)) bound
 
 -- an inode has room for no more than 1,020 blocks
-pub some_blocks : (content : Content) → HasRoom content → shared_count content + new_count content ≤ 1020
+pub some_blocks : (content : Content) → FitsInode content → shared_count content + new_count content ≤ 1020
 some_blocks content room = omega (arith, room.room, room.most)
 
 -- it shares as many as it counts
 pub shares_many : (content : Content) → length (shared_of content) ≡ shared_count content
 shares_many content = length-blocks Regular 0 (shared_count content) content.shared.now
 
-pub few_new : (content : Content) → HasRoom content → length (new_bytes content) < content.block_len + 4096
+pub few_new : (content : Content) → FitsInode content → length (new_bytes content) < content.block_len + 4096
 few_new content room = let both = length-append content.front.now content.bytes.now in omega (arith, both, room.front, room.few)
 
 -- what so few blocks and so few bytes hold
-pub small_size : (content : Content) (size : ℕ) → HasRoom content → size ≤ content.block_len * shared_count content + length (new_bytes content) → size < 2 ^ 32
+pub small_size : (content : Content) (size : ℕ) → FitsInode content → size ≤ content.block_len * shared_count content + length (new_bytes content) → size < 2 ^ 32
 small_size content size room most =
     let whole = mul-le-mul_right {m = content.block_len} {n = 4096} (shared_count content) room.most in
     let few = some_blocks content room in

@@ -10,7 +10,7 @@ use Rattle.fs_trees.specs.InodeTree as inodes
 use Rattle.fs_trees.specs.Refusals.{directory_of}
 use Rattle.fs_laws.proofs.DirectoryLaws.{read_named}
 use Rattle.fs_laws.proofs.MapLaws.{tree-at}
-use Rattle.fs_port.specs.View.{View}
+use Rattle.fs_port.specs.View.{DiskView}
 use Rattle.fs_client.specs.declared.client.Client.{Client}
 use Rattle.inode_layout.specs.Block.{inode_of}
 use Rattle.inode_layout.specs.Said.{is_directory, blocks_said, entries_said}
@@ -25,7 +25,7 @@ at_last : (p : Path) (n : Name) (x : InodeNode) → at x (p ++ n ∷ []) ≡ chi
 at_last [] n x = refl
 at_last (m ∷ ms) n x = at_last ms n (child m x)
 
-module _ (c : Client) (v : View) (path : Path) (place : Place) (is_dir : is_directory (inode_of place.directory.inode) ≡ true) (i : IsPlace c v path place) where
+module _ (c : Client) (v : DiskView) (path : Path) (place : Place) (is_dir : is_directory (inode_of place.directory.inode) ≡ true) (i : IsPlace c v path place) where
   abbrev es : List Entry
   es = entries_said (inode_of place.directory.inode)
 

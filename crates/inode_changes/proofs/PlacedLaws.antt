@@ -10,7 +10,7 @@ use Rattle.fs_trees.specs.Refusals.{directory_of}
 use Rattle.fs_trees.specs.declared.refusal.FsRefusal.{FsRefusal}
 use Rattle.fs_trees.specs.declared.refusal.FsRefusal.TheVariants as no
 use Rattle.fs_laws.specs.Ways.{HoldsWrite}
-use Rattle.fs_port.specs.View.{View, state_of}
+use Rattle.fs_port.specs.View.{DiskView, state_of}
 use Rattle.fs_port.specs.Calls.{IsValidNow, Stays}
 use Rattle.fs_client.specs.declared.client.Client.{Client}
 use Rattle.fs_client.specs.May.{Looked}
@@ -25,7 +25,7 @@ use Rattle.inode_walks.specs.Asking.{tree_of}
 use Rattle.inode_walks.specs.Finding.{StandsAtPath, IsPlace, IsFurther}
 use Rattle.fs_client.specs.Changing.{no_place_found}
 use Rattle.inode_walks.proofs.FurtherLaws.{may_read, further}
-use Rattle.inode_changes.specs.Entering.{HasRoom, IsEntry}
+use Rattle.inode_changes.specs.Entering.{DirectoryHasRoom, IsEntryRead}
 use Rattle.inode_changes.proofs.EntryLaws.{entry_of}
 use Rattle.inode_changes.specs.Growing.{Grows}
 
@@ -34,7 +34,7 @@ entry_is n (tree.directory es) h = refl
 entry_is n (tree.regular size blocks) h = absurd (cc)
 
 -- a name that is there takes no room
-pub room_for_old : (i : layout.Inode) (n : Name) (b : ℕ) → is_directory (inode_of i) ≡ true → entry_said n (inode_of i) ≡ Some b → HasRoom i n
+pub room_for_old : (i : layout.Inode) (n : Name) (b : ℕ) → is_directory (inode_of i) ≡ true → entry_said n (inode_of i) ≡ Some b → DirectoryHasRoom i n
 room_for_old i n b is_dir some none = absurd (never (block_named n (entries_said (inode_of i))) (sym (entry_is n (inode_of i) is_dir) ∙ some) none)
   where
     never : (o : Option ℕ) → o ≡ Some b → o ≡ None → ⊥
@@ -44,12 +44,12 @@ at_last : (p : Path) (n : Name) (x : InodeNode) → at x (p ++ n ∷ []) ≡ chi
 at_last [] n x = refl
 at_last (m ∷ ms) n x = at_last ms n (child m x)
 
-module _ (c : Client) (mid : View) (path : Path) (place : Place) (is_dir : is_directory (inode_of place.directory.inode) ≡ true) (i : IsPlace c mid path place) where
+module _ (c : Client) (mid : DiskView) (path : Path) (place : Place) (is_dir : is_directory (inode_of place.directory.inode) ≡ true) (i : IsPlace c mid path place) where
   -- what stands there is what the directory names so
   pub old_is : (o : Option ℕ) → entry_said place.name.now (inode_of place.directory.inode) ≡ o → place.old ≡ o
   old_is o e = i.old ∙ (sym (entry_is place.name.now (inode_of place.directory.inode) is_dir) ∙ e)
 
-  module _ (b : ℕ) (some : place.old ≡ Some b) (rd : View) (file : Found) (seen : Looked mid rd) (stays : Stays mid rd) (now : IsValidNow mid)
+  module _ (b : ℕ) (some : place.old ≡ Some b) (rd : DiskView) (file : Found) (seen : Looked mid rd) (stays : Stays mid rd) (now : IsValidNow mid)
       (block : file.block ≡ b) (says : inode_at mid.world b ≡ Some (inode_of file.inode)) (whole : block_len_of file.inode ≡ block_len mid.world.geometry) (held : HoldsWrite (state_of rd) c.session b) where
     here : IsFurther c mid rd i.above.more place.directory place.name.now file
     here =
@@ -71,8 +71,8 @@ module _ (c : Client) (mid : View) (path : Path) (place : Place) (is_dir : is_di
     }
 
     -- what is known where bytes are to be added
-    pub grows_so : (first : View) → Looked first mid → c.root < first.world.geometry.primaries → is_there (tree_of c first) ≡ true → is_path path ≡ true → ◌≡◌ {A = Option FsRefusal} (no_place_found (tree_of c first) path no.IsDir) None
-        → HasRoom place.directory.inode place.name.now → Grows c rd path place file
+    pub grows_so : (first : DiskView) → Looked first mid → c.root < first.world.geometry.primaries → is_there (tree_of c first) ≡ true → is_path path ≡ true → ◌≡◌ {A = Option FsRefusal} (no_place_found (tree_of c first) path no.IsDir) None
+        → DirectoryHasRoom place.directory.inode place.name.now → Grows c rd path place file
     grows_so first looked primary there named way room =
         let same : rd.world ≡ first.world = seen.world ∙ looked.world in
         record {
@@ -81,7 +81,7 @@ module _ (c : Client) (mid : View) (path : Path) (place : Place) (is_dir : is_di
             primary = subst (λ w. c.root < w.geometry.primaries) (sym same) primary;
             there = subst (λ w. is_there (inode_tree w c.root) ≡ true) (sym same) there;
             path_is = named;
-            entry = subst (λ w. IsEntry c.root w path place) (sym seen.world) (entry_of c mid path place is_dir i);
+            entry = subst (λ w. IsEntryRead c.root w path place) (sym seen.world) (entry_of c mid path place is_dir i);
             room = room;
           };
           may = may_again c mid rd place.directory.block seen stays now i.above.stands.may;

@@ -19,7 +19,7 @@ use Rattle.fs_trees.specs.declared.ask.ShellAsk.TheVariants as ask
 use Rattle.fs_trees.specs.declared.ask.ShellKind.TheVariants as kind
 use Rattle.fs_trees.specs.declared.refusal.FsRefusal.{FsRefusal}
 use Rattle.fs_trees.specs.declared.refusal.FsRefusal.TheVariants as no
-use Rattle.fs_port.specs.View.{View}
+use Rattle.fs_port.specs.View.{DiskView}
 use Rattle.fs_port.specs.Calls.{IsValidNow, Stays}
 use Rattle.fs_client.specs.declared.client.Client.{Client}
 use Rattle.fs_client.specs.May.{Looked}
@@ -37,7 +37,7 @@ use Rattle.inode_walks.proofs.FileLaws.{stands_still}
 use Rattle.inode_walks.proofs.FurtherLaws.{a_level, child_there}
 use Rattle.inode_walks.proofs.WalkLaws.{file_node, dir_node}
 use Rattle.inode_changes.specs.declared.content.Content.{Content}
-use Rattle.inode_changes.specs.Content.{shared_count, shared_of, new_bytes, new_count, all_count, HasRoom, IsFor}
+use Rattle.inode_changes.specs.Content.{shared_count, shared_of, new_bytes, new_count, all_count, FitsInode, IsFor}
 use Rattle.inode_changes.specs.Filling.{joined}
 use Rattle.inode_changes.specs.Entering as entering
 use Rattle.inode_changes.specs.Entering.{Grounds, AreOfFiles}
@@ -94,7 +94,7 @@ entry_count : (es : List Entry) → length (map (λ e. e.block) es) ≡ length (
 entry_count [] = refl
 entry_count (e ∷ es) = let rest = entry_count es in omega (arith, rest)
 
-module _ (c : Client) (v : View) (path : Path) (place : Place) (dir : is_directory (inode_of place.directory.inode) ≡ true) (now : IsValidNow v) (s : PutsFile c v path place) (x : List ℕ) where
+module _ (c : Client) (v : DiskView) (path : Path) (place : Place) (dir : is_directory (inode_of place.directory.inode) ≡ true) (now : IsValidNow v) (s : PutsFile c v path place) (x : List ℕ) where
   abbrev t : Tree
   t = tree_of c v
 
@@ -104,7 +104,7 @@ module _ (c : Client) (v : View) (path : Path) (place : Place) (dir : is_directo
   root : is_dir (tree_of c v) ≡ true
   root = root_is_dir v.world c.root s.there
 
-  pub grounds : entering.HasRoom place.directory.inode place.name.now → Grounds c.root v.world path place
+  pub grounds : entering.DirectoryHasRoom place.directory.inode place.name.now → Grounds c.root v.world path place
   grounds room = record { valid = now.valid; primary = s.primary; there = s.there; path_is = s.path_is; entry = entry_of c v path place dir s.found; room = room }
 
   names_are : length (names_in (at t (directory_of path))) ≡ length (entry_names (entries_said (inode_of place.directory.inode)))
@@ -123,7 +123,7 @@ module _ (c : Client) (v : View) (path : Path) (place : Place) (dir : is_directo
       (ap (λ b. not b && nat_le (entries_room (block_len g)) (length (names_in (at t (directory_of path))))) absent ∙ (sym full_is ∙ full))
 
   -- an entry has room there
-  roomy : entering.HasRoom place.directory.inode place.name.now → (not (is_there (at t path)) && nat_le (entries_room (block_len g)) (length (names_in (at t (directory_of path))))) ≡ false
+  roomy : entering.DirectoryHasRoom place.directory.inode place.name.now → (not (is_there (at t path)) && nat_le (entries_room (block_len g)) (length (names_in (at t (directory_of path))))) ≡ false
   roomy room = by_old place.old refl
     where
       by_old : (o : Option ℕ) → place.old ≡ o → (not (is_there (at t path)) && nat_le (entries_room (block_len g)) (length (names_in (at t (directory_of path))))) ≡ false
@@ -146,7 +146,7 @@ module _ (c : Client) (v : View) (path : Path) (place : Place) (dir : is_directo
       by_old (Some b) e = ap (λ r. not r && nat_le (entries_room (block_len g)) (length (names_in (at t (directory_of path)))))
           (there_at c v path place dir s.found b e (child_there c v s.found.above.more place.directory s.found.above.stands place.name.now b (said_place c v path place dir s.found b e)))
 
-  module _ (room : entering.HasRoom place.directory.inode place.name.now) where
+  module _ (room : entering.DirectoryHasRoom place.directory.inode place.name.now) where
     big_is : nat_lt (data_room (block_len_of place.directory.inode)) (div_ceil (length x) (block_len_of place.directory.inode)) ≡ nat_lt (data_room (block_len g)) (div_ceil (length x) (block_len g))
     big_is = ap (λ n. nat_lt (data_room n) (div_ceil (length x) n)) s.found.above.stands.whole
 
@@ -176,7 +176,7 @@ module _ (x : List ℕ) (len : ℕ) (content : Content) (of : IsOf x len content
   pub all_is : all_count content ≡ div_ceil (length x) len
   all_is = let none = shares_none in let new = new_is in omega (arith, none, new)
 
-  pub has_room : 16 ≤ len → len ≤ 4096 → length x ≤ 4096 → nat_lt (data_room len) (div_ceil (length x) len) ≡ false → HasRoom content
+  pub has_room : 16 ≤ len → len ≤ 4096 → length x ≤ 4096 → nat_lt (data_room len) (div_ceil (length x) len) ≡ false → FitsInode content
   has_room some most few small = record {
     whole = ap length of.shared ∙ sym (ap (λ k. 4 * k) shares_none);
     front = subst (λ n. length content.front.now < n) (sym of.len) (subst (λ xs. length xs < len) (sym of.front) (omega (arith, some)));
@@ -188,7 +188,7 @@ module _ (x : List ℕ) (len : ℕ) (content : Content) (of : IsOf x len content
       not_less : (a b : ℕ) → nat_lt a b ≡ false → b ≤ a
       not_less a b h = grind (arith, nat_tests)
 
-  pub is_for : (c : Client) (v : View) → len ≡ block_len v.world.geometry → IsFor c v content
+  pub is_for : (c : Client) (v : DiskView) → len ≡ block_len v.world.geometry → IsFor c v content
   is_for c v same = record {
     len = of.len ∙ same;
     count = all_is ∙ (ap (λ n. div_ceil n len) (sym of.size) ∙ ap (div_ceil content.size) (sym of.len));
@@ -219,7 +219,7 @@ nothing_no_dir nothing h = refl
 nothing_no_dir (a_file x) h = refl
 nothing_no_dir (a_dir d es) h = absurd (cc)
 
-module _ (c : Client) (v : View) (path : Path) (place : Place) (dir : is_directory (inode_of place.directory.inode) ≡ true) (i : IsPlace c v path place) (b : ℕ) (some : place.old ≡ Some b) where
+module _ (c : Client) (v : DiskView) (path : Path) (place : Place) (dir : is_directory (inode_of place.directory.inode) ≡ true) (i : IsPlace c v path place) (b : ℕ) (some : place.old ≡ Some b) where
   old_is_there : is_there (node_at v.world i.above.more b) ≡ true
   old_is_there = child_there c v i.above.more place.directory i.above.stands place.name.now b (said_place c v path place dir i b some)
 
@@ -236,7 +236,7 @@ module _ (c : Client) (v : View) (path : Path) (place : Place) (dir : is_directo
       by_kind (regular size blocks) h e = ap (λ x. is_dir (inodes.tree_of v.world x)) (file_node v.world (a_level v.world i.above.more b old_is_there).0 b h size blocks e)
 
 -- what was found stands there after a look
-pub place_still : (c : Client) (old new : View) (path : Path) (place : Place) → Looked old new → Stays old new → IsValidNow old → IsPlace c old path place → IsPlace c new path place
+pub place_still : (c : Client) (old new : DiskView) (path : Path) (place : Place) → Looked old new → Stays old new → IsValidNow old → IsPlace c old path place → IsPlace c new path place
 place_still c old new path place seen stays now i = record {
   above = record {
     more = i.above.more;
@@ -249,7 +249,7 @@ place_still c old new path place seen stays now i = record {
 }
 
 -- nothing is changed yet, and no directory stands there
-pub puts_now : (c : Client) (first mid now : View) (path : Path) (place : Place) → c.root < first.world.geometry.primaries → is_there (tree_of c first) ≡ true → is_path path ≡ true
+pub puts_now : (c : Client) (first mid now : DiskView) (path : Path) (place : Place) → c.root < first.world.geometry.primaries → is_there (tree_of c first) ≡ true → is_path path ≡ true
     → ◌≡◌ {A = Option FsRefusal} (no_place_found (tree_of c first) path no.IsDir) None → Looked first mid → IsPlace c mid path place → Looked mid now → Stays mid now → is_dir (at (tree_of c mid) path) ≡ false → PutsFile c now path place
 puts_now c first mid now path place primary there path_is way one found two stays no_dir =
     let same : now.world ≡ first.world = two.world ∙ one.world in

@@ -26,7 +26,7 @@ use Rattle.fs_trees.specs.declared.refusal.FsRefusal.{FsRefusal}
 use Rattle.fs_trees.specs.declared.refusal.FsRefusal.TheVariants as no
 use Rattle.fs_laws.proofs.InodeLaws.{inodes_under_root}
 use Rattle.fs_laws.proofs.OutsideLaws.{outside_twice}
-use Rattle.fs_port.specs.View.{View}
+use Rattle.fs_port.specs.View.{DiskView}
 use Rattle.fs_port.specs.Calls.{Stays}
 use Rattle.fs_port.specs.Files.{IsEitherTree, LeavesTidyWorld}
 use Rattle.fs_client.specs.declared.client.Client.{Client}
@@ -75,7 +75,7 @@ directory_length es h = let list = listed_length es h in omega (arith, list)
 -- ---- an entry that is to be taken out
 
 -- it was found, and what it names was read
-pub record Taking (c : Client) (first mid rd : View) (path : Path) (place : Place) (b : ℕ) : Type 0 where
+pub record Taking (c : Client) (first mid rd : DiskView) (path : Path) (place : Place) (b : ℕ) : Type 0 where
   pub valid : IsValid first.world
   pub tree : is_there (tree_of c first) ≡ true
   pub primary : c.root < first.world.geometry.primaries
@@ -87,7 +87,7 @@ pub record Taking (c : Client) (first mid rd : View) (path : Path) (place : Plac
   pub read : Looked mid rd
   pub stays : Stays mid rd
 
-module _ (c : Client) (first mid rd : View) (path : Path) (place : Place) (b : ℕ) (x : Taking c first mid rd path place b) where
+module _ (c : Client) (first mid rd : DiskView) (path : Path) (place : Place) (b : ℕ) (x : Taking c first mid rd path place b) where
   abbrev es : List Entry
   es = entries_said (inode_of place.directory.inode)
 
@@ -163,7 +163,7 @@ module _ (c : Client) (first mid rd : View) (path : Path) (place : Place) (b : �
     stop_at_write w (inr h) = subst (IsEitherTree (mounted_by c) first (ask.Rm path)) (sym h.0)
         (after next tree_next h.1.valid h.1.geometry (h.1.others c.root primary_rd inside))
 
-    module _ (wr : View) (went : Went c rd wr (write_by c d bytes) d (written rd.world d bytes)) (stays_wr : Stays rd wr) where
+    module _ (wr : DiskView) (went : Went c rd wr (write_by c d bytes) d (written rd.world d bytes)) (stays_wr : Stays rd wr) where
       live_next : (a : ℕ) → is_live rd.world a ≡ true → is_live next a ≡ true
       live_next a h = live-with_contents rd.world d a _ h
 
@@ -209,7 +209,7 @@ module _ (c : Client) (first mid rd : View) (path : Path) (place : Place) (b : �
           (after next tree_next went.leads.valid went.leads.geometry (went.leads.others c.root primary_rd inside))
       stop_at_drop w (inr h) = subst (IsEitherTree (mounted_by c) first (ask.Rm path)) (sym (h.0 ∙ to_last)) (at_last_world (on_next (dropped wr.world d b) h.1 refl))
 
-      module _ (fin : View) (gone : Went c wr fin (unlink_by c d b) d (dropped wr.world d b)) (unspent : fin.spent ≡ false) where
+      module _ (fin : DiskView) (gone : Went c wr fin (unlink_by c d b) d (dropped wr.world d b)) (unspent : fin.spent ≡ false) where
         leads_last : Leads next (unlink_by c d b) last
         leads_last = on_next (dropped wr.world d b) gone.leads refl
 

@@ -16,7 +16,7 @@ use Rattle.fs_trees.specs.declared.refusal.FsRefusal.TheVariants as no
 use Rattle.fs_laws.specs.Ways.{attains_write}
 use Rattle.fs_laws.proofs.ListLaws.{any-append}
 use Rattle.fs_laws.proofs.UnderLaws.{each_under}
-use Rattle.fs_port.specs.View.{View, IsSound, state_of}
+use Rattle.fs_port.specs.View.{DiskView, IsDiskSound, state_of}
 use Rattle.fs_port.specs.Calls.{IsValidNow}
 use Rattle.fs_client.specs.declared.client.Client.{Client}
 use Rattle.fs_client.specs.Client.{shown_at, link_by}
@@ -30,7 +30,7 @@ use Rattle.fs_client.proofs.RoomLaws.{room_there, there_is_room}
 use Rattle.fs_client.proofs.NeedLaws.{pairs_want, wanted_pairs}
 use Rattle.fs_client.proofs.MayLaws.{may_after}
 use Rattle.inode_changes.specs.Making.{Making}
-use Rattle.inode_changes.specs.Content.{AreReached}
+use Rattle.inode_changes.specs.Content.{RootReaches}
 use Rattle.inode_changes.specs.Filling.{Stage, IsAside, AsideOf, Shared, Stopped}
 use Rattle.inode_changes.proofs.MakingLaws.{making_shared}
 use Rattle.inode_changes.proofs.FillLaws.{aside_now}
@@ -78,7 +78,7 @@ not_before (x ∷ xs) (suc i) apart h =
 
 -- ---- the way to a block that isn't primary
 
-pub way_there : (c : Client) (v : View) (b : ℕ) → v.world.geometry.primaries ≤ b → MayWrite c v b → attains_write (state_of v) c.session b Nothing ≡ true
+pub way_there : (c : Client) (v : DiskView) (b : ℕ) → v.world.geometry.primaries ≤ b → MayWrite c v b → attains_write (state_of v) c.session b Nothing ≡ true
 way_there c v b above may = elim ((attained_where v.world v.sessions c.session b (shown_at c b) level.Write refl).0 may.attains) [
   | inl shown ↦ absurd (never shown.0)
   | inr held ↦ (attained_where v.world v.sessions c.session b Nothing level.Write refl).1 (inr held)
@@ -87,7 +87,7 @@ way_there c v b above may = elim ((attained_where v.world v.sessions c.session b
     never : b < v.world.geometry.primaries → ⊥
     never below = omega (arith, below, above)
 
-pub may_same : (c : Client) (old new : View) → state_of new ≡ state_of old → (b : ℕ) → MayWrite c old b → MayWrite c new b
+pub may_same : (c : Client) (old new : DiskView) → state_of new ≡ state_of old → (b : ℕ) → MayWrite c old b → MayWrite c new b
 may_same c old new same b may = record {
   number = may.number;
   begun = ap (λ s. is_open s.sessions c.session) same ∙ may.begun;
@@ -104,7 +104,7 @@ fault_before e n h = h
 pub before_fault : (e : FsRefusal) (n : ℕ) → e ≡ no.Device → refusal_before e n ≡ no.Device
 before_fault e n h = ap (λ r. refusal_before r n) h
 
-pub runs_before : {X : Type 0} (told : Type 0) (old new : View) (P : World → Type 0) (e : FsRefusal) (n : ℕ) → Runs {X = X} told old new P (Err e) → Runs {X = X} told old new P (Err (refusal_before e n))
+pub runs_before : {X : Type 0} (told : Type 0) (old new : DiskView) (P : World → Type 0) (e : FsRefusal) (n : ℕ) → Runs {X = X} told old new P (Err e) → Runs {X = X} told old new P (Err (refusal_before e n))
 runs_before told old new P e n h = record {
   valid = λ t. (tt, λ ne. (h.valid t).1 (λ k. ne (before_fault e n k)));
   led = λ t. (tt, λ ne. (h.led t).1 (λ k. ne (before_fault e n k)));
@@ -120,20 +120,20 @@ runs_before told old new P e n h = record {
 -- ---- so far
 
 -- the inode points to the first of the blocks
-pub record Sharing (told : Type 0) (c : Client) (first now : View) (i : ℕ) (all : List ℕ) (place : ℕ) : Type 0 where
+pub record Sharing (told : Type 0) (c : Client) (first now : DiskView) (i : ℕ) (all : List ℕ) (place : ℕ) : Type 0 where
   pub runs : Runs {X = Unit {0}} told first now (AsideOf c.root i all first.world) (Ok tt)
   pub geometry : told → now.world.geometry ≡ first.world.geometry
   pub same : told → now.world.blocks ≡ first.world.blocks
   pub pairs : told → length now.world.pairs ≡ length first.world.pairs + place
   pub held : told → (b : ℕ) → holds now.world.pairs i b ≡ has_number (take place all) b
-  pub making : told → (w : World) (d : ℕ) → Stage c.root w d → Making c.root w d i [] [] first.world → AreReached c.root w all → Making c.root w d i (take place all) [] now.world
+  pub making : told → (w : World) (d : ℕ) → Stage c.root w d → Making c.root w d i [] [] first.world → RootReaches c.root w all → Making c.root w d i (take place all) [] now.world
   pub may : told → (b : ℕ) → MayWrite c first b → MayWrite c now b
   pub room : told → length first.world.pairs + place ≤ first.world.geometry.slots
 
 aside_of_same : (root i : ℕ) (all : List ℕ) (w v : World) → v ≡ w → AsideOf root i all w v
 aside_of_same root i all w v e first d at m reached = subst (IsAside root first) (sym e) (aside_now root first d i [] [] w at m)
 
-pub sharing_begins : (told : Type 0) (c : Client) (first : View) (i : ℕ) (all : List ℕ) → first.spent ≡ false → (told → IsSound first) → (told → IsValidNow first) → (told → (b : ℕ) → holds first.world.pairs i b ≡ false) → Sharing told c first first i all 0
+pub sharing_begins : (told : Type 0) (c : Client) (first : DiskView) (i : ℕ) (all : List ℕ) → first.spent ≡ false → (told → IsDiskSound first) → (told → IsValidNow first) → (told → (b : ℕ) → holds first.world.pairs i b ≡ false) → Sharing told c first first i all 0
 sharing_begins told c first i all unspent sound now bare = record {
   runs = runs_look told first first (AsideOf c.root i all first.world) (Ok tt) (λ t w e. aside_of_same c.root i all first.world w e) (no_look told first unspent sound now);
   geometry = λ t. refl;
@@ -145,7 +145,7 @@ sharing_begins told c first i all unspent sound now bare = record {
   room = λ t. let most = (now t).valid.raw.sized.room in omega (arith, most);
 }
 
-module _ (told : Type 0) (c : Client) (first now new : View) (i : ℕ) (all : List ℕ) (place : ℕ) (s : Sharing told c first now i all place) (inside : place < length all) where
+module _ (told : Type 0) (c : Client) (first now new : DiskView) (i : ℕ) (all : List ℕ) (place : ℕ) (s : Sharing told c first now i all place) (inside : place < length all) where
   abbrev b : ℕ
   b = slice_index all place
 
@@ -155,7 +155,7 @@ module _ (told : Type 0) (c : Client) (first now new : View) (i : ℕ) (all : Li
   pub not_yet : told → are_apart all ≡ true → holds now.world.pairs i (slice_index all place) ≡ false
   not_yet t apart = s.held t (slice_index all place) ∙ not_before all place apart inside
 
-  made_more : told → Leads now.world (link_by c i (slice_index all place)) (pointed now.world i (slice_index all place)) → (w : World) (d : ℕ) → Stage c.root w d → Making c.root w d i [] [] first.world → AreReached c.root w all
+  made_more : told → Leads now.world (link_by c i (slice_index all place)) (pointed now.world i (slice_index all place)) → (w : World) (d : ℕ) → Stage c.root w d → Making c.root w d i [] [] first.world → RootReaches c.root w all
       → Making c.root w d i (take (place + 1) all) [] (pointed now.world i (slice_index all place))
   made_more t leads w d at m reached =
       let under : is_under w c.root (slice_index all place) ≡ true = reached (slice_index all place) (is_among all place inside) in
@@ -230,7 +230,7 @@ module _ (told : Type 0) (c : Client) (first now new : View) (i : ℕ) (all : Li
           may = λ k h. may_same c now new (same t) k (s.may t k h);
         }
 
-pub all_shared : (told : Type 0) (c : Client) (first now : View) (i : ℕ) (all : List ℕ) (place : ℕ) → Sharing told c first now i all place → place ≡ length all → told → Shared c first now i all
+pub all_shared : (told : Type 0) (c : Client) (first now : DiskView) (i : ℕ) (all : List ℕ) (place : ℕ) → Sharing told c first now i all place → place ≡ length all → told → Shared c first now i all
 all_shared told c first now i all place s ends t = record {
   geometry = s.geometry t;
   same = s.same t;
@@ -239,11 +239,11 @@ all_shared told c first now i all place s ends t = record {
   may = s.may t;
 }
 
-pub room_for_shared : (told : Type 0) (c : Client) (first now : View) (i : ℕ) (all : List ℕ) (place n : ℕ) → Sharing told c first now i all place → n ≤ place → told → ◌≡◌ {A = Option FsRefusal} (no_room_in first.world 0 n) None
+pub room_for_shared : (told : Type 0) (c : Client) (first now : DiskView) (i : ℕ) (all : List ℕ) (place n : ℕ) → Sharing told c first now i all place → n ≤ place → told → ◌≡◌ {A = Option FsRefusal} (no_room_in first.world 0 n) None
 room_for_shared told c first now i all place n s ends t = let room = s.room t in room_there first.world 0 n (omega arith) (omega (arith, room, ends))
 
 -- all are shared, and then something else was refused
-pub stopped_after : (c : Client) (first now new : View) (i : ℕ) (all : List ℕ) → Shared c first now i all → state_of new ≡ state_of now → Stopped c first new i all
+pub stopped_after : (c : Client) (first now new : DiskView) (i : ℕ) (all : List ℕ) → Shared c first now i all → state_of new ≡ state_of now → Stopped c first new i all
 stopped_after c first now new i all shared same =
     let world : new.world ≡ now.world = ap (λ x. x.world) same in
     record {

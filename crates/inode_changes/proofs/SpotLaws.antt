@@ -20,7 +20,7 @@ use Rattle.fs_trees.specs.InodeTree.{InodeNode, InodeEntries, inode_at, entries_
 use Rattle.fs_trees.specs.Refusals.{directory_of}
 use Rattle.fs_laws.proofs.InodeLaws.{HasRoot, found, under_is}
 use Rattle.fs_laws.proofs.DirectoryLaws.{deeper, nowhere}
-use Rattle.fs_port.specs.View.{View}
+use Rattle.fs_port.specs.View.{DiskView}
 use Rattle.fs_client.specs.declared.client.Client.{Client}
 use Rattle.inode_layout.specs.declared.inode.Inode as layout
 use Rattle.inode_layout.specs.declared.kind.InodeKind.{InodeKind}
@@ -104,7 +104,7 @@ below_named p root old d xs e a b h = below p (a_dir root old) d xs e a b h
     below (n ∷ ns) (a_file f) d xs e a b h = absurd (nowhere ns d xs e)
     below (n ∷ ns) (a_dir c es) d xs e a b h = entry_pairs c n es a b (below ns (entry n es) d xs e a b h)
 
-pub spot_of : (c : Client) (v : View) (path : Path) (place : Place) → is_there (tree_of c v) ≡ true → is_directory (inode_of place.directory.inode) ≡ true → IsPlace c v path place
+pub spot_of : (c : Client) (v : DiskView) (path : Path) (place : Place) → is_there (tree_of c v) ≡ true → is_directory (inode_of place.directory.inode) ≡ true → IsPlace c v path place
     → Spot v.world c.root (directory_of path) place.directory.block (entries_said (inode_of place.directory.inode))
 spot_of c v path place there is_dir i =
     let es = entries_said (inode_of place.directory.inode) in

@@ -5,7 +5,7 @@ use Rattle.fs_trees.specs.Tree.{at}
 use Rattle.fs_trees.specs.InodeTree.{node_at, inodes_under, inode_tree}
 use Rattle.fs_trees.specs.declared.refusal.FsRefusal.{FsRefusal}
 use Rattle.fs_trees.specs.declared.refusal.FsRefusal.TheVariants as no
-use Rattle.fs_port.specs.View.{View}
+use Rattle.fs_port.specs.View.{DiskView}
 use Rattle.fs_port.specs.Calls.{IsValidNow, Stays}
 use Rattle.fs_client.specs.declared.client.Client.{Client}
 use Rattle.fs_client.specs.May.{Looked}
@@ -18,7 +18,7 @@ use Rattle.inode_changes.specs.Entering.{Grounds}
 use Rattle.inode_changes.specs.Growing.{Grows}
 
 -- what was read stands there still
-pub grows_still : (c : Client) (old new : View) (path : Path) (place : Place) (file : Found) → Looked old new → Stays old new → IsValidNow old → Grows c old path place file → Grows c new path place file
+pub grows_still : (c : Client) (old new : DiskView) (path : Path) (place : Place) (file : Found) → Looked old new → Stays old new → IsValidNow old → Grows c old path place file → Grows c new path place file
 grows_still c old new path place file seen stays now x = record {
   grounds = subst (λ w. Grounds c.root w path place) (sym seen.world) x.grounds;
   may = may_again c old new place.directory.block seen stays now x.may;

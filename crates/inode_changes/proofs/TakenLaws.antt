@@ -8,18 +8,18 @@ use Rattle.tsd_model.specs.World.{World, is_live, has_number}
 use Rattle.tsd_model.specs.Pairs.{holds}
 use Rattle.fs_trees.specs.Fields.{numbers}
 use Rattle.fs_trees.specs.Needs.{need}
-use Rattle.fs_port.specs.View.{View}
+use Rattle.fs_port.specs.View.{DiskView}
 use Rattle.fs_port.specs.Files.{KeepsRoom}
 use Rattle.fs_client.specs.declared.client.Client.{Client}
 use Rattle.fs_client.proofs.KeepLaws.{takes_these}
 use Rattle.inode_changes.specs.declared.content.Content.{Content}
 use Rattle.inode_changes.specs.Making.{Making, new_pairs}
-use Rattle.inode_changes.specs.Content.{shared_of, shared_count, new_bytes, new_count, all_count, IsFor, AreReached}
+use Rattle.inode_changes.specs.Content.{shared_of, shared_count, new_bytes, new_count, all_count, IsFor, RootReaches}
 use Rattle.inode_changes.specs.Filling.{Stage, Filled}
 use Rattle.inode_changes.specs.Beginning.{Began}
 
 -- the block of a new inode, and the pair to it
-pub begun_takes : (c : Client) (old new : View) (d i : ℕ) → Began c old new d i → KeepsRoom (need 1 1) old.world new.world
+pub begun_takes : (c : Client) (old new : DiskView) (d i : ℕ) → Began c old new d i → KeepsRoom (need 1 1) old.world new.world
 begun_takes c old new d i b = record {
   blocks = let less = b.blocks in omega (arith, less);
   pairs = let more = b.pairs in omega (arith, more);
@@ -45,7 +45,7 @@ making_takes root first d i shared fresh w at m = takes_these first w at.valid m
     ] refl
 
 -- a file's blocks are as many as its size takes
-pub file_takes : (c : Client) (old begun new : View) (d i : ℕ) → Stage c.root old.world d → Making c.root old.world d i [] [] begun.world → (content : Content) → IsFor c old content → AreReached c.root old.world (shared_of content)
+pub file_takes : (c : Client) (old begun new : DiskView) (d i : ℕ) → Stage c.root old.world d → Making c.root old.world d i [] [] begun.world → (content : Content) → IsFor c old content → RootReaches c.root old.world (shared_of content)
     → Filled c begun new i content.size (shared_of content) (new_bytes content) → KeepsRoom (need (1 + new_count content) (1 + all_count content)) old.world new.world
 file_takes c old begun new d i at begins content suits reached filled =
     let file = filled.file old.world d at begins reached in

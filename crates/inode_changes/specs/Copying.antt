@@ -4,7 +4,7 @@ use Rattle.fs_trees.specs.Names.{Path, is_path}
 use Rattle.fs_trees.specs.Tree.{is_there}
 use Rattle.fs_trees.specs.declared.refusal.FsRefusal.{FsRefusal}
 use Rattle.fs_trees.specs.declared.refusal.FsRefusal.TheVariants as no
-use Rattle.fs_port.specs.View.{View}
+use Rattle.fs_port.specs.View.{DiskView}
 use Rattle.fs_client.specs.declared.client.Client.{Client}
 use Rattle.inode_layout.specs.declared.inode.Inode.{Inode}
 use Rattle.inode_layout.specs.Block.{inode_of, block_len_of, body_of}
@@ -16,8 +16,9 @@ use Rattle.inode_walks.specs.Finding.{StandsAtPath, IsPlace, no_file_found}
 use Rattle.fs_client.specs.Changing.{no_place_found}
 use Rattle.inode_changes.specs.declared.content.Content.{Content}
 
--- What stands at a path, and a place where nothing stands, as they were read: nothing on either way refuses an ask there.
-pub record Copies (c : Client) (v : View) (path : Path) (file : Found) (new : Path) (place : Place) : Type 0 where
+-- What stands at a path, and a place where nothing stands, as they were read: nothing on either way refuses an ask
+-- there.
+pub record Copies (c : Client) (v : DiskView) (path : Path) (file : Found) (new : Path) (place : Place) : Type 0 where
   pub there : IsTrue (is_there (tree_of c v))
   pub primary : c.root < v.world.geometry.primaries
   pub found : StandsAtPath c v path file

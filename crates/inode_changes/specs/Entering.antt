@@ -20,7 +20,7 @@ use Rattle.inode_changes.specs.Making.{Making}
 -- ---- where it is entered
 
 -- The place of a path, as it was read from the blocks of a world: its directory, its name, and what stands there.
-pub record IsEntry (root : ℕ) (w : World) (path : Path) (place : Place) : Type 0 where
+pub record IsEntryRead (root : ℕ) (w : World) (path : Path) (place : Place) : Type 0 where
   -- so many names may follow those of the directory
   pub more : ℕ
   pub levels : more + length (directory_of path) ≡ path_max
@@ -33,8 +33,9 @@ pub record IsEntry (root : ℕ) (w : World) (path : Path) (place : Place) : Type
   pub old : place.old ≡ block_named place.name.now (entries_said (inode_of place.directory.inode))
 
 -- a directory has room for an entry of this name, if it is a new one
-abbrev pub HasRoom : layout.Inode → Name → Type 0
-HasRoom inode n = block_named n (entries_said (inode_of inode)) ≡ None → length (entries_said (inode_of inode)) < entries_room (block_len_of inode)
+abbrev pub DirectoryHasRoom : layout.Inode → Name → Type 0
+DirectoryHasRoom inode n = block_named n (entries_said (inode_of inode)) ≡ None
+    → length (entries_said (inode_of inode)) < entries_room (block_len_of inode)
 
 -- the place of a path in a valid world that has a tree under the root, with room for an entry
 pub record Grounds (root : ℕ) (first : World) (path : Path) (place : Place) : Type 0 where
@@ -42,14 +43,15 @@ pub record Grounds (root : ℕ) (first : World) (path : Path) (place : Place) : 
   pub primary : root < first.geometry.primaries
   pub there : IsTrue (is_there (inode_tree first root))
   pub path_is : IsTrue (is_path path)
-  pub entry : IsEntry root first path place
-  pub room : HasRoom place.directory.inode place.name.now
+  pub entry : IsEntryRead root first path place
+  pub room : DirectoryHasRoom place.directory.inode place.name.now
 
 -- ---- what is entered
 
 -- some file of the tree has the block
 abbrev pub IsOfFile : ℕ → World → ℕ → Type 0
-IsOfFile root w b = (path : Path) × (file : FileInode) × (at (inodes_under w root) path ≡ a_file file) × IsTrue (has_number file.blocks b)
+IsOfFile root w b = (path : Path) × (file : FileInode) × (at (inodes_under w root) path ≡ a_file file)
+    × IsTrue (has_number file.blocks b)
 
 abbrev pub AreOfFiles : ℕ → World → List ℕ → Type 0
 AreOfFiles root w blocks = (b : ℕ) → IsTrue (has_number blocks b) → IsOfFile root w b
@@ -59,9 +61,9 @@ abbrev pub node_of : ℕ → Inode → InodeNode
 node_of i (regular size blocks) = a_file (record { block = i; size = size; blocks = blocks })
 node_of i (directory es) = a_dir i none
 
--- In block i stands the inode of this tree, a file or a directory without entries, which no directory names yet. What it
--- shares are blocks of files.
-pub record IsMade (root : ℕ) (first : World) (d i : ℕ) (made : Tree) (w : World) : Type 0 where
+-- In block i stands the inode of this tree, a file or a directory without entries, which no directory names yet. What
+-- it shares are blocks of files.
+pub record IsMadeInode (root : ℕ) (first : World) (d i : ℕ) (made : Tree) (w : World) : Type 0 where
   pub inode : Inode
   pub shared : List ℕ
   pub fresh : List ℕ
@@ -74,7 +76,8 @@ pub record IsMade (root : ℕ) (first : World) (d i : ℕ) (made : Tree) (w : Wo
 
 -- it may be entered at the place, whatever has gone before
 abbrev pub MayEnter : ℕ → Place → ℕ → World → Type 0
-MayEnter root place i w = (first : World) × (path : Path) × (made : Tree) × Grounds root first path place × IsMade root first place.directory.block i made w
+MayEnter root place i w = (first : World) × (path : Path) × (made : Tree) × Grounds root first path place
+    × IsMadeInode root first place.directory.block i made w
 
 -- ---- what that leaves
 
@@ -83,11 +86,13 @@ pub record HasMade (root : ℕ) (first : World) (path : Path) (made : Tree) (w :
   pub tree : inode_tree w root ≡ with_at path made (inode_tree first root)
   pub tidy : IsTidy kind.Inode first root → IsTidy kind.Inode w root
   pub others : OthersStay root first w
-  pub taken : (b : ℕ) → IsTrue (is_free first b) → IsTrue (is_live w b) → IsTrue (has_number (named_at kind.Inode w root).blocks b)
+  pub taken : (b : ℕ) → IsTrue (is_free first b) → IsTrue (is_live w b)
+      → IsTrue (has_number (named_at kind.Inode w root).blocks b)
 
 -- the tree before or the tree with what was made, in a valid world where all else is as it was
 pub record HasEither (root : ℕ) (first : World) (path : Path) (made : Tree) (w : World) : Type 0 where
-  pub tree : (inode_tree w root ≡ inode_tree first root) ⊎ (inode_tree w root ≡ with_at path made (inode_tree first root))
+  pub tree : (inode_tree w root ≡ inode_tree first root)
+      ⊎ (inode_tree w root ≡ with_at path made (inode_tree first root))
   pub valid : IsValid w
   pub geometry : w.geometry ≡ first.geometry
   pub others : OthersStay root first w
@@ -96,9 +101,9 @@ pub record HasEither (root : ℕ) (first : World) (path : Path) (made : Tree) (w
 abbrev pub Enters : ℕ → Place → ℕ → World → World → Type 0
 Enters root place i begun w =
     (first : World) (path : Path) (made : Tree) → Grounds root first path place
-    → IsMade root first place.directory.block i made begun → HasMade root first path made w
+    → IsMadeInode root first place.directory.block i made begun → HasMade root first path made w
 
 abbrev pub EntersOrNot : ℕ → Place → ℕ → World → World → Type 0
 EntersOrNot root place i begun w =
     (first : World) (path : Path) (made : Tree) → Grounds root first path place
-    → IsMade root first place.directory.block i made begun → HasEither root first path made w
+    → IsMadeInode root first place.directory.block i made begun → HasEither root first path made w

@@ -13,8 +13,9 @@ use Rattle.fs_laws.specs.Stays.{Keeps}
 abbrev pub new_pairs : ℕ → ℕ → List ℕ → List (ℕ × ℕ)
 new_pairs d i blocks = (d, i) ∷ map (λ c. (i, c)) blocks
 
--- Since the world `first` the directory in block d has got a new inode in block i, which leads to old blocks that it shares and
--- to fresh ones. All else is as it was: what the tree names, what the root doesn't reach, the bytes and pairs of all other blocks.
+-- Since the world `first` the directory in block d has got a new inode in block i, which leads to old blocks that it
+-- shares and to fresh ones. All else is as it was: what the tree names, what the root doesn't reach, the bytes and
+-- pairs of all other blocks.
 pub record Making (root : ℕ) (first : World) (d i : ℕ) (shared fresh : List ℕ) (w : World) : Type 0 where
   pub valid : IsValid w
   pub geometry : w.geometry ≡ first.geometry

@@ -4,7 +4,7 @@ use Rattle.fs_trees.specs.Names.{Path, is_path}
 use Rattle.fs_trees.specs.Tree.{at, is_there, is_dir}
 use Rattle.fs_trees.specs.declared.refusal.FsRefusal.{FsRefusal}
 use Rattle.fs_trees.specs.declared.refusal.FsRefusal.TheVariants as no
-use Rattle.fs_port.specs.View.{View}
+use Rattle.fs_port.specs.View.{DiskView}
 use Rattle.fs_client.specs.declared.client.Client.{Client}
 use Rattle.inode_walks.specs.declared.finding.Place.{Place}
 use Rattle.inode_walks.specs.Asking.{tree_of}
@@ -13,7 +13,7 @@ use Rattle.fs_client.specs.Changing.{no_place_found}
 use Rattle.inode_changes.specs.declared.content.Content.{Content}
 
 -- The entry of a path as it was found: nothing on the way refuses an ask there, and no directory stands there.
-pub record PutsFile (c : Client) (v : View) (path : Path) (place : Place) : Type 0 where
+pub record PutsFile (c : Client) (v : DiskView) (path : Path) (place : Place) : Type 0 where
   pub primary : c.root < v.world.geometry.primaries
   pub there : IsTrue (is_there (tree_of c v))
   pub path_is : IsTrue (is_path path)

@@ -15,8 +15,8 @@ ghost use Rattle.inode_layout.specs.Said.{is_directory, amount_said};
 ghost use Rattle.inode_walks.specs.Asking.{MayAsk, mounted_by};
 ghost use Rattle.inode_walks.specs.Finding.{IsOpenNow, IsStanding};
 ghost use Rattle.inode_walks.specs.Reading.{part, bytes_said};
-ghost use Rattle.inode_changes.specs.Entering.{HasRoom};
-ghost use Rattle.inode_changes.specs.Growing.{Grows, IsGrown};
+ghost use Rattle.inode_changes.specs.Entering.{DirectoryHasRoom};
+ghost use Rattle.inode_changes.specs.Growing.{Grows, IsGrownFile};
 
 use crate::content::Content;
 use crate::entering::enter;
@@ -74,7 +74,7 @@ fn last_bytes<K: Blocks>(client: &Client, disk: &mut K, file: &Found) -> Result<
 fn grown<'a>(inode: &'a Inode, front: &'a Data, bytes: &'a Data) -> Content<'a>
     requires is_file { is_directory (inode_of inode.now) ≡ false }
     requires small { amount_said (inode_of inode.now) + length bytes.now < 4294967296 }
-    ensures { IsGrown inode.now front.now bytes.now result }
+    ensures { IsGrownFile inode.now front.now bytes.now result }
 {
     let block_len = inode.block_len();
     let full = inode.amount() as usize / block_len;
@@ -101,7 +101,7 @@ fn grow<K: Blocks>(
     requires valid { K.told → IsValidNow (K.view disk.old) }
     requires dir { IsTrue (is_directory (inode_of place.now.directory.inode)) }
     requires short { length place.now.name.now ≤ name_max }
-    requires room { HasRoom place.now.directory.inode place.now.name.now }
+    requires room { DirectoryHasRoom place.now.directory.inode place.now.name.now }
     requires is_file { is_directory (inode_of file.now.inode) ≡ false }
     requires some { 1 ≤ length bytes.now }
     requires grows { K.told → (path : Path) × Grows client.now (K.view disk.old) path place.now file.now }

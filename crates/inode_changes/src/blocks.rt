@@ -11,7 +11,7 @@ ghost use Rattle.fs_port.specs.Calls.{IsValidNow};
 ghost use Rattle.fs_client.specs.May.{MayWrite};
 ghost use Rattle.fs_client.specs.Steps.{no_room_in};
 ghost use Rattle.fs_port.specs.Runs.{Runs};
-ghost use Rattle.inode_changes.specs.Content.{new_bytes, new_count, HasRoom};
+ghost use Rattle.inode_changes.specs.Content.{new_bytes, new_count, FitsInode};
 ghost use Rattle.inode_changes.specs.Filling.{AsideWith, Wrote, AsideTaking, Took};
 
 use crate::content::Content;
@@ -55,7 +55,7 @@ pub fn write_blocks<K: Blocks>(
     requires may { K.told → (b : ℕ) → IsTrue (has_number blocks.now b)
         → MayWrite client.now (K.view disk.old) b }
     requires apart { K.told → IsTrue (are_apart blocks.now) }
-    requires room { HasRoom content.now }
+    requires room { FitsInode content.now }
     requires len { K.told → content.now.block_len ≡ block_len (K.view disk.old).world.geometry }
     requires each { length blocks.now ≡ new_count content.now }
     ensures wrote { K.told → OnOk result (Wrote client.now (K.view disk.old) (K.view disk.new) blocks.now

@@ -2,7 +2,7 @@
 
 ghost use Rattle.std.specs.Prelude.{◌≡◌, ◌≤◌, ◌+◌, ◌*◌, ◌++◌, length};
 ghost use Rattle.fs_trees.specs.Inode.{regular, inode_bytes};
-ghost use Rattle.inode_changes.specs.Content.{shared_of, shared_count, new_count, HasRoom};
+ghost use Rattle.inode_changes.specs.Content.{shared_of, shared_count, new_count, FitsInode};
 
 use fs_fields::{NUMBER_BYTES, number_at};
 use inode_layout::{blocks_for, file_inode};
@@ -32,7 +32,7 @@ impl<'a> Content<'a> {
 
     /// How many blocks it shares.
     pub fn shared_count(&self) -> u32
-        requires { HasRoom self.now }
+        requires { FitsInode self.now }
         ensures { result ≡ shared_count self.now }
     {
         (self.shared.len() / NUMBER_BYTES) as u32
@@ -40,7 +40,7 @@ impl<'a> Content<'a> {
 
     /// How many blocks are new.
     pub fn new_count(&self) -> u32
-        requires { HasRoom self.now }
+        requires { FitsInode self.now }
         ensures { result ≡ new_count self.now }
     {
         blocks_for((self.front.len() + self.bytes.len()) as u64, self.block_len) as u32
@@ -56,7 +56,7 @@ impl<'a> Content<'a> {
 
     /// The bytes of its inode, where these are the new blocks.
     pub fn inode_bytes(&self, blocks: &[u32]) -> Data
-        requires room { HasRoom self.now }
+        requires room { FitsInode self.now }
         requires each { length blocks.now ≡ new_count self.now }
         ensures { result ≡ inode_bytes (regular self.now.size (shared_of self.now ++ blocks.now)) }
     {

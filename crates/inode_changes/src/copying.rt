@@ -10,7 +10,7 @@ ghost use Rattle.fs_port.specs.Runs.{Changes};
 ghost use Rattle.inode_layout.specs.Block.{inode_of};
 ghost use Rattle.inode_layout.specs.Said.{is_directory};
 ghost use Rattle.inode_walks.specs.Asking.{MayAsk, mounted_by};
-ghost use Rattle.inode_changes.specs.Entering.{HasRoom};
+ghost use Rattle.inode_changes.specs.Entering.{DirectoryHasRoom};
 ghost use Rattle.inode_changes.specs.Copying.{Copies, IsCopied};
 
 use crate::content::Content;
@@ -51,7 +51,7 @@ fn copy_to<K: Blocks>(
     requires is_file { is_directory (inode_of file.now.inode) ≡ false }
     requires dir { IsTrue (is_directory (inode_of place.now.directory.inode)) }
     requires short { length place.now.name.now ≤ name_max }
-    requires room { HasRoom place.now.directory.inode place.now.name.now }
+    requires room { DirectoryHasRoom place.now.directory.inode place.now.name.now }
     requires copies { K.told → (path : Path) × (new : Path) × Copies client.now (K.view disk.old) path file.now new
         place.now }
     ensures answer { K.told → (path new : Path) → Copies client.now (K.view disk.old) path file.now new place.now

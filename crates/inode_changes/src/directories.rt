@@ -16,7 +16,7 @@ ghost use Rattle.inode_layout.specs.Block.{inode_of};
 ghost use Rattle.inode_layout.specs.Said.{is_directory};
 ghost use Rattle.inode_walks.specs.Asking.{MayAsk, mounted_by};
 ghost use Rattle.inode_changes.specs.Filling.{Stage, IsAside};
-ghost use Rattle.inode_changes.specs.Entering.{IsMade};
+ghost use Rattle.inode_changes.specs.Entering.{IsMadeInode};
 ghost use Rattle.inode_changes.specs.Directories.{IsVacant};
 
 use crate::beginning::new_inode;
@@ -34,7 +34,7 @@ fn new_directory<K: Blocks>(client: &Client, disk: &mut K, directory: u32) -> Re
     requires valid { K.told → IsValidNow (K.view disk.old) }
     requires stage { K.told → Stage client.now.root (K.view disk.old).world directory }
     requires may { K.told → MayWrite client.now (K.view disk.old) directory }
-    ensures made { K.told → IfOk result (λ inode. IsMade client.now.root (K.view disk.old).world directory inode
+    ensures made { K.told → IfOk result (λ inode. IsMadeInode client.now.root (K.view disk.old).world directory inode
         empty_tree (K.view disk.new).world) }
     ensures may { K.told → OnOk result ((b : ℕ) → MayWrite client.now (K.view disk.old) b
         → MayWrite client.now (K.view disk.new) b) }

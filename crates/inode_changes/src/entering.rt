@@ -11,7 +11,7 @@ ghost use Rattle.fs_client.specs.May.{MayWrite};
 ghost use Rattle.fs_port.specs.Runs.{Runs};
 ghost use Rattle.inode_layout.specs.Block.{inode_of, block_len_of};
 ghost use Rattle.inode_layout.specs.Said.{is_directory, blocks_said, entry_said};
-ghost use Rattle.inode_changes.specs.Entering.{HasRoom, MayEnter, Enters, EntersOrNot};
+ghost use Rattle.inode_changes.specs.Entering.{DirectoryHasRoom, MayEnter, Enters, EntersOrNot};
 
 use fs_client::{Client, drop_pointer, write_block};
 use fs_port::Blocks;
@@ -22,7 +22,7 @@ use inode_walks::Place;
 /// Refuses a new entry of a directory that has as many as it can.
 pub fn check_entry(directory: &Inode, name: &[u8]) -> Result<(), FsRefusal>
     requires { IsTrue (is_directory (inode_of directory.now)) }
-    ensures room { OnOk result (HasRoom directory.now name.now) }
+    ensures room { OnOk result (DirectoryHasRoom directory.now name.now) }
     ensures only { IfErr result (λ e. e ≡ no.DirFull) }
     ensures new { OnErr result (entry_said name.now (inode_of directory.now) ≡ None) }
     ensures full { OnErr result (IsTrue (nat_le (entries_room (block_len_of directory.now))
@@ -47,7 +47,7 @@ pub fn enter<K: Blocks>(
     requires valid { K.told → IsValidNow (K.view disk.old) }
     requires dir { IsTrue (is_directory (inode_of place.now.directory.inode)) }
     requires short { length place.now.name.now ≤ name_max }
-    requires room { HasRoom place.now.directory.inode place.now.name.now }
+    requires room { DirectoryHasRoom place.now.directory.inode place.now.name.now }
     requires may { K.told → MayWrite client.now (K.view disk.old) place.now.directory.block }
     requires made { K.told → MayEnter client.now.root place.now inode (K.view disk.old).world }
     ensures entered { K.told → OnOk result (Enters client.now.root place.now inode (K.view disk.old).world

@@ -8,7 +8,7 @@ ghost use Rattle.fs_port.specs.Calls.{IsValidNow};
 ghost use Rattle.fs_client.specs.May.{MayWrite};
 ghost use Rattle.fs_client.specs.Steps.{no_room_in};
 ghost use Rattle.fs_port.specs.Runs.{Runs};
-ghost use Rattle.inode_changes.specs.Content.{shared_of, new_bytes, new_count, all_count, HasRoom, IsFor};
+ghost use Rattle.inode_changes.specs.Content.{shared_of, new_bytes, new_count, all_count, FitsInode, IsFor};
 ghost use Rattle.inode_changes.specs.Filling.{AsideOf, Filled, Stopped};
 
 use crate::blocks::{take_parts, write_blocks};
@@ -30,7 +30,7 @@ pub fn fill<K: Blocks>(
     requires unspent { (K.view disk.old).spent ≡ false }
     requires valid { K.told → IsValidNow (K.view disk.old) }
     requires may { K.told → MayWrite client.now (K.view disk.old) inode }
-    requires room { HasRoom content.now }
+    requires room { FitsInode content.now }
     requires suits { K.told → IsFor client.now (K.view disk.old) content.now }
     requires bare { K.told → (b : ℕ) → holds (K.view disk.old).world.pairs inode b ≡ false }
     requires free { K.told → new_count content.now ≤ free_count (K.view disk.old).world }

@@ -9,9 +9,9 @@ ghost use Rattle.fs_port.specs.Files.{KeepsRoom};
 ghost use Rattle.fs_client.specs.May.{MayWrite};
 ghost use Rattle.fs_client.specs.Steps.{no_room_in};
 ghost use Rattle.fs_port.specs.Runs.{Runs};
-ghost use Rattle.inode_changes.specs.Content.{shared_of, new_count, all_count, HasRoom, IsFor};
+ghost use Rattle.inode_changes.specs.Content.{shared_of, new_count, all_count, FitsInode, IsFor};
 ghost use Rattle.inode_changes.specs.Filling.{Stage, IsAside};
-ghost use Rattle.inode_changes.specs.Entering.{AreOfFiles, IsMade};
+ghost use Rattle.inode_changes.specs.Entering.{AreOfFiles, IsMadeInode};
 ghost use Rattle.inode_changes.specs.NewFile.{bytes_of};
 
 use crate::beginning::{give_up, new_inode};
@@ -34,10 +34,10 @@ pub fn make_file<K: Blocks>(
     requires valid { K.told → IsValidNow (K.view disk.old) }
     requires stage { K.told → Stage client.now.root (K.view disk.old).world directory }
     requires may { K.told → MayWrite client.now (K.view disk.old) directory }
-    requires room { HasRoom content.now }
+    requires room { FitsInode content.now }
     requires suits { K.told → IsFor client.now (K.view disk.old) content.now }
     requires of_files { K.told → AreOfFiles client.now.root (K.view disk.old).world (shared_of content.now) }
-    ensures made { K.told → IfOk result (λ inode. IsMade client.now.root (K.view disk.old).world directory inode
+    ensures made { K.told → IfOk result (λ inode. IsMadeInode client.now.root (K.view disk.old).world directory inode
         (a_file (bytes_of (K.view disk.old).world content.now)) (K.view disk.new).world) }
     ensures may { K.told → OnOk result ((b : ℕ) → MayWrite client.now (K.view disk.old) b
         → MayWrite client.now (K.view disk.new) b) }

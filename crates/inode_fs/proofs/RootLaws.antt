@@ -16,7 +16,7 @@ use Rattle.fs_laws.proofs.ListLaws.{any-append, all_held}
 use Rattle.fs_client.proofs.ApartLaws.{is_false, not_yes, yes_not, each_in, all_in}
 use Rattle.inode_fs.specs.Marked.{is_inode, is_data_block}
 use Rattle.inode_fs.specs.declared.marks.Marks.{Marks}
-use Rattle.inode_fs.specs.Looking.{Come, come_from, come_under, nothing_yet, is_dir_in, names_at, Agrees, Comes, MarksTree, TellsTree}
+use Rattle.inode_fs.specs.Looking.{Come, come_from, come_under, nothing_yet, is_dir_in, names_at, IsMarkedAs, Comes, MarksTree, TellsTree}
 use Rattle.inode_fs.proofs.ComeLaws.{node_data, NodeRight, node_right}
 use Rattle.inode_fs.proofs.WrongLaws.{dir_of, NodeGood, node_wrong}
 use Rattle.inode_fs.proofs.SaysLaws.{Says, node_says}
@@ -71,7 +71,7 @@ module _ (w : World) (root : ℕ) (t : Come) (h : come_under w root ≡ Some t) 
   no_more true = refl
   no_more false = refl
 
-  module _ (m : Marks) (agrees : Agrees m t) where
+  module _ (m : Marks) (agrees : IsMarkedAs m t) where
     inodes_are : (b : ℕ) → is_inode m b ≡ has_number (root ∷ inode_blocks xs) b
     inodes_are b = agrees.inodes b ∙ (here.adds.inodes b ∙ no_more (has_number (root ∷ inode_blocks xs) b))
 

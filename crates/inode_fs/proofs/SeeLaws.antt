@@ -13,7 +13,7 @@ use Rattle.inode_layout.specs.Said.{said_in, in_order, is_in_order, blocks_said,
 use Rattle.inode_layout.proofs.SaidLaws.{in_two_steps}
 use Rattle.fs_laws.specs.Ways.{HoldsWrite}
 use Rattle.fs_laws.proofs.WayLaws.{ways_lead_on}
-use Rattle.fs_port.specs.View.{View, state_of}
+use Rattle.fs_port.specs.View.{DiskView, state_of}
 use Rattle.fs_port.specs.Calls.{IsValidNow, Stays}
 use Rattle.fs_client.specs.declared.client.Client.{Client}
 use Rattle.fs_client.specs.Client.{shown_at}
@@ -21,7 +21,7 @@ use Rattle.fs_client.specs.May.{MayWrite, Looked}
 use Rattle.fs_client.proofs.ApartLaws.{yes_no, is_false, no_or, all_in}
 use Rattle.inode_fs.specs.Marked.{is_inode, is_data_block, has_leftovers, MarksInode, MarksData, NoMarks}
 use Rattle.inode_fs.specs.declared.marks.Marks.{Marks}
-use Rattle.inode_fs.specs.Looking.{held_at, names_at, Come, is_come, with_inode, with_data, come_data, come_each, come_on, come_by, come_from, come_as, is_dir_in, nothing_yet, Agrees, Comes, NamesData, Noted}
+use Rattle.inode_fs.specs.Looking.{held_at, names_at, Come, is_come, with_inode, with_data, come_data, come_each, come_on, come_by, come_from, come_as, is_dir_in, nothing_yet, IsMarkedAs, Comes, NamesData, Noted}
 use Rattle.inode_fs.proofs.ComeLaws.{held_is}
 
 -- ---- what a block is read as
@@ -45,14 +45,14 @@ pub comes_none : (m : Marks) (o : Option Come) → ◌≡◌ {A = Option Come} o
 comes_none m None e = refl
 comes_none m (Some s) e = absurd (cc)
 
-pub comes_some : (m : Marks) (o : Option Come) (s : Come) → o ≡ Some s → Agrees m s → Comes m o true
+pub comes_some : (m : Marks) (o : Option Come) (s : Come) → o ≡ Some s → IsMarkedAs m s → Comes m o true
 comes_some m o s e h = subst (λ x. Comes m x true) (sym e) (refl, h)
 
 pub none_of : (m : Marks) (o : Option Come) → Comes m o false → ◌≡◌ {A = Option Come} o None
 none_of m None h = refl
 none_of m (Some s) h = absurd (let no = h.0 in cc)
 
-pub some_of : (m : Marks) (o : Option Come) → Comes m o true → (s : Come) × (o ≡ Some s) × Agrees m s
+pub some_of : (m : Marks) (o : Option Come) → Comes m o true → (s : Come) × (o ≡ Some s) × IsMarkedAs m s
 some_of m None h = absurd (cc)
 some_of m (Some s) h = (s, refl, h.1)
 
@@ -109,22 +109,22 @@ module _ (is_entry : Bool) (w : World) (b : ℕ) (s : Come) where
 
 -- ---- marks
 
-pub not_come : (m : Marks) (s : Come) (b : ℕ) → Agrees m s → is_inode m b ≡ false → is_data_block m b ≡ false → is_come s b ≡ false
+pub not_come : (m : Marks) (s : Come) (b : ℕ) → IsMarkedAs m s → is_inode m b ≡ false → is_data_block m b ≡ false → is_come s b ≡ false
 not_come m s b agrees p q = no_or (has_number s.inodes b) (has_number s.bytes b) (sym (agrees.inodes b) ∙ p) (sym (agrees.bytes b) ∙ q)
 
-pub agrees_inode : (m next : Marks) (s : Come) (b : ℕ) (others : Bool) → b < 1048576 → Agrees m s → MarksInode m next b others → Agrees next (with_inode s b)
+pub agrees_inode : (m next : Marks) (s : Come) (b : ℕ) (others : Bool) → b < 1048576 → IsMarkedAs m s → MarksInode m next b others → IsMarkedAs next (with_inode s b)
 agrees_inode m next s b others small agrees marks = record {
   inodes = λ a. marks.inodes small a ∙ ap (λ t. (b == a) || t) (agrees.inodes a);
   bytes = λ a. marks.bytes a ∙ agrees.bytes a;
 }
 
-pub agrees_data : (m next : Marks) (s : Come) (b : ℕ) → Agrees m s → NamesData m next b → Agrees next (with_data s b)
+pub agrees_data : (m next : Marks) (s : Come) (b : ℕ) → IsMarkedAs m s → NamesData m next b → IsMarkedAs next (with_data s b)
 agrees_data m next s b agrees marks = record {
   inodes = λ a. marks.inodes a ∙ agrees.inodes a;
   bytes = λ a. marks.bytes a ∙ ap (λ t. (b == a) || t) (agrees.bytes a);
 }
 
-pub agrees_none : (m : Marks) → NoMarks m → Agrees m nothing_yet
+pub agrees_none : (m : Marks) → NoMarks m → IsMarkedAs m nothing_yet
 agrees_none m none = record { inodes = none.inodes; bytes = none.bytes }
 
 pub named_again : (m : Marks) (b : ℕ) → is_data_block m b ≡ true → NamesData m m b
@@ -142,14 +142,14 @@ names_data m next b others small marks = record { inodes = marks.inodes; bytes =
 
 -- ---- what is noted
 
-pub noted_on : (c : Client) (old new : View) (m : Marks) → Looked old new → Noted c old m → Noted c new m
+pub noted_on : (c : Client) (old new : DiskView) (m : Marks) → Looked old new → Noted c old m → Noted c new m
 noted_on c old new m seen noted = record {
   ways = λ b h. seen.ways c.session b (noted.ways b h);
   inodes = λ b d h k held. ap (λ w. has_number (names_at w b) d) seen.world ∙ noted.inodes b d h k (ap (λ w. holds w.pairs b d) (sym seen.world) ∙ held);
   bytes = λ b d h k. ap (λ w. holds w.pairs b d) seen.world ∙ noted.bytes b d h k;
 }
 
-pub noted_none : (c : Client) (v : View) (m : Marks) → NoMarks m → Noted c v m
+pub noted_none : (c : Client) (v : DiskView) (m : Marks) → NoMarks m → Noted c v m
 noted_none c v m none = record {
   ways = λ b h. absurd (yes_no (is_inode m b) h (none.inodes b));
   inodes = λ b d h k held. absurd (yes_no (is_inode m b) h (none.inodes b));
@@ -163,7 +163,7 @@ later_no false q h = h
 first_no : (b a : ℕ) (others q : Bool) → b ≡ a → (((b == a) && others) || q) ≡ false → others ≡ false
 first_no b a others q e h = is_false others (λ o. yes_no (((b == a) && others) || q) (or_left ((b == a) && others) q (and_from (b == a) others (eq-eqb b a e) o)) h)
 
-module _ (c : Client) (v : View) (m next : Marks) (b : ℕ) (others : Bool) (small : b < 1048576) (noted : Noted c v m) where
+module _ (c : Client) (v : DiskView) (m next : Marks) (b : ℕ) (others : Bool) (small : b < 1048576) (noted : Noted c v m) where
   pub noted_inode : MarksInode m next b others → HoldsWrite (state_of v) c.session b → (others ≡ false → (d : ℕ) → holds v.world.pairs b d ≡ true → has_number (names_at v.world b) d ≡ true) → Noted c v next
   noted_inode marks held clean = record {
     ways = λ a h. elim (or_cases (b == a) (is_inode m a) (sym (marks.inodes small a) ∙ h)) [
@@ -193,7 +193,7 @@ module _ (c : Client) (v : View) (m next : Marks) (b : ℕ) (others : Bool) (sma
 
 -- ---- what is named may be written
 
-pub named_may : (c : Client) (old new : View) (b : ℕ) (i : Inode) → IsValidNow new → MayWrite c old b → Stays old new → Looked old new → held_at old.world b ≡ Some i → HoldsWrite (state_of new) c.session b
+pub named_may : (c : Client) (old new : DiskView) (b : ℕ) (i : Inode) → IsValidNow new → MayWrite c old b → Stays old new → Looked old new → held_at old.world b ≡ Some i → HoldsWrite (state_of new) c.session b
     → (d : ℕ) → has_number (blocks_said i) d ≡ true → MayWrite c new d
 named_may c old new b i now may stays seen is held d m =
     let pair : holds new.world.pairs b d ≡ true = ap (λ w. holds w.pairs b d) seen.world ∙ all_in (holds old.world.pairs b) (blocks_said i) d (and_parts (are_apart (blocks_said i)) _ (held_is old.world b i is).1).1 m in

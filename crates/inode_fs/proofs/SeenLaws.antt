@@ -15,14 +15,14 @@ use Rattle.inode_layout.specs.Block.{inode_of}
 use Rattle.inode_layout.specs.Said.{blocks_said}
 use Rattle.inode_walks.proofs.ReadLaws.{block_full, block_long}
 use Rattle.fs_laws.specs.Ways.{HoldsWrite}
-use Rattle.fs_port.specs.View.{View, state_of}
+use Rattle.fs_port.specs.View.{DiskView, state_of}
 use Rattle.fs_client.specs.declared.client.Client.{Client}
 use Rattle.fs_client.specs.Leftovers.{targets_of, named_targets, other_targets}
 use Rattle.fs_client.proofs.ApartLaws.{is_false, yes_no}
 use Rattle.fs_client.proofs.CountLaws.{in_targets, counted_held, held_counted}
 use Rattle.inode_fs.specs.declared.looking.Seen.{Seen}
 use Rattle.fs_client.specs.Held.{are_held}
-use Rattle.inode_fs.specs.Looking.{if_held, held_at, blocks_in, IsSeen}
+use Rattle.inode_fs.specs.Looking.{if_held, held_at, blocks_in, IsInodeSeen}
 use Rattle.inode_fs.proofs.ComeLaws.{is_held}
 
 -- where no pair leads elsewhere
@@ -66,8 +66,8 @@ none_if (suc n) h = let more : nat_lt 0 (suc n) ≡ true = grind (arith, nat_tes
 pub no_pairs : (w : World) (b n : ℕ) → n ≡ length (other_targets w b []) → nat_lt 0 n ≡ false → (d : ℕ) → holds w.pairs b d ≡ false
 no_pairs w b n counts none d = is_false (holds w.pairs b d) (λ h. yes_no false (no_others w b [] (sym counts ∙ none_if n none) d h) refl)
 
-pub is_seen : (c : Client) (old new : View) (b : ℕ) (seen : Seen) (n : ℕ) → inode_at old.world b ≡ Some (inode_of seen.found.inode) → held_at old.world b ≡ Some (inode_of seen.found.inode) → HoldsWrite (state_of new) c.session b
-    → n ≡ length (other_targets old.world b (blocks_said (inode_of seen.found.inode))) → seen.has_others ≡ nat_lt 0 n → IsSeen c old new b seen
+pub is_seen : (c : Client) (old new : DiskView) (b : ℕ) (seen : Seen) (n : ℕ) → inode_at old.world b ≡ Some (inode_of seen.found.inode) → held_at old.world b ≡ Some (inode_of seen.found.inode) → HoldsWrite (state_of new) c.session b
+    → n ≡ length (other_targets old.world b (blocks_said (inode_of seen.found.inode))) → seen.has_others ≡ nat_lt 0 n → IsInodeSeen c old new b seen
 is_seen c old new b seen n at is held counts others = record {
   is = is;
   held = held;

@@ -18,7 +18,7 @@ use Rattle.fs_laws.specs.Stays.{IsUnder, Keeps}
 use Rattle.fs_laws.proofs.NamedLaws.{each_named}
 use Rattle.fs_laws.proofs.TreeLaws.{named_is_under}
 use Rattle.fs_laws.proofs.WayLaws.{ways_lead_on}
-use Rattle.fs_port.specs.View.{View, state_of, IsSound}
+use Rattle.fs_port.specs.View.{DiskView, state_of, IsDiskSound}
 use Rattle.fs_client.specs.declared.client.Client.{Client}
 use Rattle.fs_client.specs.Client.{shown_at}
 use Rattle.fs_client.specs.May.{MayWrite}
@@ -39,7 +39,7 @@ same_inode : (w next : World) (n : Named) → Keeps w next n → (b : ℕ) → h
 same_inode w next n keeps b m =
     ap (λ g. option_and_then (inode_in (block_len g)) (contents next b)) keeps.geometry ∙ ap (option_and_then (inode_in (block_len w.geometry))) (keeps.bytes b m)
 
-module _ (c : Client) (old new : View) (n : Named) (named : n ≡ named_at kind.Inode old.world c.root) (trimmed : Trimmed c n old new) (m : Marks) (marked : MarksTree old.world c.root m) where
+module _ (c : Client) (old new : DiskView) (n : Named) (named : n ≡ named_at kind.Inode old.world c.root) (trimmed : Trimmed c n old new) (m : Marks) (marked : MarksTree old.world c.root m) where
   same : SameTree kind.Inode c.root old.world new.world
   same = same_tree kind.Inode c old marked.there new (subst (λ x. Trimmed c x old new) named trimmed)
 
@@ -70,7 +70,7 @@ module _ (c : Client) (old new : View) (n : Named) (named : n ≡ named_at kind.
     bytes = λ b d h k. is_false (holds new.world.pairs b d) (λ held. yes_no (holds old.world.pairs b d) (trimmed.fewer b d held) (noted.bytes b d h k));
   }
 
-pub tidy_still : {X : Type 0} (told : Type 0) (c : Client) (n : Named) (old new : View) (m : Marks) (x : X) → MayTidy told c n old m → Trims told c n old new (Ok x) → MayTidy told c n new m
+pub tidy_still : {X : Type 0} (told : Type 0) (c : Client) (n : Named) (old new : DiskView) (m : Marks) (x : X) → MayTidy told c n old m → Trims told c n old new (Ok x) → MayTidy told c n new m
 tidy_still told c n old new m x may trims = record {
   ready = ready_still (mounted_by c) old new trims.runs.stays.0 trims.runs.counts trims.runs.unspent.0 may.ready;
   valid = λ t. (trims.trimmed t).valid;
@@ -81,7 +81,7 @@ tidy_still told c n old new m x may trims = record {
 
 -- ---- what a block may let go
 
-module _ (told : Type 0) (c : Client) (n : Named) (v : View) (m : Marks) (t : told) (may : MayTidy told c n v m) (sound : IsSound v) where
+module _ (told : Type 0) (c : Client) (n : Named) (v : DiskView) (m : Marks) (t : told) (may : MayTidy told c n v m) (sound : IsDiskSound v) where
   pub under : IsUnder v.world c.root n
   under = subst (IsUnder v.world c.root) (sym (may.named t)) (named_is_under kind.Inode v.world c.root (subst (λ g. c.root < g.primaries) (sym sound.geometry) may.ready.primary) (may.marked t).there)
 
@@ -120,7 +120,7 @@ module _ (told : Type 0) (c : Client) (n : Named) (v : View) (m : Marks) (t : to
 
 -- ---- a block that is clean
 
-module _ (c : Client) (n : Named) (v : View) (m : Marks) (named : n ≡ named_at kind.Inode v.world c.root) (marked : MarksTree v.world c.root m) (noted : Noted c v m) (a : ℕ) where
+module _ (c : Client) (n : Named) (v : DiskView) (m : Marks) (named : n ≡ named_at kind.Inode v.world c.root) (marked : MarksTree v.world c.root m) (noted : Noted c v m) (a : ℕ) where
   by_mark : has_number n.blocks a ≡ true → (is_inode m a ≡ true) ⊎ (is_data_block m a ≡ true)
   by_mark k = or_cases (is_inode m a) (is_data_block m a) (sym (marked.blocks a) ∙ (ap (λ x. has_number x.blocks a) (sym named) ∙ k))
 
@@ -150,19 +150,19 @@ clean_data n w a only k b held = absurd (yes_no false (only b held) refl)
 -- ---- block after block
 
 -- before this block all are clean
-pub record Tidying (told : Type 0) (c : Client) (n : Named) (first now : View) (m : Marks) (i : ℕ) : Type 0 where
+pub record Tidying (told : Type 0) (c : Client) (n : Named) (first now : DiskView) (m : Marks) (i : ℕ) : Type 0 where
   pub may : MayTidy told c n now m
   pub trims : Trims {X = Unit {0}} told c n first now (Ok tt)
   pub clean : told → (a : ℕ) → a < i → IsClean n now.world a
 
-pub clean_next : (c : Client) (n : Named) (now new : View) (i : ℕ) → Trimmed c n now new → ((a : ℕ) → a < i → IsClean n now.world a) → IsClean n new.world i → (a : ℕ) → a < i + 1 → IsClean n new.world a
+pub clean_next : (c : Client) (n : Named) (now new : DiskView) (i : ℕ) → Trimmed c n now new → ((a : ℕ) → a < i → IsClean n now.world a) → IsClean n new.world i → (a : ℕ) → a < i + 1 → IsClean n new.world a
 clean_next c n now new i trimmed before here a less = elim (cases_lt a i) [
   | inl earlier ↦ still_clean n now.world new.world a trimmed.fewer (before a earlier)
   | inr late ↦ let same : i ≡ a = omega (arith, less, late) in subst (IsClean n new.world) same here
 ]
 
 -- at the disk's end all
-pub clean_all : (n : Named) (now : View) (i end : ℕ) → IsValid now.world → end ≡ now.world.geometry.blocks → end ≤ i → ((a : ℕ) → a < i → IsClean n now.world a) → (a : ℕ) → IsClean n now.world a
+pub clean_all : (n : Named) (now : DiskView) (i end : ℕ) → IsValid now.world → end ≡ now.world.geometry.blocks → end ≤ i → ((a : ℕ) → a < i → IsClean n now.world a) → (a : ℕ) → IsClean n now.world a
 clean_all n now i end valid whole past clean a k b held =
     let below = live_below now.world.blocks a (valid.raw.sources a b held) in
     let many = valid.raw.sized.each_block in

@@ -1,5 +1,6 @@
 -- What a look at a tree of inodes comes to, block by block, as the call goes.
-use Rattle.std.specs.Prelude.{◌≡◌, ℕ, zero, suc, ◌≤◌, ◌==◌, Bool, true, false, cond, ◌&&◌, ◌||◌, List, [], ◌∷◌, length, Option, Some, None, IsTrue, is_some}
+use Rattle.std.specs.Prelude.{◌≡◌, ℕ, zero, suc, ◌≤◌, ◌==◌, Bool, true, false, cond, ◌&&◌, ◌||◌, List, [], ◌∷◌, length}
+use Rattle.std.specs.Prelude.{Option, Some, None, IsTrue, is_some}
 use Rattle.std.specs.Option.{option_and_then}
 use Rattle.tsd_model.specs.World.{World, has_number}
 use Rattle.tsd_model.specs.Pairs.{holds}
@@ -14,7 +15,7 @@ use Rattle.inode_layout.specs.Block.{inode_of}
 use Rattle.inode_layout.specs.Said.{blocks_said, is_directory}
 use Rattle.inode_walks.specs.declared.finding.Found.{Found}
 use Rattle.fs_laws.specs.Ways.{HoldsWrite}
-use Rattle.fs_port.specs.View.{View, state_of}
+use Rattle.fs_port.specs.View.{DiskView, state_of}
 use Rattle.fs_client.specs.declared.client.Client.{Client}
 use Rattle.fs_client.specs.Held.{are_held}
 use Rattle.inode_fs.specs.Marked.{is_inode, is_data_block, has_leftovers}
@@ -103,33 +104,36 @@ pub record NamesData (old new : Marks) (b : ℕ) : Type 0 where
 -- these bytes of a block are read as this inode, or as none
 abbrev pub IsReadAt : List ℕ → ℕ → Option Found → Type 0
 IsReadAt bytes b None = 16 ≤ length bytes → inode_in (length bytes) bytes ≡ None
-IsReadAt bytes b (Some found) = (found.block ≡ b) × (16 ≤ length bytes → inode_in (length bytes) bytes ≡ Some (inode_of found.inode))
+IsReadAt bytes b (Some found) = (found.block ≡ b)
+    × (16 ≤ length bytes → inode_in (length bytes) bytes ≡ Some (inode_of found.inode))
 
 -- what is marked is what a look has come to
-pub record Agrees (m : Marks) (s : Come) : Type 0 where
+pub record IsMarkedAs (m : Marks) (s : Come) : Type 0 where
   pub inodes : (b : ℕ) → is_inode m b ≡ has_number s.inodes b
   pub bytes : (b : ℕ) → is_data_block m b ≡ has_number s.bytes b
 
 -- the result tells whether all is right, and then the marks tell what it has come to
 abbrev pub Comes : Marks → Option Come → Bool → Type 0
 Comes m None result = result ≡ false
-Comes m (Some s) result = (result ≡ true) × Agrees m s
+Comes m (Some s) result = (result ≡ true) × IsMarkedAs m s
 
 -- Of each marked block it is marked whether its pairs lead to more than it names; each inode may be written.
-pub record Noted (c : Client) (v : View) (m : Marks) : Type 0 where
+pub record Noted (c : Client) (v : DiskView) (m : Marks) : Type 0 where
   pub ways : (b : ℕ) → IsTrue (is_inode m b) → HoldsWrite (state_of v) c.session b
-  pub inodes : (b d : ℕ) → IsTrue (is_inode m b) → has_leftovers m b ≡ false → IsTrue (holds v.world.pairs b d) → IsTrue (has_number (names_at v.world b) d)
+  pub inodes : (b d : ℕ) → IsTrue (is_inode m b) → has_leftovers m b ≡ false → IsTrue (holds v.world.pairs b d)
+      → IsTrue (has_number (names_at v.world b) d)
   pub bytes : (b d : ℕ) → IsTrue (is_data_block m b) → has_leftovers m b ≡ false → holds v.world.pairs b d ≡ false
 
 -- an inode was read that is right by itself
-pub record IsSeen (c : Client) (old new : View) (b : ℕ) (seen : Seen) : Type 0 where
+pub record IsInodeSeen (c : Client) (old new : DiskView) (b : ℕ) (seen : Seen) : Type 0 where
   pub is : held_at old.world b ≡ Some (inode_of seen.found.inode)
   pub held : HoldsWrite (state_of new) c.session b
-  pub others : seen.has_others ≡ false → (d : ℕ) → IsTrue (holds old.world.pairs b d) → IsTrue (has_number (names_at old.world b) d)
+  pub others : seen.has_others ≡ false → (d : ℕ) → IsTrue (holds old.world.pairs b d)
+      → IsTrue (has_number (names_at old.world b) d)
 
-abbrev pub IsSeenAt : Client → View → View → ℕ → Option Seen → Type 0
+abbrev pub IsSeenAt : Client → DiskView → DiskView → ℕ → Option Seen → Type 0
 IsSeenAt c old new b None = held_at old.world b ≡ None
-IsSeenAt c old new b (Some seen) = IsSeen c old new b seen × (seen.found.block ≡ b)
+IsSeenAt c old new b (Some seen) = IsInodeSeen c old new b seen × (seen.found.block ≡ b)
 
 -- ---- all
 
@@ -138,7 +142,8 @@ pub record MarksTree (w : World) (root : ℕ) (m : Marks) : Type 0 where
   pub there : IsTrue (is_there (inode_tree w root))
   pub blocks : (b : ℕ) → has_number (named_at kind.Inode w root).blocks b ≡ (is_inode m b || is_data_block m b)
   pub pairs : (a b : ℕ) → holds (named_at kind.Inode w root).pairs a b ≡ (is_inode m a && has_number (names_at w a) b)
-  pub targets : (a b : ℕ) → IsTrue (holds (named_at kind.Inode w root).pairs a b) → IsTrue (has_number (named_at kind.Inode w root).blocks b)
+  pub targets : (a b : ℕ) → IsTrue (holds (named_at kind.Inode w root).pairs a b)
+      → IsTrue (has_number (named_at kind.Inode w root).blocks b)
   pub inodes : (b : ℕ) → IsTrue (is_inode m b) → IsTrue (is_some (inode_at w b))
 
 -- the result tells whether there is a tree, and then it is marked

@@ -6,7 +6,13 @@ use Rattle.fs_port.specs.Files.{FilesView}
 use Rattle.inode_fs.specs.declared.file_system.InodeFs.{InodeFs}
 
 abbrev pub inode_view : InodeFs → FilesView
-inode_view f = record { kind = Inode; root = f.client.root; cap = f.client.cap; session = f.client.session; mounted = f.mounted }
+inode_view f = record {
+  kind = Inode;
+  root = f.client.root;
+  cap = f.client.cap;
+  session = f.client.session;
+  mounted = f.mounted;
+}
 
 -- at first nothing is mounted
 abbrev pub new_view : ℕ → Cap → ℕ → FilesView

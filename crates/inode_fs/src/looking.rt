@@ -12,7 +12,7 @@ ghost use Rattle.inode_layout.specs.Block.{inode_of};
 ghost use Rattle.inode_layout.specs.Said.{blocks_said, is_directory};
 ghost use Rattle.inode_walks.specs.Asking.{mounted_by};
 ghost use Rattle.inode_fs.specs.Marked.{NoMarks};
-ghost use Rattle.inode_fs.specs.Looking.{Agrees, Come, Comes, IsSeenAt, Noted, TellsTree, come_as, come_data};
+ghost use Rattle.inode_fs.specs.Looking.{IsMarkedAs, Come, Comes, IsSeenAt, Noted, TellsTree, come_as, come_data};
 ghost use Rattle.inode_fs.specs.Looking.{NamesData, IsReadAt};
 
 use crate::marks::Marks;
@@ -124,7 +124,7 @@ fn is_file_right<K: Blocks>(
     requires may { K.told → (b : ℕ) → IsTrue (has_number (blocks_said (inode_of file.now.inode)) b)
         → MayWrite client.now (K.view disk.old) b }
     requires noted { K.told → Noted client.now (K.view disk.old) marks.old }
-    ensures comes { K.told → IfOk result (λ right. (s : Come) → Agrees marks.old s
+    ensures comes { K.told → IfOk result (λ right. (s : Come) → IsMarkedAs marks.old s
         → Comes marks.new (come_data (blocks_said (inode_of file.now.inode)) s) right) }
     ensures noted { K.told → OnOk result (Noted client.now (K.view disk.new) marks.new) }
     ensures only { K.told → IfErr result (λ e. e ≡ no.Device) }
@@ -156,7 +156,7 @@ fn is_right<K: Blocks>(
     requires valid { K.told → IsValidNow (K.view disk.old) }
     requires may { K.told → MayWrite client.now (K.view disk.old) block }
     requires noted { K.told → Noted client.now (K.view disk.old) marks.old }
-    ensures comes { K.told → IfOk result (λ right. (s : Come) → Agrees marks.old s
+    ensures comes { K.told → IfOk result (λ right. (s : Come) → IsMarkedAs marks.old s
         → Comes marks.new (come_as is_entry (K.view disk.old).world levels block s) right) }
     ensures noted { K.told → OnOk result (Noted client.now (K.view disk.new) marks.new) }
     ensures only { K.told → IfErr result (λ e. e ≡ no.Device) }

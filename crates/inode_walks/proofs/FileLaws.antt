@@ -16,7 +16,7 @@ use Rattle.fs_trees.specs.InodeTree.{FileInode, inode_at, node_at, inodes_under,
 use Rattle.fs_trees.specs.InodeTree as inodes
 use Rattle.fs_laws.proofs.WayLaws.{ways_lead_on}
 use Rattle.fs_laws.proofs.MapLaws.{tree-at}
-use Rattle.fs_port.specs.View.{View, state_of}
+use Rattle.fs_port.specs.View.{DiskView, state_of}
 use Rattle.fs_port.specs.Calls.{IsValidNow, Stays}
 use Rattle.fs_client.specs.declared.client.Client.{Client}
 use Rattle.fs_client.specs.Client.{shown_at}
@@ -75,7 +75,7 @@ number_at_place [] i h = absurd (omega arith)
 number_at_place (b ∷ bs) zero h = or_left (b == b) _ (eq-eqb b b refl)
 number_at_place (b ∷ bs) (suc i) h = or_right (b == slice_index bs i) _ (number_at_place bs i (omega arith))
 
-module _ (c : Client) (v : View) (more : ℕ) (file : Found) (stands : StandsAsRead c v more file) (is_file : is_directory (inode_of file.inode) ≡ false) (now : IsValidNow v) where
+module _ (c : Client) (v : DiskView) (more : ℕ) (file : Found) (stands : StandsAsRead c v more file) (is_file : is_directory (inode_of file.inode) ≡ false) (now : IsValidNow v) where
   abbrev blocks : List ℕ
   blocks = blocks_said (inode_of file.inode)
 
@@ -126,15 +126,15 @@ module _ (c : Client) (v : View) (more : ℕ) (file : Found) (stands : StandsAsR
   file_is = ap (inodes.tree_of v.world) node_is ∙ ap (λ xs. a_file (take size xs)) (sym said_is_row)
 
 -- what a path leads to
-pub tree_there : (c : Client) (v : View) (p : Path) (found : Found) → (i : StandsAtPath c v p found) → at (tree_of c v) p ≡ inodes.tree_of v.world (node_at v.world (suc i.more) found.block)
+pub tree_there : (c : Client) (v : DiskView) (p : Path) (found : Found) → (i : StandsAtPath c v p found) → at (tree_of c v) p ≡ inodes.tree_of v.world (node_at v.world (suc i.more) found.block)
 tree_there c v p found i = sym (tree-at v.world p (inodes_under v.world c.root)) ∙ ap (inodes.tree_of v.world) i.node
 
 -- a block that was read has room for a head
-pub found_long : (c : Client) (v : View) (more : ℕ) (found : Found) → StandsAsRead c v more found → IsValidNow v → 16 ≤ block_len_of found.inode
+pub found_long : (c : Client) (v : DiskView) (more : ℕ) (found : Found) → StandsAsRead c v more found → IsValidNow v → 16 ≤ block_len_of found.inode
 found_long c v more found stands now = let room = block_long v.world now.valid in let is = stands.whole in omega (arith, room, is)
 
 -- what stands there still does after a look
-pub stands_still : (c : Client) (old new : View) (more : ℕ) (found : Found) → Looked old new → Stays old new → IsValidNow old → StandsAsRead c old more found → StandsAsRead c new more found
+pub stands_still : (c : Client) (old new : DiskView) (more : ℕ) (found : Found) → Looked old new → Stays old new → IsValidNow old → StandsAsRead c old more found → StandsAsRead c new more found
 stands_still c old new more found seen stays now stands = record {
   there = ap (λ w. is_there (node_at w (suc more) found.block)) seen.world ∙ stands.there;
   says = ap (λ w. inode_at w found.block) seen.world ∙ stands.says;
@@ -145,7 +145,7 @@ stands_still c old new more found seen stays now stands = record {
 }
 
 -- the bytes of a file from one place on, as far as they have come
-pub record Reading (told : Type 0) (c : Client) (first now : View) (file : Found) (start at end : ℕ) (into : List ℕ) : Type 0 where
+pub record Reading (told : Type 0) (c : Client) (first now : DiskView) (file : Found) (start at end : ℕ) (into : List ℕ) : Type 0 where
   pub looks : OnlyLooks {X = Unit {0}} told first now (Ok tt)
   pub stands : told → IsStanding c now file
   pub low : start ≤ at
@@ -153,7 +153,7 @@ pub record Reading (told : Type 0) (c : Client) (first now : View) (file : Found
   pub came : told → into ≡ part (bytes_said first.world (inode_of file.inode)) start at
 
 -- what stands in the block of a place, from there on
-pub block_part : (c : Client) (v : View) (more : ℕ) (file : Found) → StandsAsRead c v more file → is_directory (inode_of file.inode) ≡ false → IsValidNow v → (len place last : ℕ) (bytes : List ℕ) → len ≡ block_len_of file.inode
+pub block_part : (c : Client) (v : DiskView) (more : ℕ) (file : Found) → StandsAsRead c v more file → is_directory (inode_of file.inode) ≡ false → IsValidNow v → (len place last : ℕ) (bytes : List ℕ) → len ≡ block_len_of file.inode
     → place / len < length (blocks_said (inode_of file.inode)) → contents v.world (slice_index (blocks_said (inode_of file.inode)) (place / len)) ≡ Some bytes
     → place % len ≤ last → last ≤ len
     → part bytes (place % len) last ≡ part (bytes_said v.world (inode_of file.inode)) place (place + (last - place % len))

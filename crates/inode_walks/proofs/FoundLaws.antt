@@ -11,7 +11,7 @@ use Rattle.fs_trees.specs.InodeTree as inodes
 use Rattle.fs_trees.specs.Refusals.{first_of, when, directory_of, lost_on_the_way, no_file, no_dir}
 use Rattle.fs_trees.specs.declared.refusal.FsRefusal.{FsRefusal}
 use Rattle.fs_trees.specs.declared.refusal.FsRefusal.TheVariants as no
-use Rattle.fs_port.specs.View.{View}
+use Rattle.fs_port.specs.View.{DiskView}
 use Rattle.fs_client.specs.declared.client.Client.{Client}
 use Rattle.inode_layout.specs.Block.{inode_of}
 use Rattle.inode_layout.specs.Said.{blocks_said, is_directory, amount_said, entries_said, entry_said}
@@ -27,7 +27,7 @@ pub dir_said : (i : tree.Inode) → is_directory i ≡ true → i ≡ tree.direc
 dir_said (tree.directory es) h = refl
 dir_said (tree.regular size blocks) h = absurd (cc)
 
-module _ (c : Client) (v : View) (p : Path) (found : Found) (i : StandsAtPath c v p found) where
+module _ (c : Client) (v : DiskView) (p : Path) (found : Found) (i : StandsAtPath c v p found) where
   -- a directory's node
   pub dir_found : is_directory (inode_of found.inode) ≡ true → (xs : InodeEntries) × (entries_by (λ b. node_at v.world i.more b) (entries_said (inode_of found.inode)) ≡ Some xs) × (node_at v.world (suc i.more) found.block ≡ a_dir found.block xs)
   dir_found h = dir_node v.world i.more found.block i.stands.there (entries_said (inode_of found.inode)) (i.stands.says ∙ ap (λ x. Some x) (dir_said (inode_of found.inode) h))
@@ -47,7 +47,7 @@ module _ (c : Client) (v : View) (p : Path) (found : Found) (i : StandsAtPath c 
   a_file_there h = let d = file_tree h in (ap is_dir d.1, ap is_file d.1)
 
 -- and so it was before
-module _ (c : Client) (old new : View) (p : Path) (found : Found) (i : StandsAtPath c new p found) (same : new.world ≡ old.world) where
+module _ (c : Client) (old new : DiskView) (p : Path) (found : Found) (i : StandsAtPath c new p found) (same : new.world ≡ old.world) where
   pub a_dir_was : is_directory (inode_of found.inode) ≡ true → (is_dir (at (tree_of c old) p) ≡ true) × (is_file (at (tree_of c old) p) ≡ false)
   a_dir_was h = let d = a_dir_there c new p found i h in
       (ap (λ w. is_dir (at (inode_tree w c.root) p)) (sym same) ∙ d.0, ap (λ w. is_file (at (inode_tree w c.root) p)) (sym same) ∙ d.1)
@@ -111,7 +111,7 @@ tree_names w none = refl
 tree_names w (file n f rest) = ap (λ ns. n ∷ ns) (tree_names w rest)
 tree_names w (dir n b inside rest) = ap (λ ns. n ∷ ns) (tree_names w rest)
 
-pub names_there : (c : Client) (v : View) (p : Path) (found : Found) → (i : StandsAtPath c v p found) → is_directory (inode_of found.inode) ≡ true → names_in (at (tree_of c v) p) ≡ entry_names (entries_said (inode_of found.inode))
+pub names_there : (c : Client) (v : DiskView) (p : Path) (found : Found) → (i : StandsAtPath c v p found) → is_directory (inode_of found.inode) ≡ true → names_in (at (tree_of c v) p) ≡ entry_names (entries_said (inode_of found.inode))
 names_there c v p found i h =
     let d = dir_found c v p found i h in
     ap names_in (tree_there c v p found i ∙ ap (inodes.tree_of v.world) d.2)
@@ -144,7 +144,7 @@ pub entry_by : (n : Name) (i : tree.Inode) → entry_said n i ≡ block_named n 
 entry_by n (tree.directory es) = refl
 entry_by n (tree.regular size blocks) = refl
 
-pub place_is : (c : Client) (v : View) (p way : Path) (n : Name) (place : Place) → p ≡ way ++ n ∷ [] → place.name.now ≡ n → StandsAtPath c v way place.directory → place.old ≡ entry_said place.name.now (inode_of place.directory.inode) → IsPlace c v p place
+pub place_is : (c : Client) (v : DiskView) (p way : Path) (n : Name) (place : Place) → p ≡ way ++ n ∷ [] → place.name.now ≡ n → StandsAtPath c v way place.directory → place.old ≡ entry_said place.name.now (inode_of place.directory.inode) → IsPlace c v p place
 place_is c v p way n place e named above old = record {
   above = subst (λ q. StandsAtPath c v q place.directory) (sym (ap directory_of e ∙ above_is way n)) above;
   name = e ∙ (ap (λ q. q ++ n ∷ []) (sym (ap directory_of e ∙ above_is way n)) ∙ ap (λ m. directory_of p ++ m ∷ []) (sym named));

@@ -14,7 +14,7 @@ use Rattle.fs_trees.specs.Inode.{Inode, directory, regular, block_named}
 use Rattle.fs_trees.specs.InodeTree.{InodeNode, inode_at, node_by, node_at}
 use Rattle.fs_trees.specs.declared.refusal.FsRefusal.{FsRefusal}
 use Rattle.fs_trees.specs.declared.refusal.FsRefusal.TheVariants as no
-use Rattle.fs_port.specs.View.{View, state_of}
+use Rattle.fs_port.specs.View.{DiskView, state_of}
 use Rattle.fs_port.specs.Calls.{IsValidNow}
 use Rattle.fs_client.specs.declared.client.Client.{Client}
 use Rattle.fs_client.specs.Client.{shown_at}
@@ -47,7 +47,7 @@ said_block n (directory es) b h = (es, refl, some (block_named n es) b h)
     some (Some c) b h = let e : c ≡ b = cc in ap (λ x. Some x) e
 said_block n (regular size blocks) b h = absurd (cc)
 
-module _ (c : Client) (v : View) (more : ℕ) (dir : Found) (stands : StandsAsRead c v more dir) (n : Name) where
+module _ (c : Client) (v : DiskView) (more : ℕ) (dir : Found) (stands : StandsAsRead c v more dir) (n : Name) where
   node : InodeNode
   node = node_at v.world (suc more) dir.block
 
@@ -84,7 +84,7 @@ module _ (c : Client) (v : View) (more : ℕ) (dir : Found) (stands : StandsAsRe
     }
 
     -- what was read there stands there
-    pub further : (new : View) (found : Found) → Looked v new → found.block ≡ b → inode_at v.world b ≡ Some (inode_of found.inode) → block_len_of found.inode ≡ block_len v.world.geometry → HoldsWrite (state_of new) c.session b → MayWrite c new b → IsFurther c v new more dir n found
+    pub further : (new : DiskView) (found : Found) → Looked v new → found.block ≡ b → inode_at v.world b ≡ Some (inode_of found.inode) → block_len_of found.inode ≡ block_len v.world.geometry → HoldsWrite (state_of new) c.session b → MayWrite c new b → IsFurther c v new more dir n found
     further new found seen block is whole held may =
         let level = a_level v.world more b child_there in
         let same : node_at v.world more b ≡ node_at new.world (suc level.0) found.block =
@@ -127,7 +127,7 @@ module _ (c : Client) (v : View) (more : ℕ) (dir : Found) (stands : StandsAsRe
 
 -- ---- what reading there gives
 
-module _ (c : Client) (v new : View) (more : ℕ) (dir : Found) (stands : StandsAsRead c v more dir) (n : Name) (b : ℕ) (said : block_said n (inode_of dir.inode) ≡ Ok b) where
+module _ (c : Client) (v new : DiskView) (more : ℕ) (dir : Found) (stands : StandsAsRead c v more dir) (n : Name) (b : ℕ) (said : block_said n (inode_of dir.inode) ≡ Ok b) where
   pub further_read : (result : Result Found FsRefusal) → IfOk result (λ found. found.block ≡ b) → IfOk result (λ found. inode_at v.world b ≡ Some (inode_of found.inode)) → IfOk result (λ found. block_len_of found.inode ≡ block_len v.world.geometry)
       → OnOk result (HoldsWrite (state_of new) c.session b) → OnOk result (MayWrite c new b) → OnOk result (Looked v new) → IfOk result (IsFurther c v new more dir n)
   further_read (Ok found) block is whole held may seen = further c v more dir stands n b said new found seen block is whole held may

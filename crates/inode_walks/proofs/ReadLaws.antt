@@ -13,7 +13,7 @@ use Rattle.inode_layout.specs.Said.{said_in, is_in_order, in_order}
 use Rattle.inode_layout.proofs.SaidLaws.{in_two_steps}
 use Rattle.fs_trees.specs.declared.refusal.FsRefusal.{FsRefusal}
 use Rattle.fs_trees.specs.declared.refusal.FsRefusal.TheVariants as no
-use Rattle.fs_port.specs.View.{View}
+use Rattle.fs_port.specs.View.{DiskView}
 use Rattle.fs_client.specs.May.{OnlyLooks}
 use Rattle.fs_client.proofs.LookLaws.{looks_as, looks_but_refuses}
 use Rattle.inode_walks.specs.declared.finding.Found.{Found}
@@ -78,7 +78,7 @@ on_ok (Ok x) P h = h
 on_ok (Err e) P h = tt
 
 -- what only looked still did where its bytes are no inode
-pub read_looks : {X : Type 0} (told : Type 0) (old new : View) (x : X) (result : Result Found FsRefusal) → OnlyLooks told old new (Ok x) → IfErr result (λ r. r ≡ no.NotThisFs) → OnlyLooks told old new result
+pub read_looks : {X : Type 0} (told : Type 0) (old new : DiskView) (x : X) (result : Result Found FsRefusal) → OnlyLooks told old new (Ok x) → IfErr result (λ r. r ≡ no.NotThisFs) → OnlyLooks told old new result
 read_looks told old new x (Ok f) h other = looks_as told old new x f h
 read_looks told old new x (Err r) h other = looks_but_refuses told old new x r (λ d. clash r other d) h
   where

@@ -14,7 +14,7 @@ use Rattle.fs_trees.specs.declared.ask.ShellAsk.TheVariants as ask
 use Rattle.fs_trees.specs.declared.ask.ShellKind.TheVariants.{Inode}
 use Rattle.fs_trees.specs.declared.refusal.FsRefusal.{FsRefusal}
 use Rattle.fs_trees.specs.declared.refusal.FsRefusal.TheVariants as no
-use Rattle.fs_port.specs.View.{View}
+use Rattle.fs_port.specs.View.{DiskView}
 use Rattle.fs_port.specs.Calls.{IsValidNow}
 use Rattle.fs_port.specs.Files.{Answers, TellsSize, TellsPart, TellsNext}
 use Rattle.fs_client.specs.declared.client.Client.{Client}
@@ -29,7 +29,7 @@ use Rattle.inode_walks.proofs.FileLaws.{file_is, row_is_long, tree_there}
 use Rattle.inode_walks.proofs.FoundLaws.{dir_said, names_there}
 use Rattle.inode_walks.proofs.PartLaws.{front_from}
 
-module _ (c : Client) (old new : View) (p : Path) (there : is_there (tree_of c old) ≡ true) where
+module _ (c : Client) (old new : DiskView) (p : Path) (there : is_there (tree_of c old) ≡ true) where
   t : Tree
   t = tree_of c old
 
@@ -68,7 +68,7 @@ module _ (c : Client) (old new : View) (p : Path) (there : is_there (tree_of c o
 
 -- ---- what is told
 
-module _ (c : Client) (old new : View) (p : Path) (found : Found) (i : StandsAtPath c new p found) (same : new.world ≡ old.world) where
+module _ (c : Client) (old new : DiskView) (p : Path) (found : Found) (i : StandsAtPath c new p found) (same : new.world ≡ old.world) where
   module _ (is_file : is_directory (inode_of found.inode) ≡ false) (now : IsValidNow new) (whole : 16 ≤ block_len_of found.inode) where
     abbrev all : List ℕ
     all = bytes_said new.world (inode_of found.inode)
@@ -104,7 +104,7 @@ module _ (c : Client) (old new : View) (p : Path) (found : Found) (i : StandsAtP
       )
 
 -- reading on, where only a fault refuses it
-pub part_answers : (c : Client) (old new : View) (p : Path) (start : ℕ) (into : List ℕ) (result : Result (Unit {0}) FsRefusal) → is_there (tree_of c old) ≡ true → ◌≡◌ {A = Option FsRefusal} (no_file_found (tree_of c old) p) None
+pub part_answers : (c : Client) (old new : DiskView) (p : Path) (start : ℕ) (into : List ℕ) (result : Result (Unit {0}) FsRefusal) → is_there (tree_of c old) ≡ true → ◌≡◌ {A = Option FsRefusal} (no_file_found (tree_of c old) p) None
     → OnOk result (new.world ≡ old.world) → OnOk result (TellsPart start into (bytes (bytes_in (at (tree_of c old) p)))) → IfErr result (λ e. e ≡ no.Device) → Answers (mounted_by c) old new (ask.Cat p) result (λ _. TellsPart start into)
 part_answers c old new p start into (Ok x) there found same told only = cat_answers c old new p there same (λ _. TellsPart start into) x found told
 part_answers c old new p start into (Err e) there found same told only = cat_refuses c old new p there (λ _. TellsPart start into) e (λ ne. absurd (ne only)) (λ ne. absurd (ne only))

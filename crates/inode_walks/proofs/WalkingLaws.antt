@@ -19,7 +19,7 @@ use Rattle.fs_trees.specs.Tree.{nothing, a_file, a_dir, child, at, is_there}
 use Rattle.fs_trees.specs.InodeTree.{InodeNode, inode_at, node_at, inodes_under, inode_tree}
 use Rattle.fs_trees.specs.InodeTree as inodes
 use Rattle.fs_trees.specs.declared.refusal.FsRefusal.{FsRefusal}
-use Rattle.fs_port.specs.View.{View, state_of, IsSound}
+use Rattle.fs_port.specs.View.{DiskView, state_of, IsDiskSound}
 use Rattle.fs_port.specs.Calls.{Stays}
 use Rattle.fs_client.specs.declared.client.Client.{Client}
 use Rattle.fs_client.specs.May.{MayWrite, Looked, OnlyLooks}
@@ -70,18 +70,18 @@ further_below w n ns (a_dir b es) h = ap (λ t. not_found t ns) (sym (tree_child
 -- ---- the walk
 
 -- after i names this was found, and what the others lead to is what all lead to
-pub record IsWalking (c : Client) (first now : View) (names : Path) (i : ℕ) (found : Found) : Type 0 where
+pub record IsWalking (c : Client) (first now : DiskView) (names : Path) (i : ℕ) (found : Found) : Type 0 where
   pub more : ℕ
   pub levels : more + i ≡ path_max
   pub stands : StandsAsRead c now more found
   pub node : at (inodes_under now.world c.root) (take i names) ≡ node_at now.world (suc more) found.block
   pub rest : not_found (tree_of c first) names ≡ not_found (node_tree now more found) (drop i names)
 
-pub record Walking (told : Type 0) (c : Client) (first now : View) (names : Path) (i : ℕ) (found : Found) : Type 0 where
+pub record Walking (told : Type 0) (c : Client) (first now : DiskView) (names : Path) (i : ℕ) (found : Found) : Type 0 where
   pub looks : OnlyLooks {X = Unit {0}} told first now (Ok tt)
   pub walking : told → IsWalking c first now names i found
 
-pub walks_on : (c : Client) (first now new : View) (names : Path) (i : ℕ) (found next : Found) (n : Name) → i < length names → n ≡ slice_index_or names i n → Looked now new
+pub walks_on : (c : Client) (first now new : DiskView) (names : Path) (i : ℕ) (found next : Found) (n : Name) → i < length names → n ≡ slice_index_or names i n → Looked now new
     → (w : IsWalking c first now names i found) → IsFurther c now new w.more found n next → IsWalking c first new names (i + 1) next
 walks_on c first now new names i found next n h is seen w further = record {
   more = further.less;
@@ -101,12 +101,12 @@ walks_on c first now new names i found next n h is seen w further = record {
 }
 
 -- a name that leads nowhere
-pub walk_ends : (c : Client) (first now : View) (names : Path) (i : ℕ) (found : Found) (n : Name) (e : FsRefusal) → i < length names → n ≡ slice_index_or names i n
+pub walk_ends : (c : Client) (first now : DiskView) (names : Path) (i : ℕ) (found : Found) (n : Name) (e : FsRefusal) → i < length names → n ≡ slice_index_or names i n
     → (w : IsWalking c first now names i found) → ((ns : Path) → not_found (node_tree now w.more found) (n ∷ ns) ≡ Some e) → not_found (tree_of c first) names ≡ Some e
 walk_ends c first now names i found n e h is w lost = w.rest ∙ (ap (not_found (node_tree now w.more found)) (drop_first names i n h is) ∙ lost (drop (i + 1) names))
 
 -- all names were found
-pub walk_arrives : (c : Client) (first now : View) (names : Path) (i : ℕ) (found : Found) → length names ≤ i → i ≤ length names → (w : IsWalking c first now names i found) → StandsAtPath c now names found
+pub walk_arrives : (c : Client) (first now : DiskView) (names : Path) (i : ℕ) (found : Found) → length names ≤ i → i ≤ length names → (w : IsWalking c first now names i found) → StandsAtPath c now names found
 walk_arrives c first now names i found h k w = record {
   more = w.more;
   levels = let before = w.levels in omega (arith, before, h, k);
@@ -114,19 +114,19 @@ walk_arrives c first now names i found h k w = record {
   node = ap (at (inodes_under now.world c.root)) (sym (take_all names i h)) ∙ w.node;
 }
 
-pub nothing_missing : (c : Client) (first now : View) (names : Path) (i : ℕ) (found : Found) → length names ≤ i → (w : IsWalking c first now names i found) → ◌≡◌ {A = Option FsRefusal} (not_found (tree_of c first) names) None
+pub nothing_missing : (c : Client) (first now : DiskView) (names : Path) (i : ℕ) (found : Found) → length names ≤ i → (w : IsWalking c first now names i found) → ◌≡◌ {A = Option FsRefusal} (not_found (tree_of c first) names) None
 nothing_missing c first now names i found h w =
     w.rest ∙ (ap (not_found (node_tree now w.more found)) (drop_all names i h) ∙ is_found now.world (node_at now.world (suc w.more) found.block) w.stands.there)
 
 -- ---- the session
 
-pub still_open : (told : Type 0) (c : Client) (first now : View) → MayAsk told c first → Stays first now → IsOpenNow c now
+pub still_open : (told : Type 0) (c : Client) (first now : DiskView) → MayAsk told c first → Stays first now → IsOpenNow c now
 still_open told c first now may stays = record { number = may.ready.number; begun = stays.sessions c.session ∙ may.ready.begun }
 
 -- ---- the root
 
 -- what the root shows may be written
-pub root_may : (told : Type 0) (c : Client) (v : View) → told → MayAsk told c v → IsSound v → MayWrite c v c.root
+pub root_may : (told : Type 0) (c : Client) (v : DiskView) → told → MayAsk told c v → IsDiskSound v → MayWrite c v c.root
 root_may told c v t may sound = record {
   number = may.ready.number;
   begun = may.ready.begun;
@@ -144,7 +144,7 @@ root_may told c v t may sound = record {
         ∙ (ap (λ n. record_level (slice_get v.records c.root) (kept_of n c.cap)) sound.version ∙ may.ready.attains))
 
 -- and it was read as what stands at no names
-pub walk_begins : (c : Client) (first now : View) (names : Path) (found : Found) → is_there (tree_of c first) ≡ true → Looked first now → found.block ≡ c.root → inode_at first.world c.root ≡ Some (inode_of found.inode)
+pub walk_begins : (c : Client) (first now : DiskView) (names : Path) (found : Found) → is_there (tree_of c first) ≡ true → Looked first now → found.block ≡ c.root → inode_at first.world c.root ≡ Some (inode_of found.inode)
     → block_len_of found.inode ≡ block_len first.world.geometry → HoldsWrite (state_of now) c.session c.root → MayWrite c now c.root → IsWalking c first now names 0 found
 walk_begins c first now names found there seen block says whole held may =
     let root = root_stands first.world c.root there in

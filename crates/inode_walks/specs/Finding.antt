@@ -1,5 +1,6 @@
 -- What stands at a path, as it was read from its block.
-use Rattle.std.specs.Prelude.{◌≡◌, ℕ, suc, ◌+◌, ◌≤◌, length, List, [], ◌∷◌, ◌++◌, map, Option, Some, None, Result, Ok, Err, IsTrue}
+use Rattle.std.specs.Prelude.{◌≡◌, ℕ, suc, ◌+◌, ◌≤◌, length, List, [], ◌∷◌, ◌++◌, map, Option, Some, None, Result, Ok}
+use Rattle.std.specs.Prelude.{Err, IsTrue}
 use Rattle.tsd_model.specs.Geometry.{block_len}
 use Rattle.tsd_model.specs.Pairs.{holds}
 use Rattle.tsd_model.specs.Sessions.{sessions_max, is_open}
@@ -13,7 +14,7 @@ use Rattle.fs_trees.specs.declared.refusal.FsRefusal.TheVariants as no
 use Rattle.inode_layout.specs.Block.{inode_of, block_len_of}
 use Rattle.inode_layout.specs.Said.{entries_said}
 use Rattle.fs_laws.specs.Ways.{HoldsWrite}
-use Rattle.fs_port.specs.View.{View, state_of}
+use Rattle.fs_port.specs.View.{DiskView, state_of}
 use Rattle.fs_client.specs.declared.client.Client.{Client}
 use Rattle.fs_client.specs.May.{MayWrite}
 use Rattle.inode_walks.specs.declared.finding.Found.{Found}
@@ -25,27 +26,28 @@ node_pairs nothing = []
 node_pairs (a_file f) = map (λ c. (f.block, c)) f.blocks
 node_pairs (a_dir b es) = named_pairs b es
 
--- What was read stands there, with at most so many names below it: it is what its block says, what it names is pointed to,
--- and the session may write it.
-pub record StandsAsRead (c : Client) (v : View) (more : ℕ) (found : Found) : Type 0 where
+-- What was read stands there, with at most so many names below it: it is what its block says, what it names is pointed
+-- to, and the session may write it.
+pub record StandsAsRead (c : Client) (v : DiskView) (more : ℕ) (found : Found) : Type 0 where
   pub there : IsTrue (is_there (node_at v.world (suc more) found.block))
   pub says : inode_at v.world found.block ≡ Some (inode_of found.inode)
-  pub pairs : (a b : ℕ) → IsTrue (holds (node_pairs (node_at v.world (suc more) found.block)) a b) → IsTrue (holds v.world.pairs a b)
+  pub pairs : (a b : ℕ) → IsTrue (holds (node_pairs (node_at v.world (suc more) found.block)) a b)
+      → IsTrue (holds v.world.pairs a b)
   pub held : HoldsWrite (state_of v) c.session found.block
   pub may : MayWrite c v found.block
   pub whole : block_len_of found.inode ≡ block_len v.world.geometry
 
-abbrev pub IsStanding : Client → View → Found → Type 0
+abbrev pub IsStanding : Client → DiskView → Found → Type 0
 IsStanding c v found = (more : ℕ) × StandsAsRead c v more found
 
 -- the tree there
-abbrev pub node_tree : View → ℕ → Found → Tree
+abbrev pub node_tree : DiskView → ℕ → Found → Tree
 node_tree v more found = tree_of v.world (node_at v.world (suc more) found.block)
 
 -- ---- one name further
 
 -- the session is one that is open
-pub record IsOpenNow (c : Client) (v : View) : Type 0 where
+pub record IsOpenNow (c : Client) (v : DiskView) : Type 0 where
   pub number : c.session ≤ sessions_max
   pub begun : IsTrue (is_open v.sessions c.session)
 
@@ -59,7 +61,8 @@ block_said n (directory es) = named_block (block_named n es)
 block_said n (regular size blocks) = Err no.NotDir
 
 -- this was read as what the name is in the directory
-pub record IsFurther (c : Client) (old new : View) (more : ℕ) (dir : Found) (n : Name) (found : Found) : Type 0 where
+pub record IsFurther (c : Client) (old new : DiskView) (more : ℕ) (dir : Found) (n : Name)
+    (found : Found) : Type 0 where
   pub less : ℕ
   pub deeper : more ≡ suc less
   pub stands : StandsAsRead c new less found
@@ -68,7 +71,7 @@ pub record IsFurther (c : Client) (old new : View) (more : ℕ) (dir : Found) (n
 -- ---- at a path
 
 -- it was read from the block of what stands at the path
-pub record StandsAtPath (c : Client) (v : View) (path : Path) (found : Found) : Type 0 where
+pub record StandsAtPath (c : Client) (v : DiskView) (path : Path) (found : Found) : Type 0 where
   pub more : ℕ
   -- so many names may follow
   pub levels : more + length path ≡ path_max
@@ -95,7 +98,7 @@ abbrev pub no_directory_found : Tree → Path → Option FsRefusal
 no_directory_found t path = first_of (not_found t path ∷ no_dir t path ∷ [])
 
 -- the entry that a path speaks of
-pub record IsPlace (c : Client) (v : View) (path : Path) (place : Place) : Type 0 where
+pub record IsPlace (c : Client) (v : DiskView) (path : Path) (place : Place) : Type 0 where
   pub above : StandsAtPath c v (directory_of path) place.directory
   pub name : path ≡ directory_of path ++ place.name.now ∷ []
   pub old : place.old ≡ block_named place.name.now (entries_said (inode_of place.directory.inode))

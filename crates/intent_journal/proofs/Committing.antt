@@ -21,7 +21,7 @@ use Rattle.intent_journal.specs.Descriptor.{descriptor_bytes}
 use Rattle.intent_journal.specs.Home.{home, overlaid, is_journal, AgreeBut}
 use Rattle.intent_journal.specs.Records.{Record, patches_of, open_records, is_open_gate, has_valid_records}
 use Rattle.intent_journal.specs.Ring.{IsRing, IsRingAt, is_full_for}
-use Rattle.intent_journal.specs.Written.{IsWritten}
+use Rattle.intent_journal.specs.Written.{IsRecordWritten}
 use Rattle.intent_journal.proofs.Bodies.{got_within}
 use Rattle.intent_journal.proofs.Gates.{opened_same, valid_same}
 use Rattle.intent_journal.proofs.Opened.{SameUsed, opened_kept, opened_more}
@@ -63,7 +63,7 @@ pub record IsAdded (rs : List Record) (batch : List Patch) (v v2 : View) : Type 
   pub any_moment : LeavesOnly v v2 (λ x f. IsBeforeOrAfter batch v x × (f ≡ v.sent))
   pub done : AgreeBut is_journal (overlaid batch (home v.reads)) (home v2.reads)
   pub at : IsRingAt (rs ++ batch ∷ []) v2
-  pub written : IsWritten (length rs) batch v2.reads
+  pub written : IsRecordWritten (length rs) batch v2.reads
 
 module _ (rs : List Record) (batch : List Patch) (v : View) (at : IsRingAt rs v) (ring : IsRing rs) (whole : IsBatch batch) (some : batch ≢ []) (room : is_full_for rs (length batch) ≡ false) where
   abbrev P : Image → List ℕ → Type 0
@@ -211,7 +211,7 @@ module _ (rs : List Record) (batch : List Patch) (v : View) (at : IsRingAt rs v)
               journal_firm = λ n _. firm2 n;
             }
 
-          added_written : v2.reads gate ≡ gate_bytes true → IsWritten (length rs) batch v2.reads
+          added_written : v2.reads gate ≡ gate_bytes true → IsRecordWritten (length rs) batch v2.reads
           added_written bytes = record {
             gate = ap v2.reads (sym is) ∙ bytes;
             descriptor = has2 (descriptor_sector (length rs)) (λ e. gate_descriptor_apart (length rs) (length rs) (sym e)) ∙ named;

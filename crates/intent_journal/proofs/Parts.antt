@@ -6,7 +6,7 @@ use Rattle.std.proofs.lemmas.Grind.{flat_map-append}
 use Rattle.image_layout.specs.Ring.{records, bodies}
 use Rattle.image_layout.specs.declared.place.Patch.{Patch}
 use Rattle.intent_journal.specs.Batch.{IsBatch}
-use Rattle.intent_journal.specs.Parts.{total, parted, AreParts}
+use Rattle.intent_journal.specs.Parts.{total, parted, ArePatchesOfRing}
 use Rattle.intent_journal.specs.Records.{Record, patches_of}
 use Rattle.intent_journal.specs.Ring.{IsRing}
 
@@ -43,17 +43,17 @@ ring_push rs b ring batch some room more = record {
   each = λ r found. ⊎_elim (λ old. ring.each r old) (λ new. subst (λ (q : Record). IsBatch q × (q ≢ [])) new (batch, some)) (Contains-push_cases rs b r found);
 }
 
-module _ (cs : List ℕ) (ps b : List Patch) (parts : AreParts cs ps) where
+module _ (cs : List ℕ) (ps b : List Patch) (parts : ArePatchesOfRing cs ps) where
   pub view_push : parted (cs ++ length b ∷ []) (ps ++ b) ≡ parted cs ps ++ b ∷ []
   view_push = parted_push cs ps b parts.whole
 
-  pub parts_push : IsBatch b → b ≢ [] → length ps + length b ≤ bodies → length cs + 1 ≤ records → AreParts (cs ++ length b ∷ []) (ps ++ b)
+  pub parts_push : IsBatch b → b ≢ [] → length ps + length b ≤ bodies → length cs + 1 ≤ records → ArePatchesOfRing (cs ++ length b ∷ []) (ps ++ b)
   parts_push batch some room more = record {
     whole = omega (arith, total_push cs (length b), parts.whole, length-append ps b);
     ring = subst IsRing (sym view_push) (ring_push (parted cs ps) b parts.ring batch some (omega (arith, ap length (patches_parted cs ps parts.whole))) (omega (arith, length_parted cs ps)));
   }
 
-pub parts_none : AreParts [] []
+pub parts_none : ArePatchesOfRing [] []
 parts_none = record {
   whole = refl;
   ring = record { most = omega arith; fits = omega arith; each = λ r found. absurd (omega (arith, found.1)) };

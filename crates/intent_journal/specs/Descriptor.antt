@@ -26,4 +26,5 @@ is_valid start bytes =
 
 -- what is written for these homes
 abbrev pub descriptor_bytes : List ℕ → List ℕ
-descriptor_bytes homes = little_bytes 4 (length homes) ++ flat_map (little_bytes 4) homes ++ replicate (508 - 4 * length homes) 0
+descriptor_bytes homes =
+    little_bytes 4 (length homes) ++ flat_map (little_bytes 4) homes ++ replicate (508 - 4 * length homes) 0

@@ -14,6 +14,6 @@ parted [] ps = []
 parted (c ∷ cs) ps = take c ps ∷ parted cs (drop c ps)
 
 -- each patch is one of a record's, and the records are those of a ring
-pub record AreParts (counts : List ℕ) (ps : List Patch) : Type 0 where
+pub record ArePatchesOfRing (counts : List ℕ) (ps : List Patch) : Type 0 where
   pub whole : total counts ≡ length ps
   pub ring : IsRing (parted counts ps)

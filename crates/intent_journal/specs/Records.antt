@@ -1,5 +1,6 @@
 -- The records that an image has in the ring.
-use Rattle.std.specs.Prelude.{◌≡◌, ℕ, zero, suc, ◌+◌, ◌&&◌, Bool, true, false, cond, List, [], ◌∷◌, ◌++◌, length, map, flat_map, slice_index}
+use Rattle.std.specs.Prelude.{◌≡◌, ℕ, zero, suc, ◌+◌, ◌&&◌, Bool, true, false, cond, List, [], ◌∷◌, ◌++◌, length, map}
+use Rattle.std.specs.Prelude.{flat_map, slice_index}
 use Rattle.std.specs.List.{range_with_len}
 use Rattle.image_layout.specs.declared.place.Patch.{Patch}
 use Rattle.image_layout.specs.Image.{Image, is_open}
@@ -26,8 +27,8 @@ record_at image index start =
     map (λ k. record { sector = home_in (descriptor_of image index) k; bytes = image (body_sector (start + k)) })
     (range_with_len 0 (count_in (descriptor_of image index)))
 
--- of so many records from this index on, those before the first one whose gate is closed or whose descriptor isn't valid;
--- the bodies of each record begin where those of the one before it end
+-- of so many records from this index on, those before the first one whose gate is closed or whose descriptor isn't
+-- valid; the bodies of each record begin where those of the one before it end
 abbrev pub open_from : Image → ℕ → ℕ → ℕ → List Record
 open_from image index start zero = []
 open_from image index start (suc left) =
@@ -45,7 +46,8 @@ abbrev pub are_valid_from : Image → ℕ → ℕ → ℕ → Bool
 are_valid_from image index start zero = true
 are_valid_from image index start (suc left) =
     cond (is_open_gate image index)
-    (is_valid start (descriptor_of image index) && are_valid_from image (index + 1) (start + count_in (descriptor_of image index)) left)
+    (is_valid start (descriptor_of image index) && are_valid_from image (index + 1)
+    (start + count_in (descriptor_of image index)) left)
     true
 
 -- each open record has a valid descriptor

@@ -1,5 +1,6 @@
 -- What a ring holds: the records that are on the disk and not in place yet.
-use Rattle.std.specs.Prelude.{ℕ, ◌+◌, ◌≡◌, ◌≢◌, ◌≤◌, ◌<◌, ◌==◌, ◌||◌, nat_lt, Bool, false, true, cond, List, [], ◌∷◌, ◌++◌, length, count_by, Contains}
+use Rattle.std.specs.Prelude.{ℕ, ◌+◌, ◌≡◌, ◌≢◌, ◌≤◌, ◌<◌, ◌==◌, ◌||◌, nat_lt, Bool, false, true, cond, List, [], ◌∷◌}
+use Rattle.std.specs.Prelude.{◌++◌, length, count_by, Contains}
 use Rattle.std.specs.List.{range_with_len}
 use Rattle.image_device.specs.Image.{Image}
 use Rattle.image_device.specs.View.{View}
@@ -22,8 +23,8 @@ pub record IsRing (rs : List Record) : Type 0 where
   pub fits : length (patches_of rs) ≤ bodies
   pub each : (r : Record) → Contains rs r → IsBatch r × (r ≢ [])
 
--- The ring is what a device has: its records are the open ones there, every other gate reads closed, and no sector of the
--- journal is loose.
+-- The ring is what a device has: its records are the open ones there, every other gate reads closed, and no sector of
+-- the journal is loose.
 pub record IsRingAt (rs : List Record) (v : View) : Type 0 where
   pub shows : open_records v.reads ≡ rs
   pub others_closed : (index : ℕ) → length rs ≤ index → index < records → is_open_gate v.reads index ≡ false
@@ -47,7 +48,8 @@ checkpoint_writes rs = distinct_homes rs + length rs
 
 -- for a commit its bodies, a descriptor and a gate, and a checkpoint before them where there is no room
 abbrev pub commit_writes : List Record → List Patch → ℕ
-commit_writes rs batch = cond (length batch == 0) 0 (length batch + 2 + cond (is_full_for rs (length batch)) (checkpoint_writes rs) 0)
+commit_writes rs batch =
+    cond (length batch == 0) 0 (length batch + 2 + cond (is_full_for rs (length batch)) (checkpoint_writes rs) 0)
 
 -- what a replay answers where these records are open
 abbrev pub IsReplayFound : List Record → Replayed → Type 0

@@ -9,11 +9,12 @@ use Rattle.intent_journal.specs.Descriptor.{descriptor_bytes}
 use Rattle.intent_journal.specs.Records.{is_open_gate}
 
 -- a record as it is written: an open gate, and a descriptor with zeros behind its homes
-pub record IsWritten (index : ℕ) (batch : List Patch) (image : Image) : Type 0 where
+pub record IsRecordWritten (index : ℕ) (batch : List Patch) (image : Image) : Type 0 where
   pub gate : image (gate_sector index) ≡ gate_bytes true
   pub descriptor : image (descriptor_sector index) ≡ descriptor_bytes (homes_of batch)
 
 -- each open gate is closed by zeros, and no other gate is written
 abbrev pub ClosesGates : Image → Image → Type 0
 ClosesGates old new =
-    (index : ℕ) → index < records → new (gate_sector index) ≡ cond (is_open_gate old index) (gate_bytes false) (old (gate_sector index))
+    (index : ℕ) → index < records → new (gate_sector index)
+    ≡ cond (is_open_gate old index) (gate_bytes false) (old (gate_sector index))

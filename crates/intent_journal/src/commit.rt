@@ -13,7 +13,7 @@ ghost use Rattle.intent_journal.specs.Descriptor.{descriptor_bytes};
 ghost use Rattle.intent_journal.specs.Home.{home, overlaid, is_journal, AgreeBut};
 ghost use Rattle.intent_journal.specs.Ring.{IsRingAt, is_full_for, committed, commit_writes, checkpoint_writes};
 ghost use Rattle.intent_journal.specs.Closing.{is_body_of, is_in_record};
-ghost use Rattle.intent_journal.specs.Written.{IsWritten};
+ghost use Rattle.intent_journal.specs.Written.{IsRecordWritten};
 ghost use Rattle.intent_journal.specs.Crash.{IsBefore, IsBeforeOrAfter};
 
 use crate::batch::Batch;
@@ -36,7 +36,7 @@ impl Ring {
             ⊎ ((self.new ≡ []) × (is_full_for self.old (length batch.now) ≡ true))) }
         ensures done { D.told → OnOk result (AgreeBut is_journal (overlaid batch.now (home (D.view dev.old).reads))
             (home (D.view dev.new).reads)) }
-        ensures written { D.told → OnOk result (batch.now ≢ [] → IsWritten (length self.new - 1) batch.now
+        ensures written { D.told → OnOk result (batch.now ≢ [] → IsRecordWritten (length self.new - 1) batch.now
             (D.view dev.new).reads) }
         ensures firm { D.told → OnOk result (IsFirm (D.view dev.new)) }
         ensures sent { D.told → (D.view dev.new).sent ≡ (D.view dev.old).sent }
@@ -104,7 +104,7 @@ impl Ring {
         ensures kept { OnErr result (self.new ≡ self.old) }
         ensures done { D.told → OnOk result (AgreeBut is_journal (overlaid batch.now (home (D.view dev.old).reads))
             (home (D.view dev.new).reads)) }
-        ensures written { D.told → OnOk result (IsWritten (length self.old) batch.now (D.view dev.new).reads) }
+        ensures written { D.told → OnOk result (IsRecordWritten (length self.old) batch.now (D.view dev.new).reads) }
         ensures firm { D.told → OnOk result (IsFirm (D.view dev.new)) }
         ensures sent { D.told → (D.view dev.new).sent ≡ (D.view dev.old).sent }
         ensures any_moment { D.told → LeavesOnly (D.view dev.old) (D.view dev.new)

@@ -70,13 +70,13 @@ pub struct Ring {
 impl Model for Ring {
     ghost use Rattle.std.specs.Prelude.{List, ◌≡◌, length};
     ghost use Rattle.image_layout.specs.declared.place.Patch.{Patch};
-    ghost use Rattle.intent_journal.specs.Parts.{parted, AreParts};
+    ghost use Rattle.intent_journal.specs.Parts.{parted, ArePatchesOfRing};
 
     ghost Value = { List (List Patch) };
 
     ghost view = { λ a. parted a.counts.items a.patches };
 
-    ghost invariant = { λ a. AreParts a.counts.items a.patches };
+    ghost invariant = { λ a. ArePatchesOfRing a.counts.items a.patches };
 }
 
 impl Ring {

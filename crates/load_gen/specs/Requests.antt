@@ -1,5 +1,7 @@
--- The requests that a seed gives: from the words of its stream, the pairs of its primary blocks and the size of the disk.
-use Rattle.std.specs.Prelude.{ℕ, ◌+◌, ◌-◌, ◌*◌, ◌/◌, ◌%◌, ◌^◌, ◌==◌, min, nat_lt, List, Option, Some, None, slice_get, if◌then◌else◌}
+-- The requests that a seed gives: from the words of its stream, the pairs of its primary blocks and the size of the
+-- disk.
+use Rattle.std.specs.Prelude.{ℕ, ◌+◌, ◌-◌, ◌*◌, ◌/◌, ◌%◌, ◌^◌, ◌==◌, min, nat_lt, List, Option, Some, None, slice_get}
+use Rattle.std.specs.Prelude.{if◌then◌else◌}
 use Rattle.std.specs.Int.{w32, to_le_bytes}
 use Rattle.rand_chacha.specs.ChaCha.{word_at, key_of}
 use Rattle.tsd_model.specs.declared.caps.CapPair.{CapPair}
@@ -15,7 +17,8 @@ use Rattle.cap_store.specs.Seeds.{seed_pairs}
 abbrev pub stream_word : List ℕ → ℕ → ℕ
 stream_word key place = word_at 10 key 0 place
 
--- where the two words of a request stand: words 0 to 127 serve the pairs of sixteen primary blocks, and each request from request 1 on takes the next two
+-- where the two words of a request stand: words 0 to 127 serve the pairs of sixteen primary blocks, and each request
+-- from request 1 on takes the next two
 abbrev pub words_place : ℕ → ℕ
 words_place number = 128 + 2 * (number - 1)
 
@@ -47,7 +50,8 @@ request_of_kind kind a b shown y =
     else if kind == 6 then ask.GetFree
     else ask.List 1 a shown 0
 
--- a request of two words, with so many blocks to be named: the kind is x mod 8, block a is x / 8 and block b is y by that many
+-- a request of two words, with so many blocks to be named: the kind is x mod 8, block a is x / 8 and block b is y by
+-- that many
 abbrev pub request_of_words : List CapPair → ℕ → ℕ → ℕ → ℕ → Request
 request_of_words pairs primaries named x y =
     let a = x / 8 % named in
@@ -57,7 +61,8 @@ request_of_words pairs primaries named x y =
 abbrev pub request_at : (ℕ → ℕ) → List CapPair → Geometry → ℕ → Request
 request_at word pairs geometry number =
     if number == 0 then ask.Begin 1
-    else request_of_words pairs geometry.primaries (window geometry.blocks number) (word (words_place number)) (word (words_place number + 1))
+    else request_of_words pairs geometry.primaries (window geometry.blocks number) (word (words_place number))
+    (word (words_place number + 1))
 
 -- the request of this number that a seed gives for a disk of this size
 abbrev pub seed_request : List ℕ → Geometry → ℕ → Request

@@ -6,7 +6,7 @@ use Rattle.mirror_device.specs.declared.side.Side.TheVariants.{First, Second}
 use Rattle.mirror_device.specs.declared.entry.Entry.{Entry}
 use Rattle.mirror_device.specs.declared.entry.Entry.TheVariants.{Write, Sync, Put, Poke, Fail}
 use Rattle.mirror_device.specs.declared.pair.Pair.{Pair}
-use Rattle.mirror_device.specs.SidesView.{Item, AreSound, IsCounted}
+use Rattle.mirror_device.specs.SidesView.{Item, SidesAreSound, HasCountsUpTo}
 use Rattle.mirror_device.specs.History.{Stand, begun, step, after, still, IsNow, IsDuring, Had, HadSince, history_view}
 use Rattle.mirror_device.specs.Pair.{pair_view}
 
@@ -109,7 +109,7 @@ step_grows s (Fail Second faults) b = record {
 }
 
 -- an item whose counts are at most those of some moment, at a later one
-counted_later : (a b : Stand) (i : Item) → Grows a b → IsCounted (still a) i → IsCounted (still b) i
+counted_later : (a b : Stand) (i : Item) → Grows a b → HasCountsUpTo (still a) i → HasCountsUpTo (still b) i
 counted_later a b i g c = record {
   first_faults = omega (arith, g.first_faults, c.first_faults);
   first_syncs = omega (arith, g.first_syncs, c.first_syncs);
@@ -134,7 +134,7 @@ after_grows (e ∷ es) s b =
       second_syncs = omega (arith, g.second_syncs, h.second_syncs);
     }
 
-now_counted : (s : Stand) (i : Item) → IsNow s i → IsCounted (still s) i
+now_counted : (s : Stand) (i : Item) → IsNow s i → HasCountsUpTo (still s) i
 now_counted s i now = record {
   first_faults = omega (arith, now.first.faults);
   first_syncs = omega (arith, now.first.syncs);
@@ -142,7 +142,7 @@ now_counted s i now = record {
   second_syncs = omega (arith, now.second.syncs);
 }
 
-during_counted : (s : Stand) (e : Entry) (i : Item) → IsDuring s e i → IsCounted (still s) i
+during_counted : (s : Stand) (e : Entry) (i : Item) → IsDuring s e i → HasCountsUpTo (still s) i
 during_counted s (Write First sector bytes) i here = record {
   first_faults = omega (arith, here.here.faults);
   first_syncs = omega (arith, here.here.syncs);
@@ -165,7 +165,7 @@ during_counted s (Put piece) i here = record {
 during_counted s (Poke side sector bytes) i now = now_counted s i now
 during_counted s (Fail side faults) i now = now_counted s i now
 
-had_counted : (es : List Entry) (s : Stand) (i : Item) → IsBounded s → Had es s i → IsCounted (still (after es s)) i
+had_counted : (es : List Entry) (s : Stand) (i : Item) → IsBounded s → Had es s i → HasCountsUpTo (still (after es s)) i
 had_counted [] s i b now = now_counted s i now
 had_counted (e ∷ es) s i b (inl here) =
     counted_later s (after es (step s e)) i (after_grows (e ∷ es) s b) (during_counted s e i here)
@@ -173,7 +173,7 @@ had_counted (e ∷ es) s i b (inr later) = had_counted es (step s e) i (step_bou
 
 -- counts never fell
 counted : (t : ℕ) (es : List Entry) (s : Stand) (i : Item) → IsBounded s → HadSince t es s i
-    → IsCounted (still (after es s)) i
+    → HasCountsUpTo (still (after es s)) i
 counted zero es s i b had = had_counted es s i b had
 counted (suc t) [] s i b now = now_counted s i now
 counted (suc t) (e ∷ es) s i b had = counted t es (step s e) i (step_bounded s e b) had
@@ -185,7 +185,7 @@ pub history_bounded : (es : List Entry) → IsBounded (after es begun)
 history_bounded es = after_bounded es begun begun_bounded
 
 pub history_sound : (es : List Entry) (put_faults : ℕ) (p : Pair) → after es begun ≡ pair_view p
-    → AreSound (history_view es put_faults)
+    → SidesAreSound (history_view es put_faults)
 history_sound es put_faults p agrees = record {
   counts_now = λ t i le now.
       counts_now t es begun i (record { first = now.first; second = now.second; sent = now.sent });

@@ -6,7 +6,7 @@ use Rattle.mirror_device.specs.declared.entry.Entry.{Entry}
 use Rattle.mirror_device.specs.declared.entry.Lapse.TheVariants.{Never}
 use Rattle.mirror_device.specs.declared.mem_sides.MemSides.{MemSides}
 use Rattle.mirror_device.specs.declared.side.Side.{Side}
-use Rattle.mirror_device.specs.SidesView.{SidesView, AreSound}
+use Rattle.mirror_device.specs.SidesView.{SidesView, SidesAreSound}
 use Rattle.mirror_device.specs.Numbers.{is_listed}
 use Rattle.mirror_device.specs.Pair.{synced_on}
 use Rattle.mirror_device.specs.Twins.{entries_of, twins_view, twins_sound}
@@ -14,7 +14,7 @@ use Rattle.mirror_device.specs.Twins.{entries_of, twins_view, twins_sound}
 abbrev pub mem_view : MemSides → SidesView
 mem_view m = twins_view m.twins
 
-pub mem_sound : (m : MemSides) → AreSound (mem_view m)
+pub mem_sound : (m : MemSides) → SidesAreSound (mem_view m)
 mem_sound m = twins_sound m.twins
 
 -- all that was done

@@ -110,7 +110,7 @@ pub record CountsAgree (v : SidesView) (s : Start) (c : Serving) : Type 0 where
       → s.second_faults < v.second.faults
 
 -- sides that both count read alike, and the same sectors are loose
-pub record AreAlike (v : SidesView) (c : Serving) : Type 0 where
+pub record SidesReadAlike (v : SidesView) (c : Serving) : Type 0 where
   pub reads : c ≡ Both → v.first.reads ≡ v.second.reads
   pub loose : c ≡ Both → v.first.loose ≡ v.second.loose
 

@@ -2,7 +2,7 @@
 use Rattle.std.specs.Prelude.{List}
 use Rattle.mirror_device.specs.declared.entry.Entry.{Entry}
 use Rattle.mirror_device.specs.declared.twins.Twins.{Twins}
-use Rattle.mirror_device.specs.SidesView.{SidesView, AreSound}
+use Rattle.mirror_device.specs.SidesView.{SidesView, SidesAreSound}
 use Rattle.mirror_device.specs.History.{with_lapse, history_view}
 use Rattle.mirror_device.specs.HistoryLaws.{history_sound}
 
@@ -13,5 +13,5 @@ entries_of d = with_lapse d.log.items d.lapse
 abbrev pub twins_view : Twins → SidesView
 twins_view d = history_view (entries_of d) d.put_faults
 
-pub twins_sound : (d : Twins) → AreSound (twins_view d)
+pub twins_sound : (d : Twins) → SidesAreSound (twins_view d)
 twins_sound d = history_sound (entries_of d) d.put_faults d.pair d.agrees

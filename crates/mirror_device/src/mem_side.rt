@@ -23,7 +23,7 @@ impl MemSide {
     ghost use Rattle.std.specs.Prelude.{true, replicate, OnOk, OnErr};
     ghost use Rattle.mirror_device.specs.MemSide.{blank_side, poked, settled, side_view, synced_side, written};
     ghost use Rattle.image_device.specs.Image.{put_at, IsImage};
-    ghost use Rattle.image_device.specs.MemStation.{IsNew};
+    ghost use Rattle.image_device.specs.MemStation.{IsUnused};
 
     /// A side of zeros.
     pub(crate) fn new(alloc: Global) -> MemSide
@@ -86,7 +86,7 @@ impl MemSide {
         ensures new { pick ≡ Pick.New → (station_view result).reads ≡ (side_view self).reads }
         ensures torn { (b : ℕ) → pick ≡ Pick.Torn b → (n : ℕ) → (side_view self).loose n ≡ true
             → (station_view result).reads n ≡ replicate 512 b }
-        ensures unused { IsNew result }
+        ensures unused { IsUnused result }
         ensures fail { failing_of result ≡ [] }
     {
         let MemSide {

@@ -35,7 +35,7 @@ impl MemSides {
     ghost use Rattle.std.specs.Prelude.{ℕ, true, [], replicate, OnOk, OnErr};
     ghost use Rattle.image_device.specs.History.{firmed};
     ghost use Rattle.image_device.specs.Image.{put_at, IsImage};
-    ghost use Rattle.image_device.specs.MemStation.{station_view, IsNew, failing_of as station_failing};
+    ghost use Rattle.image_device.specs.MemStation.{station_view, IsUnused, failing_of as station_failing};
     ghost use Rattle.mirror_device.specs.SidesView.{other, side_of, IsItemNow};
     ghost use Rattle.mirror_device.specs.SideCalls.{SidesElapse};
     ghost use Rattle.mirror_device.specs.MemSide.{blank_side};
@@ -122,7 +122,7 @@ impl MemSides {
         ensures new { pick ≡ Pick.New → (station_view result).reads ≡ (side_of side (mem_view self)).reads }
         ensures torn { (b : ℕ) → pick ≡ Pick.Torn b → (n : ℕ) → (side_of side (mem_view self)).loose n
             ≡ true → (station_view result).reads n ≡ replicate 512 b }
-        ensures unused { IsNew result }
+        ensures unused { IsUnused result }
         ensures fail { station_failing result ≡ [] }
     {
         let MemSides {

@@ -1,6 +1,6 @@
 // Two images as one device.
 ghost use Rattle.std.specs.Prelude.{◌≡◌, ◌<◌};
-ghost use Rattle.mirror_device.specs.Mirror.{AreAlike, LeftIsSound, NoneIsSound, CountsAgree};
+ghost use Rattle.mirror_device.specs.Mirror.{SidesReadAlike, LeftIsSound, NoneIsSound, CountsAgree};
 
 use crate::copy::{Copied, copy_all};
 use crate::ready::{Began, Ready};
@@ -20,13 +20,14 @@ pub struct Mirror<P: Sides, K: Began> {
     /// How often a write was called, up to the greatest `u64`.
     writes: u64,
     ghost stands: { CountsAgree (P.view sides.sides) K.start serving },
-    ghost alike: { P.told → AreAlike (P.view sides.sides) serving },
+    ghost alike: { P.told → SidesReadAlike (P.view sides.sides) serving },
     ghost failed: { 0 < faults → NoneIsSound (P.view sides.sides) K.start },
     ghost unfailed: { faults ≡ 0 → LeftIsSound (P.view sides.sides) K.start serving },
 }
 
 impl<P: Sides, K: Began> Mirror<P, K> {
-    ghost use Rattle.mirror_device.specs.Mirror.{start_at, AreAlike, IsSideLost, LeftIsSound, NoneIsSound, CountsAgree};
+    ghost use Rattle.mirror_device.specs.Mirror.{start_at, SidesReadAlike, IsSideLost, LeftIsSound, NoneIsSound};
+    ghost use Rattle.mirror_device.specs.Mirror.{CountsAgree};
     ghost use Rattle.mirror_device.specs.Sending.{SendsLate};
     ghost use Rattle.mirror_device.specs.Copying.{CopyCounts, Copying, IsBrokenOff, IsLeftOfFirst};
     ghost use Rattle.image_device.specs.Image.{Image};
@@ -83,7 +84,7 @@ impl<P: Sides, K: Began> Mirror<P, K> {
     /// A mirror of these sides, which has answered nothing yet.
     fn begin(sides: P, serving: Serving) -> Mirror<P, K>
         requires stands { CountsAgree (P.view sides) K.start serving }
-        requires alike { P.told → AreAlike (P.view sides) serving }
+        requires alike { P.told → SidesReadAlike (P.view sides) serving }
         requires late { P.told → SendsLate (P.view sides) K.start }
         requires unfailed { LeftIsSound (P.view sides) K.start serving }
         ensures sides { result.sides.sides ≡ sides }

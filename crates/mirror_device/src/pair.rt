@@ -15,7 +15,7 @@ pub(crate) struct Pair {
 impl Pair {
     ghost use Rattle.std.specs.Prelude.{◌≡◌, ◌≤◌, ◌^◌, ◌++◌, ℕ, true, [], replicate, OnOk, OnErr};
     ghost use Rattle.image_device.specs.Image.{put_at, zeros, IsImage};
-    ghost use Rattle.image_device.specs.MemStation.{failing_of, station_view, IsNew};
+    ghost use Rattle.image_device.specs.MemStation.{failing_of, station_view, IsUnused};
     ghost use Rattle.mirror_device.specs.MemSide.{blamed, poked, settled, written};
     ghost use Rattle.mirror_device.specs.SidesView.{other, side_of};
     ghost use Rattle.mirror_device.specs.History.{appended, begun, on, still};
@@ -140,7 +140,7 @@ impl Pair {
         ensures torn { (b : ℕ) → pick ≡ Pick.Torn b → (n : ℕ)
             → (side_of side (still (pair_view self))).loose n ≡ true → (station_view result).reads n
             ≡ replicate 512 b }
-        ensures unused { IsNew result }
+        ensures unused { IsUnused result }
         ensures fail { failing_of result ≡ [] }
     {
         let Pair {

@@ -3,7 +3,7 @@ ghost use Rattle.std.specs.Prelude.{◌≡◌, ◌<◌, ◌≤◌, ◌+◌, ◌^
 ghost use Rattle.std.specs.Prelude.{OnOk, OnErr, IfOk};
 ghost use Rattle.image_device.specs.Counts.{raised, CountsFault};
 ghost use Rattle.image_device.specs.Image.{zeros};
-ghost use Rattle.mirror_device.specs.SidesView.{side_of, AreSound, SidesView};
+ghost use Rattle.mirror_device.specs.SidesView.{side_of, SidesAreSound, SidesView};
 ghost use Rattle.mirror_device.specs.SideCalls.{IncludesPut, IsSideFirm, SideRests, SideSettles, SideSyncs};
 ghost use Rattle.mirror_device.specs.SideCalls.{SidesAppend, SidesPut, SideTouches, SideUses};
 
@@ -85,7 +85,7 @@ pub trait Sides {
         ensures faults { CountsFault result (view self.old).put_faults (view self.new).put_faults };
 
     /// What holds of them at each moment.
-    ghost sound: { (d : Self) → told → AreSound (view d) };
+    ghost sound: { (d : Self) → told → SidesAreSound (view d) };
 }
 
 impl<P: Sides> Sides for &mut P {

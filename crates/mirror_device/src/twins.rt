@@ -25,7 +25,7 @@ pub(crate) struct Twins {
 impl Twins {
     ghost use Rattle.std.specs.Prelude.{◌≤◌, ◌^◌, [], ◌∷◌, ◌++◌, ℕ, true, replicate, OnOk, OnErr};
     ghost use Rattle.image_device.specs.Image.{put_at, zeros, IsImage};
-    ghost use Rattle.image_device.specs.MemStation.{failing_of, station_view, IsNew};
+    ghost use Rattle.image_device.specs.MemStation.{failing_of, station_view, IsUnused};
     ghost use Rattle.image_device.specs.Counts.{raised, Rose};
     ghost use Rattle.mirror_device.specs.declared.entry.Entry.TheVariants.{Poke, Put, Sync, Write};
     ghost use Rattle.mirror_device.specs.SidesView.{other, side_of};
@@ -221,7 +221,7 @@ impl Twins {
         ensures new { pick ≡ Pick.New → (station_view result).reads ≡ (side_of side (twins_view self)).reads }
         ensures torn { (b : ℕ) → pick ≡ Pick.Torn b → (n : ℕ) → (side_of side (twins_view self)).loose n
             ≡ true → (station_view result).reads n ≡ replicate 512 b }
-        ensures unused { IsNew result }
+        ensures unused { IsUnused result }
         ensures fail { failing_of result ≡ [] }
     {
         let Twins {

@@ -6,7 +6,8 @@ use Rattle.tsd_model.specs.Rank.{rank_of}
 -- what a closure gives for a hint and a block, where it gives an answer, is the rank of this kind
 abbrev pub AnswersRanks : PlaceKind → (ℕ → ℕ → ℕ → Type 0) → Type 0
 AnswersRanks kind gives =
-    (hint block answer : ℕ) → hint < 2 ^ 32 → block < 2 ^ 32 → gives hint block answer → answer ≡ rank_of kind hint block
+    (hint block answer : ℕ) → hint < 2 ^ 32 → block < 2 ^ 32 → gives hint block answer
+    → answer ≡ rank_of kind hint block
 
 -- for this hint, blocks of one rank are one block
 abbrev pub HasNoTies : PlaceKind → ℕ → Type 0

@@ -11,13 +11,13 @@ use Rattle.pointer_table.specs.Sectors.{sector_of, slot_sector_bytes, IsStored}
 use Rattle.pointer_table.proofs.SectorLaws.{stored_kept}
 use Rattle.tsd_model.specs.Geometry.{IsLawful}
 use Rattle.tsd_model.specs.Pairs.{holds}
-use Rattle.pointer_table.specs.Indexed.{IsIndex, HasRoom, IsPlaceOf}
+use Rattle.pointer_table.specs.Indexed.{IsIndex, HasLinksAndHeads, IsPlaceOf}
 use Rattle.pointer_table.specs.Empties.{AreEmpties}
 use Rattle.pointer_table.specs.Order.{AreSmall}
 use Rattle.pointer_table.specs.Raw.{slot_in, slots_in}
 use Rattle.pointer_table.specs.Reading.{AreWithinTo}
 use Rattle.pointer_table.specs.Slots.{slot_at, pairs_in}
-use Rattle.pointer_table.specs.Table.{Table, pairs, IsWithin, IsTable}
+use Rattle.pointer_table.specs.Table.{Table, pairs, MayBeHeld, IsTable}
 use Rattle.pointer_table.specs.Threads.{IsWith}
 use Rattle.pointer_table.specs.declared.index.Index.{Index}
 use Rattle.pointer_table.specs.declared.raw.RawSlot.{RawSlot}
@@ -50,7 +50,7 @@ Kept g items held x =
     × (held ≡ length (pairs (record { geometry = g; slots = slots_in items })))
     × AreEmpties (slots_in items) held x.empty x.by_bucket.next
     × IsIndex (slot_at (slots_in items)) x
-    × HasRoom g.blocks g.slots x
+    × HasLinksAndHeads g.blocks g.slots x
 
 -- a table that isn't full has an empty slot, the first of the list
 few_held : (t : Table) (g : Geometry) (items : List RawSlot) (held : ℕ) (x : Index) → ◌≡◌ {A = Table} (record { geometry = g; slots = slots_in items }) t
@@ -68,9 +68,9 @@ next_empty t g items held x is kept room = first_empty (slots_in items) held x.e
 
 -- it is filled
 pub filled : (t : Table) (g : Geometry) (items : List RawSlot) (held : ℕ) (x now : Index) (place a b : ℕ) (raw : RawSlot) → ◌≡◌ {A = Table} (record { geometry = g; slots = slots_in items }) t
-    → Kept g items held x → length (pairs t) < t.geometry.slots → holds (pairs t) a b ≡ false → IsWithin t.geometry (a, b) → place ≡ x.empty → slot_in raw ≡ Some (a, b)
+    → Kept g items held x → length (pairs t) < t.geometry.slots → holds (pairs t) a b ≡ false → MayBeHeld t.geometry (a, b) → place ≡ x.empty → slot_in raw ≡ Some (a, b)
     → ((next : ℕ → Option (ℕ × ℕ)) → IsWith (slot_at (slots_in items)) place (a, b) next → IsIndex next now)
-    → ((blocks places : ℕ) → HasRoom blocks places x → HasRoom blocks places now)
+    → ((blocks places : ℕ) → HasLinksAndHeads blocks places x → HasLinksAndHeads blocks places now)
     → now.empty ≡ get_or x.by_bucket.next x.empty 0
     → ((k : ℕ) → slot_at (slots_in items) k ≡ None → (k ≡ place → ⊥) → get_or now.by_bucket.next k 0 ≡ get_or x.by_bucket.next k 0)
     → Kept g (set items place raw) (held + 1) now
@@ -93,7 +93,7 @@ filled t g items held x now place a b raw is kept room absent within place_is ra
 
     table : IsTable (record { geometry = g; slots = slots_in (set items place raw) })
     table = subst (λ (slots : List (Option (ℕ × ℕ))). IsTable (record { geometry = g; slots = slots })) slots_are
-        (added u place a b kept.0 (let here = inside in let all = kept.0.count in omega arith) not_held (subst (λ (v : Table). IsWithin v.geometry (a, b)) (sym is) within))
+        (added u place a b kept.0 (let here = inside in let all = kept.0.count in omega arith) not_held (subst (λ (v : Table). MayBeHeld v.geometry (a, b)) (sym is) within))
 
     many : held + 1 ≡ length (pairs (record { geometry = g; slots = slots_in (set items place raw) }))
     many = ap (λ (n : ℕ). n + 1) kept.1 ∙ (sym (held_added u place a b kept.0 (let here = inside in let all = kept.0.count in omega arith) empty not_held)
@@ -114,20 +114,20 @@ filled t g items held x now place a b raw is kept room absent within place_is ra
 
 -- the same in the steps of the code: the slot is taken off the list, and then the pair is threaded
 pub put_kept : (t : Table) (g : Geometry) (items : List RawSlot) (held : ℕ) (x taken now : Index) (place a b : ℕ) (raw : RawSlot) → ◌≡◌ {A = Table} (record { geometry = g; slots = slots_in items }) t
-    → Kept g items held x → length (pairs t) < t.geometry.slots → holds (pairs t) a b ≡ false → IsWithin t.geometry (a, b) → place ≡ x.empty
+    → Kept g items held x → length (pairs t) < t.geometry.slots → holds (pairs t) a b ≡ false → MayBeHeld t.geometry (a, b) → place ≡ x.empty
     → taken ≡ record x { empty = get_or x.by_bucket.next x.empty 0 } → slot_in raw ≡ Some (a, b)
     → ((next : ℕ → Option (ℕ × ℕ)) → IsWith (slot_at (slots_in items)) place (a, b) next → IsIndex next now)
-    → ((blocks places : ℕ) → HasRoom blocks places taken → HasRoom blocks places now)
+    → ((blocks places : ℕ) → HasLinksAndHeads blocks places taken → HasLinksAndHeads blocks places now)
     → now.empty ≡ taken.empty
     → ((k : ℕ) → slot_at (slots_in items) k ≡ None → (k ≡ place → ⊥) → get_or now.by_bucket.next k 0 ≡ get_or taken.by_bucket.next k 0)
     → Kept g (set items place raw) (held + 1) now
 put_kept t g items held x taken now place a b raw is kept room absent within place_is taken_is raw_is index rooms first stays =
     filled t g items held x now place a b raw is kept room absent within place_is raw_is index
-    (λ blocks places old. rooms blocks places (subst (HasRoom blocks places) (sym taken_is) (same_room blocks places old)))
+    (λ blocks places old. rooms blocks places (subst (HasLinksAndHeads blocks places) (sym taken_is) (same_room blocks places old)))
     (first ∙ ap (λ (y : Index). y.empty) taken_is)
     (λ k none off. stays k none off ∙ ap (λ (y : Index). get_or y.by_bucket.next k 0) taken_is)
   where
-    same_room : (blocks places : ℕ) → HasRoom blocks places x → HasRoom blocks places (record x { empty = get_or x.by_bucket.next x.empty 0 })
+    same_room : (blocks places : ℕ) → HasLinksAndHeads blocks places x → HasLinksAndHeads blocks places (record x { empty = get_or x.by_bucket.next x.empty 0 })
     same_room blocks places old = record {
       sources = old.sources;
       targets = old.targets;
@@ -150,7 +150,7 @@ pub emptied : (t : Table) (g : Geometry) (items : List RawSlot) (held left : ℕ
     → Kept g items held x → slot_at t.slots place ≡ Some (a, b) → held ≡ left + 1 → slot_in raw ≡ None
     → ((next : ℕ → Option (ℕ × ℕ)) → IsWith next place (a, b) (slot_at (slots_in items)) → IsIndex next cut)
     → ((next : ℕ → Option (ℕ × ℕ)) → next place ≡ None → IsIndex next cut → IsIndex next now)
-    → HasRoom g.blocks g.slots now
+    → HasLinksAndHeads g.blocks g.slots now
     → now.empty ≡ place → now.by_bucket.next ≡ set cut.by_bucket.next place x.empty → place < length cut.by_bucket.next
     → ((k : ℕ) → slot_at (slots_in items) k ≡ None → get_or cut.by_bucket.next k 0 ≡ get_or x.by_bucket.next k 0)
     → Kept g (set items place raw) left now

@@ -5,7 +5,7 @@ use Rattle.std.specs.Prelude.{count_by, is_some}
 use Rattle.std.proofs.lemmas.Bool.{or_cases, or_left, or_right, eqb-true, eq-eqb, both_ways, false_from_ne_true}
 use Rattle.std.proofs.lemmas.List.{length-set, get_or-set_same, get_or-set_other, drop_all}
 use Rattle.std.proofs.lemmas.List.Sums.{sum_by-cons}
-use Rattle.pointer_table.specs.Empties.{is_among, AreEmptyOnce, IsChain, AreEmpties}
+use Rattle.pointer_table.specs.Empties.{is_among, AreEmptyOnce, AreLinked, AreEmpties}
 use Rattle.pointer_table.specs.Slots.{slot_at}
 use Rattle.pointer_table.specs.Threads.{no_link}
 use Rattle.pointer_table.proofs.SlotLaws.{some_inside, set_same, set_other}
@@ -15,11 +15,11 @@ use Rattle.pointer_table.proofs.SlotLaws.{some_inside, set_same, set_other}
 pub not_some : (slot : Option (ℕ × ℕ)) (e : ℕ × ℕ) → slot ≡ None → slot ≡ Some e → ⊥
 not_some slot e none some = cc
 
-chain_stays : (next now : List ℕ) (link : ℕ) (places : List ℕ) → ((k : ℕ) → is_among places k ≡ true → get_or now k 0 ≡ get_or next k 0) → IsChain next link places → IsChain now link places
+chain_stays : (next now : List ℕ) (link : ℕ) (places : List ℕ) → ((k : ℕ) → is_among places k ≡ true → get_or now k 0 ≡ get_or next k 0) → AreLinked next link places → AreLinked now link places
 chain_stays next now link [] same chain = chain
 chain_stays next now link (p ∷ places) same chain = (
   chain.0,
-  subst (λ (l : ℕ). IsChain now l places) (sym (same p (or_left (p == p) (is_among places p) (eq-eqb p p refl))))
+  subst (λ (l : ℕ). AreLinked now l places) (sym (same p (or_left (p == p) (is_among places p) (eq-eqb p p refl))))
       (chain_stays next now (get_or next p 0) places (λ k among. same k (or_right (p == k) (is_among places k) among)) chain.1),
 )
 
@@ -48,7 +48,7 @@ empty_stays slots now (p ∷ places) stays empty =
 pub first_empty : (slots : List (Option (ℕ × ℕ))) (held first : ℕ) (next : List ℕ) → AreEmpties slots held first next → held < length slots → (first < length slots) × (slot_at slots first ≡ None)
 first_empty slots held first next empties room = go empties.places empties.chain empties.empty empties.many
   where
-    go : (places : List ℕ) → IsChain next first places → AreEmptyOnce slots places → length places + held ≡ length slots → (first < length slots) × (slot_at slots first ≡ None)
+    go : (places : List ℕ) → AreLinked next first places → AreEmptyOnce slots places → length places + held ≡ length slots → (first < length slots) × (slot_at slots first ≡ None)
     go [] chain empty many = absurd (omega arith)
     go (p ∷ places) chain empty many = let inside = empty.0 in let is = chain.0 in (omega arith, ap (slot_at slots) chain.0 ∙ empty.1)
 
@@ -56,7 +56,7 @@ pub empties_taken : (slots : List (Option (ℕ × ℕ))) (held first : ℕ) (nex
     → ((k : ℕ) → slot_at slots k ≡ None → (k ≡ first → ⊥) → get_or now k 0 ≡ get_or next k 0) → AreEmpties (set slots first (Some e)) (held + 1) (get_or next first 0) now
 empties_taken slots held first next now e empties room stays = go empties.places empties.chain empties.empty empties.many
   where
-    go : (places : List ℕ) → IsChain next first places → AreEmptyOnce slots places → length places + held ≡ length slots → AreEmpties (set slots first (Some e)) (held + 1) (get_or next first 0) now
+    go : (places : List ℕ) → AreLinked next first places → AreEmptyOnce slots places → length places + held ≡ length slots → AreEmpties (set slots first (Some e)) (held + 1) (get_or next first 0) now
     go [] chain empty many = absurd (omega arith)
     go (p ∷ places) chain empty many =
         let off : (k : ℕ) → is_among places k ≡ true → k ≡ first → ⊥ = λ k among same.
@@ -64,7 +64,7 @@ empties_taken slots held first next now e empties room stays = go empties.places
         let all = length-set slots first (Some e) in
         record {
           places = places;
-          chain = subst (λ (q : ℕ). IsChain now (get_or next q 0) places) (sym chain.0)
+          chain = subst (λ (q : ℕ). AreLinked now (get_or next q 0) places) (sym chain.0)
               (chain_stays next now (get_or next p 0) places (λ k among. stays k (among_empty slots places k empty.3 among).1 (off k among)) chain.1);
           empty = empty_stays slots (set slots first (Some e)) places (λ k among.
               let old = among_empty slots places k empty.3 among in
@@ -85,7 +85,7 @@ empties_given slots held left first next now place e empties one_more here room 
       places = place ∷ empties.places;
       chain = (
         refl,
-        subst (λ (l : ℕ). IsChain (set now place first) l empties.places) (sym (get_or-set_same now place first 0 room))
+        subst (λ (l : ℕ). AreLinked (set now place first) l empties.places) (sym (get_or-set_same now place first 0 room))
             (chain_stays next (set now place first) first empties.places (λ k among.
             get_or-set_other now place k first 0 (off k among) ∙ stays k (among_empty slots empties.places k empties.empty among).1) empties.chain),
       );
@@ -109,7 +109,7 @@ empties_given slots held left first next now place e empties one_more here room 
 -- the slots from this one on that are empty are linked
 pub record AreEmptiesFrom (slots : List (Option (ℕ × ℕ))) (left first : ℕ) (next : List ℕ) : Type 0 where
   pub places : List ℕ
-  pub chain : IsChain next first places
+  pub chain : AreLinked next first places
   pub empty : AreEmptyOnce slots places
   pub from : (k : ℕ) → is_among places k ≡ true → left ≤ k
   pub many : length places + count_by is_some (drop left slots) + left ≡ length slots
@@ -148,7 +148,7 @@ empties_more slots left first next some inside long none empties =
       places = (left - 1) ∷ empties.places;
       chain = (
         refl,
-        subst (λ (l : ℕ). IsChain (set next (left - 1) first) l empties.places) (sym (get_or-set_same next (left - 1) first 0 (omega arith)))
+        subst (λ (l : ℕ). AreLinked (set next (left - 1) first) l empties.places) (sym (get_or-set_same next (left - 1) first 0 (omega arith)))
             (chain_stays next (set next (left - 1) first) first empties.places (λ k among.
             get_or-set_other next (left - 1) k first 0 (off k among)) empties.chain),
       );

@@ -5,10 +5,10 @@ use Rattle.std.proofs.lemmas.Bool.{false_from_ne_true, both_ways}
 use Rattle.std.proofs.lemmas.List.{get_or-replicate, length-replicate}
 use Rattle.tsd_model.specs.Pairs.{holds}
 use Rattle.tsd_model.specs.Next.{IsNextSource, IsNextTarget}
-use Rattle.pointer_table.specs.Indexed.{IsThreadedBy, IsIndex, HasRoom, source_of, target_of}
+use Rattle.pointer_table.specs.Indexed.{IsThreadedBy, IsIndex, HasLinksAndHeads, source_of, target_of}
 use Rattle.pointer_table.specs.Scanning.{is_at}
 use Rattle.pointer_table.specs.Slots.{slot_at, pairs_in}
-use Rattle.pointer_table.specs.Threads.{rank, mixed, group, linked, no_link, IsFirst, LeadsTo, AreThreads}
+use Rattle.pointer_table.specs.Threads.{rank, mixed, group, linked, no_link, IsFirstFrom, IsFirstThatFar, AreThreads}
 use Rattle.pointer_table.specs.declared.index.Index.{Index}
 use Rattle.pointer_table.specs.declared.threads.Threads.{Threads}
 use Rattle.pointer_table.specs.declared.way.Way.{Way}
@@ -27,7 +27,7 @@ target_group w n e is = ap (λ v. group v n e) is
 pub bucket_group : (w : Way) (n : ℕ) (e : ℕ × ℕ) → w ≡ way.Bucket → 0 < n → group w n e < n
 bucket_group w n e is some = let same : group w n e ≡ mixed (rank e) % n = ap (λ v. group v n e) is in omega arith
 
-pub room_here : (blocks places : ℕ) (x : Index) → HasRoom blocks places x → HasRoom (length x.by_source.heads) places x
+pub room_here : (blocks places : ℕ) (x : Index) → HasLinksAndHeads blocks places x → HasLinksAndHeads (length x.by_source.heads) places x
 room_here blocks places x room = record {
   sources = refl;
   targets = room.targets ∙ sym room.sources;
@@ -38,7 +38,7 @@ room_here blocks places x room = record {
 
 -- ---- a pair's slot
 
-pub no_place : (slots : List (Option (ℕ × ℕ))) (by : (ℕ × ℕ) → ℕ) (of r a b : ℕ) → of ≡ by (a, b) → r ≡ rank (a, b) → LeadsTo (slot_at slots) by of r None
+pub no_place : (slots : List (Option (ℕ × ℕ))) (by : (ℕ × ℕ) → ℕ) (of r a b : ℕ) → of ≡ by (a, b) → r ≡ rank (a, b) → IsFirstThatFar (slot_at slots) by of r None
     → holds (pairs_in slots) a b ≡ false
 no_place slots by of r a b groups ranks none = false_from_ne_true (holds (pairs_in slots) a b) (λ held.
     let k = slot_from_holds slots a b held in
@@ -46,7 +46,7 @@ no_place slots by of r a b groups ranks none = false_from_ne_true (holds (pairs_
     omega arith)
 
 pub another_place : (slots : List (Option (ℕ × ℕ))) (by : (ℕ × ℕ) → ℕ) (heads next : List ℕ) (of r a b place : ℕ) → AreThreads (slot_at slots) by heads next → of ≡ by (a, b) → r ≡ rank (a, b) → b < 4294967296
-    → LeadsTo (slot_at slots) by of r (Some place) → is_at a b (slot_at slots place) ≡ false → holds (pairs_in slots) a b ≡ false
+    → IsFirstThatFar (slot_at slots) by of r (Some place) → is_at a b (slot_at slots place) ≡ false → holds (pairs_in slots) a b ≡ false
 another_place slots by heads next of r a b place threads groups ranks fits there off = false_from_ne_true (holds (pairs_in slots) a b) (λ held.
     let k = slot_from_holds slots a b held in
     let least = there.least k.0 (a, b) (record { here = k.2; belongs = sym groups }) (omega arith) in
@@ -59,14 +59,14 @@ that_place slots a b place on = is_at_some a b (slot_at slots place) on
 
 -- ---- the next target and the next source
 
-no_target : (slots : List (Option (ℕ × ℕ))) (by : (ℕ × ℕ) → ℕ) (a start : ℕ) → ((e : ℕ × ℕ) → by e ≡ e.0) → LeadsTo (slot_at slots) by a (rank (a, start)) None
+no_target : (slots : List (Option (ℕ × ℕ))) (by : (ℕ × ℕ) → ℕ) (a start : ℕ) → ((e : ℕ × ℕ) → by e ≡ e.0) → IsFirstThatFar (slot_at slots) by a (rank (a, start)) None
     → IsNextTarget (pairs_in slots) a start None
 no_target slots by a start groups none b held =
     let k = slot_from_holds slots a b held in
     let low = none k.0 (a, b) (record { here = k.2; belongs = groups (a, b) }) in
     omega arith
 
-that_target : (slots : List (Option (ℕ × ℕ))) (by : (ℕ × ℕ) → ℕ) (a start place : ℕ) → ((e : ℕ × ℕ) → by e ≡ e.0) → (there : LeadsTo (slot_at slots) by a (rank (a, start)) (Some place))
+that_target : (slots : List (Option (ℕ × ℕ))) (by : (ℕ × ℕ) → ℕ) (a start place : ℕ) → ((e : ℕ × ℕ) → by e ≡ e.0) → (there : IsFirstThatFar (slot_at slots) by a (rank (a, start)) (Some place))
     → IsNextTarget (pairs_in slots) a start (Some there.pair.1)
 that_target slots by a start place groups there =
     let source : there.pair.0 ≡ a = sym (groups there.pair) ∙ there.member.belongs in
@@ -80,25 +80,25 @@ that_target slots by a start place groups there =
           omega arith;
     }
 
-pub target_none : (slots : List (Option (ℕ × ℕ))) (w : Way) (n a start r : ℕ) → w ≡ way.Source → r ≡ rank (a, start) → LeadsTo (slot_at slots) (group w n) a r None → IsNextTarget (pairs_in slots) a start None
+pub target_none : (slots : List (Option (ℕ × ℕ))) (w : Way) (n a start r : ℕ) → w ≡ way.Source → r ≡ rank (a, start) → IsFirstThatFar (slot_at slots) (group w n) a r None → IsNextTarget (pairs_in slots) a start None
 target_none slots w n a start r ways ranks leads =
-    no_target slots (group w n) a start (λ e. source_group w n e ways) (subst (λ (m : ℕ). LeadsTo (slot_at slots) (group w n) a m None) ranks leads)
+    no_target slots (group w n) a start (λ e. source_group w n e ways) (subst (λ (m : ℕ). IsFirstThatFar (slot_at slots) (group w n) a m None) ranks leads)
 
-pub target_some : (slots : List (Option (ℕ × ℕ))) (w : Way) (n a start r k : ℕ) (result : Option ℕ) → w ≡ way.Source → r ≡ rank (a, start) → LeadsTo (slot_at slots) (group w n) a r (Some k)
+pub target_some : (slots : List (Option (ℕ × ℕ))) (w : Way) (n a start r k : ℕ) (result : Option ℕ) → w ≡ way.Source → r ≡ rank (a, start) → IsFirstThatFar (slot_at slots) (group w n) a r (Some k)
     → result ≡ target_of (slot_at slots k) → IsNextTarget (pairs_in slots) a start result
 target_some slots w n a start r k result ways ranks leads found =
-    let there : IsFirst (slot_at slots) (group w n) a (rank (a, start)) k = subst (λ (m : ℕ). LeadsTo (slot_at slots) (group w n) a m (Some k)) ranks leads in
+    let there : IsFirstFrom (slot_at slots) (group w n) a (rank (a, start)) k = subst (λ (m : ℕ). IsFirstThatFar (slot_at slots) (group w n) a m (Some k)) ranks leads in
     subst (IsNextTarget (pairs_in slots) a start) (sym (found ∙ ap target_of there.member.here))
     (that_target slots (group w n) a start k (λ e. source_group w n e ways) there)
 
-no_source : (slots : List (Option (ℕ × ℕ))) (by : (ℕ × ℕ) → ℕ) (b start : ℕ) → ((e : ℕ × ℕ) → by e ≡ e.1) → LeadsTo (slot_at slots) by b (rank (start, b)) None
+no_source : (slots : List (Option (ℕ × ℕ))) (by : (ℕ × ℕ) → ℕ) (b start : ℕ) → ((e : ℕ × ℕ) → by e ≡ e.1) → IsFirstThatFar (slot_at slots) by b (rank (start, b)) None
     → IsNextSource (pairs_in slots) b start None
 no_source slots by b start groups none a held =
     let k = slot_from_holds slots a b held in
     let low = none k.0 (a, b) (record { here = k.2; belongs = groups (a, b) }) in
     omega arith
 
-that_source : (slots : List (Option (ℕ × ℕ))) (by : (ℕ × ℕ) → ℕ) (b start place : ℕ) → ((e : ℕ × ℕ) → by e ≡ e.1) → (there : LeadsTo (slot_at slots) by b (rank (start, b)) (Some place))
+that_source : (slots : List (Option (ℕ × ℕ))) (by : (ℕ × ℕ) → ℕ) (b start place : ℕ) → ((e : ℕ × ℕ) → by e ≡ e.1) → (there : IsFirstThatFar (slot_at slots) by b (rank (start, b)) (Some place))
     → IsNextSource (pairs_in slots) b start (Some there.pair.0)
 that_source slots by b start place groups there =
     let target : there.pair.1 ≡ b = sym (groups there.pair) ∙ there.member.belongs in
@@ -112,14 +112,14 @@ that_source slots by b start place groups there =
           omega arith;
     }
 
-pub source_none : (slots : List (Option (ℕ × ℕ))) (w : Way) (n b start r : ℕ) → w ≡ way.Target → r ≡ rank (start, b) → LeadsTo (slot_at slots) (group w n) b r None → IsNextSource (pairs_in slots) b start None
+pub source_none : (slots : List (Option (ℕ × ℕ))) (w : Way) (n b start r : ℕ) → w ≡ way.Target → r ≡ rank (start, b) → IsFirstThatFar (slot_at slots) (group w n) b r None → IsNextSource (pairs_in slots) b start None
 source_none slots w n b start r ways ranks leads =
-    no_source slots (group w n) b start (λ e. target_group w n e ways) (subst (λ (m : ℕ). LeadsTo (slot_at slots) (group w n) b m None) ranks leads)
+    no_source slots (group w n) b start (λ e. target_group w n e ways) (subst (λ (m : ℕ). IsFirstThatFar (slot_at slots) (group w n) b m None) ranks leads)
 
-pub source_some : (slots : List (Option (ℕ × ℕ))) (w : Way) (n b start r k : ℕ) (result : Option ℕ) → w ≡ way.Target → r ≡ rank (start, b) → LeadsTo (slot_at slots) (group w n) b r (Some k)
+pub source_some : (slots : List (Option (ℕ × ℕ))) (w : Way) (n b start r k : ℕ) (result : Option ℕ) → w ≡ way.Target → r ≡ rank (start, b) → IsFirstThatFar (slot_at slots) (group w n) b r (Some k)
     → result ≡ source_of (slot_at slots k) → IsNextSource (pairs_in slots) b start result
 source_some slots w n b start r k result ways ranks leads found =
-    let there : IsFirst (slot_at slots) (group w n) b (rank (start, b)) k = subst (λ (m : ℕ). LeadsTo (slot_at slots) (group w n) b m (Some k)) ranks leads in
+    let there : IsFirstFrom (slot_at slots) (group w n) b (rank (start, b)) k = subst (λ (m : ℕ). IsFirstThatFar (slot_at slots) (group w n) b m (Some k)) ranks leads in
     subst (IsNextSource (pairs_in slots) b start) (sym (found ∙ ap source_of there.member.here))
     (that_source slots (group w n) b start k (λ e. target_group w n e ways) there)
 
@@ -145,7 +145,7 @@ none_threaded way groups t some ways heads = record {
   way_is = ways;
   some = (let many = ap length heads in let all : length (replicate groups no_link) ≡ groups = length-replicate groups no_link in omega arith);
   threads = record {
-    first = λ of inside. subst (λ (link : ℕ). LeadsTo (λ k. None) (group t.way (length t.heads)) of 0 (linked link)) (sym (all of inside)) (λ j f m. absurd (never f m.here));
+    first = λ of inside. subst (λ (link : ℕ). IsFirstThatFar (λ k. None) (group t.way (length t.heads)) of 0 (linked link)) (sym (all of inside)) (λ j f m. absurd (never f m.here));
     follow = λ k e here. absurd (never e here);
     groups = λ k e here. absurd (never e here);
     inside = λ k e here. absurd (never e here);

@@ -9,12 +9,12 @@ use Rattle.tsd_model.specs.declared.geometry.Geometry.{Geometry}
 use Rattle.image_layout.specs.Areas.{slots_start}
 use Rattle.image_layout.specs.Image.{Image, source_field, target_field}
 use Rattle.pointer_table.specs.declared.raw.RawSlot.{RawSlot}
-use Rattle.pointer_table.specs.Loading.{is_bad, is_bad_at, IsLeastBad}
+use Rattle.pointer_table.specs.Loading.{is_bad, is_bad_at, IsLeastBadSlot}
 use Rattle.pointer_table.specs.Raw.{slot_in, slots_in}
-use Rattle.pointer_table.specs.Reading.{IsReadTo, AreWithinTo}
+use Rattle.pointer_table.specs.Reading.{AreReadTo, AreWithinTo}
 use Rattle.pointer_table.specs.Sectors.{slot_of, stored_slot}
 use Rattle.pointer_table.specs.Slots.{slot_at}
-use Rattle.pointer_table.specs.Table.{IsWithin}
+use Rattle.pointer_table.specs.Table.{MayBeHeld}
 use Rattle.pointer_table.proofs.RawLaws.{slots_in-set, length-slots_in}
 use Rattle.pointer_table.proofs.SlotLaws.{set_same, set_other}
 
@@ -41,9 +41,9 @@ target_at image g k part sector from below is =
 -- ---- one slot more
 
 -- a slot that isn't bad
-pub good_slot : (g : Geometry) (source target : ℕ) (e : ℕ × ℕ) → is_bad g source target ≡ false → slot_of source target ≡ Some e → IsWithin g e
+pub good_slot : (g : Geometry) (source target : ℕ) (e : ℕ × ℕ) → is_bad g source target ≡ false → slot_of source target ≡ Some e → MayBeHeld g e
 good_slot g source target e good is =
-    elim (source == 0) as (λ t. (source == 0) ≡ t → (not t && (nat_lt g.blocks source || nat_le g.blocks target || nat_lt target g.primaries)) ≡ false → cond t None (Some (source - 1, target)) ≡ Some e → IsWithin g e) [
+    elim (source == 0) as (λ t. (source == 0) ≡ t → (not t && (nat_lt g.blocks source || nat_le g.blocks target || nat_lt target g.primaries)) ≡ false → cond t None (Some (source - 1, target)) ≡ Some e → MayBeHeld g e) [
       | true ↦ λ z h s. absurd (cc)
       | false ↦ λ z h s.
           let same : (source - 1, target) ≡ e = cc in
@@ -53,12 +53,12 @@ good_slot g source target e good is =
           let high = leb-false g.blocks target two.1 in
           let apart = ltb-false target g.primaries most.1 in
           let some : source ≡ 0 → ⊥ = eqb-false source 0 z in
-          subst (IsWithin g) same (omega arith, omega arith, omega arith)
+          subst (MayBeHeld g) same (omega arith, omega arith, omega arith)
     ] refl good is
 
 pub read_more : (image : Image) (g : Geometry) (place : ℕ) (raws : List RawSlot) (raw : RawSlot) → place < length raws
     → raw.source ≡ source_field image g place → raw.target ≡ target_field image g place → is_bad g raw.source raw.target ≡ false
-    → IsReadTo image g place (slots_in raws) → IsReadTo image g (place + 1) (slots_in (set raws place raw))
+    → AreReadTo image g place (slots_in raws) → AreReadTo image g (place + 1) (slots_in (set raws place raw))
 read_more image g place raws raw inside source target good so_far = record {
   each = λ k below. elim (cases_eq k place) [
     | inl here ↦
@@ -93,7 +93,7 @@ within_more g place raws raw inside good so_far = record {
 -- a bad one behind those that were read
 pub least_bad : (image : Image) (g : Geometry) (place : ℕ) (raws : List RawSlot) (raw : RawSlot) → place < g.slots
     → raw.source ≡ source_field image g place → raw.target ≡ target_field image g place → is_bad g raw.source raw.target ≡ true
-    → IsReadTo image g place (slots_in raws) → IsLeastBad image g place raw.source raw.target
+    → AreReadTo image g place (slots_in raws) → IsLeastBadSlot image g place raw.source raw.target
 least_bad image g place raws raw inside source target bad so_far = record {
   inside = inside;
   source_is = source;

@@ -12,7 +12,7 @@ use Rattle.tsd_model.specs.declared.geometry.Geometry.{Geometry}
 use Rattle.tsd_model.proofs.PlaceLaws.{same_pair}
 use Rattle.image_layout.specs.Areas.{slots_start, data_start}
 use Rattle.image_layout.specs.Image.{Image, source_field, target_field}
-use Rattle.pointer_table.specs.Loading.{is_bad, is_bad_at, HasNoBad, IsLeastBad, IsLeastRepeated, IsLoaded, IsJudged, AnswersPointers}
+use Rattle.pointer_table.specs.Loading.{is_bad, is_bad_at, HasNoBad, IsLeastBadSlot, IsLeastRepeated, IsLoaded, WasDecided, AnswersPointers}
 use Rattle.pointer_table.specs.Sectors.{stored_slot, IsStored}
 use Rattle.pointer_table.specs.Table.{Table}
 use Rattle.pointer_table.specs.declared.fault.TableFault.{TableFault}
@@ -21,10 +21,10 @@ use Rattle.pointer_table.proofs.SectorLaws.{read_at, stored_at}
 
 -- ---- one answer
 
-bad_there : (image : Image) (g : Geometry) (k source target : ℕ) → IsLeastBad image g k source target → is_bad_at image g k ≡ true
+bad_there : (image : Image) (g : Geometry) (k source target : ℕ) → IsLeastBadSlot image g k source target → is_bad_at image g k ≡ true
 bad_there image g k source target least = ap (λ s. is_bad g s (target_field image g k)) (sym least.source_is) ∙ (ap (is_bad g source) (sym least.target_is) ∙ least.bad)
 
-same_bad : (image : Image) (g : Geometry) (k s t j u v : ℕ) → IsLeastBad image g k s t → IsLeastBad image g j u v → ◌≡◌ {A = Result Table TableFault} (Err (fault.Slot k s t)) (Err (fault.Slot j u v))
+same_bad : (image : Image) (g : Geometry) (k s t j u v : ℕ) → IsLeastBadSlot image g k s t → IsLeastBadSlot image g j u v → ◌≡◌ {A = Result Table TableFault} (Err (fault.Slot k s t)) (Err (fault.Slot j u v))
 same_bad image g k s t j u v one other = elim (cases_order k j) [
   | inl same ↦
       let source : s ≡ u = one.source_is ∙ (ap (source_field image g) same ∙ sym other.source_is) in
@@ -36,7 +36,7 @@ same_bad image g k s t j u v one other = elim (cases_order k j) [
   ]
 ]
 
-not_bad : (image : Image) (g : Geometry) (k s t : ℕ) → HasNoBad image g → IsLeastBad image g k s t → ⊥
+not_bad : (image : Image) (g : Geometry) (k s t : ℕ) → HasNoBad image g → IsLeastBadSlot image g k s t → ⊥
 not_bad image g k s t none least = both_ways (is_bad_at image g k) (none k least.inside) (bad_there image g k s t least)
 
 same_repeated : (image : Image) (g : Geometry) (a b c d : ℕ) → IsLeastRepeated image g (a, b) → IsLeastRepeated image g (c, d) → ◌≡◌ {A = Result Table TableFault} (Err (fault.Repeated a b)) (Err (fault.Repeated c d))
@@ -54,7 +54,7 @@ same_table image g t u one other =
     (λ k inside. let all = one.stored.count in sym (one.stored.each k (omega arith)) ∙ other.stored.each k (omega arith)) in
     λ i. Ok (record { geometry = size i; slots = slots i })
 
-pub one_answer : (image : Image) (g : Geometry) (one other : Result Table TableFault) → IsJudged one → IsJudged other → AnswersPointers image g one → AnswersPointers image g other → one ≡ other
+pub one_answer : (image : Image) (g : Geometry) (one other : Result Table TableFault) → WasDecided one → WasDecided other → AnswersPointers image g one → AnswersPointers image g other → one ≡ other
 one_answer image g (Err fault.NoMemory) other j k a b = absurd j
 one_answer image g (Err fault.Device) other j k a b = absurd j
 one_answer image g (Ok t) (Ok u) j k a b = same_table image g t u a b

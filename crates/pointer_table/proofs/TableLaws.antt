@@ -15,10 +15,10 @@ use Rattle.pointer_table.specs.declared.raw.RawSlot.{RawSlot}
 use Rattle.pointer_table.specs.Raw.{slot_in, slots_in}
 use Rattle.pointer_table.specs.Repeating.{IsRepeating}
 use Rattle.pointer_table.specs.Loading.{IsRepeatedOn, IsLeastRepeated, AnswersPointers}
-use Rattle.pointer_table.specs.Reading.{IsReadTo, AreWithinTo}
+use Rattle.pointer_table.specs.Reading.{AreReadTo, AreWithinTo}
 use Rattle.pointer_table.specs.Repeats.{IsRepeatedIn, IsLeastOfAll}
 use Rattle.pointer_table.specs.Slots.{slot_at}
-use Rattle.pointer_table.specs.Table.{Table, pairs, IsWithin, IsTable, ArePairs}
+use Rattle.pointer_table.specs.Table.{Table, pairs, MayBeHeld, IsTable, ArePairs}
 use Rattle.tsd_model.proofs.PairLaws.{length-with_new_pair}
 use Rattle.image_layout.specs.declared.place.Patch.{Patch}
 use Rattle.pointer_table.specs.Changes.{IsChange}
@@ -58,7 +58,7 @@ made g slots lawful count within none = record {
 abbrev pub with_slot : Table → ℕ → Option (ℕ × ℕ) → Table
 with_slot t place slot = record t { slots = set t.slots place slot }
 
-pub added : (t : Table) (place a b : ℕ) → IsTable t → place < t.geometry.slots → holds (pairs t) a b ≡ false → IsWithin t.geometry (a, b) → IsTable (with_slot t place (Some (a, b)))
+pub added : (t : Table) (place a b : ℕ) → IsTable t → place < t.geometry.slots → holds (pairs t) a b ≡ false → MayBeHeld t.geometry (a, b) → IsTable (with_slot t place (Some (a, b)))
 added t place a b table inside absent within = record {
   lawful = table.lawful;
   count = length-set t.slots place (Some (a, b)) ∙ table.count;
@@ -66,7 +66,7 @@ added t place a b table inside absent within = record {
     | inl same ↦
         let one : Some e ≡ Some (a, b) = sym here ∙ (ap (slot_at now) same ∙ at_place) in
         let pair : e ≡ (a, b) = cc in
-        subst (IsWithin t.geometry) (sym pair) within
+        subst (MayBeHeld t.geometry) (sym pair) within
     | inr other ↦ table.ends k e (sym (set_other t.slots place k (Some (a, b)) other) ∙ here)
   ];
   apart = λ i j e p q. elim (cases_eq i place) [
@@ -139,7 +139,7 @@ fits t table k e here = let ends = table.ends k e here in let most = table.lawfu
 
 -- ---- compared with an image
 
-repeated_on : (image : Image) (g : Geometry) (slots : List (Option (ℕ × ℕ))) (e : ℕ × ℕ) → length slots ≡ g.slots → IsReadTo image g g.slots slots → IsRepeatedIn slots e → IsRepeatedOn image g e
+repeated_on : (image : Image) (g : Geometry) (slots : List (Option (ℕ × ℕ))) (e : ℕ × ℕ) → length slots ≡ g.slots → AreReadTo image g g.slots slots → IsRepeatedIn slots e → IsRepeatedOn image g e
 repeated_on image g slots e count read r = record {
   first = r.first;
   second = r.second;
@@ -149,7 +149,7 @@ repeated_on image g slots e count read r = record {
   other = read.each r.second (let inside = r.inside in omega arith) ∙ r.other;
 }
 
-repeated_in : (image : Image) (g : Geometry) (slots : List (Option (ℕ × ℕ))) (e : ℕ × ℕ) → length slots ≡ g.slots → IsReadTo image g g.slots slots → IsRepeatedOn image g e → IsRepeatedIn slots e
+repeated_in : (image : Image) (g : Geometry) (slots : List (Option (ℕ × ℕ))) (e : ℕ × ℕ) → length slots ≡ g.slots → AreReadTo image g g.slots slots → IsRepeatedOn image g e → IsRepeatedIn slots e
 repeated_in image g slots e count read r = record {
   first = r.first;
   second = r.second;
@@ -159,14 +159,14 @@ repeated_in image g slots e count read r = record {
   other = sym (read.each r.second r.inside) ∙ r.other;
 }
 
-pub least_on : (image : Image) (g : Geometry) (slots : List (Option (ℕ × ℕ))) (e : ℕ × ℕ) → length slots ≡ g.slots → IsReadTo image g g.slots slots → IsLeastOfAll slots (Some e) → IsLeastRepeated image g e
+pub least_on : (image : Image) (g : Geometry) (slots : List (Option (ℕ × ℕ))) (e : ℕ × ℕ) → length slots ≡ g.slots → AreReadTo image g g.slots slots → IsLeastOfAll slots (Some e) → IsLeastRepeated image g e
 least_on image g slots e count read least = record {
   repeated = repeated_on image g slots e count read least.0;
   least = λ f r. least.1 f (repeated_in image g slots f count read r);
 }
 
 -- what a loading answers, from what was read and what the search for repeated pairs gave
-pub load_answers : (image : Image) (g : Geometry) (slots : List (Option (ℕ × ℕ))) (result : Result Table TableFault) → length slots ≡ g.slots → IsReadTo image g g.slots slots
+pub load_answers : (image : Image) (g : Geometry) (slots : List (Option (ℕ × ℕ))) (result : Result Table TableFault) → length slots ≡ g.slots → AreReadTo image g g.slots slots
     → IfOk result (λ t. (t.geometry ≡ g) × (t.slots ≡ slots)) → IsRepeating slots result → AnswersPointers image g result
 load_answers image g slots (Ok t) count read is found = record {
   size = is.0;

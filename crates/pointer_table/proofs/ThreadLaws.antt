@@ -5,7 +5,7 @@ use Rattle.std.specs.Prelude.{IfSome}
 use Rattle.std.proofs.lemmas.Bool.{cases_eq, cases_lt, ne_eqb, ltb-true, ltb-false}
 use Rattle.std.proofs.lemmas.List.{length-set, get_or-set_same, get_or-set_other}
 use Rattle.pointer_table.specs.declared.way.Way.{Way}
-use Rattle.pointer_table.specs.Threads.{rank, group, is_below, no_link, linked, IsMember, IsFirst, LeadsTo, IsLast, IsBefore, IsNear, AreThreads, IsWith, after, heads_with, next_with}
+use Rattle.pointer_table.specs.Threads.{rank, group, is_below, no_link, linked, IsMember, IsFirstFrom, IsFirstThatFar, IsLast, IsLastBelow, IsNear, AreThreads, IsWith, after, heads_with, next_with}
 
 -- ---- ranks
 
@@ -29,7 +29,7 @@ one_slot held by heads next i j e f threads p q same =
 
 pub higher : (held : ℕ → Option (ℕ × ℕ)) (by : (ℕ × ℕ) → ℕ) (of from limit : ℕ) (link : Option ℕ) → from ≤ limit
     → ((j : ℕ) (f : ℕ × ℕ) → IsMember held by of j f → from ≤ rank f → limit ≤ rank f)
-    → LeadsTo held by of from link → LeadsTo held by of limit link
+    → IsFirstThatFar held by of from link → IsFirstThatFar held by of limit link
 higher held by of from limit None up gap leads = λ j f m. let low = leads j f m in omega arith
 higher held by of from limit (Some k) up gap leads = record {
   pair = leads.pair;
@@ -40,7 +40,7 @@ higher held by of from limit (Some k) up gap leads = record {
 
 pub lower : (held : ℕ → Option (ℕ × ℕ)) (by : (ℕ × ℕ) → ℕ) (of from limit : ℕ) (link : Option ℕ) → limit ≤ from
     → ((j : ℕ) (f : ℕ × ℕ) → IsMember held by of j f → limit ≤ rank f → from ≤ rank f)
-    → LeadsTo held by of from link → LeadsTo held by of limit link
+    → IsFirstThatFar held by of from link → IsFirstThatFar held by of limit link
 lower held by of from limit None down gap leads = λ j f m. below (rank f) (leads j f m) (gap j f m)
   where
     below : (r : ℕ) → r < from → (limit ≤ r → from ≤ r) → r < limit
@@ -85,7 +85,7 @@ not_there : (held now : ℕ → Option (ℕ × ℕ)) (place : ℕ) (e : ℕ × �
 not_there held now place e j f more here same = let none = more.empty in let at = ap held same in absurd (cc)
 
 pub kept_with : (held now : ℕ → Option (ℕ × ℕ)) (by : (ℕ × ℕ) → ℕ) (of from place : ℕ) (e : ℕ × ℕ) (link : Option ℕ) → IsWith held place e now
-    → IsAside held by e of from → LeadsTo held by of from link → LeadsTo now by of from link
+    → IsAside held by e of from → IsFirstThatFar held by of from link → IsFirstThatFar now by of from link
 kept_with held now by of from place e None more aside leads = λ j f m. elim (cases_eq j place) [
   | inl same ↦
       let pair = pair_there held now place e j f more same m.here in
@@ -114,7 +114,7 @@ kept_with held now by of from place e (Some k) more aside leads = record {
 }
 
 pub kept_without : (held now : ℕ → Option (ℕ × ℕ)) (by : (ℕ × ℕ) → ℕ) (of from place : ℕ) (e : ℕ × ℕ) (link : Option ℕ) → IsWith held place e now
-    → IsAside held by e of from → LeadsTo now by of from link → LeadsTo held by of from link
+    → IsAside held by e of from → IsFirstThatFar now by of from link → IsFirstThatFar held by of from link
 kept_without held now by of from place e None more aside leads = λ j f m. leads j f (member_now held now by of place e j f more m)
 kept_without held now by of from place e (Some k) more aside leads = record {
   pair = leads.pair;
@@ -149,12 +149,12 @@ past_is held k e here = ap past here
 
 -- what is after a slot leads on
 pub leads_on : (held : ℕ → Option (ℕ × ℕ)) (by : (ℕ × ℕ) → ℕ) (heads next : List ℕ) (of limit : ℕ) (before : Option ℕ) → AreThreads held by heads next → of < length heads
-    → IsNear held by of limit before → LeadsTo held by of (from_of held before) (linked (after heads next of before))
+    → IsNear held by of limit before → IsFirstThatFar held by of (from_of held before) (linked (after heads next of before))
 leads_on held by heads next of limit None threads inside near = threads.first of inside
 leads_on held by heads next of limit (Some k) threads inside near =
     let m = near.1.0 in
-    subst (λ (n : ℕ). LeadsTo held by of n (linked (get_or next k 0))) (sym (past_is held k near.0 m.here))
-    (subst (λ (n : ℕ). LeadsTo held by n (rank near.0 + 1) (linked (get_or next k 0))) m.belongs (threads.follow k near.0 m.here))
+    subst (λ (n : ℕ). IsFirstThatFar held by of n (linked (get_or next k 0))) (sym (past_is held k near.0 m.here))
+    (subst (λ (n : ℕ). IsFirstThatFar held by n (rank near.0 + 1) (linked (get_or next k 0))) m.belongs (threads.follow k near.0 m.here))
 
 pub not_past : (held : ℕ → Option (ℕ × ℕ)) (by : (ℕ × ℕ) → ℕ) (of limit : ℕ) (before : Option ℕ) → IsNear held by of limit before → from_of held before ≤ limit
 not_past held by of limit None near = omega arith
@@ -162,7 +162,7 @@ not_past held by of limit (Some k) near = let low = near.1.1 in let is = past_is
 
 -- the walk is over: nothing of the group from there on is below the limit
 pub walked : (held : ℕ → Option (ℕ × ℕ)) (by : (ℕ × ℕ) → ℕ) (of limit : ℕ) (before : Option ℕ) → IsNear held by of limit before
-    → ((j : ℕ) (f : ℕ × ℕ) → IsMember held by of j f → from_of held before ≤ rank f → limit ≤ rank f) → IsBefore held by of limit before
+    → ((j : ℕ) (f : ℕ × ℕ) → IsMember held by of j f → from_of held before ≤ rank f → limit ≤ rank f) → IsLastBelow held by of limit before
 walked held by of limit None near gap = λ j f m. gap j f m (omega arith)
 walked held by of limit (Some k) near gap = record {
   pair = near.0;
@@ -175,7 +175,7 @@ walked held by of limit (Some k) near gap = record {
     up r far is low = elim (cases_lt (rank near.0) r) [ inl over ↦ (let high = far (omega arith) in absurd (omega arith)) | inr under ↦ under ]
 
 -- nothing is between
-pub gap_before : (held : ℕ → Option (ℕ × ℕ)) (by : (ℕ × ℕ) → ℕ) (of limit : ℕ) (before : Option ℕ) → IsBefore held by of limit before
+pub gap_before : (held : ℕ → Option (ℕ × ℕ)) (by : (ℕ × ℕ) → ℕ) (of limit : ℕ) (before : Option ℕ) → IsLastBelow held by of limit before
     → (j : ℕ) (f : ℕ × ℕ) → IsMember held by of j f → from_of held before ≤ rank f → limit ≤ rank f
 gap_before held by of limit None last j f m far = last j f m
 gap_before held by of limit (Some k) last j f m far =
@@ -185,12 +185,12 @@ gap_before held by of limit (Some k) last j f m far =
     over : (r : ℕ) → (r < limit → r ≤ rank last.pair) → rank last.pair + 1 ≤ r → limit ≤ r
     over r up far_on = elim (cases_lt r limit) [ inl under ↦ (let low = up under in absurd (omega arith)) | inr from_there ↦ from_there ]
 
-pub near_before : (held : ℕ → Option (ℕ × ℕ)) (by : (ℕ × ℕ) → ℕ) (of limit : ℕ) (before : Option ℕ) → IsBefore held by of limit before → IsNear held by of limit before
+pub near_before : (held : ℕ → Option (ℕ × ℕ)) (by : (ℕ × ℕ) → ℕ) (of limit : ℕ) (before : Option ℕ) → IsLastBelow held by of limit before → IsNear held by of limit before
 near_before held by of limit None last = tt
 near_before held by of limit (Some k) last = (last.pair, (last.member, last.below))
 
 pub leads_there : (held : ℕ → Option (ℕ × ℕ)) (by : (ℕ × ℕ) → ℕ) (heads next : List ℕ) (of limit : ℕ) (before : Option ℕ) → AreThreads held by heads next → of < length heads
-    → IsBefore held by of limit before → LeadsTo held by of limit (linked (after heads next of before))
+    → IsLastBelow held by of limit before → IsFirstThatFar held by of limit (linked (after heads next of before))
 leads_there held by heads next of limit before threads inside last =
     let near = near_before held by of limit before last in
     higher held by of (from_of held before) limit (linked (after heads next of before)) (not_past held by of limit before near)
@@ -202,9 +202,9 @@ linked_on : (link : ℕ) → (link ≡ no_link → ⊥) → linked link ≡ Some
 linked_on link on = ap (λ t. cond t None (Some link)) (ne_eqb link no_link on)
 
 pub leads_to_slot : (held : ℕ → Option (ℕ × ℕ)) (by : (ℕ × ℕ) → ℕ) (heads next : List ℕ) (of limit : ℕ) (before : Option ℕ) (link : ℕ) → AreThreads held by heads next → of < length heads
-    → IsNear held by of limit before → link ≡ after heads next of before → (link ≡ no_link → ⊥) → IsFirst held by of (from_of held before) link
+    → IsNear held by of limit before → link ≡ after heads next of before → (link ≡ no_link → ⊥) → IsFirstFrom held by of (from_of held before) link
 leads_to_slot held by heads next of limit before link threads inside near is on =
-    subst (LeadsTo held by of (from_of held before)) (ap linked (sym is) ∙ linked_on link on) (leads_on held by heads next of limit before threads inside near)
+    subst (IsFirstThatFar held by of (from_of held before)) (ap linked (sym is) ∙ linked_on link on) (leads_on held by heads next of limit before threads inside near)
 
 below_limit : (limit : ℕ) (slot : Option (ℕ × ℕ)) (e : ℕ × ℕ) → slot ≡ Some e → is_below limit slot ≡ true → rank e < limit
 below_limit limit slot e is below = ltb-true (rank e) limit (sym (ap (is_below limit) is) ∙ below)
@@ -241,15 +241,15 @@ near_inside held by heads next of limit (Some k) threads near = threads.inside k
 
 -- the end of the group
 pub stop_at_end : (held : ℕ → Option (ℕ × ℕ)) (by : (ℕ × ℕ) → ℕ) (heads next : List ℕ) (of limit : ℕ) (before : Option ℕ) (link : ℕ) → AreThreads held by heads next → of < length heads
-    → IsNear held by of limit before → link ≡ after heads next of before → link ≡ no_link → IsBefore held by of limit before
+    → IsNear held by of limit before → link ≡ after heads next of before → link ≡ no_link → IsLastBelow held by of limit before
 stop_at_end held by heads next of limit before link threads inside near is off =
-    let none : LeadsTo held by of (from_of held before) None =
-    subst (LeadsTo held by of (from_of held before)) (ap linked (sym is ∙ off)) (leads_on held by heads next of limit before threads inside near) in
+    let none : IsFirstThatFar held by of (from_of held before) None =
+    subst (IsFirstThatFar held by of (from_of held before)) (ap linked (sym is ∙ off)) (leads_on held by heads next of limit before threads inside near) in
     walked held by of limit before near (λ j f m far. let low = none j f m in absurd (omega arith))
 
 -- a pair that isn't below the limit
 pub stop_at_slot : (held : ℕ → Option (ℕ × ℕ)) (by : (ℕ × ℕ) → ℕ) (heads next : List ℕ) (of limit : ℕ) (before : Option ℕ) (link : ℕ) → AreThreads held by heads next → of < length heads
-    → IsNear held by of limit before → link ≡ after heads next of before → (link ≡ no_link → ⊥) → is_below limit (held link) ≡ false → IsBefore held by of limit before
+    → IsNear held by of limit before → link ≡ after heads next of before → (link ≡ no_link → ⊥) → is_below limit (held link) ≡ false → IsLastBelow held by of limit before
 stop_at_slot held by heads next of limit before link threads inside near is on far =
     let there = leads_to_slot held by heads next of limit before link threads inside near is on in
     let high = not_below_limit limit (held link) there.pair there.member.here far in
@@ -289,12 +289,12 @@ pub linked_place : (k : ℕ) → k < no_link → linked k ≡ Some k
 linked_place k inside = ap (λ t. cond t None (Some k)) (ne_eqb k no_link (λ same. omega arith))
 
 pub put_first : (held now : ℕ → Option (ℕ × ℕ)) (by : (ℕ × ℕ) → ℕ) (heads next : List ℕ) (place : ℕ) (e : ℕ × ℕ) → AreThreads held by heads next → IsWith held place e now
-    → ((k : ℕ) → held k ≡ Some e → ⊥) → e.1 < 4294967296 → place < length next → place < no_link → by e < length heads → IsBefore held by (by e) (rank e) None
+    → ((k : ℕ) → held k ≡ Some e → ⊥) → e.1 < 4294967296 → place < length next → place < no_link → by e < length heads → IsLastBelow held by (by e) (rank e) None
     → AreThreads now by (set heads (by e) place) (set next place (get_or heads (by e) 0))
 put_first held now by heads next place e threads more new fits inside small room last = record {
   first = λ of within. elim (cases_eq of (by e)) [
     | inl same ↦
-        subst (LeadsTo now by of 0) (sym (ap linked (ap (λ g. get_or (set heads (by e) place) g 0) same ∙ get_or-set_same heads (by e) place 0 room) ∙ linked_place place small))
+        subst (IsFirstThatFar now by of 0) (sym (ap linked (ap (λ g. get_or (set heads (by e) place) g 0) same ∙ get_or-set_same heads (by e) place 0 room) ∙ linked_place place small))
         (record {
           pair = e;
           member = record { here = more.filled; belongs = sym same };
@@ -305,22 +305,22 @@ put_first held now by heads next place e threads more new fits inside small room
           ];
         })
     | inr other ↦
-        subst (λ (link : ℕ). LeadsTo now by of 0 (linked link)) (sym (get_or-set_other heads (by e) of place 0 other))
+        subst (λ (link : ℕ). IsFirstThatFar now by of 0 (linked link)) (sym (get_or-set_other heads (by e) of place 0 other))
         (kept_with held now by of 0 place e (linked (get_or heads of 0)) more (λ same far. absurd (other (sym same)))
         (threads.first of (let len = length-set heads (by e) place in omega arith)))
   ];
   follow = λ k f here. elim (cases_eq k place) [
     | inl same ↦
         let pair = pair_there held now place e k f more same here in
-        subst (λ (h : ℕ × ℕ). LeadsTo now by (by h) (rank h + 1) (linked (get_or (set next place (get_or heads (by e) 0)) k 0))) (sym pair)
-        (subst (λ (link : ℕ). LeadsTo now by (by e) (rank e + 1) (linked link))
+        subst (λ (h : ℕ × ℕ). IsFirstThatFar now by (by h) (rank h + 1) (linked (get_or (set next place (get_or heads (by e) 0)) k 0))) (sym pair)
+        (subst (λ (link : ℕ). IsFirstThatFar now by (by e) (rank e + 1) (linked link))
         (sym (ap (λ i. get_or (set next place (get_or heads (by e) 0)) i 0) same ∙ get_or-set_same next place (get_or heads (by e) 0) 0 inside))
         (kept_with held now by (by e) (rank e + 1) place e (linked (get_or heads (by e) 0)) more (λ one far. absurd (omega arith))
         (higher held by (by e) 0 (rank e + 1) (linked (get_or heads (by e) 0)) (omega arith)
         (λ j h m far. above_new held by heads next e j h threads new fits m.here (last j h m)) (threads.first (by e) room))))
     | inr off ↦
         let old : held k ≡ Some f = sym (more.others k off) ∙ here in
-        subst (λ (link : ℕ). LeadsTo now by (by f) (rank f + 1) (linked link)) (sym (get_or-set_other next place k (get_or heads (by e) 0) 0 off))
+        subst (λ (link : ℕ). IsFirstThatFar now by (by f) (rank f + 1) (linked link)) (sym (get_or-set_other next place k (get_or heads (by e) 0) 0 off))
         (kept_with held now by (by f) (rank f + 1) place e (linked (get_or next k 0)) more
         (λ same far. let low = last k f (record { here = old; belongs = sym same }) in absurd (omega arith)) (threads.follow k f old))
   ];
@@ -338,7 +338,7 @@ put_first held now by heads next place e threads more new fits inside small room
 
 -- a pair of the group in front of the last one in front of e
 passed_over : (held : ℕ → Option (ℕ × ℕ)) (by : (ℕ × ℕ) → ℕ) (heads next : List ℕ) (e : ℕ × ℕ) (p k : ℕ) (f : ℕ × ℕ) → AreThreads held by heads next
-    → IsBefore held by (by e) (rank e) (Some p) → held k ≡ Some f → by e ≡ by f → rank f + 1 ≤ rank e → (k ≡ p → ⊥) → IsLesser held by e (by f) (rank f + 1)
+    → IsLastBelow held by (by e) (rank e) (Some p) → held k ≡ Some f → by e ≡ by f → rank f + 1 ≤ rank e → (k ≡ p → ⊥) → IsLesser held by e (by f) (rank f + 1)
 passed_over held by heads next e p k f threads last here same far off = record {
   slot = p;
   pair = last.pair;
@@ -351,7 +351,7 @@ passed_over held by heads next e p k f threads last here same far off = record {
 }
 
 pub put_behind : (held now : ℕ → Option (ℕ × ℕ)) (by : (ℕ × ℕ) → ℕ) (heads next : List ℕ) (place : ℕ) (e : ℕ × ℕ) (p : ℕ) → AreThreads held by heads next → IsWith held place e now
-    → ((k : ℕ) → held k ≡ Some e → ⊥) → e.1 < 4294967296 → place < length next → place < no_link → by e < length heads → IsBefore held by (by e) (rank e) (Some p)
+    → ((k : ℕ) → held k ≡ Some e → ⊥) → e.1 < 4294967296 → place < length next → place < no_link → by e < length heads → IsLastBelow held by (by e) (rank e) (Some p)
     → AreThreads now by heads (set (set next place (get_or next p 0)) p place)
 put_behind held now by heads next place e p threads more new fits inside small room last = record {
   first = λ of within. kept_with held now by of 0 place e (linked (get_or heads of 0)) more (λ same far. record {
@@ -367,7 +367,7 @@ put_behind held now by heads next place e p threads more new fits inside small r
         let pair : f ≡ last.pair = some_same f last.pair (sym then ∙ (ap held at ∙ last.member.here)) in
         let ranks : rank f ≡ rank last.pair = ap rank pair in
         let low = last.below in
-        subst (LeadsTo now by (by f) (rank f + 1)) (sym (ap linked (ap (λ i. get_or (set (set next place (get_or next p 0)) p place) i 0) at
+        subst (IsFirstThatFar now by (by f) (rank f + 1)) (sym (ap linked (ap (λ i. get_or (set (set next place (get_or next p 0)) p place) i 0) at
         ∙ get_or-set_same (set next place (get_or next p 0)) p place 0 (let len = length-set next place (get_or next p 0) in let in_next = threads.inside p last.pair last.member.here in omega arith)) ∙ linked_place place small))
         (record {
           pair = e;
@@ -381,12 +381,12 @@ put_behind held now by heads next place e p threads more new fits inside small r
           ];
         })
     | inr past_p ↦
-        subst (λ (link : ℕ). LeadsTo now by (by f) (rank f + 1) (linked link)) (sym (get_or-set_other (set next place (get_or next p 0)) p k place 0 past_p))
+        subst (λ (link : ℕ). IsFirstThatFar now by (by f) (rank f + 1) (linked link)) (sym (get_or-set_other (set next place (get_or next p 0)) p k place 0 past_p))
         (elim (cases_eq k place) [
           | inl same ↦
               let pair = pair_there held now place e k f more same here in
-              subst (λ (h : ℕ × ℕ). LeadsTo now by (by h) (rank h + 1) (linked (get_or (set next place (get_or next p 0)) k 0))) (sym pair)
-              (subst (λ (link : ℕ). LeadsTo now by (by e) (rank e + 1) (linked link))
+              subst (λ (h : ℕ × ℕ). IsFirstThatFar now by (by h) (rank h + 1) (linked (get_or (set next place (get_or next p 0)) k 0))) (sym pair)
+              (subst (λ (link : ℕ). IsFirstThatFar now by (by e) (rank e + 1) (linked link))
               (sym (ap (λ i. get_or (set next place (get_or next p 0)) i 0) same ∙ get_or-set_same next place (get_or next p 0) 0 inside))
               (kept_with held now by (by e) (rank e + 1) place e (linked (get_or next p 0)) more (λ one far. absurd (omega arith))
               (higher held by (by e) (rank e) (rank e + 1) (linked (get_or next p 0)) (omega arith)
@@ -394,7 +394,7 @@ put_behind held now by heads next place e p threads more new fits inside small r
               (leads_there held by heads next (by e) (rank e) (Some p) threads room last))))
           | inr off ↦
               let old : held k ≡ Some f = sym (more.others k off) ∙ here in
-              subst (λ (link : ℕ). LeadsTo now by (by f) (rank f + 1) (linked link)) (sym (get_or-set_other next place k (get_or next p 0) 0 off))
+              subst (λ (link : ℕ). IsFirstThatFar now by (by f) (rank f + 1) (linked link)) (sym (get_or-set_other next place k (get_or next p 0) 0 off))
               (kept_with held now by (by f) (rank f + 1) place e (linked (get_or next k 0)) more
               (λ same far. passed_over held by heads next e p k f threads last old same far past_p)
               (threads.follow k f old))
@@ -416,7 +416,7 @@ put_behind held now by heads next place e p threads more new fits inside small r
     not_below r low far = elim (cases_lt r (rank e)) [ inl under ↦ (let most = low under in absurd (omega arith)) | inr from_there ↦ from_there ]
 
 pub put_in : (held now : ℕ → Option (ℕ × ℕ)) (by : (ℕ × ℕ) → ℕ) (heads next : List ℕ) (place : ℕ) (e : ℕ × ℕ) (before : Option ℕ) → AreThreads held by heads next → IsWith held place e now
-    → ((k : ℕ) → held k ≡ Some e → ⊥) → e.1 < 4294967296 → place < length next → place < no_link → by e < length heads → IsBefore held by (by e) (rank e) before
+    → ((k : ℕ) → held k ≡ Some e → ⊥) → e.1 < 4294967296 → place < length next → place < no_link → by e < length heads → IsLastBelow held by (by e) (rank e) before
     → AreThreads now by (heads_with heads (by e) before place) (next_with (set next place (after heads next (by e) before)) before place)
 put_in held now by heads next place e None threads more new fits inside small room last = put_first held now by heads next place e threads more new fits inside small room last
 put_in held now by heads next place e (Some p) threads more new fits inside small room last = put_behind held now by heads next place e p threads more new fits inside small room last
@@ -435,17 +435,17 @@ other_rank held now by heads next place e j f threads less here far = elim (case
 ]
 
 pub cut_first : (held now : ℕ → Option (ℕ × ℕ)) (by : (ℕ × ℕ) → ℕ) (heads next : List ℕ) (place : ℕ) (e : ℕ × ℕ) → AreThreads now by heads next → IsWith held place e now
-    → IsBefore now by (by e) (rank e) None → AreThreads held by (set heads (by e) (get_or next place 0)) next
+    → IsLastBelow now by (by e) (rank e) None → AreThreads held by (set heads (by e) (get_or next place 0)) next
 cut_first held now by heads next place e threads less last = record {
   first = λ of within. elim (cases_eq of (by e)) [
     | inl same ↦
-        subst (λ (link : ℕ). LeadsTo held by of 0 (linked link)) (sym (ap (λ g. get_or (set heads (by e) (get_or next place 0)) g 0) same ∙ get_or-set_same heads (by e) (get_or next place 0) 0 (threads.groups place e less.filled)))
-        (subst (λ (g : ℕ). LeadsTo held by g 0 (linked (get_or next place 0))) (sym same)
+        subst (λ (link : ℕ). IsFirstThatFar held by of 0 (linked link)) (sym (ap (λ g. get_or (set heads (by e) (get_or next place 0)) g 0) same ∙ get_or-set_same heads (by e) (get_or next place 0) 0 (threads.groups place e less.filled)))
+        (subst (λ (g : ℕ). IsFirstThatFar held by g 0 (linked (get_or next place 0))) (sym same)
         (lower held by (by e) (rank e + 1) 0 (linked (get_or next place 0)) (omega arith)
         (λ j f m far. other_rank held now by heads next place e j f threads less m.here (last j f (member_now held now by (by e) place e j f less m)))
         (kept_without held now by (by e) (rank e + 1) place e (linked (get_or next place 0)) less (λ one far. absurd (omega arith)) (threads.follow place e less.filled))))
     | inr other ↦
-        subst (λ (link : ℕ). LeadsTo held by of 0 (linked link)) (sym (get_or-set_other heads (by e) of (get_or next place 0) 0 other))
+        subst (λ (link : ℕ). IsFirstThatFar held by of 0 (linked link)) (sym (get_or-set_other heads (by e) of (get_or next place 0) 0 other))
         (kept_without held now by of 0 place e (linked (get_or heads of 0)) less (λ same far. absurd (other (sym same)))
         (threads.first of (let len = length-set heads (by e) (get_or next place 0) in omega arith)))
   ];
@@ -460,7 +460,7 @@ cut_first held now by heads next place e threads less last = record {
 }
 
 pub cut_behind : (held now : ℕ → Option (ℕ × ℕ)) (by : (ℕ × ℕ) → ℕ) (heads next : List ℕ) (place : ℕ) (e : ℕ × ℕ) (p : ℕ) → AreThreads now by heads next → IsWith held place e now
-    → IsBefore now by (by e) (rank e) (Some p) → AreThreads held by heads (set next p (get_or next place 0))
+    → IsLastBelow now by (by e) (rank e) (Some p) → AreThreads held by heads (set next p (get_or next place 0))
 cut_behind held now by heads next place e p threads less last = record {
   first = λ of within. kept_without held now by of 0 place e (linked (get_or heads of 0)) less (λ same far. record {
     slot = p;
@@ -475,15 +475,15 @@ cut_behind held now by heads next place e p threads less last = record {
         let ranks : rank f ≡ rank last.pair = ap rank pair in
         let groups : by f ≡ by e = ap by pair ∙ last.member.belongs in
         let low = last.below in
-        subst (λ (link : ℕ). LeadsTo held by (by f) (rank f + 1) (linked link))
+        subst (λ (link : ℕ). IsFirstThatFar held by (by f) (rank f + 1) (linked link))
         (sym (ap (λ i. get_or (set next p (get_or next place 0)) i 0) at ∙ get_or-set_same next p (get_or next place 0) 0 (threads.inside p last.pair last.member.here)))
-        (subst (λ (g : ℕ). LeadsTo held by g (rank f + 1) (linked (get_or next place 0))) (sym groups)
+        (subst (λ (g : ℕ). IsFirstThatFar held by g (rank f + 1) (linked (get_or next place 0))) (sym groups)
         (lower held by (by e) (rank e + 1) (rank f + 1) (linked (get_or next place 0)) (omega arith)
         (λ j h m far. other_rank held now by heads next place e j h threads less m.here
         (not_below (rank h) (last.greatest j h (member_now held now by (by e) place e j h less m)) (omega arith)))
         (kept_without held now by (by e) (rank e + 1) place e (linked (get_or next place 0)) less (λ one far. absurd (omega arith)) (threads.follow place e less.filled))))
     | inr past_p ↦
-        subst (λ (link : ℕ). LeadsTo held by (by f) (rank f + 1) (linked link)) (sym (get_or-set_other next p k (get_or next place 0) 0 past_p))
+        subst (λ (link : ℕ). IsFirstThatFar held by (by f) (rank f + 1) (linked link)) (sym (get_or-set_other next p k (get_or next place 0) 0 past_p))
         (kept_without held now by (by f) (rank f + 1) place e (linked (get_or next k 0)) less
         (λ same far. lesser_held (by f) (rank f + 1) (passed_over now by heads next e p k f threads last now_here same far past_p))
         (threads.follow k f now_here))
@@ -513,7 +513,7 @@ cut_behind held now by heads next place e p threads less last = record {
     }
 
 pub cut_out : (held now : ℕ → Option (ℕ × ℕ)) (by : (ℕ × ℕ) → ℕ) (heads next : List ℕ) (place : ℕ) (e : ℕ × ℕ) (before : Option ℕ) → AreThreads now by heads next → IsWith held place e now
-    → IsBefore now by (by e) (rank e) before → AreThreads held by (heads_with heads (by e) before (get_or next place 0)) (next_with next before (get_or next place 0))
+    → IsLastBelow now by (by e) (rank e) before → AreThreads held by (heads_with heads (by e) before (get_or next place 0)) (next_with next before (get_or next place 0))
 cut_out held now by heads next place e None threads less last = cut_first held now by heads next place e threads less last
 cut_out held now by heads next place e (Some p) threads less last = cut_behind held now by heads next place e p threads less last
 
@@ -545,14 +545,14 @@ renamed held way other heads next made_heads made_next new_heads new_next ways h
     (subst (λ (xs : List ℕ). AreThreads held (group way (length heads)) xs new_next) (sym h)
     (subst (λ (xs : List ℕ). AreThreads held (group way (length heads)) made_heads xs) (sym n) threads)))
 
-before_same : (held : ℕ → Option (ℕ × ℕ)) (by : (ℕ × ℕ) → ℕ) (of r limit there : ℕ) (before : Option ℕ) → of ≡ there → r ≡ limit → IsBefore held by of r before → IsBefore held by there limit before
+before_same : (held : ℕ → Option (ℕ × ℕ)) (by : (ℕ × ℕ) → ℕ) (of r limit there : ℕ) (before : Option ℕ) → of ≡ there → r ≡ limit → IsLastBelow held by of r before → IsLastBelow held by there limit before
 before_same held by of r limit there before groups ranks last =
-    subst (λ (n : ℕ). IsBefore held by there n before) ranks (subst (λ (g : ℕ). IsBefore held by g r before) groups last)
+    subst (λ (n : ℕ). IsLastBelow held by there n before) ranks (subst (λ (g : ℕ). IsLastBelow held by g r before) groups last)
 
 pub put_fields : (held now : ℕ → Option (ℕ × ℕ)) (way other : Way) (heads next new_heads new_next : List ℕ) (place of r : ℕ) (e : ℕ × ℕ) (before : Option ℕ)
     → AreThreads held (group way (length heads)) heads next → IsWith held place e now → ((k : ℕ) → held k ≡ Some e → ⊥) → e.1 < 4294967296
     → place < length next → place < no_link → group way (length heads) e < length heads
-    → of ≡ group way (length heads) e → r ≡ rank e → IsBefore held (group way (length heads)) of r before
+    → of ≡ group way (length heads) e → r ≡ rank e → IsLastBelow held (group way (length heads)) of r before
     → new_heads ≡ heads_with heads of before place → new_next ≡ next_with (set next place (after heads next of before)) before place → other ≡ way
     → AreThreads now (group other (length new_heads)) new_heads new_next
 put_fields held now way other heads next new_heads new_next place of r e before threads more new fits inside small within groups ranks last h n ways =
@@ -566,7 +566,7 @@ put_fields held now way other heads next new_heads new_next place of r e before 
 
 pub cut_fields : (held now : ℕ → Option (ℕ × ℕ)) (way other : Way) (heads next new_heads new_next : List ℕ) (place of r link : ℕ) (e : ℕ × ℕ) (before : Option ℕ)
     → AreThreads now (group way (length heads)) heads next → IsWith held place e now
-    → of ≡ group way (length heads) e → r ≡ rank e → IsBefore now (group way (length heads)) of r before → link ≡ get_or next place 0
+    → of ≡ group way (length heads) e → r ≡ rank e → IsLastBelow now (group way (length heads)) of r before → link ≡ get_or next place 0
     → new_heads ≡ heads_with heads of before link → new_next ≡ next_with next before link → other ≡ way
     → AreThreads held (group other (length new_heads)) new_heads new_next
 cut_fields held now way other heads next new_heads new_next place of r link e before threads less groups ranks last links h n ways =
@@ -584,14 +584,14 @@ cut_fields held now way other heads next new_heads new_next place of r link e be
 in_front_held : (held : ℕ → Option (ℕ × ℕ)) (by : (ℕ × ℕ) → ℕ) (of limit k p : ℕ) → IsLast held by of limit p → held k ≡ None → k ≡ p → ⊥
 in_front_held held by of limit k p last none same = let some = last.member.here in let at = ap held same in cc
 
-pub put_others : (held : ℕ → Option (ℕ × ℕ)) (by : (ℕ × ℕ) → ℕ) (of limit : ℕ) (next now : List ℕ) (place behind link : ℕ) (before : Option ℕ) → IsBefore held by of limit before
+pub put_others : (held : ℕ → Option (ℕ × ℕ)) (by : (ℕ × ℕ) → ℕ) (of limit : ℕ) (next now : List ℕ) (place behind link : ℕ) (before : Option ℕ) → IsLastBelow held by of limit before
     → now ≡ next_with (set next place behind) before link → (k : ℕ) → held k ≡ None → (k ≡ place → ⊥) → get_or now k 0 ≡ get_or next k 0
 put_others held by of limit next now place behind link None last is k none off = ap (λ xs. get_or xs k 0) is ∙ get_or-set_other next place k behind 0 off
 put_others held by of limit next now place behind link (Some p) last is k none off =
     ap (λ xs. get_or xs k 0) is
     ∙ (get_or-set_other (set next place behind) p k link 0 (in_front_held held by of limit k p last none) ∙ get_or-set_other next place k behind 0 off)
 
-pub cut_others : (held : ℕ → Option (ℕ × ℕ)) (by : (ℕ × ℕ) → ℕ) (of limit : ℕ) (next now : List ℕ) (link : ℕ) (before : Option ℕ) → IsBefore held by of limit before
+pub cut_others : (held : ℕ → Option (ℕ × ℕ)) (by : (ℕ × ℕ) → ℕ) (of limit : ℕ) (next now : List ℕ) (link : ℕ) (before : Option ℕ) → IsLastBelow held by of limit before
     → now ≡ next_with next before link → (k : ℕ) → held k ≡ None → get_or now k 0 ≡ get_or next k 0
 cut_others held by of limit next now link None last is k none = ap (λ xs. get_or xs k 0) is
 cut_others held by of limit next now link (Some p) last is k none =
@@ -601,7 +601,7 @@ cut_others held by of limit next now link (Some p) last is k none =
 pub link_aside : (held : ℕ → Option (ℕ × ℕ)) (by : (ℕ × ℕ) → ℕ) (heads next : List ℕ) (place link : ℕ) → AreThreads held by heads next → held place ≡ None → AreThreads held by heads (set next place link)
 link_aside held by heads next place link threads none = record {
   first = threads.first;
-  follow = λ k e here. subst (λ (l : ℕ). LeadsTo held by (by e) (rank e + 1) (linked l))
+  follow = λ k e here. subst (λ (l : ℕ). IsFirstThatFar held by (by e) (rank e + 1) (linked l))
       (sym (get_or-set_other next place k link 0 (λ same. let at = ap held same in absurd (cc)))) (threads.follow k e here);
   groups = threads.groups;
   inside = λ k e here. let len = length-set next place link in let old = threads.inside k e here in omega arith;

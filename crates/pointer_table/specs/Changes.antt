@@ -24,4 +24,5 @@ pub record IsSlotSector (t : Table) (patch : Patch) : Type 0 where
 -- where an image has the slots of the table as it was, with the patch it has those of the table as it is
 abbrev pub KeepsStored : Table → Table → Patch → Type 0
 KeepsStored old new patch =
-    (x : Image) → IsStored old.slots old.geometry x → IsStored new.slots new.geometry (put_at patch.sector patch.bytes x)
+    (x : Image) → IsStored old.slots old.geometry x
+    → IsStored new.slots new.geometry (put_at patch.sector patch.bytes x)

@@ -25,7 +25,7 @@ pub record IsIndex (held : ℕ → Option (ℕ × ℕ)) (x : Index) : Type 0 whe
   pub buckets : IsThreadedBy way.Bucket held x.by_bucket
 
 -- there is a head for each block, and a link for each slot
-pub record HasRoom (blocks slots : ℕ) (x : Index) : Type 0 where
+pub record HasLinksAndHeads (blocks slots : ℕ) (x : Index) : Type 0 where
   pub sources : length x.by_source.heads ≡ blocks
   pub targets : length x.by_target.heads ≡ blocks
   pub by_source : length x.by_source.next ≡ slots

@@ -1,5 +1,6 @@
 -- What the slots of an image say, right or not.
-use Rattle.std.specs.Prelude.{◌≡◌, ℕ, ◌<◌, ◌==◌, ◌&&◌, ◌||◌, not, nat_lt, nat_le, Bool, false, Result, Ok, Err, IsTrue, ⊤}
+use Rattle.std.specs.Prelude.{◌≡◌, ℕ, ◌<◌, ◌==◌, ◌&&◌, ◌||◌, not, nat_lt, nat_le, Bool, false, Result, Ok, Err, IsTrue}
+use Rattle.std.specs.Prelude.{⊤}
 use Rattle.tsd_model.specs.declared.geometry.Geometry.{Geometry}
 use Rattle.tsd_model.specs.Pairs.{pair_lt}
 use Rattle.image_layout.specs.Image.{Image, source_field, target_field}
@@ -9,7 +10,8 @@ use Rattle.pointer_table.specs.Sectors.{stored_slot, IsStored}
 use Rattle.pointer_table.specs.declared.fault.TableFault.{TableFault}
 use Rattle.pointer_table.specs.declared.fault.TableFault.TheVariants as fault
 
--- A slot with these two numbers is bad: it isn't empty, and its source is no block, or its target is no block or is primary.
+-- A slot with these two numbers is bad: it isn't empty, and its source is no block, or its target is no block or is
+-- primary.
 abbrev pub is_bad : Geometry → ℕ → ℕ → Bool
 is_bad g source target =
     not (source == 0) && (nat_lt g.blocks source || nat_le g.blocks target || nat_lt target g.primaries)
@@ -18,7 +20,7 @@ abbrev pub is_bad_at : Image → Geometry → ℕ → Bool
 is_bad_at image g k = is_bad g (source_field image g k) (target_field image g k)
 
 -- this is the least bad slot, and these are its two numbers
-pub record IsLeastBad (image : Image) (g : Geometry) (k source target : ℕ) : Type 0 where
+pub record IsLeastBadSlot (image : Image) (g : Geometry) (k source target : ℕ) : Type 0 where
   pub inside : k < g.slots
   pub source_is : source ≡ source_field image g k
   pub target_is : target ≡ target_field image g k
@@ -44,19 +46,19 @@ pub record IsLoaded (image : Image) (g : Geometry) (t : Table) : Type 0 where
   pub none_repeated : (e : ℕ × ℕ) → ¬ IsRepeatedOn image g e
   pub stored : IsStored t.slots g image
 
--- What a loading answers. Where neither memory nor the device is at fault, each answer comes exactly where its line holds,
--- since no two of them hold together.
+-- What a loading answers. Where neither memory nor the device is at fault, each answer comes exactly where its line
+-- holds, since no two of them hold together.
 abbrev pub AnswersPointers : Image → Geometry → Result Table TableFault → Type 0
 AnswersPointers image g (Ok t) = IsLoaded image g t
 AnswersPointers image g (Err fault.NoMemory) = ⊤
 AnswersPointers image g (Err fault.Device) = ⊤
-AnswersPointers image g (Err (fault.Slot k source target)) = IsLeastBad image g k source target
+AnswersPointers image g (Err (fault.Slot k source target)) = IsLeastBadSlot image g k source target
 AnswersPointers image g (Err (fault.Repeated a b)) = HasNoBad image g × IsLeastRepeated image g (a, b)
 
 -- neither memory nor the device was at fault
-abbrev pub IsJudged : Result Table TableFault → Type 0
-IsJudged (Ok t) = ⊤
-IsJudged (Err fault.NoMemory) = ⊥
-IsJudged (Err fault.Device) = ⊥
-IsJudged (Err (fault.Slot k source target)) = ⊤
-IsJudged (Err (fault.Repeated a b)) = ⊤
+abbrev pub WasDecided : Result Table TableFault → Type 0
+WasDecided (Ok t) = ⊤
+WasDecided (Err fault.NoMemory) = ⊥
+WasDecided (Err fault.Device) = ⊥
+WasDecided (Err (fault.Slot k source target)) = ⊤
+WasDecided (Err (fault.Repeated a b)) = ⊤

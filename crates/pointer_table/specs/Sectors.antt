@@ -1,5 +1,6 @@
 -- The slots as the sectors of an image have them.
-use Rattle.std.specs.Prelude.{◌≡◌, ◌⊎◌, ℕ, zero, suc, ◌+◌, ◌-◌, ◌*◌, ◌/◌, ◌<◌, ◌==◌, if◌then◌else◌, List, [], ◌++◌, length, replicate, Option, Some, None}
+use Rattle.std.specs.Prelude.{◌≡◌, ◌⊎◌, ℕ, zero, suc, ◌+◌, ◌-◌, ◌*◌, ◌/◌, ◌<◌, ◌==◌, if◌then◌else◌, List, [], ◌++◌}
+use Rattle.std.specs.Prelude.{length, replicate, Option, Some, None}
 use Rattle.byteorder.specs.Endian.{little_bytes}
 use Rattle.tsd_model.specs.declared.geometry.Geometry.{Geometry}
 use Rattle.image_layout.specs.Image.{Image, source_field, target_field}
@@ -49,8 +50,8 @@ abbrev pub AreWritten : List (Option (ℕ × ℕ)) → Geometry → Image → Ty
 AreWritten slots g image =
     (part : ℕ) → slots_start g + part < data_start g → image (slots_start g + part) ≡ slot_sector_bytes slots part
 
--- From image x, where the slots were `slots`, to image y, where they are `now`: each slot's sector is patched, or it is as
--- before and the slot didn't change.
+-- From image x, where the slots were `slots`, to image y, where they are `now`: each slot's sector is patched, or it is
+-- as before and the slot didn't change.
 abbrev pub ArePatched : List (Option (ℕ × ℕ)) → List (Option (ℕ × ℕ)) → Geometry → Image → Image → Type 0
 ArePatched slots now g x y =
     (k : ℕ) → k < g.slots

@@ -14,18 +14,18 @@ abbrev pub pairs : Table → List (ℕ × ℕ)
 pairs t = pairs_in t.slots
 
 -- the pair may be held: its source is a block, and its target is a block that isn't primary
-abbrev pub IsWithin : Geometry → (ℕ × ℕ) → Type 0
-IsWithin g e = (e.0 < g.blocks) × (g.primaries ≤ e.1) × (e.1 < g.blocks)
+abbrev pub MayBeHeld : Geometry → (ℕ × ℕ) → Type 0
+MayBeHeld g e = (e.0 < g.blocks) × (g.primaries ≤ e.1) × (e.1 < g.blocks)
 
 -- There are as many slots as the geometry says. No slot is bad, and no pair stands in two.
 pub record IsTable (t : Table) : Type 0 where
   pub lawful : IsLawful t.geometry
   pub count : length t.slots ≡ t.geometry.slots
-  pub ends : (k : ℕ) (e : ℕ × ℕ) → slot_at t.slots k ≡ Some e → IsWithin t.geometry e
+  pub ends : (k : ℕ) (e : ℕ × ℕ) → slot_at t.slots k ≡ Some e → MayBeHeld t.geometry e
   pub apart : (i j : ℕ) (e : ℕ × ℕ) → slot_at t.slots i ≡ Some e → slot_at t.slots j ≡ Some e → i ≡ j
 
 -- what follows of the pairs of a table
 pub record ArePairs (t : Table) : Type 0 where
   pub rising : IsTrue (is_rising (pairs t))
-  pub ends : (a b : ℕ) → IsTrue (holds (pairs t) a b) → IsWithin t.geometry (a, b)
+  pub ends : (a b : ℕ) → IsTrue (holds (pairs t) a b) → MayBeHeld t.geometry (a, b)
   pub room : length (pairs t) ≤ t.geometry.slots

@@ -5,16 +5,18 @@
 --                             slot 9 holds (7, 5)  ─────────▶  none
 --
 -- The pairs in the slots are grouped three ways: those of one source, those of one target, and those that a mix of both
--- numbers sends to one bucket. Each way has a head for each group and a link behind each slot. A head leads to the first pair
--- of its group, and the link behind a pair leads to the next one of its group, ascending: that is the invariant, said of each
--- head and each link alone. Where an ascending walk through a group stands is therefore known without the walk. A pair is
--- looked for in its bucket, the targets of a source and the sources of a target in their groups. A walk to a place in a group
--- begins near it: two searches take turns, up from the head of the group and down from the number that is sought, by the
--- buckets, and the first that finds a pair of the group below the place ends both. What they find is a guess, of which no word
--- is said here. The empty slots are linked to a list (Empties.antt).
+-- numbers sends to one bucket. Each way has a head for each group and a link behind each slot. A head leads to the
+-- first pair of its group, and the link behind a pair leads to the next one of its group, ascending: that is the
+-- invariant, said of each head and each link alone. Where an ascending walk through a group stands is therefore known
+-- without the walk. A pair is looked for in its bucket, the targets of a source and the sources of a target in their
+-- groups. A walk to a place in a group begins near it: two searches take turns, up from the head of the group and down
+-- from the number that is sought, by the buckets, and the first that finds a pair of the group below the place ends
+-- both. What they find is a guess, of which no word is said here. The empty slots are linked to a list (Empties.antt).
 --
--- Slots are given as a function from their numbers, so that the same words serve for slots of which some are threaded only.
-use Rattle.std.specs.Prelude.{◌≡◌, ℕ, ◌+◌, ◌*◌, ◌/◌, ◌%◌, ◌^◌, ◌<◌, ◌≤◌, ◌==◌, nat_lt, cond, Bool, false, List, length, slice_index_or, slice_set, Option, Some, None, ⊤}
+-- Slots are given as a function from their numbers, so that the same words serve for slots of which some are threaded
+-- only.
+use Rattle.std.specs.Prelude.{◌≡◌, ℕ, ◌+◌, ◌*◌, ◌/◌, ◌%◌, ◌^◌, ◌<◌, ◌≤◌, ◌==◌, nat_lt, cond, Bool, false, List, length}
+use Rattle.std.specs.Prelude.{slice_index_or, slice_set, Option, Some, None, ⊤}
 use Rattle.pointer_table.specs.declared.way.Way.{Way}
 use Rattle.pointer_table.specs.declared.way.Way.TheVariants as way
 
@@ -63,16 +65,16 @@ abbrev pub linked : ℕ → Option ℕ
 linked link = cond (link == no_link) None (Some link)
 
 -- slot k holds the first pair of the group whose rank isn't below `from`
-pub record IsFirst (held : ℕ → Option (ℕ × ℕ)) (by : (ℕ × ℕ) → ℕ) (of from k : ℕ) : Type 0 where
+pub record IsFirstFrom (held : ℕ → Option (ℕ × ℕ)) (by : (ℕ × ℕ) → ℕ) (of from k : ℕ) : Type 0 where
   pub pair : ℕ × ℕ
   pub member : IsMember held by of k pair
   pub above : from ≤ rank pair
   pub least : (j : ℕ) (f : ℕ × ℕ) → IsMember held by of j f → from ≤ rank f → rank pair ≤ rank f
 
 -- that slot, None exactly where no pair of the group is that far
-abbrev pub LeadsTo : (ℕ → Option (ℕ × ℕ)) → ((ℕ × ℕ) → ℕ) → ℕ → ℕ → Option ℕ → Type 0
-LeadsTo held by of from None = (j : ℕ) (f : ℕ × ℕ) → IsMember held by of j f → rank f < from
-LeadsTo held by of from (Some k) = IsFirst held by of from k
+abbrev pub IsFirstThatFar : (ℕ → Option (ℕ × ℕ)) → ((ℕ × ℕ) → ℕ) → ℕ → ℕ → Option ℕ → Type 0
+IsFirstThatFar held by of from None = (j : ℕ) (f : ℕ × ℕ) → IsMember held by of j f → rank f < from
+IsFirstThatFar held by of from (Some k) = IsFirstFrom held by of from k
 
 -- slot k holds the last pair of the group whose rank is below the limit
 pub record IsLast (held : ℕ → Option (ℕ × ℕ)) (by : (ℕ × ℕ) → ℕ) (of limit k : ℕ) : Type 0 where
@@ -82,9 +84,9 @@ pub record IsLast (held : ℕ → Option (ℕ × ℕ)) (by : (ℕ × ℕ) → �
   pub greatest : (j : ℕ) (f : ℕ × ℕ) → IsMember held by of j f → rank f < limit → rank f ≤ rank pair
 
 -- that slot, None exactly where no pair of the group is below the limit
-abbrev pub IsBefore : (ℕ → Option (ℕ × ℕ)) → ((ℕ × ℕ) → ℕ) → ℕ → ℕ → Option ℕ → Type 0
-IsBefore held by of limit None = (j : ℕ) (f : ℕ × ℕ) → IsMember held by of j f → limit ≤ rank f
-IsBefore held by of limit (Some k) = IsLast held by of limit k
+abbrev pub IsLastBelow : (ℕ → Option (ℕ × ℕ)) → ((ℕ × ℕ) → ℕ) → ℕ → ℕ → Option ℕ → Type 0
+IsLastBelow held by of limit None = (j : ℕ) (f : ℕ × ℕ) → IsMember held by of j f → limit ≤ rank f
+IsLastBelow held by of limit (Some k) = IsLast held by of limit k
 
 -- a slot of the group whose pair is below the limit, or none
 abbrev pub IsNear : (ℕ → Option (ℕ × ℕ)) → ((ℕ × ℕ) → ℕ) → ℕ → ℕ → Option ℕ → Type 0
@@ -96,8 +98,9 @@ IsNear held by of limit (Some k) = (e : ℕ × ℕ) × (IsMember held by of k e 
 -- Each head leads to the first pair of its group, and the link behind each pair to the next one of its group.
 -- Groups and slots are within, targets fit, and no pair stands in two slots.
 pub record AreThreads (held : ℕ → Option (ℕ × ℕ)) (by : (ℕ × ℕ) → ℕ) (heads next : List ℕ) : Type 0 where
-  pub first : (of : ℕ) → of < length heads → LeadsTo held by of 0 (linked (slice_index_or heads of 0))
-  pub follow : (k : ℕ) (e : ℕ × ℕ) → held k ≡ Some e → LeadsTo held by (by e) (rank e + 1) (linked (slice_index_or next k 0))
+  pub first : (of : ℕ) → of < length heads → IsFirstThatFar held by of 0 (linked (slice_index_or heads of 0))
+  pub follow : (k : ℕ) (e : ℕ × ℕ) → held k ≡ Some e
+      → IsFirstThatFar held by (by e) (rank e + 1) (linked (slice_index_or next k 0))
   pub groups : (k : ℕ) (e : ℕ × ℕ) → held k ≡ Some e → by e < length heads
   pub inside : (k : ℕ) (e : ℕ × ℕ) → held k ≡ Some e → k < length next
   pub fits : (k : ℕ) (e : ℕ × ℕ) → held k ≡ Some e → e.1 < 4294967296

@@ -5,7 +5,7 @@ ghost use Rattle.std.specs.Prelude.{Option, Some, None, IfOk, OnOk, IfErr};
 ghost use Rattle.tsd_model.specs.Geometry.{IsLawful};
 ghost use Rattle.tsd_model.specs.Next.{IsNextSource, IsNextTarget};
 ghost use Rattle.pointer_table.specs.Empties.{AreEmpties};
-ghost use Rattle.pointer_table.specs.Indexed.{IsIndex, HasRoom, IsPlaceOf, source_of, target_of};
+ghost use Rattle.pointer_table.specs.Indexed.{IsIndex, HasLinksAndHeads, IsPlaceOf, source_of, target_of};
 ghost use Rattle.pointer_table.specs.Raw.{slots_in};
 ghost use Rattle.pointer_table.specs.Reading.{AreWithinTo};
 ghost use Rattle.pointer_table.specs.Repeating.{IsRefusal};
@@ -89,7 +89,7 @@ impl Index {
         requires within { AreWithinTo geometry.now geometry.now.slots (slots_in slots.now) }
         ensures none { OnOk result (IsLeastOfAll (slots_in slots.now) None) }
         ensures index { IfOk result (IsIndex (slot_at (slots_in slots.now))) }
-        ensures room { IfOk result (HasRoom geometry.now.blocks geometry.now.slots) }
+        ensures room { IfOk result (HasLinksAndHeads geometry.now.blocks geometry.now.slots) }
         ensures empties { IfOk result (λ x. AreEmpties (slots_in slots.now) (count_by is_some (slots_in slots.now))
             x.empty x.by_bucket.next) }
         ensures err { IfErr result (IsRefusal (slots_in slots.now)) }
@@ -211,7 +211,7 @@ impl Index {
     /// Threads the pair that an empty slot is to hold.
     pub(crate) fn add(&mut self, slots: &[RawSlot], place: u32, source: u32, target: u32)
         requires index { IsIndex (slot_at (slots_in slots.now)) self.old }
-        requires room { HasRoom (length self.old.by_source.heads) (length slots.now) self.old }
+        requires room { HasLinksAndHeads (length self.old.by_source.heads) (length slots.now) self.old }
         requires source { source < length self.old.by_source.heads }
         requires target { target < length self.old.by_source.heads }
         requires inside { place < length slots.now }
@@ -220,7 +220,8 @@ impl Index {
         requires absent { (k : ℕ) → slot_at (slots_in slots.now) k ≡ Some (source, target) → ⊥ }
         ensures index { (now : ℕ → Option (ℕ × ℕ)) → IsWith (slot_at (slots_in slots.now)) place
             (source, target) now → IsIndex now self.new }
-        ensures room { (blocks places : ℕ) → HasRoom blocks places self.old → HasRoom blocks places self.new }
+        ensures room { (blocks places : ℕ) → HasLinksAndHeads blocks places self.old
+            → HasLinksAndHeads blocks places self.new }
         ensures empty { self.new.empty ≡ self.old.empty }
         ensures empties { (k : ℕ) → slot_at (slots_in slots.now) k ≡ None → (k ≡ place → ⊥)
             → slice_index_or self.new.by_bucket.next k 0 ≡ slice_index_or self.old.by_bucket.next k 0 }
@@ -240,7 +241,8 @@ impl Index {
         requires held { slot_at (slots_in slots.now) place ≡ Some (source, target) }
         ensures index { (left : ℕ → Option (ℕ × ℕ))
             → IsWith left place (source, target) (slot_at (slots_in slots.now)) → IsIndex left self.new }
-        ensures room { (blocks places : ℕ) → HasRoom blocks places self.old → HasRoom blocks places self.new }
+        ensures room { (blocks places : ℕ) → HasLinksAndHeads blocks places self.old
+            → HasLinksAndHeads blocks places self.new }
         ensures empty { self.new.empty ≡ self.old.empty }
         ensures empties { (k : ℕ) → slot_at (slots_in slots.now) k ≡ None
             → slice_index_or self.new.by_bucket.next k 0 ≡ slice_index_or self.old.by_bucket.next k 0 }
@@ -275,7 +277,8 @@ impl Index {
         ensures next { self.new.by_bucket.next ≡ slice_set self.old.by_bucket.next place self.old.empty }
         ensures index { (held : ℕ → Option (ℕ × ℕ)) → held place ≡ None → IsIndex held self.old
             → IsIndex held self.new }
-        ensures room { (blocks places : ℕ) → HasRoom blocks places self.old → HasRoom blocks places self.new }
+        ensures room { (blocks places : ℕ) → HasLinksAndHeads blocks places self.old
+            → HasLinksAndHeads blocks places self.new }
     {
         self.by_bucket.link_empty(place, self.empty);
         self.empty = place;

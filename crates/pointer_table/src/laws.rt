@@ -4,7 +4,7 @@ ghost use Rattle.std.specs.Prelude.{◌≡◌, ℕ, List, map, Option, Result};
 ghost use Rattle.std.specs.List.{range_with_len};
 ghost use Rattle.image_device.specs.Agreeing.{AgreeWithin};
 ghost use Rattle.image_layout.specs.Areas.{slots_start, data_start};
-ghost use Rattle.pointer_table.specs.Loading.{IsJudged, AnswersPointers};
+ghost use Rattle.pointer_table.specs.Loading.{WasDecided, AnswersPointers};
 ghost use Rattle.pointer_table.specs.Sectors.{stored_slot, ArePatched, IsStored};
 ghost use Rattle.pointer_table.specs.Table.{Table, IsTable};
 ghost use Rattle.pointer_table.specs.declared.fault.TableFault.{TableFault};
@@ -13,7 +13,7 @@ ghost use Rattle.tsd_model.specs.declared.geometry.Geometry.{Geometry};
 /// The slots of an image have one answer, where neither memory nor the device is at fault.
 pub fn loadings_are_one()
     ensures { (image : ℕ → List ℕ) (g : Geometry) (one other : Result Table TableFault)
-        → IsJudged one → IsJudged other
+        → WasDecided one → WasDecided other
         → AnswersPointers image g one → AnswersPointers image g other → one ≡ other }
 {}
 

@@ -6,7 +6,7 @@ ghost use Rattle.image_device.specs.Calls.{Rests, Uses};
 ghost use Rattle.image_device.specs.Counts.{CountsFaultOf};
 ghost use Rattle.pointer_table.specs.Loading.{is_bad};
 ghost use Rattle.pointer_table.specs.Raw.{slots_in};
-ghost use Rattle.pointer_table.specs.Reading.{IsReading, IsTaking, AreWithinTo, TakesWithin};
+ghost use Rattle.pointer_table.specs.Reading.{IsSlotReading, IsTaking, AreWithinTo, TakesWithin};
 ghost use Rattle.tsd_model.specs.Geometry.{IsLawful};
 
 use crate::fault::TableFault;
@@ -84,7 +84,7 @@ pub(crate) fn read_slots<D: Device>(
 ) -> Result<(), TableFault>
     requires lawful { IsLawful geometry.now }
     requires all { length slots.old ≡ geometry.now.slots }
-    ensures read { D.told → IsReading (D.view dev.old).reads geometry.now (slots_in slots.new) result }
+    ensures read { D.told → IsSlotReading (D.view dev.old).reads geometry.now (slots_in slots.new) result }
     ensures within { OnOk result (AreWithinTo geometry.now geometry.now.slots (slots_in slots.new)) }
     ensures rests { D.told → Rests (D.view dev.old) (D.view dev.new) }
     ensures uses { Uses 0 (D.view dev.old) (D.view dev.new) }

@@ -15,7 +15,7 @@ ghost use Rattle.pointer_table.specs.Reading.{AreWithinTo};
 ghost use Rattle.pointer_table.specs.Repeating.{IsRepeating};
 ghost use Rattle.pointer_table.specs.Sectors.{sector_of, slot_sector_bytes};
 ghost use Rattle.pointer_table.specs.Slots.{slot_at};
-ghost use Rattle.pointer_table.specs.Table.{pairs, IsWithin, IsTable, ArePairs};
+ghost use Rattle.pointer_table.specs.Table.{pairs, MayBeHeld, IsTable, ArePairs};
 
 use crate::fault::{NoPointer, TableFault, TableFull};
 use crate::index::Index;
@@ -44,7 +44,7 @@ pub struct PointerTable {
 impl Model for PointerTable {
     ghost use Rattle.std.specs.Prelude.{◌≡◌, length};
     ghost use Rattle.pointer_table.specs.Empties.{AreEmpties};
-    ghost use Rattle.pointer_table.specs.Indexed.{IsIndex, HasRoom};
+    ghost use Rattle.pointer_table.specs.Indexed.{IsIndex, HasLinksAndHeads};
     ghost use Rattle.pointer_table.specs.Raw.{slots_in};
     ghost use Rattle.pointer_table.specs.Slots.{slot_at};
     ghost use Rattle.pointer_table.specs.Table.{Table, pairs, IsTable};
@@ -58,7 +58,7 @@ impl Model for PointerTable {
         × (t.held ≡ length (pairs (record { geometry = t.geometry; slots = slots_in t.slots.items })))
         × AreEmpties (slots_in t.slots.items) t.held t.index.empty t.index.by_bucket.next
         × IsIndex (slot_at (slots_in t.slots.items)) t.index
-        × HasRoom t.geometry.blocks t.geometry.slots t.index };
+        × HasLinksAndHeads t.geometry.blocks t.geometry.slots t.index };
 }
 
 impl PointerTable {
@@ -157,7 +157,7 @@ impl PointerTable {
     /// Holds a pair that isn't held, in an empty slot, and gives the sector of that slot as it now must read.
     pub fn add(&mut self, source: u32, target: u32) -> Result<Patch, TableFull>
         requires absent { holds (pairs self.old) source target ≡ false }
-        requires within { IsWithin self.old.geometry (source, target) }
+        requires within { MayBeHeld self.old.geometry (source, target) }
         ensures full { IsErr result ↔ (length (pairs self.old) ≡ self.old.geometry.slots) }
         ensures unchanged { OnErr result (self.new ≡ self.old) }
         ensures pairs { OnOk result (pairs self.new ≡ with_pair (source, target) (pairs self.old)) }
@@ -215,7 +215,7 @@ impl PointerTable {
     fn put(&mut self, source: u32, target: u32) -> Patch
         requires room { length (pairs self.old) < self.old.geometry.slots }
         requires absent { holds (pairs self.old) source target ≡ false }
-        requires within { IsWithin self.old.geometry (source, target) }
+        requires within { MayBeHeld self.old.geometry (source, target) }
         ensures change { IsChange self.old self.new None (Some (source, target)) result }
         ensures sector { IsSlotSector self.old result }
         ensures stored { KeepsStored self.old self.new result }

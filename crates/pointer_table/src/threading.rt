@@ -10,7 +10,7 @@ ghost use Rattle.pointer_table.specs.Reading.{AreWithinTo};
 ghost use Rattle.pointer_table.specs.Repeating.{IsRefusal};
 ghost use Rattle.pointer_table.specs.Repeats.{IsLeastOfAll};
 ghost use Rattle.pointer_table.specs.Slots.{slot_at};
-ghost use Rattle.pointer_table.specs.Table.{IsWithin, IsTable};
+ghost use Rattle.pointer_table.specs.Table.{MayBeHeld, IsTable};
 ghost use Rattle.pointer_table.specs.Threads.{group};
 
 use crate::fault::TableFault;
@@ -33,7 +33,7 @@ fn by_order(
 ) -> Result<Threads, TableFault>
     requires table { IsTable (record { geometry = geometry.now; slots = slots_in slots.now }) }
     requires order { IsOrder (slots_in slots.now) order.now }
-    requires groups { (n : ℕ) (e : ℕ × ℕ) → IsWithin geometry.now e → group way n e < geometry.now.blocks }
+    requires groups { (n : ℕ) (e : ℕ × ℕ) → MayBeHeld geometry.now e → group way n e < geometry.now.blocks }
     ensures threads { IfOk result (IsThreadedBy way (slot_at (slots_in slots.now))) }
     ensures groups { IfOk result (λ t. length t.heads ≡ geometry.now.blocks) }
     ensures slots { IfOk result (λ t. length t.next ≡ geometry.now.slots) }

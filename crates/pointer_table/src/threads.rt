@@ -6,7 +6,7 @@ ghost use Rattle.pointer_table.specs.Indexed.{AreThreadsOf};
 ghost use Rattle.pointer_table.specs.Raw.{slots_in};
 ghost use Rattle.pointer_table.specs.Slots.{slot_at};
 ghost use Rattle.pointer_table.specs.Threads.{rank, is_below, group, linked, no_link, after, heads_with, next_with};
-ghost use Rattle.pointer_table.specs.Threads.{LeadsTo, IsBefore, IsBelowAll, IsNear, IsWith};
+ghost use Rattle.pointer_table.specs.Threads.{IsFirstThatFar, IsLastBelow, IsBelowAll, IsNear, IsWith};
 
 use crate::fault::TableFault;
 use crate::links::{Links, NO_LINK};
@@ -136,7 +136,7 @@ impl Threads {
     fn before(&self, slots: &[RawSlot], of: usize, limit: u64, near: u32) -> Option<u32>
         requires group { of < length self.now.heads }
         requires threads { AreThreadsOf (slot_at (slots_in slots.now)) self.now }
-        ensures { IsBefore (slot_at (slots_in slots.now)) (group self.now.way (length self.now.heads)) of limit
+        ensures { IsLastBelow (slot_at (slots_in slots.now)) (group self.now.way (length self.now.heads)) of limit
             result }
     {
         let mut before = self.near(slots, of, limit, near);
@@ -152,7 +152,7 @@ impl Threads {
     pub(crate) fn first(&self, slots: &[RawSlot], of: usize, from: u64, near: u32) -> Option<u32>
         requires group { of < length self.now.heads }
         requires threads { AreThreadsOf (slot_at (slots_in slots.now)) self.now }
-        ensures { LeadsTo (slot_at (slots_in slots.now)) (group self.now.way (length self.now.heads)) of from
+        ensures { IsFirstThatFar (slot_at (slots_in slots.now)) (group self.now.way (length self.now.heads)) of from
             result }
     {
         let before = self.before(slots, of, from, near);

@@ -39,7 +39,7 @@ use Rattle.disk_laws.proofs.RunLaws.{answer_valid, answer_fits, answer_geometry}
 use Rattle.reach_laws.specs.Confidentiality.{AlikeBut, is_known, shows_known, is_of, reads_hidden, still_hidden}
 use Rattle.reach_laws.specs.Integrity.{acts_with_write, moves_pointers}
 use Rattle.reach_laws.specs.Region.{IsShutOff, keeps_to, LeavesShut, left_of}
-use Rattle.reach_laws.specs.ByAccess.{IsOutOfReach, IsAsItWas}
+use Rattle.reach_laws.specs.ByAccess.{IsOutOfReach, BlockIsAsItWas}
 use Rattle.reach_laws.proofs.ConfidentialityLaws.{replies_hide_bytes, hidden_bytes_stay_hidden}
 use Rattle.reach_laws.proofs.ConfinementLaws.{closed_holds_nothing, none_is_open_at_rest}
 use Rattle.reach_laws.proofs.IntegrityLaws.{bytes_have_a_writer, pointers_have_a_writer, records_have_a_writer}
@@ -136,7 +136,7 @@ record IsKept (w : World) (region : ℕ → Bool) (st : State) : Type 0 where
   fits : Fits st.world st.sessions
   geometry : st.world.geometry ≡ w.geometry
   shut : IsShutOff (known_by w region) region all st
-  same : (b : ℕ) → region b ≡ true → IsAsItWas w st.world b
+  same : (b : ℕ) → region b ≡ true → BlockIsAsItWas w st.world b
 
 module _ (kind : PlaceKind) (w : World) (region : ℕ → Bool) (reached : (b : ℕ) → region b ≡ true → has_number (reach w) b ≡ true) (pointers : (a b : ℕ) → holds w.pairs a b ≡ true → region b ≡ true → region a ≡ true)
     (s : State) (kept : IsKept w region s) (q : Request) (want : Bool) (keeps : keeps_to (known_by w region) all q ≡ true) where
@@ -195,7 +195,7 @@ module _ (kind : PlaceKind) (w : World) (region : ℕ → Bool) (reached : (b : 
         shown = λ o c here k. shut.shown o c (left_is o here) k;
       }
 
-  same_next : (b : ℕ) → region b ≡ true → IsAsItWas w next.world b
+  same_next : (b : ℕ) → region b ≡ true → BlockIsAsItWas w next.world b
   same_next b here = record {
     bytes = bytes_have_a_writer kind s q want b (kept.shut.live b here) (lives b here) (ap (λ t. writes_to q b && t) (none_writes b here) ∙ and_false (writes_to q b)) ∙ (kept.same b here).bytes;
     caps = records_have_a_writer kind s q want b (ap (λ t. is_set_cap_of q b && t) (none_writes b here) ∙ and_false (is_set_cap_of q b)) ∙ (kept.same b here).caps;
@@ -285,7 +285,7 @@ kept_at_rest w valid qs region out = record {
     none : level.Read ≡ level.Bare → ⊥
     none e = cc
 
-pub unreached_stays : (kind : PlaceKind) (w : World) (wants : List Bool) (qs : List Request) → IsValid w → (region : ℕ → Bool) → IsOutOfReach w qs region → (b : ℕ) → IsTrue (region b) → IsAsItWas w (after kind (at_rest w) wants qs).world b
+pub unreached_stays : (kind : PlaceKind) (w : World) (wants : List Bool) (qs : List Request) → IsValid w → (region : ℕ → Bool) → IsOutOfReach w qs region → (b : ℕ) → IsTrue (region b) → BlockIsAsItWas w (after kind (at_rest w) wants qs).world b
 unreached_stays kind w wants qs valid region out b here = (run_kept kind w region out.reached out.pointers (at_rest w) (kept_at_rest w valid qs region out) wants qs out.shown).same b here
 
 pub unreached_is_hidden : (kind : PlaceKind) (w : World) (wants : List Bool) (qs : List Request) → IsValid w → (region : ℕ → Bool) → IsOutOfReach w qs region → (u : World) → AlikeBut region (at_rest w) (at_rest u)

@@ -26,7 +26,7 @@ use Rattle.disk_laws.proofs.AttainedLaws.{attained_by_history}
 use Rattle.disk_laws.proofs.NeedLaws.{granted_needs_met, met_everywhere}
 use Rattle.reach_laws.specs.Runs.{at_some_request}
 use Rattle.reach_laws.specs.Integrity.{attains_write, acts_with_write, writes_bytes, sets_record, moves_pointers, gives_pointer, removes_blocks}
-use Rattle.reach_laws.specs.ByAccess.{MayWrite, HasWriter, StaysLive}
+use Rattle.reach_laws.specs.ByAccess.{AttainsWrite, HasWriter, StaysLive}
 use Rattle.reach_laws.proofs.IntegrityLaws.{run_bytes_have_a_writer, run_pointers_have_a_writer, run_records_have_a_writer, run_new_pointers_have_a_giver, run_blocks_have_a_remover}
 
 -- ---- the request of a run that passes a test
@@ -95,12 +95,12 @@ all_from p P each (n ∷ ns) h = let parts = and_parts (p n) (list_all p ns) h i
 
 module _ (kind : PlaceKind) (w : World) (wants : List Bool) (valid : IsValid w) where
   may_write : (qs : List Request) (q : Request) → is_granted (after kind (at_rest w) wants qs).world (after kind (at_rest w) wants qs).sessions q ≡ true → (n : NeedsWrite q)
-      → All (λ (m : Need). MayWrite kind w wants qs n.session m.block m.shown) (needs q)
+      → All (λ (m : Need). AttainsWrite kind w wants qs n.session m.block m.shown) (needs q)
   may_write qs q granted n =
       let st = after kind (at_rest w) wants qs in
       let met = granted_needs_met st.world st.sessions q (no_rule (verdict st.world st.sessions q) granted) in
       let write = met_everywhere st.world st.sessions (unwrap_or (session_of q) 0) level.Write (needs q) met n.each in
-      all_from (λ (m : Need). level_le level.Write (attained st.world st.sessions n.session m.block m.shown)) (λ (m : Need). MayWrite kind w wants qs n.session m.block m.shown)
+      all_from (λ (m : Need). level_le level.Write (attained st.world st.sessions n.session m.block m.shown)) (λ (m : Need). AttainsWrite kind w wants qs n.session m.block m.shown)
       (λ m h. (attained_by_history kind w wants qs n.session m.block m.shown level.Write valid some_level).0 h)
       (needs q)
       (subst (λ (s : Option ℕ). list_all (λ (m : Need). level_le level.Write (attained st.world st.sessions (unwrap_or s 0) m.block m.shown)) (needs q) ≡ true) n.own write)

@@ -26,7 +26,8 @@ is_right_at l w o n = (n.block == o) && level_le l (shown_level w n.block n.show
 
 -- a granted request of the session that shows at block o a capability right for l
 abbrev pub shows_right : Level → ℕ → ℕ → State → Request → Bool
-shows_right l s o st q = (is_granted st.world st.sessions q && is_of_session q s) && list_any (is_right_at l st.world o) (needs q)
+shows_right l s o st q =
+    (is_granted st.world st.sessions q && is_of_session q s) && list_any (is_right_at l st.world o) (needs q)
 
 -- the need is at a primary block, and what is shown there is right for l
 abbrev pub is_right_somewhere : Level → World → Need → Bool
@@ -48,13 +49,15 @@ HoldsLess l st s o = (a : ℕ) → level_le l (level_from st.sessions s o a) ≡
 
 -- A session that isn't open holds nothing: less than any level that is one.
 abbrev pub ClosedHoldsNothing : Type 0
-ClosedHoldsNothing = (l : Level) (st : State) (s o : ℕ) → (l ≡ level.Bare → ⊥) → is_open st.sessions s ≡ false → HoldsLess l st s o
+ClosedHoldsNothing = (l : Level) (st : State) (s o : ℕ) → (l ≡ level.Bare → ⊥) → is_open st.sessions s ≡ false
+    → HoldsLess l st s o
 
 -- Where a run begins with no session open, none is.
 abbrev pub NoneIsOpenAtRest : Type 0
 NoneIsOpenAtRest = (w : World) (s : ℕ) → is_open (at_rest w).sessions s ≡ false
 
--- In a run where no granted request of the session shows at primary block o a capability right for l, a session that held less than l from o holds less than l from it at the end.
+-- In a run where no granted request of the session shows at primary block o a capability right for l, a session that
+-- held less than l from o holds less than l from it at the end.
 abbrev pub HoldsWhatWasShown : Type 0
 HoldsWhatWasShown =
     (l : Level) (kind : PlaceKind) (st : State) (wants : List Bool) (qs : List Request) (s o : ℕ)
@@ -81,7 +84,9 @@ needs_level l q = list_any (λ (n : Need). level_le l n.level) (needs q)
 abbrev pub rules_to_denied : World → Sessions → Request → List Check
 rules_to_denied w v q = session_rules v q ++ (block_rules w q ++ level_rules w v q)
 
--- A session that held less than l from every primary block, and that in a run was granted no request in which it showed a capability right for l, is refused each request that needs l and shows none either: by Denied or by a rule before it.
+-- A session that held less than l from every primary block, and that in a run was granted no request in which it showed
+-- a capability right for l, is refused each request that needs l and shows none either: by Denied or by a rule before
+-- it.
 abbrev pub RefusedUnshown : Type 0
 RefusedUnshown =
     (l : Level) (kind : PlaceKind) (st : State) (wants : List Bool) (qs : List Request) (q : Request) (s : ℕ)

@@ -25,7 +25,8 @@ attains_write st q n = level_le level.Write (attained st.world st.sessions (unwr
 
 -- the request is granted, and its session attained write at block b, where it needed a level
 abbrev pub acts_with_write : ℕ → State → Request → Bool
-acts_with_write b st q = is_granted st.world st.sessions q && list_any (λ (n : Need). (n.block == b) && attains_write st q n) (needs q)
+acts_with_write b st q =
+    is_granted st.world st.sessions q && list_any (λ (n : Need). (n.block == b) && attains_write st q n) (needs q)
 
 -- such a request that is a Write to b
 abbrev pub writes_bytes : ℕ → State → Request → Bool
@@ -49,21 +50,24 @@ removes_blocks st q = is_removal q && (is_granted st.world st.sessions q && list
 
 -- ---- what stays where nobody did
 
--- A block that is live before and after keeps its bytes, but by a granted Write to it of a session that attained write there.
+-- A block that is live before and after keeps its bytes, but by a granted Write to it of a session that attained write
+-- there.
 abbrev pub BytesHaveAWriter : Type 0
 BytesHaveAWriter =
     (kind : PlaceKind) (s : State) (q : Request) (want : Bool) (b : ℕ)
     → IsTrue (is_live s.world b) → IsTrue (is_live (answer kind s q want).state.world b) → writes_bytes b s q ≡ false
     → contents (answer kind s q want).state.world b ≡ contents s.world b
 
--- It keeps the pointers out of it, but by a granted request that adds or deletes one, of a session that attained write there.
+-- It keeps the pointers out of it, but by a granted request that adds or deletes one, of a session that attained write
+-- there.
 abbrev pub PointersHaveAWriter : Type 0
 PointersHaveAWriter =
     (kind : PlaceKind) (s : State) (q : Request) (want : Bool) (a b : ℕ)
     → IsTrue (is_live s.world a) → IsTrue (is_live (answer kind s q want).state.world a) → moves_pointers a s q ≡ false
     → holds (answer kind s q want).state.world.pairs a b ≡ holds s.world.pairs a b
 
--- What is kept of a primary block's capabilities stays, but by a granted SetCap at it of a session that attained write there.
+-- What is kept of a primary block's capabilities stays, but by a granted SetCap at it of a session that attained write
+-- there.
 abbrev pub RecordsHaveAWriter : Type 0
 RecordsHaveAWriter =
     (kind : PlaceKind) (s : State) (q : Request) (want : Bool) (o : ℕ)
@@ -74,10 +78,12 @@ RecordsHaveAWriter =
 abbrev pub NewPointersHaveAGiver : Type 0
 NewPointersHaveAGiver =
     (kind : PlaceKind) (s : State) (q : Request) (want : Bool) (a b : ℕ)
-    → IsTrue (is_live s.world b) → IsTrue (holds (answer kind s q want).state.world.pairs a b) → gives_pointer a b s q ≡ false
+    → IsTrue (is_live s.world b) → IsTrue (holds (answer kind s q want).state.world.pairs a b)
+    → gives_pointer a b s q ≡ false
     → IsTrue (holds s.world.pairs a b)
 
--- A live block stays live, but by a granted Delete, of a session that attained write at the source, or a granted Sweep, of one that attained write at block 0.
+-- A live block stays live, but by a granted Delete, of a session that attained write at the source, or a granted Sweep,
+-- of one that attained write at block 0.
 abbrev pub BlocksHaveARemover : Type 0
 BlocksHaveARemover =
     (kind : PlaceKind) (s : State) (q : Request) (want : Bool) (b : ℕ)

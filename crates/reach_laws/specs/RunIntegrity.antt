@@ -12,7 +12,8 @@ use Rattle.reach_laws.specs.Runs.{at_some_request, at_each_state}
 abbrev pub is_live_in : ℕ → State → Bool
 is_live_in b st = is_live st.world b
 
--- A block that is live at each state of a run contains at its end what it contained at first, but where some request of the run was such a Write to it, at the state at which it was answered.
+-- A block that is live at each state of a run contains at its end what it contained at first, but where some request of
+-- the run was such a Write to it, at the state at which it was answered.
 abbrev pub RunBytesHaveAWriter : Type 0
 RunBytesHaveAWriter =
     (kind : PlaceKind) (s : State) (wants : List Bool) (qs : List Request) (b : ℕ)
@@ -33,11 +34,13 @@ RunRecordsHaveAWriter =
     → at_some_request (sets_record o) kind s wants qs ≡ false
     → slice_get (after kind s wants qs).world.records o ≡ slice_get s.world.records o
 
--- A pointer to a block that is live at each state of a run was held at first, but where some request of the run was such a Create of it.
+-- A pointer to a block that is live at each state of a run was held at first, but where some request of the run was
+-- such a Create of it.
 abbrev pub RunNewPointersHaveAGiver : Type 0
 RunNewPointersHaveAGiver =
     (kind : PlaceKind) (s : State) (wants : List Bool) (qs : List Request) (a b : ℕ)
-    → IsTrue (at_each_state (is_live_in b) kind s wants qs) → at_some_request (gives_pointer a b) kind s wants qs ≡ false
+    → IsTrue (at_each_state (is_live_in b) kind s wants qs)
+    → at_some_request (gives_pointer a b) kind s wants qs ≡ false
     → IsTrue (holds (after kind s wants qs).world.pairs a b)
     → IsTrue (holds s.world.pairs a b)
 

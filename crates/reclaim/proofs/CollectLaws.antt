@@ -14,7 +14,7 @@ use Rattle.graph_laws.proofs.ToldLaws.{live-world_with}
 use Rattle.graph_laws.specs.Graph.{zeros_in, no_record}
 use Rattle.graph_laws.specs.Steps.{IsLost}
 use Rattle.graph_laws.proofs.LostLaws.{alone_count, count_alone}
-use Rattle.reclaim.specs.Held.{Held}
+use Rattle.reclaim.specs.Held.{HeldTargets}
 use Rattle.reclaim.specs.Tables.{graph_of, AreTables, HaveCounts, HoldsLost, is_uncounted}
 use Rattle.reclaim.proofs.HeldLaws.{has-push}
 
@@ -83,7 +83,7 @@ lost_uncounted t live counts b tables have lost =
     (and_from (nat_le t.geometry.primaries b) (is_live_in live.live b) (le-leb t.geometry.primaries b lost.apart) (sym (live_told t live b within) ∙ lost.live))
     (eq-eqb (slice_index counts.counts b) 0 (have.each b within ∙ alone_count (pairs t) b lost.alone))
 
-pub collected_lost : (t : Table) (live : LiveMap) (counts : Counts) (h : Held) → AreTables t live → HaveCounts t live counts
+pub collected_lost : (t : Table) (live : LiveMap) (counts : Counts) (h : HeldTargets) → AreTables t live → HaveCounts t live counts
     → ((b : ℕ) → has_number h.blocks b ≡ (nat_lt b counts.geometry.blocks && is_uncounted live.live counts.counts t.geometry.primaries b)) → HoldsLost (graph_of t live) h
 collected_lost t live counts h tables have held b = (
   λ is.

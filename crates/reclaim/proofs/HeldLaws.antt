@@ -6,7 +6,7 @@ use Rattle.std.specs.Prelude.{◌-◌, slice_set, get_or}
 use Rattle.tsd_model.specs.World.{has_number}
 use Rattle.disk_laws.specs.Reclaiming.{all_apart}
 use Rattle.graph_laws.proofs.CountLaws.{apart_fits}
-use Rattle.reclaim.specs.Held.{Held, IsHeld, IsPopped}
+use Rattle.reclaim.specs.Held.{HeldTargets, IsHeld, IsPopped}
 
 pub has-push : (xs : List ℕ) (b c : ℕ) → has_number (xs ++ b ∷ []) c ≡ (has_number xs c || (b == c))
 has-push [] b c = or_nothing (b == c)
@@ -67,17 +67,17 @@ has-beyond (suc n) (x ∷ xs) once long =
     )
 
 -- there is room for one that isn't held
-pub room_for : (h : Held) (b : ℕ) → IsHeld h → b < h.room → has_number h.blocks b ≡ false → length h.blocks < h.room
+pub room_for : (h : HeldTargets) (b : ℕ) → IsHeld h → b < h.room → has_number h.blocks b ≡ false → length h.blocks < h.room
 room_for h b held within new = let fits = apart_fits (b ∷ h.blocks) h.room (and_from (not (has_number h.blocks b)) (all_apart h.blocks) (ap not new) held.once)
     (λ c is. elim (or_cases (b == c) (has_number h.blocks c) is) [ inl same ↦ subst (λ k. k < h.room) (eqb-true b c same) within | inr old ↦ held.below c old ]) in omega (arith, fits)
 
-pub held-push : (h : Held) (b : ℕ) → IsHeld h → b < h.room → has_number h.blocks b ≡ false → IsHeld (record h { blocks = h.blocks ++ b ∷ [] })
+pub held-push : (h : HeldTargets) (b : ℕ) → IsHeld h → b < h.room → has_number h.blocks b ≡ false → IsHeld (record h { blocks = h.blocks ++ b ∷ [] })
 held-push h b held within new = record {
   once = apart-push h.blocks b held.once new;
   below = λ c is. elim (or_cases (has_number h.blocks c) (b == c) (sym (has-push h.blocks b c) ∙ is)) [ inl old ↦ held.below c old | inr same ↦ subst (λ k. k < h.room) (eqb-true b c same) within ];
 }
 
-held_pop : (h : Held) (b : ℕ) (xs : List ℕ) → IsHeld h → h.blocks ≡ xs ++ b ∷ [] → IsHeld (record h { blocks = xs }) × ((b < h.room) × (has_number xs b ≡ false))
+held_pop : (h : HeldTargets) (b : ℕ) (xs : List ℕ) → IsHeld h → h.blocks ≡ xs ++ b ∷ [] → IsHeld (record h { blocks = xs }) × ((b < h.room) × (has_number xs b ≡ false))
 held_pop h b xs held e = (
   record { once = (unpush xs (subst (λ ys. all_apart ys ≡ true) e held.once)).0; below = λ c is. held.below c (ap (λ ys. has_number ys c) e ∙ (has-push xs b c ∙ or_left (has_number xs c) (b == c) is)) },
   (held.below b (ap (λ ys. has_number ys b) e ∙ (has-push xs b b ∙ or_right (has_number xs b) (b == b) (eq-eqb b b refl))), (unpush xs (subst (λ ys. all_apart ys ≡ true) e held.once)).1),
@@ -94,7 +94,7 @@ held_pop h b xs held e = (
 -- ---- the first of an array
 
 -- the first `len` of these
-abbrev pub first_held : List ℕ → ℕ → Held
+abbrev pub first_held : List ℕ → ℕ → HeldTargets
 first_held items len = record { room = length items; blocks = take len items }
 
 pub array_room : (items : List ℕ) (len b : ℕ) → len ≤ length items → IsHeld (first_held items len) → b < length items → has_number (take len items) b ≡ false → len < length items

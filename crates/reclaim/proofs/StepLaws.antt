@@ -14,24 +14,24 @@ use Rattle.graph_laws.specs.Steps.{IsLost}
 use Rattle.graph_laws.proofs.SameGraphLaws.{lost_by_graph, step_by_graph, laid_out_by_graph}
 use Rattle.graph_laws.proofs.StepLaws.{none_lost, lost_none, settle-stepped, raw-stepped}
 use Rattle.graph_laws.proofs.WeightLaws.{step_lowers}
-use Rattle.reclaim.specs.Held.{Held, IsPopped}
+use Rattle.reclaim.specs.Held.{HeldTargets, IsPopped}
 use Rattle.reclaim.specs.Stepping.{MayStep, TakesAll, AreKeptBy, after_step}
 use Rattle.reclaim.specs.Tables.{HoldsLost}
 use Rattle.reclaim.proofs.HeldLaws.{has-push}
 use Rattle.reclaim.proofs.TargetLaws.{takes_all, takes_all_only, first_targets_step, first_targets_some}
 
 -- where no block waits, nothing is doomed
-pub empty_none : (w : World) (h : Held) → HoldsLost w h → h.blocks ≡ [] → doomed w ≡ []
+pub empty_none : (w : World) (h : HeldTargets) → HoldsLost w h → h.blocks ≡ [] → doomed w ≡ []
 empty_none w h holds none = none_lost w (λ b lost. nothing (ap (λ xs. has_number xs b) (sym none) ∙ (holds b).1 lost))
   where
     nothing : false ≡ true → ⊥
     nothing e = cc
 
 -- the block that was popped is lost
-pub popped_lost : (w : World) (old new : Held) (b : ℕ) → HoldsLost w old → IsPopped old new b → IsLost w b
+pub popped_lost : (w : World) (old new : HeldTargets) (b : ℕ) → HoldsLost w old → IsPopped old new b → IsLost w b
 popped_lost w old new b holds pop = (holds b).0 (ap (λ xs. has_number xs b) pop.last ∙ (has-push new.blocks b b ∙ or_right (has_number new.blocks b) (b == b) (eq-eqb b b refl)))
 
-pub some_doomed : (w : World) (old new : Held) (b : ℕ) → IsLaidOut w → HoldsLost w old → IsPopped old new b → doomed w ≡ [] → ⊥
+pub some_doomed : (w : World) (old new : HeldTargets) (b : ℕ) → IsLaidOut w → HoldsLost w old → IsPopped old new b → doomed w ≡ [] → ⊥
 some_doomed w old new b laid_out holds pop none = lost_none w laid_out.each_block none b (popped_lost w old new b holds pop)
 
 -- where nothing is doomed, no block is found that is lost

@@ -1,5 +1,6 @@
 -- What is kept ahead of reclamation, and when it is right.
-use Rattle.std.specs.Prelude.{◌≡◌, ℕ, ◌<◌, ◌&&◌, not, Bool, false, List, [], length, slice_index, slice_index_or, IsTrue}
+use Rattle.std.specs.Prelude.{◌≡◌, ℕ, ◌<◌, ◌&&◌, not, Bool, false, List, [], length, slice_index, slice_index_or}
+use Rattle.std.specs.Prelude.{IsTrue}
 use Rattle.tsd_model.specs.Pairs.{holds}
 use Rattle.tsd_model.specs.World.{World, is_free, has_number}
 use Rattle.tsd_model.specs.Doomed.{doomed}

@@ -3,18 +3,18 @@ use Rattle.std.specs.Prelude.{◌≡◌, ℕ, ◌<◌, false, List, [], ◌∷�
 use Rattle.tsd_model.specs.World.{has_number}
 use Rattle.disk_laws.specs.Reclaiming.{all_apart}
 
-pub record Held : Type 0 where
+pub record HeldTargets : Type 0 where
   -- how many blocks there are
   pub room : ℕ
   pub blocks : List ℕ
 
 -- each block once, and of these blocks
-pub record IsHeld (h : Held) : Type 0 where
+pub record IsHeld (h : HeldTargets) : Type 0 where
   pub once : IsTrue (all_apart h.blocks)
   pub below : (b : ℕ) → IsTrue (has_number h.blocks b) → b < h.room
 
 -- The block that was held last is held no longer.
-pub record IsPopped (old new : Held) (b : ℕ) : Type 0 where
+pub record IsPopped (old new : HeldTargets) (b : ℕ) : Type 0 where
   pub room : new.room ≡ old.room
   pub last : old.blocks ≡ new.blocks ++ b ∷ []
   pub within : b < old.room

@@ -8,7 +8,7 @@ use Rattle.graph_laws.specs.Counts.{AreCounts}
 use Rattle.graph_laws.specs.Graph.{graph}
 use Rattle.graph_laws.specs.RawGraph.{IsRawGraph}
 use Rattle.graph_laws.specs.Steps.{IsLost}
-use Rattle.reclaim.specs.Held.{Held}
+use Rattle.reclaim.specs.Held.{HeldTargets}
 
 -- the world of the live blocks and the pairs
 abbrev pub graph_of : Table → LiveMap → World
@@ -25,7 +25,7 @@ pub record HaveCounts (pointers : Table) (live : LiveMap) (counts : Counts) : Ty
   pub each : AreCounts counts.counts (graph_of pointers live)
 
 -- Exactly the lost blocks are held.
-abbrev pub HoldsLost : World → Held → Type 0
+abbrev pub HoldsLost : World → HeldTargets → Type 0
 HoldsLost w h = (b : ℕ) → IsTrue (has_number h.blocks b) ↔ IsLost w b
 
 -- live, not primary, and of count 0

@@ -23,9 +23,9 @@ pub struct Work {
 
 impl Model for Work {
     ghost use Rattle.std.specs.Prelude.{◌≤◌, length, take};
-    ghost use Rattle.reclaim.specs.Held.{Held, IsHeld};
+    ghost use Rattle.reclaim.specs.Held.{HeldTargets, IsHeld};
 
-    ghost Value = { Held };
+    ghost Value = { HeldTargets };
 
     ghost view = { λ w. record { room = length w.blocks.items; blocks = take w.len w.blocks.items } };
 

@@ -13,7 +13,7 @@ use Rattle.image_device.specs.Runs.{IsConfined}
 use Rattle.image_device.specs.View.{View, IsSound}
 use Rattle.image_device.proofs.Confined.{confined_start, confined_write, confined_joined, confined_wider}
 use Rattle.image_layout.specs.Areas.{header_sector, format_gate, sweep_flag}
-use Rattle.image_layout.specs.Header.{IsReading}
+use Rattle.image_layout.specs.Header.{IsHeaderReading}
 use Rattle.image_layout.specs.Image.{is_open}
 use Rattle.image_layout.specs.Ring.{gate_sector}
 use Rattle.image_world.specs.Fresh.{IsWrittenFresh, AreClosed}
@@ -88,13 +88,13 @@ journal_high n inside = grind (arith, nat_tests)
 
 -- every image that agrees with the device but at the format gate
 pub all_written : (g : Geometry) (caps : List CapPair) (v1 v2 v3 v4 : View) → IsLawful g → length caps ≡ g.primaries → AreRecords 1 (fresh_records caps)
-    → IsReading (v1.reads header_sector) (Ok (record { version = 1; geometry = g }))
+    → IsHeaderReading (v1.reads header_sector) (Ok (record { version = 1; geometry = g }))
     → IsConfined is_journal v1 v2 → AreClosed v2.reads
     → IsConfined (nat_le sweep_flag) v2 v3 → ((n : ℕ) → sweep_flag ≤ n → n < fresh_end g → v3.reads n ≡ fresh_bytes g caps n)
     → Settles v3 v4
     → (x : Image) → ((n : ℕ) → (n == format_gate) ≡ false → x n ≡ v4.reads n) → IsWrittenFresh g caps x
 all_written g caps v1 v2 v3 v4 lawful each kept header two closed three fresh four x same = has_written g caps x lawful each kept (record {
-  header = subst (λ bytes. IsReading bytes (Ok (record { version = 1; geometry = g }))) (sym (there header_sector refl ∙ (three.reads header_sector refl ∙ two.reads header_sector refl))) header;
+  header = subst (λ bytes. IsHeaderReading bytes (Ok (record { version = 1; geometry = g }))) (sym (there header_sector refl ∙ (three.reads header_sector refl ∙ two.reads header_sector refl))) header;
   closed = λ i h.
       let inside = gate_in i h in
       ap is_open (there (gate_sector i) (no_gate (gate_sector i) (journal_high (gate_sector i) inside)) ∙ three.reads (gate_sector i) (below_flag (gate_sector i) (gate_low (gate_sector i) inside))) ∙ closed i h;

@@ -6,7 +6,7 @@ use Rattle.image_device.specs.Runs.{IsFirm, LeavesOnly}
 use Rattle.image_device.specs.View.{View, IsLeftNow, IsSound}
 use Rattle.image_device.proofs.Moments.{started, after_sync, after_read, joined, firm_image, uses_and}
 use Rattle.image_layout.specs.declared.header.Header.{Header}
-use Rattle.image_layout.specs.Header.{IsReading}
+use Rattle.image_layout.specs.Header.{IsHeaderReading}
 use Rattle.image_layout.specs.Image.{Image, is_open}
 use Rattle.image_world.specs.Alike.{ReadAlike}
 use Rattle.image_world.specs.Faults.{HasHeader, IsGood}
@@ -193,8 +193,8 @@ owed_sync v0 v1 sound firm settles = after_sync v0 v0 v1 (OwesNoMore v0) (owed_s
 pub owed_head : (v0 v1 v2 : View) → LeavesOnly v0 v1 (OwesNoMore v0) → IsStill v0 v1 → Rests v1 v2 → LeavesOnly v0 v2 (OwesNoMore v0)
 owed_head v0 v1 v2 so_far still rests = after_read v0 v1 v2 (OwesNoMore v0) so_far rests (still_owes v0 v1 still)
 
-head_right : (x : Image) (h : Header) → IsReading (x 0) (Ok h) → HasHeader x
-head_right x h reading = subst (λ (k : Header). IsReading (x 0) (Ok k)) reading.3 reading
+head_right : (x : Image) (h : Header) → IsHeaderReading (x 0) (Ok h) → HasHeader x
+head_right x h reading = subst (λ (k : Header). IsHeaderReading (x 0) (Ok k)) reading.3 reading
 
 agree_owes : (v0 : View) (x : Image) → HasHeader (home v0.reads) → ReadAlike v0.reads x → owed (tables_of (home x)) ≤ owed (tables_of (home v0.reads))
 agree_owes v0 x header agree = omega (arith, ap owed (alike_tables (home v0.reads) (home x) header agree.homes))

@@ -5,7 +5,7 @@ use Rattle.image_device.specs.View.{View}
 use Rattle.image_device.specs.Runs.{IsFirm, LeavesOnly}
 use Rattle.image_layout.specs.declared.header.Header.{Header}
 use Rattle.image_layout.specs.Areas.{header_sector}
-use Rattle.image_layout.specs.Header.{IsReading}
+use Rattle.image_layout.specs.Header.{IsHeaderReading}
 use Rattle.image_layout.specs.Image.{Image}
 use Rattle.intent_journal.specs.Crash.{IsTheSame}
 use Rattle.intent_journal.specs.Home.{home}
@@ -22,7 +22,7 @@ use Rattle.recovery.specs.declared.fault.OpenFault.TheVariants as fault
 pub record HasHead (image : Image) (h : Header) : Type 0 where
   pub formatted : IsFormatGateOpen image
   pub journal : HasJournal image
-  pub header : IsReading (home image header_sector) (Ok h)
+  pub header : IsHeaderReading (home image header_sector) (Ok h)
 
 -- One of the first three tests fails: it is no disk of this format, and may be somebody else's.
 abbrev pub IsForeign : Image → Type 0
@@ -39,8 +39,8 @@ IsImageFault (fault.Image why) = ⊤
 IsImageFault fault.Device = ⊥
 IsImageFault fault.NoMemory = ⊥
 
--- All that a repair could use is still there: what each sector outside the journal is to hold is as it was, in the end and in each image
--- that a crash leaves. No more was written than the replay writes.
+-- All that a repair could use is still there: what each sector outside the journal is to hold is as it was, in the end
+-- and in each image that a crash leaves. No more was written than the replay writes.
 pub record IsSpared (old new : View) : Type 0 where
   pub reads : IsTheSame old.reads new.reads
   pub writes : new.writes ≤ old.writes + replay_writes old.reads
@@ -57,8 +57,8 @@ IsHead image (Err (fault.Image why)) = IsFirstFault image why
 IsHead image (Err fault.Device) = ⊤
 IsHead image (Err fault.NoMemory) = ⊤
 
--- Where neither memory nor the device is at fault, each answer comes exactly where its line holds, since no two of them hold
--- together.
+-- Where neither memory nor the device is at fault, each answer comes exactly where its line holds, since no two of them
+-- hold together.
 abbrev pub IsOpening : Image → Result Volume OpenFault → Type 0
 IsOpening image (Ok v) = IsGood image
 IsOpening image (Err (fault.Image why)) = IsFirstFault image why

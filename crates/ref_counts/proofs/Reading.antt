@@ -4,7 +4,7 @@ use Rattle.std.proofs.lemmas.Bool.{cases_lt}
 use Rattle.byteorder.specs.Endian.{little_from}
 use Rattle.tsd_model.specs.declared.geometry.Geometry.{Geometry}
 use Rattle.image_layout.specs.Image.{Image, stored_count}
-use Rattle.ref_counts.specs.Loading.{AreRead}
+use Rattle.ref_counts.specs.Loading.{FrontIsRead}
 use Rattle.ref_counts.specs.Stored.{IsStored}
 
 -- the count of a block as its sector has it
@@ -40,5 +40,5 @@ stored_is x g block =
     let sector : 4 * block / 512 ≡ block / 128 = omega arith in
     ap (λ b. little_from b 4 (x (134 + 4 * block / 512))) byte ∙ ap (λ s. little_from (4 * (block % 128)) 4 (x (134 + s))) sector
 
-pub all_stored : (x : Image) (g : Geometry) (counts : List ℕ) (len : ℕ) → len ≡ g.blocks → AreRead len counts x → IsStored counts g x
+pub all_stored : (x : Image) (g : Geometry) (counts : List ℕ) (len : ℕ) → len ≡ g.blocks → FrontIsRead len counts x → IsStored counts g x
 all_stored x g counts len is read block inside = stored_is x g block ∙ sym (read block (omega arith))

@@ -15,7 +15,8 @@ patch_of t block = record {
 -- where an image has the counts of the table as it was, with the patch it has those of the table as it is
 abbrev pub KeepsStored : Table → Table → Patch → Type 0
 KeepsStored old new patch =
-    (x : Image) → IsStored old.counts old.geometry x → IsStored new.counts new.geometry (put_at patch.sector patch.bytes x)
+    (x : Image) → IsStored old.counts old.geometry x
+    → IsStored new.counts new.geometry (put_at patch.sector patch.bytes x)
 
 -- what an image has of the table as it was it has of the table as it is, but for the sector of this block's count
 abbrev pub KeepsElsewhere : ℕ → Table → Table → Type 0

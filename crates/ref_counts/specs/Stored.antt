@@ -1,5 +1,6 @@
 -- The sectors that keep the counts, 128 counts to a sector.
-use Rattle.std.specs.Prelude.{◌≡◌, ℕ, ◌+◌, ◌-◌, ◌*◌, ◌/◌, ◌<◌, Bool, false, List, ◌++◌, length, take, drop, replicate, slice_index}
+use Rattle.std.specs.Prelude.{◌≡◌, ℕ, ◌+◌, ◌-◌, ◌*◌, ◌/◌, ◌<◌, Bool, false, List, ◌++◌, length, take, drop, replicate}
+use Rattle.std.specs.Prelude.{slice_index}
 use Rattle.std.specs.List.{flat_map}
 use Rattle.byteorder.specs.Endian.{little_bytes}
 use Rattle.tsd_model.specs.declared.geometry.Geometry.{Geometry}
@@ -37,7 +38,8 @@ IsStored counts g x = (block : ℕ) → block < g.blocks → stored_count x g bl
 -- the same, where the counts in some sectors don't matter
 abbrev pub IsStoredBut : (ℕ → Bool) → List ℕ → Geometry → Image → Type 0
 IsStoredBut some counts g x =
-    (block : ℕ) → block < g.blocks → some (sector_of g block) ≡ false → stored_count x g block ≡ slice_index counts block
+    (block : ℕ) → block < g.blocks → some (sector_of g block) ≡ false
+    → stored_count x g block ≡ slice_index counts block
 
 -- its sectors of counts are written as those of these counts
 abbrev pub AreWritten : List ℕ → Geometry → Image → Type 0

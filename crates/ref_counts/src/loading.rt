@@ -4,7 +4,7 @@ ghost use Rattle.std.specs.Prelude.{◌≡◌, ℕ, ◌+◌, ◌*◌, ◌<◌, �
 ghost use Rattle.byteorder.specs.Endian.{little_from};
 ghost use Rattle.image_device.specs.Calls.{Rests, Uses};
 ghost use Rattle.image_device.specs.Counts.{CountsFault};
-ghost use Rattle.ref_counts.specs.Loading.{AreRead};
+ghost use Rattle.ref_counts.specs.Loading.{FrontIsRead};
 
 use crate::sector::{PER_SECTOR, take_counts};
 use image_device::{Device, Failed};
@@ -25,7 +25,7 @@ fn set_counts(bytes: &[u8; SECTOR_BYTES], first: usize, counts: &mut [u32])
 #[tactic(auto, using(image_device::proofs::Resting::rests_calls))]
 pub(crate) fn read_counts<D: Device>(dev: &mut D, counts: &mut [u32]) -> Result<(), Failed>
     requires { length counts.old ≤ 1048576 }
-    ensures read { D.told → OnOk result (AreRead (length counts.old) counts.new (D.view dev.old).reads) }
+    ensures read { D.told → OnOk result (FrontIsRead (length counts.old) counts.new (D.view dev.old).reads) }
     ensures rests { D.told → Rests (D.view dev.old) (D.view dev.new) }
     ensures uses { Uses 0 (D.view dev.old) (D.view dev.new) }
     ensures faults { CountsFault result (D.view dev.old).faults (D.view dev.new).faults }

@@ -12,7 +12,7 @@ use Rattle.tsd_model.specs.declared.requests.Hint.{Hint}
 use Rattle.tsd_model.specs.declared.requests.Hint.TheVariants.{Null, At}
 use Rattle.tsd_model.specs.declared.requests.Level.{Level}
 use Rattle.tsd_model.specs.declared.requests.Level.TheVariants as level
-use Rattle.request_frames.specs.Fields.{Field, Number, Show, New, Near, Rank, Bytes, level_code, field_bytes, Fits, AllFit, bytes_of}
+use Rattle.request_frames.specs.Fields.{Field, Number, Show, New, Near, Rank, Bytes, level_code, field_bytes, HasRoomFor, AllFit, bytes_of}
 use Rattle.request_frames.specs.Reading.{num_of, cap_of, shown_of, hint_of, level_of, data_of, within, flagged, ends, ◌>>=◌}
 
 -- each is below 256
@@ -43,7 +43,7 @@ number_is (a ∷ b ∷ c ∷ d ∷ rest) all h =
 
 -- what it reads is spelled by the bytes that it takes
 abbrev pub Sound : {A : Type 0} → (A → Field) → (List ℕ → Option (A × List ℕ)) → Type 0
-Sound {A} f r = (bs : List ℕ) (x : A) (rest : List ℕ) → AreBytes bs → r bs ≡ Some (x, rest) → Fits (f x) × (bs ≡ field_bytes (f x) ++ rest) × AreBytes rest
+Sound {A} f r = (bs : List ℕ) (x : A) (rest : List ℕ) → AreBytes bs → r bs ≡ Some (x, rest) → HasRoomFor (f x) × (bs ≡ field_bytes (f x) ++ rest) × AreBytes rest
 
 -- a value was read, and these bytes are left
 abbrev pub leaves : {A : Type 0} → A → List ℕ → Option (A × List ℕ)
@@ -97,12 +97,12 @@ tail_bytes : (b : ℕ) (bs more : List ℕ) → bs ≡ b ∷ more → AreBytes b
 tail_bytes b bs more e all i = subst (λ xs. get_or xs (suc i) 0 < 256) e (all (suc i))
 
 pub shown_sound : Sound (λ shown. Show shown) shown_of
-shown_sound bs x rest all e = flagged_is Nothing (λ cap. Key cap) cap_of bs x rest (λ s. Fits (Show s) × (bs ≡ field_bytes (Show s) ++ rest) × AreBytes rest) e
+shown_sound bs x rest all e = flagged_is Nothing (λ cap. Key cap) cap_of bs x rest (λ s. HasRoomFor (Show s) × (bs ≡ field_bytes (Show s) ++ rest) × AreBytes rest) e
     (λ g. (tt, g, tail_bytes 0 bs rest g all))
     (λ y more g h. let c = cap_sound more y rest (tail_bytes 1 bs more g all) h in (c.0, g ∙ ap (λ xs. 1 ∷ xs) c.1, c.2))
 
 pub hint_sound : Sound (λ hint. Near hint) hint_of
-hint_sound bs x rest all e = flagged_is Null (λ b. At b) num_of bs x rest (λ h. Fits (Near h) × (bs ≡ field_bytes (Near h) ++ rest) × AreBytes rest) e
+hint_sound bs x rest all e = flagged_is Null (λ b. At b) num_of bs x rest (λ h. HasRoomFor (Near h) × (bs ≡ field_bytes (Near h) ++ rest) × AreBytes rest) e
     (λ g. (tt, g, tail_bytes 0 bs rest g all))
     (λ y more g h. let c = num_sound more y rest (tail_bytes 1 bs more g all) h in (c.0, g ∙ ap (λ xs. 1 ∷ xs) c.1, c.2))
 
@@ -145,7 +145,7 @@ bind_is (Some x) k y e = (x, refl, e)
 
 -- a field was read
 pub took : {A B : Type 0} (f : A → Field) (r : List ℕ → Option (A × List ℕ)) → Sound f r → (k : A × List ℕ → Option B) (bs : List ℕ) (y : B) → AreBytes bs → (r bs >>= k) ≡ Some y
-    → (x : A) × (rest : List ℕ) × Fits (f x) × (bs ≡ field_bytes (f x) ++ rest) × AreBytes rest × (k (x, rest) ≡ Some y)
+    → (x : A) × (rest : List ℕ) × HasRoomFor (f x) × (bs ≡ field_bytes (f x) ++ rest) × AreBytes rest × (k (x, rest) ≡ Some y)
 took f r sound k bs y all e =
     let o = bind_is (r bs) k y e in
     let s = sound bs o.0.0 o.0.1 all o.1 in
@@ -155,7 +155,7 @@ pub no_more : {A : Type 0} (bs : List ℕ) (x y : A) → ends bs x ≡ Some y �
 no_more [] x y e = (refl, cc)
 no_more (b ∷ bs) x y e = absurd (cc)
 
-pub next : (f : Field) (fs : List Field) (rest bs : List ℕ) → Fits f → bs ≡ field_bytes f ++ rest → Spelled fs rest → Spelled (f ∷ fs) bs
+pub next : (f : Field) (fs : List Field) (rest bs : List ℕ) → HasRoomFor f → bs ≡ field_bytes f ++ rest → Spelled fs rest → Spelled (f ∷ fs) bs
 next f fs rest bs fit e h = ((fit, h.0), e ∙ ap (λ xs. field_bytes f ++ xs) h.1)
 
 pub last : (bs : List ℕ) → bs ≡ [] → Spelled [] bs
@@ -181,11 +181,11 @@ cap_back cap rest h =
     ap (λ t. cond t (Some (record { bytes = take 16 (cap.bytes ++ rest) }, drop 16 (cap.bytes ++ rest))) None) some
     ∙ (λ i. Some (record { bytes = take_at cap.bytes rest 16 h i }, drop_at cap.bytes rest 16 h i))
 
-pub shown_back : (shown : Shown) (rest : List ℕ) → Fits (Show shown) → shown_of (field_bytes (Show shown) ++ rest) ≡ Some (shown, rest)
+pub shown_back : (shown : Shown) (rest : List ℕ) → HasRoomFor (Show shown) → shown_of (field_bytes (Show shown) ++ rest) ≡ Some (shown, rest)
 shown_back Nothing rest h = refl
 shown_back (Key cap) rest h = ap (option_map (within (λ cap. Key cap))) (cap_back cap rest h)
 
-pub hint_back : (hint : Hint) (rest : List ℕ) → Fits (Near hint) → hint_of (field_bytes (Near hint) ++ rest) ≡ Some (hint, rest)
+pub hint_back : (hint : Hint) (rest : List ℕ) → HasRoomFor (Near hint) → hint_of (field_bytes (Near hint) ++ rest) ≡ Some (hint, rest)
 hint_back Null rest h = refl
 hint_back (At b) rest h = ap (option_map (within (λ b. At b))) (num_back b rest h)
 

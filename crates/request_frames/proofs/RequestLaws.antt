@@ -11,7 +11,7 @@ use Rattle.tsd_model.specs.declared.requests.Hint.{Hint}
 use Rattle.tsd_model.specs.declared.requests.Request.{Request}
 use Rattle.tsd_model.specs.declared.requests.Request.TheVariants as ask
 use Rattle.request_frames.specs.declared.reader.Place.{Place}
-use Rattle.request_frames.specs.Fields.{Field, Code, Number, Show, New, Near, Rank, Bytes, field_bytes, Fits, AllFit, bytes_of}
+use Rattle.request_frames.specs.Fields.{Field, Code, Number, Show, New, Near, Rank, Bytes, field_bytes, HasRoomFor, AllFit, bytes_of}
 use Rattle.request_frames.specs.Requests.{fields, body_of, IsBody}
 use Rattle.request_frames.specs.Reading.{num_of, cap_of, shown_of, hint_of, data_of, ◌>>=◌, place_of, begin_of, end_of, read_of, write_of, alloc_of, contig_of, free_of, create_of, delete_of, set_cap_of, sweep_of, list_of, chosen, forms, coded, asked, request_of}
 use Rattle.request_frames.proofs.FieldLaws.{AreBytes, Spelled, some_is, bind_is, took, no_more, next, last, bind_some, num_sound, cap_sound, shown_sound, hint_sound, data_sound, num_back, cap_back, shown_back, hint_back, data_back}
@@ -266,7 +266,7 @@ all_most : List Field → ℕ
 all_most [] = 0
 all_most (f ∷ fs) = most f + all_most fs
 
-field_most : (f : Field) → Fits f → length (field_bytes f) ≤ most f
+field_most : (f : Field) → HasRoomFor f → length (field_bytes f) ≤ most f
 unfolding most
 field_most (Code c) h = omega arith
 field_most (Number n) h = omega arith

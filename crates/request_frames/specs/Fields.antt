@@ -39,21 +39,21 @@ field_bytes (Rank l) = level_code l ∷ []
 field_bytes (Bytes bytes) = bytes
 
 -- the bytes have room for the value
-abbrev pub Fits : Field → Type 0
-Fits (Number n) = n < 2 ^ 32
-Fits (Show (Key cap)) = length cap.bytes ≡ 16
-Fits (New cap) = length cap.bytes ≡ 16
-Fits (Near (At b)) = b < 2 ^ 32
-Fits (Bytes bytes) = length bytes ≤ 4096
-Fits (Code c) = Unit {0}
-Fits (Show Nothing) = Unit {0}
-Fits (Near Null) = Unit {0}
-Fits (Rank l) = Unit {0}
+abbrev pub HasRoomFor : Field → Type 0
+HasRoomFor (Number n) = n < 2 ^ 32
+HasRoomFor (Show (Key cap)) = length cap.bytes ≡ 16
+HasRoomFor (New cap) = length cap.bytes ≡ 16
+HasRoomFor (Near (At b)) = b < 2 ^ 32
+HasRoomFor (Bytes bytes) = length bytes ≤ 4096
+HasRoomFor (Code c) = Unit {0}
+HasRoomFor (Show Nothing) = Unit {0}
+HasRoomFor (Near Null) = Unit {0}
+HasRoomFor (Rank l) = Unit {0}
 
 -- each fits
 abbrev pub AllFit : List Field → Type 0
 AllFit [] = Unit {0}
-AllFit (f ∷ fs) = Fits f × AllFit fs
+AllFit (f ∷ fs) = HasRoomFor f × AllFit fs
 
 -- the bytes of each, one after another
 abbrev pub bytes_of : List Field → List ℕ

@@ -1,6 +1,7 @@
 -- A frame is the length of a body in two bytes, the lowest first, and the body. A text of frames is frames one after
 -- another; its last may not be whole.
-use Rattle.std.specs.Prelude.{◌≡◌, ◌≢◌, ℕ, zero, suc, ◌+◌, ◌^◌, ◌<◌, Bool, cond, nat_le, List, [], ◌∷◌, ◌++◌, length, take, drop}
+use Rattle.std.specs.Prelude.{◌≡◌, ◌≢◌, ℕ, zero, suc, ◌+◌, ◌^◌, ◌<◌, Bool, cond, nat_le, List, [], ◌∷◌, ◌++◌, length}
+use Rattle.std.specs.Prelude.{take, drop}
 use Rattle.byteorder.specs.Endian.{little_number, little_bytes}
 
 -- the frame of a body, which has fewer than 65,536 bytes
@@ -55,7 +56,9 @@ and_then body others = record { bodies = body ∷ others.bodies; rest = others.r
 -- at most so many frames are cut off
 abbrev pub cut_some : ℕ → List ℕ → Cut
 cut_some zero text = record { bodies = []; rest = text }
-cut_some (suc n) text = cond (has_frame text) (and_then (drop 2 (take (frame_size text) text)) (cut_some n (drop (frame_size text) text))) (record { bodies = []; rest = text })
+cut_some (suc n) text =
+    cond (has_frame text) (and_then (drop 2 (take (frame_size text) text)) (cut_some n (drop (frame_size text) text)))
+    (record { bodies = []; rest = text })
 
 -- a frame has at least two bytes, so a text has fewer frames than bytes
 unfoldable pub cut : List ℕ → Cut

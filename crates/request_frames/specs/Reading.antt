@@ -1,5 +1,6 @@
 -- The request of a body as a function that computes.
-use Rattle.std.specs.Prelude.{ℕ, ◌==◌, cond, nat_le, List, [], ◌∷◌, length, drop, take, Option, Some, None, option_map, unwrap_or}
+use Rattle.std.specs.Prelude.{ℕ, ◌==◌, cond, nat_le, List, [], ◌∷◌, length, drop, take, Option, Some, None, option_map}
+use Rattle.std.specs.Prelude.{unwrap_or}
 use Rattle.byteorder.specs.Endian.{little_number}
 use Rattle.tsd_model.specs.declared.caps.Cap.{Cap}
 use Rattle.tsd_model.specs.declared.caps.Shown.{Shown}
@@ -37,7 +38,8 @@ within something x = (something x.0, x.1)
 -- a byte 0 for nothing, or a byte 1 and something
 abbrev pub flagged : {A B : Type 0} → A → (B → A) → (List ℕ → Option (B × List ℕ)) → List ℕ → Option (A × List ℕ)
 flagged nothing something read [] = None
-flagged nothing something read (b ∷ bs) = cond (b == 0) (Some (nothing, bs)) (cond (b == 1) (option_map (within something) (read bs)) None)
+flagged nothing something read (b ∷ bs) =
+    cond (b == 0) (Some (nothing, bs)) (cond (b == 1) (option_map (within something) (read bs)) None)
 
 abbrev pub shown_of : List ℕ → Option (Shown × List ℕ)
 shown_of bs = flagged Nothing (λ cap. Key cap) cap_of bs
@@ -47,7 +49,9 @@ hint_of bs = flagged Null (λ b. At b) num_of bs
 
 abbrev pub level_of : List ℕ → Option (Level × List ℕ)
 level_of [] = None
-level_of (b ∷ bs) = cond (b == 0) (Some (level.Bare, bs)) (cond (b == 1) (Some (level.Read, bs)) (cond (b == 2) (Some (level.Write, bs)) None))
+level_of (b ∷ bs) =
+    cond (b == 0) (Some (level.Bare, bs)) (cond (b == 1) (Some (level.Read, bs))
+    (cond (b == 2) (Some (level.Write, bs)) None))
 
 -- all bytes that are left, where a block may have so many
 abbrev pub data_of : List ℕ → Option (List ℕ × List ℕ)

@@ -16,7 +16,8 @@ unfoldable pub bytes_reply : List ℕ → Option Reply
 bytes_reply bs = data_of bs >>= λ d. cond (is_block_size (length d.0)) (ends d.1 (reply.Bytes d.0)) None
 
 unfoldable pub blocks_reply : List ℕ → Option Reply
-blocks_reply bs = list_of_blocks bs >>= λ ns. cond (nat_le 1 (length ns) && nat_le (length ns) 32) (Some (reply.Blocks ns)) None
+blocks_reply bs =
+    list_of_blocks bs >>= λ ns. cond (nat_le 1 (length ns) && nat_le (length ns) 32) (Some (reply.Blocks ns)) None
 
 unfoldable pub free_reply : List ℕ → Option Reply
 free_reply bs = num_of bs >>= λ n. ends n.1 (reply.Free n.0)

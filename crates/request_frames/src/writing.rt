@@ -1,7 +1,8 @@
 //! The fields of a body as they are written.
 
 ghost use Rattle.std.specs.Prelude.{◌≡◌, ◌+◌, ◌*◌, ◌≤◌, ◌++◌, length};
-ghost use Rattle.request_frames.specs.Fields.{Code, Number, Show, New, Near, Rank, field_bytes, bytes_of, Fits, AllFit};
+ghost use Rattle.request_frames.specs.Fields.{Code, Number, Show, New, Near, Rank, field_bytes, bytes_of, HasRoomFor};
+ghost use Rattle.request_frames.specs.Fields.{AllFit};
 ghost use Rattle.request_frames.specs.Replies.{numbers};
 
 use crate::codes::{ABSENT, LEVEL_NONE, LEVEL_READ, LEVEL_WRITE, PRESENT};
@@ -23,7 +24,7 @@ pub fn put_code(into: &mut FrameBuf, code: u8)
 pub fn put_number(into: &mut FrameBuf, n: u32)
     requires { length into.old + NUMBER_BYTES ≤ FRAME_MAX }
     ensures bytes { into.new ≡ into.old ++ field_bytes (Number n) }
-    ensures fits { Fits (Number n) }
+    ensures fits { HasRoomFor (Number n) }
 {
     let mut bytes = [0; NUMBER_BYTES];
     LittleEndian::write_u32(&mut bytes, n);
@@ -45,7 +46,7 @@ pub fn put_numbers(into: &mut FrameBuf, items: &[u32])
 pub fn put_cap(into: &mut FrameBuf, cap: &Cap)
     requires { length into.old + CAP_BYTES ≤ FRAME_MAX }
     ensures bytes { into.new ≡ into.old ++ field_bytes (New cap.now) }
-    ensures fits { Fits (New cap.now) }
+    ensures fits { HasRoomFor (New cap.now) }
 {
     into.put(cap.bytes.as_slice());
 }
@@ -54,7 +55,7 @@ pub fn put_cap(into: &mut FrameBuf, cap: &Cap)
 pub fn put_shown(into: &mut FrameBuf, shown: &Shown)
     requires { length into.old + 1 + CAP_BYTES ≤ FRAME_MAX }
     ensures bytes { into.new ≡ into.old ++ field_bytes (Show shown.now) }
-    ensures fits { Fits (Show shown.now) }
+    ensures fits { HasRoomFor (Show shown.now) }
     ensures room { length (field_bytes (Show shown.now)) ≤ 1 + CAP_BYTES }
 {
     match shown {
@@ -70,7 +71,7 @@ pub fn put_shown(into: &mut FrameBuf, shown: &Shown)
 pub fn put_hint(into: &mut FrameBuf, hint: Hint)
     requires { length into.old + 1 + NUMBER_BYTES ≤ FRAME_MAX }
     ensures bytes { into.new ≡ into.old ++ field_bytes (Near hint) }
-    ensures fits { Fits (Near hint) }
+    ensures fits { HasRoomFor (Near hint) }
 {
     match hint {
         Hint::Null => put_code(into, ABSENT),

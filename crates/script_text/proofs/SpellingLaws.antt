@@ -20,7 +20,7 @@ use Rattle.tsd_model.specs.declared.requests.Request.TheVariants as ask
 use Rattle.script_text.specs.declared.words.Place.{Place}
 use Rattle.script_text.specs.Pieces.{pieces}
 use Rattle.script_text.specs.Reading.{num_of, new_of, shown_of, hint_of, data_of, reads, ends, Words, ◌>>=◌, place_of, begin_of, end_of, read_of, write_of, alloc_of, contig_of, free_of, create_of, delete_of, set_cap_of, sweep_of, list_of, chosen, forms, named, asked, request_of}
-use Rattle.script_text.specs.Grammar.{Field, Name, Number, Show, New, Near, Bytes, fields, IsNumber, IsNew, IsData, IsField, AreFields, IsLine}
+use Rattle.script_text.specs.Grammar.{Field, Name, Number, Show, New, Near, Bytes, fields, IsNumber, IsCapText, IsData, IsField, AreFields, IsLine}
 use Rattle.script_text.proofs.PiecesLaws.{take_all, join-pieces, pieces-join, lacks, some_pieces}
 use Rattle.script_text.proofs.WordLaws.{are_digits, num_back, new_back, shown_back, hint_back, data_back}
 use Rattle.script_text.proofs.ReadingLaws.{at_place, asked_is}
@@ -172,7 +172,7 @@ name_lacks : Field → Bool
 name_lacks (Name name) = lacks 32 name
 name_lacks f = true
 
-new_lacks : (w : List ℕ) (cap : Cap) → IsNew w cap → lacks 32 w ≡ true
+new_lacks : (w : List ℕ) (cap : Cap) → IsCapText w cap → lacks 32 w ≡ true
 new_lacks w cap h = hex_lacks w cap.bytes h.1
 
 num_lacks : (w : List ℕ) (n : ℕ) → IsNumber w n → lacks 32 w ≡ true

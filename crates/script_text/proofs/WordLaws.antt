@@ -18,7 +18,7 @@ use Rattle.tsd_model.specs.declared.caps.Shown.TheVariants.{Nothing, Key}
 use Rattle.tsd_model.specs.declared.requests.Hint.{Hint}
 use Rattle.tsd_model.specs.declared.requests.Hint.TheVariants.{Null, At}
 use Rattle.script_text.specs.Reading.{is_number, num_of, new_of, shown_of, hint_of, data_of}
-use Rattle.script_text.specs.Grammar.{IsNumber, IsNew, IsShown, IsHint, IsData}
+use Rattle.script_text.specs.Grammar.{IsNumber, IsCapText, IsShownText, IsHint, IsData}
 
 pub cond_some : {A : Type 0} (t : Bool) (o : Option A) (x : A) → cond t o None ≡ Some x → (t ≡ true) × (o ≡ Some x)
 cond_some true o x e = (refl, e)
@@ -99,24 +99,24 @@ mapped_is : {A B : Type 0} (f : A → B) (o : Option A) (y : B) → option_map f
 mapped_is f None y e = absurd (cc)
 mapped_is f (Some x) y e = (x, refl, cc)
 
-pub new_is : (w : List ℕ) (cap : Cap) → new_of w ≡ Some cap → IsNew w cap
+pub new_is : (w : List ℕ) (cap : Cap) → new_of w ≡ Some cap → IsCapText w cap
 new_is w cap e =
     let m = mapped_is (λ bytes. let c : Cap = record { bytes = bytes } in c) (result_ok (decode_sized w 16)) cap e in
     let r = ok_is (decode_sized w 16) m.0 m.1 in
     let long : length w ≡ 32 = decode_sized-ok w 16 m.0 r in
-    subst (IsNew w) m.2 (long, sym (decode_sized-twice w 16 long) ∙ r)
+    subst (IsCapText w) m.2 (long, sym (decode_sized-twice w 16 long) ∙ r)
 
-pub new_back : (w : List ℕ) (cap : Cap) → IsNew w cap → new_of w ≡ Some cap
+pub new_back : (w : List ℕ) (cap : Cap) → IsCapText w cap → new_of w ≡ Some cap
 new_back w cap h = ap (λ r. option_map (λ bytes. let c : Cap = record { bytes = bytes } in c) (result_ok r)) (decode_sized-twice w 16 h.0 ∙ h.1)
 
-pub shown_is : (w : List ℕ) (c : Shown) → shown_of w ≡ Some c → IsShown w c
+pub shown_is : (w : List ℕ) (c : Shown) → shown_of w ≡ Some c → IsShownText w c
 shown_is w c e =
-    elim (bytes_eq w (codes "-")) as (λ t. bytes_eq w (codes "-") ≡ t → cond t (Some Nothing) (option_map (λ cap. Key cap) (new_of w)) ≡ Some c → IsShown w c) [
-      | true ↦ λ p q. let same : Nothing ≡ c = cc in subst (IsShown w) same ((bytes_eq-Decides w (codes "-")).0 p)
-      | false ↦ λ p q. let m = mapped_is (λ cap. Key cap) (new_of w) c q in subst (IsShown w) m.2 (new_is w m.0 m.1)
+    elim (bytes_eq w (codes "-")) as (λ t. bytes_eq w (codes "-") ≡ t → cond t (Some Nothing) (option_map (λ cap. Key cap) (new_of w)) ≡ Some c → IsShownText w c) [
+      | true ↦ λ p q. let same : Nothing ≡ c = cc in subst (IsShownText w) same ((bytes_eq-Decides w (codes "-")).0 p)
+      | false ↦ λ p q. let m = mapped_is (λ cap. Key cap) (new_of w) c q in subst (IsShownText w) m.2 (new_is w m.0 m.1)
     ] refl e
 
-pub shown_back : (w : List ℕ) (c : Shown) → IsShown w c → shown_of w ≡ Some c
+pub shown_back : (w : List ℕ) (c : Shown) → IsShownText w c → shown_of w ≡ Some c
 shown_back w Nothing h = ap (λ t. cond t (Some Nothing) (option_map (λ cap. Key cap) (new_of w))) ((bytes_eq-Decides w (codes "-")).1 h)
 shown_back w (Key cap) h =
     ap (λ t. cond t (Some Nothing) (option_map (λ k. Key k) (new_of w))) (no_dash w (λ e. absurd (omega (arith, h.0, e))))

@@ -27,12 +27,15 @@ fields (ask.Begin s) = Name (codes "open") ∷ Number s ∷ []
 fields (ask.End s) = Name (codes "close") ∷ Number s ∷ []
 fields (ask.Read s b shown) = Name (codes "read") ∷ Number s ∷ Number b ∷ Show shown ∷ []
 fields (ask.Write s b shown bytes) = Name (codes "write") ∷ Number s ∷ Number b ∷ Show shown ∷ Bytes bytes ∷ []
-fields (ask.Alloc s a shown hint n) = Name (codes "alloc") ∷ Number s ∷ Number a ∷ Show shown ∷ Near hint ∷ Number n ∷ []
-fields (ask.Contig s a shown hint n) = Name (codes "contig") ∷ Number s ∷ Number a ∷ Show shown ∷ Near hint ∷ Number n ∷ []
+fields (ask.Alloc s a shown hint n) =
+    Name (codes "alloc") ∷ Number s ∷ Number a ∷ Show shown ∷ Near hint ∷ Number n ∷ []
+fields (ask.Contig s a shown hint n) =
+    Name (codes "contig") ∷ Number s ∷ Number a ∷ Show shown ∷ Near hint ∷ Number n ∷ []
 fields ask.GetFree = Name (codes "free") ∷ []
 fields (ask.Create s a shown b) = Name (codes "create") ∷ Number s ∷ Number a ∷ Show shown ∷ Number b ∷ []
 fields (ask.Delete s a shown b) = Name (codes "delete") ∷ Number s ∷ Number a ∷ Show shown ∷ Number b ∷ []
-fields (ask.SetCap s b shown caps) = Name (codes "setcap") ∷ Number s ∷ Number b ∷ Show shown ∷ New caps.read ∷ New caps.write ∷ []
+fields (ask.SetCap s b shown caps) =
+    Name (codes "setcap") ∷ Number s ∷ Number b ∷ Show shown ∷ New caps.read ∷ New caps.write ∷ []
 fields (ask.Sweep s shown) = Name (codes "sweep") ∷ Number s ∷ Show shown ∷ []
 fields (ask.List s a shown start) = Name (codes "list") ∷ Number s ∷ Number a ∷ Show shown ∷ Number start ∷ []
 
@@ -44,13 +47,13 @@ pub record IsNumber (w : List ℕ) (n : ℕ) : Type 0 where
   pub fits : n < 2 ^ 32
 
 -- 32 hexadecimal digits of either case
-abbrev pub IsNew : List ℕ → Cap → Type 0
-IsNew w cap = (length w ≡ 32) × (decode_of w ≡ Ok cap.bytes)
+abbrev pub IsCapText : List ℕ → Cap → Type 0
+IsCapText w cap = (length w ≡ 32) × (decode_of w ≡ Ok cap.bytes)
 
 -- a dash for nothing, or a capability
-abbrev pub IsShown : List ℕ → Shown → Type 0
-IsShown w Nothing = w ≡ codes "-"
-IsShown w (Key cap) = IsNew w cap
+abbrev pub IsShownText : List ℕ → Shown → Type 0
+IsShownText w Nothing = w ≡ codes "-"
+IsShownText w (Key cap) = IsCapText w cap
 
 -- a dash for nowhere, or a block
 abbrev pub IsHint : List ℕ → Hint → Type 0
@@ -65,8 +68,8 @@ IsData w bytes = ((w ≡ codes "-") × (bytes ≡ [])) ⊎ ((2 ≤ length w) × 
 abbrev pub IsField : Field → List ℕ → Type 0
 IsField (Name name) w = w ≡ name
 IsField (Number n) w = IsNumber w n
-IsField (Show shown) w = IsShown w shown
-IsField (New cap) w = IsNew w cap
+IsField (Show shown) w = IsShownText w shown
+IsField (New cap) w = IsCapText w cap
 IsField (Near hint) w = IsHint w hint
 IsField (Bytes bytes) w = IsData w bytes
 

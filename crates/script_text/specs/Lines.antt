@@ -19,7 +19,8 @@ WasFed text c = rest c ≡ take 8401 (unended text)
 -- holds what stands after the last line feed. Each is cut to 8,401 bytes.
 abbrev pub Cuts : List ℕ → List ℕ → Cutting → Type 0
 Cuts text more new = MatchBool new.whole
-    ((line : List ℕ) × (lines (text ++ more) ≡ lines text ++ line ∷ []) × (unended (text ++ more) ≡ []) × (new.line ≡ take 8401 line))
+    ((line : List ℕ) × (lines (text ++ more) ≡ lines text ++ line ∷ []) × (unended (text ++ more) ≡ [])
+    × (new.line ≡ take 8401 line))
     ((lines (text ++ more) ≡ lines text) × (new.line ≡ take 8401 (unended (text ++ more))))
 
 -- Feeds that came one after another, the first of them after this text: the bytes that each used, and what the cutter

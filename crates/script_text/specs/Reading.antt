@@ -1,5 +1,6 @@
 -- The request of a line as a function that computes.
-use Rattle.std.specs.Prelude.{ℕ, ◌^◌, ◌/◌, Bool, cond, ◌&&◌, nat_lt, nat_le, List, [], ◌∷◌, length, codes, bytes_eq, Option, Some, None, option_map, unwrap_or}
+use Rattle.std.specs.Prelude.{ℕ, ◌^◌, ◌/◌, Bool, cond, ◌&&◌, nat_lt, nat_le, List, [], ◌∷◌, length, codes, bytes_eq}
+use Rattle.std.specs.Prelude.{Option, Some, None, option_map, unwrap_or}
 use Rattle.std.specs.List.{list_all}
 use Rattle.std.specs.Result.{result_ok}
 use Rattle.std.specs.Char.{is_ascii_digit}
@@ -28,7 +29,8 @@ None >>= f = None
 
 -- the words whose value is a number that we serve
 abbrev pub is_number : List ℕ → Bool
-is_number w = (nat_le (length w) 10 && list_all is_ascii_digit w) && (nat_le 1 (length w) && nat_lt (digits_value 10 w) (2 ^ 32))
+is_number w =
+    (nat_le (length w) 10 && list_all is_ascii_digit w) && (nat_le 1 (length w) && nat_lt (digits_value 10 w) (2 ^ 32))
 
 abbrev pub num_of : List ℕ → Option ℕ
 num_of w = cond (is_number w) (Some (digits_value 10 w)) None
@@ -43,7 +45,9 @@ abbrev pub hint_of : List ℕ → Option Hint
 hint_of w = cond (bytes_eq w (codes "-")) (Some Null) (option_map (λ b. At b) (num_of w))
 
 abbrev pub data_of : List ℕ → Option (List ℕ)
-data_of w = cond (bytes_eq w (codes "-")) (Some []) (cond (nat_le 2 (length w) && nat_le (length w) 8192) (result_ok (decode_sized w (length w / 2))) None)
+data_of w =
+    cond (bytes_eq w (codes "-")) (Some []) (cond (nat_le 2 (length w) && nat_le (length w) 8192)
+    (result_ok (decode_sized w (length w / 2))) None)
 
 -- ---- what the next words say, and the words after them
 
@@ -138,7 +142,8 @@ chosen (form ∷ forms) name ws = cond (bytes_eq name form.0) (form.1 ws) (chose
 abbrev pub forms : List (List ℕ × (Words → Option Request))
 forms = (codes "open", begin_of) ∷ (codes "close", end_of) ∷ (codes "read", read_of) ∷ (codes "write", write_of)
     ∷ (codes "alloc", alloc_of) ∷ (codes "contig", contig_of) ∷ (codes "free", free_of) ∷ (codes "create", create_of)
-    ∷ (codes "delete", delete_of) ∷ (codes "setcap", set_cap_of) ∷ (codes "sweep", sweep_of) ∷ (codes "list", list_of) ∷ []
+    ∷ (codes "delete", delete_of) ∷ (codes "setcap", set_cap_of) ∷ (codes "sweep", sweep_of)
+    ∷ (codes "list", list_of) ∷ []
 
 unfoldable pub named : List ℕ → Words → Option Request
 named name ws = chosen forms name ws

@@ -23,7 +23,8 @@ pub record IsAtEnd (tells ended : Type 0) (left : List ℕ) : Type 0 where
   pub found : ended
   pub nothing : tells → left ≡ []
 
--- What was taken of a source between two moments: which bytes came in, that it has come to its end, and that it is as it was.
+-- What was taken of a source between two moments: which bytes came in, that it has come to its end, and that it is as
+-- it was.
 pub record Taking : Type 1 where
   pub came : List ℕ → Type 0
   pub at_end : Type 0
@@ -48,28 +49,34 @@ abbrev pub moments : {P : Type 0} → Type 0 → (P → View) → P → P → Mo
 moments tells view old new = record { tells = tells; untouched = new ≡ old; old = view old; new = view new }
 
 -- Which requests a run that ended so was asked, by the bytes x that came in. At most `limit` bytes are served; after a
--- take that goes past them no more is taken, and a take gives at most 512. What the end of the input makes whole counts only
--- where the input has come to its end.
+-- take that goes past them no more is taken, and a take gives at most 512. What the end of the input makes whole counts
+-- only where the input has come to its end.
 abbrev pub AskedBy : {Q : Type 0} → Status → Spelling Q → ℕ → List ℕ → Type 0 → List Q → Type 0
 AskedBy status.Done p limit x ended qs = (length x ≤ limit) × ended × (p.ending x ≢ CutOff) × (qs ≡ all_requests p x)
-AskedBy status.Truncated p limit x ended qs = (length x ≤ limit) × ended × (p.ending x ≡ CutOff) × (qs ≡ all_requests p x)
+AskedBy status.Truncated p limit x ended qs =
+    (length x ≤ limit) × ended × (p.ending x ≡ CutOff) × (qs ≡ all_requests p x)
 AskedBy status.SourceFault p limit x ended qs = (length x ≤ limit) × (qs ≡ p.requests x)
-AskedBy status.TooLong p limit x ended qs = (limit < length x) × (length x ≤ limit + 512) × (qs ≡ p.requests (take limit x))
-AskedBy status.DeviceFault p limit x ended qs = (qs ≡ p.requests (take limit x)) ⊎ ((length x ≤ limit) × ended × (qs ≡ all_requests p x))
-AskedBy status.PutFault p limit x ended qs = (qs ≡ p.requests (take limit x)) ⊎ ((length x ≤ limit) × ended × (qs ≡ all_requests p x))
+AskedBy status.TooLong p limit x ended qs = (limit < length x) × (length x ≤ limit + 512)
+    × (qs ≡ p.requests (take limit x))
+AskedBy status.DeviceFault p limit x ended qs =
+    (qs ≡ p.requests (take limit x)) ⊎ ((length x ≤ limit) × ended × (qs ≡ all_requests p x))
+AskedBy status.PutFault p limit x ended qs = (qs ≡ p.requests (take limit x))
+    ⊎ ((length x ≤ limit) × ended × (qs ≡ all_requests p x))
 AskedBy r p limit x ended qs = ⊥
 
--- What was sent by the time that a run ended so, of the answers to these requests. `final` is the state then: after a put
--- that failed, the one behind the request whose answer was cut off.
+-- What was sent by the time that a run ended so, of the answers to these requests. `final` is the state then: after a
+-- put that failed, the one behind the request whose answer was cut off.
 abbrev pub ByStatus : {Q : Type 0} → Status → (k : Service Q) → k.States → List ℕ → List Q → k.States → List ℕ → Type 0
 ByStatus status.PutFault k s before qs final now = (c : IsCutOff k s before qs now) × (final ≡ c.next)
-ByStatus status.DeviceFault k s before qs final now = IsBroken k s before qs now ⊎ ((c : IsCutOff k s before qs now) × k.in_parts c.request c.answer)
+ByStatus status.DeviceFault k s before qs final now =
+    IsBroken k s before qs now ⊎ ((c : IsCutOff k s before qs now) × k.in_parts c.request c.answer)
 ByStatus r k s before qs final now = Served k s before qs final now
 
 -- How a run over these requests ended: what was sent; what a crash may have left at any moment; how often a write was
--- called, where so many writes were due before; and how much is left to be done in each of those images. The states of a run with
--- these answers were all seen; where the device failed, the last one may not be.
-pub record Ends {Q : Type 0} (r : Status) (k : Service Q) (w : Work Q k.States) (s final : k.States) (due : ℕ) (old new : View) (qs : List Q) : Type 0 where
+-- called, where so many writes were due before; and how much is left to be done in each of those images. The states of
+-- a run with these answers were all seen; where the device failed, the last one may not be.
+pub record Ends {Q : Type 0} (r : Status) (k : Service Q) (w : Work Q k.States) (s final : k.States) (due : ℕ)
+    (old new : View) (qs : List Q) : Type 0 where
   pub sent : ByStatus r k s old.sent qs final new.sent
   pub any_moment : LeavesOnly old new (IsAcknowledged k s old.sent qs)
   pub most : IsPaidFor k w s old.sent qs new.sent (used due old) new.writes
@@ -79,7 +86,8 @@ pub record Ends {Q : Type 0} (r : Status) (k : Service Q) (w : Work Q k.States) 
   pub all_seen : r ≢ status.DeviceFault → (t : ℕ) (le : t ≤ old.clock) → k.acked (seen t le).front ≡ 0
 
 -- Bytes that came in, the requests that they hold, and how the run over these ended, where the port tells.
-pub record Ran {Q : Type 0} (r : Status) (k : Service Q) (w : Work Q k.States) (p : Spelling Q) (s final : k.States) (limit : ℕ) (source : Taking) (due : ℕ) (port : Moments) : Type 0 where
+pub record Ran {Q : Type 0} (r : Status) (k : Service Q) (w : Work Q k.States) (p : Spelling Q) (s final : k.States)
+    (limit : ℕ) (source : Taking) (due : ℕ) (port : Moments) : Type 0 where
   pub bytes : List ℕ
   pub came_in : source.came bytes
   pub asked : List Q

@@ -16,13 +16,15 @@ texts [] = []
 texts (a ∷ xs) = a ++ texts xs
 
 -- All these requests were answered, and the answers sent after `before`, which makes `now`.
-pub record Served {Q : Type 0} (k : Service Q) (s : k.States) (before : List ℕ) (qs : List Q) (state : k.States) (now : List ℕ) : Type 0 where
+pub record Served {Q : Type 0} (k : Service Q) (s : k.States) (before : List ℕ) (qs : List Q) (state : k.States)
+    (now : List ℕ) : Type 0 where
   pub answers : List (List ℕ)
   pub run : Run k s qs answers state
   pub sent : now ≡ before ++ texts answers
 
 -- The first of these requests were answered, and the answers sent whole.
-pub record IsBroken {Q : Type 0} (k : Service Q) (s : k.States) (before : List ℕ) (qs : List Q) (now : List ℕ) : Type 0 where
+pub record IsBroken {Q : Type 0} (k : Service Q) (s : k.States) (before : List ℕ) (qs : List Q)
+    (now : List ℕ) : Type 0 where
   pub answered : List Q
   pub rest : List Q
   pub parts : qs ≡ answered ++ rest
@@ -32,9 +34,10 @@ pub record IsBroken {Q : Type 0} (k : Service Q) (s : k.States) (before : List �
   pub sent : now ≡ before ++ texts answers
   pub count : k.acked (texts answers) ≡ length answered
 
--- The first of these requests were answered, and the answers sent whole; of an answer to the next one a proper front was
--- sent, which may be empty.
-pub record IsCutOff {Q : Type 0} (k : Service Q) (s : k.States) (before : List ℕ) (qs : List Q) (now : List ℕ) : Type 0 where
+-- The first of these requests were answered, and the answers sent whole; of an answer to the next one a proper front
+-- was sent, which may be empty.
+pub record IsCutOff {Q : Type 0} (k : Service Q) (s : k.States) (before : List ℕ) (qs : List Q)
+    (now : List ℕ) : Type 0 where
   pub answered : List Q
   pub request : Q
   pub rest : List Q
@@ -52,8 +55,8 @@ pub record IsCutOff {Q : Type 0} (k : Service Q) (s : k.States) (before : List �
   pub sent : now ≡ before ++ (texts answers ++ front)
   pub count : k.acked (texts answers ++ front) ≡ length answered
 
--- A crash left this image, with these bytes sent. With a the number of whole answers among those after `before`, the image
--- stands for the state after a requests, or where there is one more, for that or the one after it.
+-- A crash left this image, with these bytes sent. With a the number of whole answers among those after `before`, the
+-- image stands for the state after a requests, or where there is one more, for that or the one after it.
 abbrev pub IsAcknowledged : {Q : Type 0} → (k : Service Q) → k.States → List ℕ → List Q → Image → List ℕ → Type 0
 IsAcknowledged k s before qs x f =
     ((b : IsBroken k s before qs f) × k.stands b.state x)

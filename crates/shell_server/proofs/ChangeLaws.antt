@@ -14,7 +14,7 @@ use Rattle.fs_trees.specs.Tree.{nothing, a_file, a_dir, Tree, at, bytes_in, is_t
 use Rattle.fs_trees.specs.Answer.{Answer, done, refused}
 use Rattle.fs_trees.specs.Needs.{need_of}
 use Rattle.fs_trees.specs.Refusals.{Need, refusal}
-use Rattle.fs_trees.specs.Step.{Outcome, empty_tree, judged}
+use Rattle.fs_trees.specs.Step.{AskOutcome, empty_tree, judged}
 use Rattle.fs_trees.specs.Outside.{OthersStay}
 use Rattle.fs_trees.specs.Layouts.{tree_at, step_in}
 use Rattle.fs_trees.specs.declared.ask.ShellAsk.{ShellAsk}
@@ -23,7 +23,7 @@ use Rattle.fs_trees.specs.declared.ask.ShellKind.{ShellKind}
 use Rattle.fs_trees.specs.declared.refusal.FsRefusal.{FsRefusal}
 use Rattle.fs_trees.specs.declared.refusal.FsRefusal.TheVariants as no
 use Rattle.fs_laws.proofs.OutsideLaws.{outside_twice}
-use Rattle.fs_port.specs.View.{View}
+use Rattle.fs_port.specs.View.{DiskView}
 use Rattle.fs_port.specs.Calls.{IsValidNow, Stays}
 use Rattle.fs_port.specs.Files.{FilesView, IsEitherTree, LeavesTidyWorld, OnAnswer, step_on, tree_on, unless_refused}
 use Rattle.fs_port.specs.Files.{Answers}
@@ -92,7 +92,7 @@ make_dir_changes t free path None = inl refl
 
 -- ---- putting a file
 
-module _ (f : FilesView) (v : View) (path : Path) (x : List ℕ) where
+module _ (f : FilesView) (v : DiskView) (path : Path) (x : List ℕ) where
   pub put_of_change : IsOfChange (step_on f v (ask.Put path x)).answer
   put_of_change = put_changes (tree_on f v) (free_count v.world) path x (refusal f.kind v.world.geometry (tree_on f v) (free_count v.world) (length v.world.pairs) (need_of f.kind v.world f.root (tree_on f v) (ask.Put path x)) (ask.Put path x))
 
@@ -106,7 +106,7 @@ module _ (f : FilesView) (v : View) (path : Path) (x : List ℕ) where
 
 -- ---- adding to a file
 
-module _ (f : FilesView) (v : View) (path : Path) (x : List ℕ) where
+module _ (f : FilesView) (v : DiskView) (path : Path) (x : List ℕ) where
   pub append_of_change : IsOfChange (step_on f v (ask.Append path x)).answer
   append_of_change = append_changes (tree_on f v) (free_count v.world) path x (refusal f.kind v.world.geometry (tree_on f v) (free_count v.world) (length v.world.pairs) (need_of f.kind v.world f.root (tree_on f v) (ask.Append path x)) (ask.Append path x))
 
@@ -120,7 +120,7 @@ module _ (f : FilesView) (v : View) (path : Path) (x : List ℕ) where
 
 -- ---- making a directory
 
-module _ (f : FilesView) (v : View) (path : Path) where
+module _ (f : FilesView) (v : DiskView) (path : Path) where
   pub make_dir_of_change : IsOfChange (step_on f v (ask.MakeDir path)).answer
   make_dir_of_change = make_dir_changes (tree_on f v) (free_count v.world) path (refusal f.kind v.world.geometry (tree_on f v) (free_count v.world) (length v.world.pairs) (need_of f.kind v.world f.root (tree_on f v) (ask.MakeDir path)) (ask.MakeDir path))
 
@@ -153,7 +153,7 @@ rm_below : (t : Tree) (free : ℕ) (n : Name) (ns : Path) (o : Option FsRefusal)
 rm_below t free n ns (Some r) there e = absurd (no_done r (sym e))
 rm_below t free n ns None there e = with_at_below n ns nothing t there
 
-module _ (f : FilesView) (v : View) where
+module _ (f : FilesView) (v : DiskView) where
   pub rm_of_change : (path : Path) → IsOfChange (step_on f v (ask.Rm path)).answer
   rm_of_change path = rm_changes (tree_on f v) (free_count v.world) path (refusal f.kind v.world.geometry (tree_on f v) (free_count v.world) (length v.world.pairs) (need_of f.kind v.world f.root (tree_on f v) (ask.Rm path)) (ask.Rm path))
 
@@ -174,10 +174,10 @@ module _ (f : FilesView) (v : View) where
 module _ (start : World) (f : FilesView) (q a : ShellAsk) (hears : heard f.kind q ≡ a) (still : files_after f a ≡ f) (l m : ℕ × ℕ) (kind place : PlaceKind) (c0 c1 : Core) (v w : DeviceView)
     (changes : IsOfChange (step_on f (core_view l kind c0 v) a).answer)
     (unmounted : f.mounted ≡ false → (step_on f (core_view l kind c0 v) a).answer ≡ refused no.NotThisFs) where
-  abbrev old : View
+  abbrev old : DiskView
   old = core_view l kind c0 v
 
-  abbrev new : View
+  abbrev new : DiskView
   new = core_view m place c1 w
 
   abbrev state : ShellState
@@ -201,11 +201,11 @@ module _ (start : World) (f : FilesView) (q a : ShellAsk) (hears : heard f.kind 
 
   answers_done : (u : World) → (step_on f old a).answer ≡ done → tree_at f.kind u f.root ≡ (step_on f old a).tree → IsKeptSince start (in_world u) → AnswersByLine start state q (answer_text done ++ 10 ∷ []) (in_world u)
   answers_done u ok tree kept =
-      let same : (shell_step state q).answer ≡ done = ap (λ (o : Outcome). o.answer) step_same ∙ ok in
+      let same : (shell_step state q).answer ≡ done = ap (λ (o : AskOutcome). o.answer) step_same ∙ ok in
       record {
         text = ap (λ x. answer_text x ++ 10 ∷ []) (sym same);
         one_line = ap (λ x. line_feeds (answer_text x)) same;
-        tree = tree_mounted u ok ∙ tree ∙ sym (ap (λ (o : Outcome). o.tree) step_same);
+        tree = tree_mounted u ok ∙ tree ∙ sym (ap (λ (o : AskOutcome). o.tree) step_same);
         same = λ other. absurd (other same);
         files = files_same;
         kept = kept;
@@ -213,7 +213,7 @@ module _ (start : World) (f : FilesView) (q a : ShellAsk) (hears : heard f.kind 
 
   answers_refused : (u : World) (r : FsRefusal) → (step_on f old a).answer ≡ refused r → u ≡ world_of v.reads → line_feeds (answer_text (refused r)) ≡ 0 → IsKeptSince start (in_world u) → AnswersByLine start state q (answer_text (refused r) ++ 10 ∷ []) (in_world u)
   answers_refused u r refuses same line kept =
-      let is : (shell_step state q).answer ≡ refused r = ap (λ (o : Outcome). o.answer) step_same ∙ refuses in
+      let is : (shell_step state q).answer ≡ refused r = ap (λ (o : AskOutcome). o.answer) step_same ∙ refuses in
       record {
         text = ap (λ x. answer_text x ++ 10 ∷ []) (sym is);
         one_line = ap (λ x. line_feeds (answer_text x)) is ∙ line;

@@ -14,7 +14,7 @@ use Rattle.fs_trees.specs.declared.ask.ShellAsk.TheVariants as ask
 use Rattle.fs_trees.specs.declared.ask.ShellKind.{ShellKind}
 use Rattle.fs_trees.specs.declared.refusal.FsRefusal.{FsRefusal}
 use Rattle.fs_trees.specs.declared.refusal.FsRefusal.TheVariants as no
-use Rattle.fs_port.specs.View.{View}
+use Rattle.fs_port.specs.View.{DiskView}
 use Rattle.fs_port.specs.Files.{FilesView, step_on, tree_on}
 use Rattle.shell_server.proofs.ChangeLaws.{IsOfChange}
 
@@ -48,7 +48,7 @@ copy_below : (t : Tree) (free : ℕ) (path : Path) (n : Name) (ns : Path) (o : O
 copy_below t free path n ns (Some r) there e = absurd (no_done r (sym e))
 copy_below t free path n ns None there e = with_at_below n ns (at t path) t there
 
-module _ (f : FilesView) (v : View) (path : Path) where
+module _ (f : FilesView) (v : DiskView) (path : Path) where
   pub copy_of_change : (new : Path) → IsOfChange (step_on f v (ask.Copy path new)).answer
   copy_of_change new = copy_changes (tree_on f v) (free_count v.world) path new (refusal f.kind v.world.geometry (tree_on f v) (free_count v.world) (length v.world.pairs) (need_of f.kind v.world f.root (tree_on f v) (ask.Copy path new)) (ask.Copy path new))
 

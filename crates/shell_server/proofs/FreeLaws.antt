@@ -11,7 +11,7 @@ use Rattle.fs_trees.specs.Answer.{Answer, free_blocks, refused}
 use Rattle.fs_trees.specs.declared.ask.ShellAsk.TheVariants as ask
 use Rattle.fs_trees.specs.declared.refusal.FsRefusal.{FsRefusal}
 use Rattle.fs_trees.specs.declared.refusal.FsRefusal.TheVariants as no
-use Rattle.fs_port.specs.View.{View as BlocksView}
+use Rattle.fs_port.specs.View.{DiskView as BlocksView}
 use Rattle.fs_port.specs.Files.{FilesView, step_on}
 use Rattle.shell_text.specs.Texts.{answer_text}
 use Rattle.tsd_words.specs.declared.status.Status.{Status}

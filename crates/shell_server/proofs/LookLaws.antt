@@ -14,7 +14,7 @@ use Rattle.fs_trees.specs.Layouts.{step_in}
 use Rattle.fs_trees.specs.declared.ask.ShellAsk.{ShellAsk}
 use Rattle.fs_trees.specs.declared.refusal.FsRefusal.{FsRefusal}
 use Rattle.fs_trees.specs.declared.refusal.FsRefusal.TheVariants as no
-use Rattle.fs_port.specs.View.{View}
+use Rattle.fs_port.specs.View.{DiskView}
 use Rattle.fs_port.specs.Calls.{Counts, IsValidNow, LeavesWorldsOnly, Stays}
 use Rattle.fs_port.specs.Files.{FilesView, OnAnswer, step_on, tree_on}
 use Rattle.fs_port.specs.Files.{Answers}
@@ -28,10 +28,10 @@ use Rattle.shell_server.specs.Carried.{IsLooked}
 use Rattle.shell_server.proofs.KeptLaws.{client_still}
 
 module _ (start : World) (f : FilesView) (q a : ShellAsk) (hears : heard f.kind q ≡ a) (l m : ℕ × ℕ) (kind place : PlaceKind) (c0 c1 : Core) (v w : DeviceView) where
-  abbrev old : View
+  abbrev old : DiskView
   old = core_view l kind c0 v
 
-  abbrev new : View
+  abbrev new : DiskView
   new = core_view m place c1 w
 
   abbrev state : ShellState

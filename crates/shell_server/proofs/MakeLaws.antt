@@ -16,7 +16,7 @@ use Rattle.fs_trees.specs.declared.ask.ShellAsk.TheVariants as ask
 use Rattle.fs_trees.specs.declared.refusal.FsRefusal.{FsRefusal}
 use Rattle.fs_trees.specs.declared.refusal.FsRefusal.TheVariants as no
 use Rattle.fs_laws.proofs.OutsideLaws.{outside_twice}
-use Rattle.fs_port.specs.View.{View}
+use Rattle.fs_port.specs.View.{DiskView}
 use Rattle.fs_port.specs.Calls.{IsValidNow, Stays}
 use Rattle.fs_port.specs.Files.{FilesView, IsEitherTree, LeavesTidyWorld, OnAnswer, mounted_now}
 use Rattle.fs_port.specs.Runs.{IsMade, Runs}
@@ -30,10 +30,10 @@ use Rattle.shell_server.specs.Carried.{IsLeftBeforeOrAfter, IsCarried, IsOneLine
 use Rattle.shell_server.proofs.KeptLaws.{client_still}
 
 module _ (start : World) (f g : FilesView) (l m : ℕ × ℕ) (kind place : PlaceKind) (c0 c1 : Core) (v w : DeviceView) where
-  abbrev old : View
+  abbrev old : DiskView
   old = core_view l kind c0 v
 
-  abbrev new : View
+  abbrev new : DiskView
   new = core_view m place c1 w
 
   abbrev state : ShellState

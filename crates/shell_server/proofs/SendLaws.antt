@@ -9,7 +9,7 @@ use Rattle.image_device.proofs.Moments.{firm_image, joined, started, weakened}
 use Rattle.image_world.specs.Stands.{world_of}
 use Rattle.script_text.specs.Pieces.{line_feeds}
 use Rattle.fs_trees.specs.Answer.{bad}
-use Rattle.fs_trees.specs.Step.{Outcome}
+use Rattle.fs_trees.specs.Step.{AskOutcome}
 use Rattle.fs_trees.specs.Layouts.{step_in}
 use Rattle.fs_trees.specs.declared.ask.ShellAsk.{ShellAsk}
 use Rattle.fs_trees.specs.declared.ask.ShellAsk.TheVariants as ask
@@ -104,9 +104,9 @@ served_bad told start q f c v z ready sound at is =
     let step : shell_step (shell_state f v.reads) q ≡ step_in f.kind (world_of v.reads) f.root (tree_in (shell_state f v.reads)) ask.Bad = ap (λ b. step_in f.kind (world_of v.reads) f.root (tree_in (shell_state f v.reads)) b) is in
     line_served told start q f f c c v v z (answer_text bad ++ 10 ∷ []) ready at
     (λ t. record {
-      text = sym (ap (λ (o : Outcome). answer_text o.answer ++ 10 ∷ []) step);
-      one_line = ap (λ (o : Outcome). line_feeds (answer_text o.answer)) step;
-      tree = sym (ap (λ (o : Outcome). o.tree) step);
+      text = sym (ap (λ (o : AskOutcome). answer_text o.answer ++ 10 ∷ []) step);
+      one_line = ap (λ (o : AskOutcome). line_feeds (answer_text o.answer)) step;
+      tree = sym (ap (λ (o : AskOutcome). o.tree) step);
       same = λ other. refl;
       files = sym (ap (files_after f) is);
       kept = (at t).1.kept;

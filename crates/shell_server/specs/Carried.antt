@@ -22,7 +22,8 @@ use Rattle.shell_server.specs.Kept.{AreReady, FitsShell, shell_state}
 
 -- the image stands for the state, or for one that an answer to the ask leads to
 abbrev pub IsLeftBeforeOrAfter : World → ShellState → ShellAsk → Image → Type 0
-IsLeftBeforeOrAfter start s q x = IsLeftOf start s x ⊎ ((line : List ℕ) × (t : ShellState) × AnswersByLine start s q line t × IsLeftOf start t x)
+IsLeftBeforeOrAfter start s q x = IsLeftOf start s x
+    ⊎ ((line : List ℕ) × (t : ShellState) × AnswersByLine start s q line t × IsLeftOf start t x)
 
 -- the line that answers an ask that changes the tree
 abbrev pub change_line : {X : Type 0} → Result X FsRefusal → List ℕ
@@ -34,12 +35,14 @@ abbrev pub IsOneLine : {X : Type 0} → Result X FsRefusal → Type 0
 IsOneLine (Ok x) = Unit {0}
 IsOneLine (Err e) = line_feeds (answer_text (refused e)) ≡ 0
 
--- An ask that changes the tree was carried out, and nothing is sent yet. But for Device the file system and the core may be used again,
--- and the ask is answered so. A crash leaves the state before, or one after.
-pub record IsCarried {X : Type 0} (told : Type 0) (start : World) (q : ShellAsk) (f0 f1 : FilesView) (c0 c1 : Core) (v w : View) (result : Result X FsRefusal) : Type 0 where
+-- An ask that changes the tree was carried out, and nothing is sent yet. But for Device the file system and the core
+-- may be used again, and the ask is answered so. A crash leaves the state before, or one after.
+pub record IsCarried {X : Type 0} (told : Type 0) (start : World) (q : ShellAsk) (f0 f1 : FilesView) (c0 c1 : Core)
+    (v w : View) (result : Result X FsRefusal) : Type 0 where
   pub ready : OnAnswer result (AreReady f1 c1)
   pub at : told → OnAnswer result (FitsDevice (FitsShell start f1 c1) w)
-  pub answered : told → OnAnswer result (IsOneLine result → AnswersByLine start (shell_state f0 v.reads) q (change_line result) (shell_state f1 w.reads))
+  pub answered : told → OnAnswer result (IsOneLine result
+      → AnswersByLine start (shell_state f0 v.reads) q (change_line result) (shell_state f1 w.reads))
   pub sent : told → w.sent ≡ v.sent
   pub any_moment : told → LeavesOnly v w (λ x f. IsLeftBeforeOrAfter start (shell_state f0 v.reads) q x × (f ≡ v.sent))
   pub put_faults : w.put_faults ≡ v.put_faults
@@ -48,7 +51,8 @@ pub record IsCarried {X : Type 0} (told : Type 0) (start : World) (q : ShellAsk)
   pub cause : IfErr result (λ e. e ≡ no.Device → Rose v.faults w.faults)
 
 -- The disk was read for an ask, and nothing is sent yet. The state stays; what was read is of the answer of the step.
-pub record IsLooked {X : Type 0} (told : Type 0) (start : World) (q : ShellAsk) (f0 f1 : FilesView) (c0 c1 : Core) (v w : View) (of_answer : X → Answer → Type 0) (result : Result X FsRefusal) : Type 0 where
+pub record IsLooked {X : Type 0} (told : Type 0) (start : World) (q : ShellAsk) (f0 f1 : FilesView) (c0 c1 : Core)
+    (v w : View) (of_answer : X → Answer → Type 0) (result : Result X FsRefusal) : Type 0 where
   pub ready : OnAnswer result (AreReady f1 c1)
   pub at : told → OnAnswer result (FitsDevice (FitsShell start f1 c1) w)
   pub state : told → OnAnswer result (shell_state f1 w.reads ≡ shell_state f0 v.reads)
@@ -62,12 +66,16 @@ pub record IsLooked {X : Type 0} (told : Type 0) (start : World) (q : ShellAsk) 
   pub cause : IfErr result (λ e. e ≡ no.Device → Rose v.faults w.faults)
 
 -- An ask was answered, as a server of the loop promises.
-pub record IsServed {X : Type 0} (told : Type 0) (start : World) (q : ShellAsk) (f0 f1 : FilesView) (c0 c1 : Core) (v w : View) (result : Result X Status) : Type 0 where
+pub record IsServed {X : Type 0} (told : Type 0) (start : World) (q : ShellAsk) (f0 f1 : FilesView) (c0 c1 : Core)
+    (v w : View) (result : Result X Status) : Type 0 where
   pub ready : result ≢ Err status.DeviceFault → AreReady f1 c1
   pub at : result ≢ Err status.DeviceFault → told → FitsDevice (FitsShell start f1 c1) w
   pub spent : result ≡ Err status.DeviceFault → c1.volume.is_spent ≡ true
-  pub answered : told → OnOk result ((line : List ℕ) × AnswersByLine start (shell_state f0 v.reads) q line (shell_state f1 w.reads) × (w.sent ≡ v.sent ++ line))
-  pub left : told → IfErr result (λ why. LeftBy why (shell_service start) (shell_state f0 v.reads) q (shell_state f1 w.reads) v.sent w.sent)
+  pub answered : told → OnOk result ((line : List ℕ)
+      × AnswersByLine start (shell_state f0 v.reads) q line (shell_state f1 w.reads) × (w.sent ≡ v.sent ++ line))
+  pub left : told
+      → IfErr result (λ why. LeftBy why (shell_service start) (shell_state f0 v.reads) q (shell_state f1 w.reads)
+      v.sent w.sent)
   pub any_moment : told → LeavesOnly v w (IsInAnswer (shell_service start) (shell_state f0 v.reads) q v.sent)
   pub stops : IfErr result (λ why. (why ≡ status.DeviceFault) ⊎ (why ≡ status.PutFault))
   pub faults : CountsFaultOf status.DeviceFault result v.faults w.faults

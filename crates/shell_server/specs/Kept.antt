@@ -18,7 +18,8 @@ pub record IsClient (f : FilesView) (c : Core) : Type 0 where
   pub number : f.session ≤ sessions_max
   pub begun : IsTrue (is_open (sessions_of c) f.session)
   pub primary : f.root < (told_world c).geometry.primaries
-  pub attains : record_level (slice_get (told_world c).records f.root) (kept_of (told_world c).version f.cap) ≡ level.Write
+  pub attains : record_level (slice_get (told_world c).records f.root) (kept_of (told_world c).version f.cap)
+      ≡ level.Write
 
 -- the core and the file system may be used
 pub record AreReady (f : FilesView) (c : Core) : Type 0 where
@@ -37,8 +38,20 @@ pub record FitsShell (start : World) (f : FilesView) (c : Core) (x : Image) : Ty
   pub fits : Fits (world_of x) (sessions_of c)
   pub there : f.mounted ≡ true → IsTrue (is_there (tree_under f (world_of x)))
 
-pub shell_stands : (start : World) (f : FilesView) (c : Core) (x : Image) → FitsShell start f c x → IsLeftOf start (shell_state f x) x
-shell_stands start f c x keeps = record { world = world_of x; stands = record { good = keeps.core.good; world = refl }; valid = keeps.kept.valid; tree = refl; others = keeps.kept.others }
+pub shell_stands : (start : World) (f : FilesView) (c : Core) (x : Image) → FitsShell start f c x
+    → IsLeftOf start (shell_state f x) x
+shell_stands start f c x keeps = record {
+  world = world_of x;
+  stands = record { good = keeps.core.good; world = refl };
+  valid = keeps.kept.valid;
+  tree = refl;
+  others = keeps.kept.others;
+}
 
-pub shell_rests : (start : World) (f : FilesView) (c : Core) (x : Image) → FitsShell start f c x → RestsIn start (shell_state f x) x
-shell_rests start f c x keeps = record { stands = record { good = keeps.core.good; world = refl }; kept = keeps.kept; tidy = keeps.tidy }
+pub shell_rests : (start : World) (f : FilesView) (c : Core) (x : Image) → FitsShell start f c x
+    → RestsIn start (shell_state f x) x
+shell_rests start f c x keeps = record {
+  stands = record { good = keeps.core.good; world = refl };
+  kept = keeps.kept;
+  tidy = keeps.tidy;
+}

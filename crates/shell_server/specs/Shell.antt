@@ -9,7 +9,7 @@ use Rattle.script_text.specs.Pieces.{line_feeds}
 use Rattle.fs_trees.specs.Names.{Name, is_path}
 use Rattle.fs_trees.specs.Tree.{Tree, nothing}
 use Rattle.fs_trees.specs.Answer.{bytes, done, listed}
-use Rattle.fs_trees.specs.Step.{Outcome}
+use Rattle.fs_trees.specs.Step.{AskOutcome}
 use Rattle.fs_trees.specs.Outside.{OthersStay}
 use Rattle.fs_trees.specs.Layouts.{tree_at, step_in, IsTidy}
 use Rattle.fs_trees.specs.declared.ask.ShellAsk.{ShellAsk}
@@ -67,7 +67,7 @@ abbrev pub heard : ShellKind → ShellAsk → ShellAsk
 heard kind q = cond (is_heard kind q) q ask.Bad
 
 -- the step of an ask, with the room that the world has
-abbrev pub shell_step : ShellState → ShellAsk → Outcome
+abbrev pub shell_step : ShellState → ShellAsk → AskOutcome
 shell_step s q = step_in s.files.kind s.world s.files.root (tree_in s) (heard s.files.kind q)
 
 -- an empty tree that was made is mounted
@@ -75,8 +75,8 @@ abbrev pub files_after : FilesView → ShellAsk → FilesView
 files_after f ask.Make = mounted_now f
 files_after f q = f
 
--- The ask is answered by the line of its step, and the tree then is that of the step. Only an ask that is done changes the world: what
--- is refused or only read leaves all of it, also where no tree is mounted.
+-- The ask is answered by the line of its step, and the tree then is that of the step. Only an ask that is done changes
+-- the world: what is refused or only read leaves all of it, also where no tree is mounted.
 pub record AnswersByLine (start : World) (s : ShellState) (q : ShellAsk) (line : List ℕ) (t : ShellState) : Type 0 where
   pub text : line ≡ answer_text (shell_step s q).answer ++ 10 ∷ []
   pub one_line : line_feeds (answer_text (shell_step s q).answer) ≡ 0
@@ -87,8 +87,8 @@ pub record AnswersByLine (start : World) (s : ShellState) (q : ShellAsk) (line :
 
 -- ---- images
 
--- What a crash may leave of a state: a valid world with the same tree under the root, and with what the root doesn't reach as it was
--- at the start. It needn't be tidy.
+-- What a crash may leave of a state: a valid world with the same tree under the root, and with what the root doesn't
+-- reach as it was at the start. It needn't be tidy.
 pub record IsLeftOf (start : World) (s : ShellState) (x : Image) : Type 0 where
   pub world : World
   pub stands : Stands x world
@@ -123,4 +123,11 @@ shell_service start = record {
 
 -- how its work is counted: no ask has a bound
 abbrev pub shell_work : Work ShellAsk ShellState
-shell_work = record { bounded = λ q. ⊥; cost = λ s q. 0; made = λ s q. 0; debt = debt; before_answer = λ s owed q. 0; behind_answer = 0 }
+shell_work = record {
+  bounded = λ q. ⊥;
+  cost = λ s q. 0;
+  made = λ s q. 0;
+  debt = debt;
+  before_answer = λ s owed q. 0;
+  behind_answer = 0;
+}

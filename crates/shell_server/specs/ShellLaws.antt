@@ -1,5 +1,6 @@
 -- AnswersByLine of the shell part in one way.
-use Rattle.std.proofs.Common.{◌≡◌, ℕ, suc, ◌+◌, ◌<◌, List, [], ◌∷◌, ◌++◌, length, refl, sym, ◌∙◌, ap, arith, length-append}
+use Rattle.std.proofs.Common.{◌≡◌, ℕ, suc, ◌+◌, ◌<◌, List, [], ◌∷◌, ◌++◌, length, refl, sym, ◌∙◌, ap, arith}
+use Rattle.std.proofs.Common.{length-append}
 use Rattle.tsd_model.specs.World.{World}
 use Rattle.script_text.specs.Pieces.{line_feeds}
 use Rattle.script_text.proofs.FeedLaws.{feeds-append, front_few}
@@ -15,7 +16,8 @@ module _ (w : List ℕ) (none : line_feeds w ≡ 0) where
       let same : line_feeds line ≡ line_feeds (w ++ 10 ∷ []) = ap line_feeds is in
       omega (arith, all, same, one)
 
-  line_part : (line front back : List ℕ) → line ≡ w ++ 10 ∷ [] → line ≡ front ++ back → 0 < length back → line_feeds front ≡ 0
+  line_part : (line front back : List ℕ) → line ≡ w ++ 10 ∷ [] → line ≡ front ++ back → 0 < length back
+      → line_feeds front ≡ 0
   line_part line front back is parts some =
       let few = front_few w front back (sym is ∙ parts) some in
       omega (arith, few, none)

@@ -10,7 +10,8 @@ use Rattle.shell_server.specs.Shell.{IsLeftOf}
 use Rattle.shell_server.specs.Kept.{AreReady, FitsShell, shell_state}
 
 -- This piece of an answer was sent, and the disk read for it. The state stays.
-pub record IsSpeaking (told : Type 0) (start : World) (f0 f1 : FilesView) (c0 c1 : Core) (v w : View) (piece : List ℕ) : Type 0 where
+pub record IsSpeaking (told : Type 0) (start : World) (f0 f1 : FilesView) (c0 c1 : Core) (v w : View)
+    (piece : List ℕ) : Type 0 where
   pub ready : AreReady f1 c1
   pub at : told → FitsDevice (FitsShell start f1 c1) w
   pub state : told → shell_state f1 w.reads ≡ shell_state f0 v.reads

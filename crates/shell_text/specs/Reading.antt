@@ -1,5 +1,6 @@
 -- The ask of a line as a function that computes.
-use Rattle.std.specs.Prelude.{ℕ, cond, ◌==◌, nat_lt, List, [], ◌∷◌, length, codes, bytes_eq, Option, Some, None, unwrap_or}
+use Rattle.std.specs.Prelude.{ℕ, cond, ◌==◌, nat_lt, List, [], ◌∷◌, length, codes, bytes_eq, Option, Some, None}
+use Rattle.std.specs.Prelude.{unwrap_or}
 use Rattle.std.specs.Borrow.{Bor}
 use Rattle.script_text.specs.Pieces.{pieces}
 use Rattle.script_text.specs.Reading.{data_of, reads, ends, ◌>>=◌, Words}

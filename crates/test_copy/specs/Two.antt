@@ -5,7 +5,7 @@ use Rattle.tsd_model.specs.Run.{fresh_world}
 use Rattle.tsd_model.specs.declared.geometry.Geometry.{Geometry}
 use Rattle.tsd_model.specs.declared.requests.PlaceKind.TheVariants.{Near}
 use Rattle.fs_port.specs.Files.{FilesView}
-use Rattle.fs_port.specs.View.{View}
+use Rattle.fs_port.specs.View.{DiskView}
 use Rattle.fixtures_fs.specs.Ours.{cap_of}
 use Rattle.fixtures_fs.specs.Untold.{caps}
 
@@ -17,7 +17,7 @@ pub record IsAt (b s : ℕ) (f : FilesView) : Type 0 where
 
 -- Sessions 1 and 2 are open, and of version 1 is what is kept of the capabilities. The world counts for nothing, as it
 -- isn't told.
-abbrev pub two_view : Geometry → ℕ → Bool → View
+abbrev pub two_view : Geometry → ℕ → Bool → DiskView
 two_view g faults spent = record {
   geometry = g;
   version = 1;

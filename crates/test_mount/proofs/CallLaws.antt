@@ -14,7 +14,7 @@ use Rattle.fs_trees.specs.declared.ask.ShellKind.{ShellKind}
 use Rattle.fs_trees.specs.declared.refusal.FsRefusal.{FsRefusal}
 use Rattle.fs_trees.specs.declared.refusal.FsRefusal.TheVariants as no
 use Rattle.fs_trees.specs.Layouts.{tree_at}
-use Rattle.fs_port.specs.View.{View}
+use Rattle.fs_port.specs.View.{DiskView}
 use Rattle.fs_port.specs.Files.{FilesView, Answers, HasTree, TellsPart, mounted_now}
 use Rattle.fs_laws.proofs.OrderLaws.{lt_irreflexive}
 
@@ -66,18 +66,18 @@ bytes_same : {x y : List ℕ} → bytes x ≡ bytes y → x ≡ y
 bytes_same e = cc
 
 -- it was put
-abbrev IsPut : FilesView → View → View → Path → List ℕ → Type 0
+abbrev IsPut : FilesView → DiskView → DiskView → Path → List ℕ → Type 0
 IsPut f v w p x = Answers {X = Unit {0}} f v w (ask.Put p x) (Ok tt) (λ _ answer. answer ≡ done)
 
 -- and read
-abbrev IsRead : FilesView → View → View → Path → List ℕ → Result (Unit {0}) FsRefusal → Type 0
+abbrev IsRead : FilesView → DiskView → DiskView → Path → List ℕ → Result (Unit {0}) FsRefusal → Type 0
 IsRead f w z p into r = Answers f w z (ask.Cat p) r (λ _. TellsPart 0 into)
 
-module _ (f : FilesView) (v w : View) (p : Path) (x : List ℕ) (made : tree_at f.kind v.world f.root ≡ empty_tree) where
+module _ (f : FilesView) (v w : DiskView) (p : Path) (x : List ℕ) (made : tree_at f.kind v.world f.root ≡ empty_tree) where
   there_mounted : IsPut (mounted_now f) v w p x → HasTree (mounted_now f) w
   there_mounted put = λ _. there_from f.kind v.world.geometry w.world.geometry (free_count v.world) (length v.world.pairs) (free_count w.world) (length w.world.pairs) (need_of f.kind v.world f.root (tree_at f.kind v.world f.root) (ask.Put p x)) (need_of f.kind w.world f.root (tree_at f.kind w.world f.root) (ask.Cat p)) x p (tree_at f.kind v.world f.root) (tree_at f.kind w.world f.root) made put.ok.0 put.ok.1
 
-  back_mounted : (z : View) (into : List ℕ) (r : Result (Unit {0}) FsRefusal) → IsPut (mounted_now f) v w p x → IsRead (mounted_now f) w z p into r → OnOk r (into ≡ take 4096 x)
+  back_mounted : (z : DiskView) (into : List ℕ) (r : Result (Unit {0}) FsRefusal) → IsPut (mounted_now f) v w p x → IsRead (mounted_now f) w z p into r → OnOk r (into ≡ take 4096 x)
   back_mounted z into (Err e) put read = tt
   back_mounted z into (Ok u) put read =
       let told = read.ok.0 in
@@ -91,5 +91,5 @@ module _ (f : FilesView) (v w : View) (p : Path) (x : List ℕ) (made : tree_at 
     pub tree_then : HasTree last w
     tree_then = subst (λ h. HasTree h w) (sym (still ∙ same)) (there_mounted put_mounted)
 
-    pub came_back : (z : View) (into : List ℕ) (r : Result (Unit {0}) FsRefusal) → IsRead last w z p into r → OnOk r (into ≡ take 4096 x)
+    pub came_back : (z : DiskView) (into : List ℕ) (r : Result (Unit {0}) FsRefusal) → IsRead last w z p into r → OnOk r (into ≡ take 4096 x)
     came_back z into r read = back_mounted z into r put_mounted (subst (λ h. IsRead h w z p into r) (still ∙ same) read)

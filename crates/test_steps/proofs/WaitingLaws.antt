@@ -19,14 +19,14 @@ use Rattle.cycle_sweep.specs.Sweep.{MaySweep}
 use Rattle.disk_laws.specs.Reclaiming.{all_apart}
 use Rattle.disk_laws.proofs.DoomLaws.{live_below}
 use Rattle.reclaim.proofs.HeldLaws.{has-at, not_before, has-take_more}
-use Rattle.reclaim.specs.Held.{Held}
+use Rattle.reclaim.specs.Held.{HeldTargets}
 use Rattle.reclaim.specs.Stepping.{MayStep, after_step}
 use Rattle.reclaim.specs.Tables.{graph_of, HaveCounts, HoldsLost}
 
 -- ---- the lost blocks
 
 -- a target doesn't wait yet, since a pair leads to it before the step
-pub target_new : (w : World) (s : OutStep) (old mid : Held) → MayStep w s → HoldsLost w old
+pub target_new : (w : World) (s : OutStep) (old mid : HeldTargets) → MayStep w s → HoldsLost w old
     → ((b : ℕ) → has_number mid.blocks b ≡ (has_number old.blocks b && not (s.freed && (s.block == b)))) → (b : ℕ) → has_number s.targets b ≡ true → has_number mid.blocks b ≡ false
 target_new w s old mid may lost popped b is = false_from_ne_true (has_number mid.blocks b) (λ waits.
     let parts = and_parts (has_number old.blocks b) (not (s.freed && (s.block == b))) (sym (popped b) ∙ waits) in
@@ -39,7 +39,7 @@ step_counts w s new after counts raw may size same have b is =
     have.each b (subst (λ (g : Geometry). b < g.blocks) (sym size) (subst (λ n. b < n) raw.laid_out.each_block (live_below w.blocks b (raw.targets s.block b (may.step.taken.held b is)))))
     ∙ ap (λ (x : World). count_to x.pairs b) same
 
-module _ (w : World) (s : OutStep) (old mid new : Held) (counts : List ℕ) (raw : IsRawGraph w) (may : MayStep w s)
+module _ (w : World) (s : OutStep) (old mid new : HeldTargets) (counts : List ℕ) (raw : IsRawGraph w) (may : MayStep w s)
     (holds_ : HoldsLost w old)
     (popped : (b : ℕ) → has_number mid.blocks b ≡ (has_number old.blocks b && not (s.freed && (s.block == b))))
     (pushed : (b : ℕ) → has_number new.blocks b ≡ (has_number mid.blocks b || (has_number s.targets b && (slice_index counts b == 0))))
@@ -117,7 +117,7 @@ pub same_room : {n : ℕ} (old new : Table) → new.geometry ≡ old.geometry �
 same_room old new size room = room ∙ sym (ap (λ (g : Geometry). g.blocks) size)
 
 -- the same of a list that is equal
-pub pushed_of : (mid new : Held) (counts ts us : List ℕ) → ts ≡ us
+pub pushed_of : (mid new : HeldTargets) (counts ts us : List ℕ) → ts ≡ us
     → ((b : ℕ) → has_number new.blocks b ≡ (has_number mid.blocks b || (has_number ts b && (slice_index counts b == 0))))
     → (b : ℕ) → has_number new.blocks b ≡ (has_number mid.blocks b || (has_number us b && (slice_index counts b == 0)))
 pushed_of mid new counts ts us same pushed b = pushed b ∙ ap (λ (xs : List ℕ). has_number mid.blocks b || (has_number xs b && (slice_index counts b == 0))) same

@@ -13,7 +13,7 @@ use Rattle.disk_laws.proofs.GraphLaws.{length-range}
 use Rattle.block_alloc.specs.Worlds.{IsMapOf}
 use Rattle.block_alloc.proofs.ChosenLaws.{chosen-apart, run-free, run-inside}
 use Rattle.block_alloc.proofs.WorldLaws.{chosen_same, chosen_run_same}
-use Rattle.tsd_core.specs.Growing.{AreNew}
+use Rattle.tsd_core.specs.Growing.{AreToBeTaken}
 
 -- which blocks of a world are live
 abbrev pub live_map : World → List Bool
@@ -30,7 +30,7 @@ all_at P [] i b all e = absurd (cc)
 all_at P (x ∷ bs) zero b all e = let same : x ≡ b = cc in subst P same all.0
 all_at P (x ∷ bs) (suc i) b all e = all_at P bs i b all.1 e
 
-pub new_chosen : (kind : PlaceKind) (w : World) (h : Hint) (count : ℕ) → 1 ≤ count → count ≤ 32 → length (chosen kind w h count) ≡ count → AreNew w (chosen kind w h count)
+pub new_chosen : (kind : PlaceKind) (w : World) (h : Hint) (count : ℕ) → 1 ≤ count → count ≤ 32 → length (chosen kind w h count) ≡ count → AreToBeTaken w (chosen kind w h count)
 new_chosen kind w h count some few counted = record {
   some = omega (arith, some, counted);
   few = omega (arith, few, counted);
@@ -43,7 +43,7 @@ range_at first zero i b e = absurd (cc)
 range_at first (suc count) zero b e = let same : first ≡ b = cc in omega (arith, same)
 range_at first (suc count) (suc i) b e = omega (arith, range_at (first + 1) count i b e)
 
-pub new_run : (kind : PlaceKind) (w : World) (h : Hint) (count first : ℕ) → 1 ≤ count → count ≤ 32 → chosen_run kind w h count ≡ Some first → AreNew w (range_with_len first count)
+pub new_run : (kind : PlaceKind) (w : World) (h : Hint) (count first : ℕ) → 1 ≤ count → count ≤ 32 → chosen_run kind w h count ≡ Some first → AreToBeTaken w (range_with_len first count)
 new_run kind w h count first some few e =
     let free : AllFree w (range_with_len first count) = subst (λ o. AllFree w (run_at o count)) e (chosen_run_is_free kind w h count) in
     record {

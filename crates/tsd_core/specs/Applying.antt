@@ -1,5 +1,6 @@
 -- A request, applied.
-use Rattle.std.specs.Prelude.{◌≡◌, ◌⊎◌, ℕ, ◌+◌, ◌≤◌, Bool, true, false, List, Option, Result, Ok, IsOk, OnOk, OnErr, IfOk, IfSome}
+use Rattle.std.specs.Prelude.{◌≡◌, ◌⊎◌, ℕ, ◌+◌, ◌≤◌, Bool, true, false, List, Option, Result, Ok, IsOk, OnOk, OnErr}
+use Rattle.std.specs.Prelude.{IfOk, IfSome}
 use Rattle.tsd_model.specs.World.{World}
 use Rattle.tsd_model.specs.ReplyForm.{HasForm}
 use Rattle.tsd_model.specs.Step.{State, step}
@@ -32,7 +33,8 @@ use Rattle.tsd_core.specs.Work.{made_in, cost_in, write_limit, LeavesDebt, SameS
 abbrev pub IsReplyLike : Reply → Reply → Type 0
 IsReplyLike r s = (r ≡ s) ⊎ ((x : List ℕ) × (y : List ℕ) × (r ≡ reply.Bytes x) × (s ≡ reply.Bytes y))
 
--- The answer by the rules of the disk, as far as memory tells it: all but the bytes of blocks. It holds for every device.
+-- The answer by the rules of the disk, as far as memory tells it: all but the bytes of blocks. It holds for every
+-- device.
 pub record IsToldAnswer (kind : PlaceKind) (old : Core) (q : Request) (r : Reply) (new : Core) : Type 0 where
   pub want : Bool
   pub reply : IsReplyLike r (answer kind (told_state old) q want).reply
@@ -63,7 +65,8 @@ abbrev pub next_world : PlaceKind → State → Request → World
 next_world kind s q = (step kind s q).state.world
 
 -- What a request does, between these devices.
-pub record IsApplied (told : Type 0) (kind : PlaceKind) (q : Request) (old new : Core) (v w : View) (result : Result Reply Failed) : Type 0 where
+pub record IsApplied (told : Type 0) (kind : PlaceKind) (q : Request) (old new : Core) (v w : View)
+    (result : Result Reply Failed) : Type 0 where
   pub ready : OnOk result (IsCoreReady new)
   pub at : told → OnOk result (IsCoreAt new w)
   pub form : IfOk result HasForm
@@ -76,13 +79,15 @@ pub record IsApplied (told : Type 0) (kind : PlaceKind) (q : Request) (old new :
   pub spent : OnErr result (new.volume.is_spent ≡ true)
   pub sent : told → w.sent ≡ v.sent
   pub data_kept : told → KeepsData old.volume.tables.geometry (bytes_given kind (told_world old) q) v w result
-  pub once : waits old.volume q ≡ false → CommitsOnce (homes_of old.volume.tables.geometry q) old.volume new.volume v w result
+  pub once : waits old.volume q ≡ false
+      → CommitsOnce (homes_of old.volume.tables.geometry q) old.volume new.volume v w result
   pub owes : IfOk result (λ r. is_refusal r ≡ false → owed new.volume.tables ≡ owed_then old.volume q)
   pub grown : makes_blocks q ≡ true → IfOk result (λ r. is_refusal r ≡ false → HasGrown kind q old.volume new.volume)
   pub rests : told → writes_nothing q ≡ true → Rests v w
   pub any_moment : told → LeavesEither v w (next_world kind (state_on old v.reads) q)
   pub debt : told → is_sweep q ≡ false → LeavesDebt v w (made_in (state_on old v.reads) q)
-  pub paid : told → is_sweep q ≡ false → OnOk result (w.writes + due new.volume ≤ v.writes + due old.volume + cost_in (state_on old v.reads) q)
+  pub paid : told → is_sweep q ≡ false
+      → OnOk result (w.writes + due new.volume ≤ v.writes + due old.volume + cost_in (state_on old v.reads) q)
   pub most : told → is_sweep q ≡ false → w.writes ≤ v.writes + due old.volume + cost_in (state_on old v.reads) q
   pub limit : is_sweep q ≡ false → w.writes ≤ v.writes + write_limit old.volume q
   pub works : Works v w

@@ -26,19 +26,23 @@ use Rattle.tsd_core.specs.Journal.{bytes_given, waits, homes_of, owed_then, make
 use Rattle.volume_laws.specs.Rings.{CommitsOnce}
 use Rattle.image_device.specs.Calls.{Rests}
 
--- What holds of each volume: the sizes of what it tells, that both ends of each pair are live, and how much the journal holds.
+-- What holds of each volume: the sizes of what it tells, that both ends of each pair are live, and how much the journal
+-- holds.
 pub record IsKnown (v : Volume) : Type 0 where
   pub geometry : (told_by v).geometry ≡ v.tables.geometry
   pub version : (told_by v).version ≡ v.tables.version
   pub sized : IsSized (told_by v)
-  pub ends : (a b : ℕ) → holds (told_by v).pairs a b ≡ true → (is_live (told_by v) a ≡ true) × (is_live (told_by v) b ≡ true)
+  pub ends : (a b : ℕ) → holds (told_by v).pairs a b ≡ true
+      → (is_live (told_by v) a ≡ true) × (is_live (told_by v) b ≡ true)
   pub ring : checkpoint_writes v.ring ≤ 121
 
--- What a call on the volume does for a request, between these devices: it makes the change of the request, in memory too. What it
--- costs is said of all but a sweep.
-pub record DoesRequest {T : Type 0} (told : Type 0) (kind : PlaceKind) (q : Request) (old new : Volume) (v w : View) (result : Result T Failed) : Type 0 where
+-- What a call on the volume does for a request, between these devices: it makes the change of the request, in memory
+-- too. What it costs is said of all but a sweep.
+pub record DoesRequest {T : Type 0} (told : Type 0) (kind : PlaceKind) (q : Request) (old new : Volume) (v w : View)
+    (result : Result T Failed) : Type 0 where
   pub operation : IsOperation told (bytes_given kind (told_by old) q) (λ u. world_after kind u q) old new v w result
-  -- it commits one batch, where it needn't wait for what is doomed; what is owed then; and what new blocks leave of the journal
+  -- it commits one batch, where it needn't wait for what is doomed; what is owed then; and what new blocks leave of the
+  -- journal
   pub once : waits old q ≡ false → CommitsOnce (homes_of old.tables.geometry q) old new v w result
   pub owes : OnOk result (owed new.tables ≡ owed_then old q)
   pub grown : makes_blocks q ≡ true → OnOk result (HasGrown kind q old new)
@@ -59,8 +63,10 @@ pub record IsChanged (kind : PlaceKind) (w : World) (old : Table) (q : Request) 
   pub read : is_read q ≡ true → (bytes : List ℕ) × (r ≡ answered.Bytes bytes)
 
 -- The request is carried out.
-pub record IsCarriedOut (told : Type 0) (kind : PlaceKind) (q : Request) (old new : Core) (v w : View) (result : Result Reply Failed) : Type 0 where
-  pub kept : IfOk result (λ r. IsChanged kind (told_world old) old.grants q r new.grants ⊎ IsStarved old.grants q r new.grants)
+pub record IsCarriedOut (told : Type 0) (kind : PlaceKind) (q : Request) (old new : Core) (v w : View)
+    (result : Result Reply Failed) : Type 0 where
+  pub kept : IfOk result (λ r. IsChanged kind (told_world old) old.grants q r new.grants
+      ⊎ IsStarved old.grants q r new.grants)
   pub bytes : told → IfOk result (λ r. is_read q ≡ true → r ≡ reply_to kind (world_on v) q)
   pub form : IfOk result HasForm
   pub volume : DoesRequest told kind q old.volume new.volume v w result

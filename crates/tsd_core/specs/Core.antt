@@ -25,7 +25,8 @@ pub record Core : Type 0 where
 abbrev pub told_world : Core → World
 told_world c = told_by c.volume
 
--- The sessions that it shows: what its table has at live blocks. What the table still has at free blocks counts for nothing.
+-- The sessions that it shows: what its table has at live blocks. What the table still has at free blocks counts for
+-- nothing.
 abbrev pub sessions_of : Core → Sessions
 sessions_of c = fitted (told_world c) c.grants.sessions
 
@@ -43,7 +44,8 @@ pub record IsCoreReady (c : Core) : Type 0 where
   pub unspent : c.volume.is_spent ≡ false
   pub made : IsMadeFor (told_world c) c.grants
 
--- What it has in memory fits a device that reads so: the open records of the journal, and the tables once those are in place.
+-- What it has in memory fits a device that reads so: the open records of the journal, and the tables once those are in
+-- place.
 pub record FitsReads (c : Core) (x : Image) : Type 0 where
   pub shows : open_records x ≡ c.volume.ring
   pub others_closed : (index : ℕ) → length c.volume.ring ≤ index → index < records → is_open_gate x index ≡ false

@@ -23,12 +23,16 @@ reclaimed_by kind s q = free_count (next_world kind s q) - free_count s.world
 abbrev pub MadeIsWhatGoes : Type 0
 MadeIsWhatGoes =
     (kind : PlaceKind) (s : State) (n a : ℕ) (shown : Shown) (b : ℕ) → IsValid s.world
-    → made_in s (ask.Delete n a shown b) ≡ reclaimed_by kind s (ask.Delete n a shown b) + removed_by kind s (ask.Delete n a shown b)
+    → made_in s (ask.Delete n a shown b) ≡ reclaimed_by kind s (ask.Delete n a shown b)
+    + removed_by kind s (ask.Delete n a shown b)
 
 -- No request makes more than these.
 abbrev pub MakesNoMoreThanGoes : Type 0
-MakesNoMoreThanGoes = (kind : PlaceKind) (s : State) (q : Request) → IsValid s.world → made_in s q ≤ reclaimed_by kind s q + removed_by kind s q
+MakesNoMoreThanGoes = (kind : PlaceKind) (s : State) (q : Request) → IsValid s.world
+    → made_in s q ≤ reclaimed_by kind s q + removed_by kind s q
 
--- Each reclaimed block lost a pair that led to it. So a request costs at most 460 writes, and 12 for each pair that it removes.
+-- Each reclaimed block lost a pair that led to it. So a request costs at most 460 writes, and 12 for each pair that it
+-- removes.
 abbrev pub CostsByPairs : Type 0
-CostsByPairs = (kind : PlaceKind) (s : State) (q : Request) → IsValid s.world → cost_in s q ≤ 460 + 12 * removed_by kind s q
+CostsByPairs = (kind : PlaceKind) (s : State) (q : Request) → IsValid s.world
+    → cost_in s q ≤ 460 + 12 * removed_by kind s q

@@ -3,7 +3,7 @@ use Rattle.std.specs.Prelude.{◌≡◌, ℕ, ◌≤◌, true, List, length, sli
 use Rattle.tsd_model.specs.World.{World, is_free}
 
 -- 1 to 32 free blocks, none twice
-pub record AreNew (w : World) (bs : List ℕ) : Type 0 where
+pub record AreToBeTaken (w : World) (bs : List ℕ) : Type 0 where
   pub some : 1 ≤ length bs
   pub few : length bs ≤ 32
   pub free : (i b : ℕ) → slice_get bs i ≡ Some b → is_free w b ≡ true

@@ -18,25 +18,26 @@ use Rattle.disk_laws.specs.Reached.{KeepsWhatIsReached}
 use Rattle.disk_laws.specs.Reclaiming.{is_sweep, ReclaimsTheLost}
 use Rattle.tsd_model.specs.Run.{IsAnswer}
 
--- These requests were answered one after another, from a disk with no session open, and led to this state; memory was wanting at
--- some opens.
+-- These requests were answered one after another, from a disk with no session open, and led to this state; memory was
+-- wanting at some opens.
 pub record WasRun (kind : PlaceKind) (w : World) (qs : List Request) (now : State) : Type 0 where
   pub wants : List Bool
   pub each : length wants ≡ length qs
   pub state : now ≡ after kind (at_rest w) wants qs
 
--- A session holds at least a level from a primary block at a block exactly where it has a grant of it by those requests; and it
--- attains at least a level at a block exactly where what it shows attains it, or a pointer leads there now from a block at which it
--- has such a grant.
+-- A session holds at least a level from a primary block at a block exactly where it has a grant of it by those
+-- requests; and it attains at least a level at a block exactly where what it shows attains it, or a pointer leads there
+-- now from a block at which it has such a grant.
 pub record AccessIsByGrants (kind : PlaceKind) (w : World) (qs : List Request) (now : State) : Type 0 where
   pub wants : List Bool
   pub held : (s o a : ℕ) (l : Level) → o < w.geometry.primaries → (l ≡ level.Bare → ⊥)
       → level_le l (level_from now.sessions s o a) ≡ has_grant kind (at_rest w) (newest_first wants qs) s o a l
   pub attains : (s b : ℕ) (shown : Shown) (l : Level) → (l ≡ level.Bare → ⊥)
-      → IsTrue (level_le l (attained now.world now.sessions s b shown)) ↔ (ShownAttains now.world b shown l ⊎ GrantAttains kind w wants qs s b l)
+      → IsTrue (level_le l (attained now.world now.sessions s b shown))
+      ↔ (ShownAttains now.world b shown l ⊎ GrantAttains kind w wants qs s b l)
 
--- What an answer leaves of a valid world: a valid world, in which what was live and is still reached is live; and but for a sweep
--- exactly the blocks are free that lost their last pointer.
+-- What an answer leaves of a valid world: a valid world, in which what was live and is still reached is live; and but
+-- for a sweep exactly the blocks are free that lost their last pointer.
 pub record LeavesByTheLaws (old : State) (q : Request) (new : State) : Type 0 where
   pub valid : IsValid new.world
   pub reached : KeepsWhatIsReached old.world new.world
@@ -52,8 +53,10 @@ AnswersMakeRuns =
 
 -- After every run access is by grants.
 abbrev pub RunsGrantAccess : Type 0
-RunsGrantAccess = (kind : PlaceKind) (w : World) (qs : List Request) (s : State) → IsValid w → WasRun kind w qs s → AccessIsByGrants kind w qs s
+RunsGrantAccess = (kind : PlaceKind) (w : World) (qs : List Request) (s : State) → IsValid w → WasRun kind w qs s
+    → AccessIsByGrants kind w qs s
 
 -- Every answer leaves a world by the laws.
 abbrev pub AnswersKeepTheLaws : Type 0
-AnswersKeepTheLaws = (kind : PlaceKind) (s : State) (q : Request) (r : Reply) (t : State) → IsValid s.world → IsAnswer kind s q r t → LeavesByTheLaws s q t
+AnswersKeepTheLaws = (kind : PlaceKind) (s : State) (q : Request) (r : Reply) (t : State) → IsValid s.world
+    → IsAnswer kind s q r t → LeavesByTheLaws s q t

@@ -49,11 +49,13 @@ homes_of g (ask.Create s a shown b) = 2
 homes_of g (ask.Delete s a shown b) = 2
 homes_of g q = 0
 
--- What is owed then: nothing where it waits, and else what was owed and what a deletion dooms, but for the pointer that goes at once.
+-- What is owed then: nothing where it waits, and else what was owed and what a deletion dooms, but for the pointer that
+-- goes at once.
 abbrev pub owed_then : Volume → Request → ℕ
 owed_then v q = cond (waits v q) 0 (owed v.tables + (made_by (told_by v) q - 1))
 
 -- What new blocks leave of the journal: behind the records of what was reclaimed comes one batch.
 abbrev pub HasGrown : PlaceKind → Request → Volume → Volume → Type 0
 HasGrown kind q old new =
-    (mid : List Record) × HasBatches (owed old.tables) 33 old.ring mid × HasNewBlocks old.tables.geometry (bytes_given kind (told_by old) q) mid new.ring
+    (mid : List Record) × HasBatches (owed old.tables) 33 old.ring mid
+    × HasNewBlocks old.tables.geometry (bytes_given kind (told_by old) q) mid new.ring

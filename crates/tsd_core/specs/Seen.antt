@@ -19,7 +19,8 @@ use Rattle.grant_table.specs.Table.{Table, IsTable, IsMadeFor, dropped_at}
 
 -- of levels at n blocks those at the blocks that pass
 abbrev pub levels_seen : (ℕ → Bool) → ℕ → Levels → Levels
-levels_seen pass n levels = map (λ b. cond (pass b) (slice_index_or levels b level.Bare) level.Bare) (range_with_len 0 n)
+levels_seen pass n levels =
+    map (λ b. cond (pass b) (slice_index_or levels b level.Bare) level.Bare) (range_with_len 0 n)
 
 -- the same of all sessions; where the live blocks pass, these are the sessions fitted to the world
 abbrev pub seen : (ℕ → Bool) → ℕ → Sessions → Sessions
@@ -36,8 +37,8 @@ abbrev pub dropped_each : List ℕ → Sessions → Sessions
 dropped_each [] v = v
 dropped_each (b ∷ bs) v = dropped_each bs (dropped_at b v)
 
--- What becomes of the levels, which have risen where one was needed: blocks that are given out again lose the levels that were left
--- at them, and levels at blocks that become free stay until then.
+-- What becomes of the levels, which have risen where one was needed: blocks that are given out again lose the levels
+-- that were left at them, and levels at blocks that become free stay until then.
 abbrev pub table_change : PlaceKind → World → Sessions → Request → Sessions
 table_change kind w v (ask.Begin s) = begun w v s
 table_change kind w v (ask.End s) = ended v s
@@ -74,8 +75,8 @@ abbrev pub is_read : Request → Bool
 is_read (ask.Read s b shown) = true
 is_read q = false
 
--- A table of grants over a disk of which all is told but the bytes of blocks: what is told is like the disk, and the table was made
--- for it.
+-- A table of grants over a disk of which all is told but the bytes of blocks: what is told is like the disk, and the
+-- table was made for it.
 pub record IsOver (g : Table) (t w : World) : Type 0 where
   pub like : AreLike t w
   pub table : IsTable g

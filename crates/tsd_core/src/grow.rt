@@ -19,7 +19,7 @@ ghost use Rattle.std.specs.Prelude.{slice_get};
 ghost use Rattle.std.specs.List.{range_with_len};
 ghost use Rattle.tsd_core.specs.Seen.{dropped_each};
 ghost use Rattle.grant_table.specs.Table.{with_sessions};
-ghost use Rattle.tsd_core.specs.Growing.{AreNew};
+ghost use Rattle.tsd_core.specs.Growing.{AreToBeTaken};
 
 use crate::disk::Core;
 use crate::outcome::blocks;
@@ -104,7 +104,7 @@ impl Core {
         new_blocks: BlockList,
     ) -> Result<Reply, Failed>
         requires source { is_live (told_world self.old) source ≡ true }
-        requires new { AreNew (told_world self.old) new_blocks }
+        requires new { AreToBeTaken (told_world self.old) new_blocks }
         requires room { length (told_world self.old).pairs + length new_blocks ≤ (told_world self.old).geometry.slots }
         requires known { IsKnown self.old.volume }
         requires ready { IsCoreReady self.old }

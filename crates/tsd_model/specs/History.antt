@@ -34,7 +34,8 @@ attains_at st s o a l n = (n.block == a) && level_le l (attained_from st.world s
 
 -- the request is of the session, is granted, needed a level at block a, and attained at least l from origin o there
 abbrev pub gives_grant : State → Request → ℕ → ℕ → ℕ → Level → Bool
-gives_grant st q s o a l = (is_granted st.world st.sessions q && is_of_session q s) && list_any (attains_at st s o a l) (needs q)
+gives_grant st q s o a l =
+    (is_granted st.world st.sessions q && is_of_session q s) && list_any (attains_at st s o a l) (needs q)
 
 abbrev pub is_end_of : Request → ℕ → Bool
 is_end_of (ask.End t) s = t == s
@@ -46,9 +47,11 @@ is_set_cap_of q o = false
 
 -- the block is live after the request, and the request neither ends the session nor sets the capabilities of the origin
 abbrev pub keeps_grant : State → State → Request → ℕ → ℕ → ℕ → Bool
-keeps_grant st next q s o a = is_live next.world a && not (is_granted st.world st.sessions q && (is_end_of q s || is_set_cap_of q o))
+keeps_grant st next q s o a =
+    is_live next.world a && not (is_granted st.world st.sessions q && (is_end_of q s || is_set_cap_of q o))
 
--- The session has a grant of level l from origin o at block a: some earlier request gave it, and that request and all since have kept it.
+-- The session has a grant of level l from origin o at block a: some earlier request gave it, and that request and all
+-- since have kept it.
 abbrev pub has_grant : PlaceKind → State → List Asked → ℕ → ℕ → ℕ → Level → Bool
 has_grant kind start [] s o a l = false
 has_grant kind start (e ∷ past) s o a l =

@@ -48,7 +48,11 @@ needs (ask.Write s b shown bytes) = record { block = b; level = level.Write; sho
 needs (ask.Alloc s a shown h count) = record { block = a; level = level.Write; shown = shown } ∷ []
 needs (ask.Contig s a shown h count) = record { block = a; level = level.Write; shown = shown } ∷ []
 needs ask.GetFree = []
-needs (ask.Create s a shown b) = record { block = a; level = level.Write; shown = shown } ∷ record { block = b; level = level.Write; shown = Nothing } ∷ []
+needs (ask.Create s a shown b) = record { block = a; level = level.Write; shown = shown } ∷ record {
+  block = b;
+  level = level.Write;
+  shown = Nothing;
+} ∷ []
 needs (ask.Delete s a shown b) = record { block = a; level = level.Write; shown = shown } ∷ []
 needs (ask.SetCap s b shown caps) = record { block = b; level = level.Write; shown = shown } ∷ []
 needs (ask.Sweep s shown) = record { block = 0; level = level.Write; shown = shown } ∷ []

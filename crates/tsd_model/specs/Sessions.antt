@@ -1,5 +1,7 @@
 -- What each session holds: at each block a level from each primary block that it came from.
-use Rattle.std.specs.Prelude.{◌≡◌, ℕ, ◌-◌, ◌⊎◌, ◌<◌, ◌==◌, Bool, cond, nat_le, List, [], ◌∷◌, length, map, replicate, slice_index_or, slice_set, Option, Some, None, is_some, option_map, unwrap_or, IfSome, IsTrue}
+use Rattle.std.specs.Prelude.{◌≡◌, ℕ, ◌-◌, ◌⊎◌, ◌<◌, ◌==◌, Bool, cond, nat_le, List, [], ◌∷◌, length, map, replicate}
+use Rattle.std.specs.Prelude.{slice_index_or, slice_set, Option, Some, None, is_some, option_map, unwrap_or, IfSome}
+use Rattle.std.specs.Prelude.{IsTrue}
 use Rattle.std.specs.List.{enumerate_from}
 use Rattle.tsd_model.specs.World.{World, is_live, all_blocks}
 use Rattle.tsd_model.specs.declared.requests.Level.{Level}
@@ -102,5 +104,6 @@ fitted w v = map (option_map (map (levels_at_live w))) v
 pub record Fits (w : World) (v : Sessions) : Type 0 where
   pub count : length v ≡ sessions_max
   pub origins : (s : ℕ) → IfSome (held_by v s) (λ held. length held ≡ w.geometry.primaries)
-  pub blocks : (s o : ℕ) → IsTrue (is_open v s) → o < w.geometry.primaries → length (levels_from v s o) ≡ w.geometry.blocks
+  pub blocks : (s o : ℕ) → IsTrue (is_open v s) → o < w.geometry.primaries
+      → length (levels_from v s o) ≡ w.geometry.blocks
   pub live : (s o b : ℕ) → level_from v s o b ≡ level.Bare ⊎ IsTrue (is_live w b)

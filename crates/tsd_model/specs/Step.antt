@@ -1,5 +1,6 @@
 -- One request: what it changes and what is answered.
-use Rattle.std.specs.Prelude.{ℕ, ◌-◌, ◌&&◌, ◌==◌, nat_le, List, [], ◌∷◌, ◌++◌, length, map, filter, take, replicate, slice_set, Option, Some, None, unwrap_or}
+use Rattle.std.specs.Prelude.{ℕ, ◌-◌, ◌&&◌, ◌==◌, nat_le, List, [], ◌∷◌, ◌++◌, length, map, filter, take, replicate}
+use Rattle.std.specs.Prelude.{slice_set, Option, Some, None, unwrap_or}
 use Rattle.std.specs.List.{range_with_len}
 use Rattle.tsd_model.specs.Geometry.{block_len}
 use Rattle.tsd_model.specs.Pairs.{with_pair, without_pair}
@@ -34,7 +35,8 @@ gives w v r = record { state = record { world = w; sessions = v }; reply = r }
 
 -- ---- first, levels rise where one was needed
 
--- at each of these blocks, what is held from each origin becomes the greater of the old level and the one attained before the request
+-- at each of these blocks, what is held from each origin becomes the greater of the old level and the one attained
+-- before the request
 abbrev pub raised_at : World → Sessions → ℕ → List Need → Sessions → Sessions
 raised_at w v s [] now = now
 raised_at w v s (n ∷ ns) now = raised_at w v s ns (raised now s n.block (attained_from w v s n.block n.shown))
@@ -110,7 +112,8 @@ change kind w v (ask.Contig s a shown h count) = allocated w v a (run_at (chosen
 change kind w v ask.GetFree = gives w v (reply.Free (free_count w))
 change kind w v (ask.Create s a shown b) = done (with_pointer w a b) v
 change kind w v (ask.Delete s a shown b) = reclaimed w v (settle (without_pointer w a b))
-change kind w v (ask.SetCap s b shown caps) = done (with_caps w b (kept w.version caps)) (dropped_from (length w.blocks) b v)
+change kind w v (ask.SetCap s b shown caps) =
+    done (with_caps w b (kept w.version caps)) (dropped_from (length w.blocks) b v)
 change kind w v (ask.Sweep s shown) = reclaimed w v (swept w)
 change kind w v (ask.List s a shown start) = gives w v (reply.Targets (targets_from w.pairs a start))
 

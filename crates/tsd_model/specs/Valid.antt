@@ -13,7 +13,8 @@ pub record IsSized (w : World) : Type 0 where
   pub full : (b : ℕ) → IfSome (contents w b) (λ bytes. length bytes ≡ block_len w.geometry)
   pub room : length w.pairs ≤ w.geometry.slots
 
--- What the pointers, the live blocks and the records of a world have to do with each other. Blocks may still be lost: live, and with no pair to them.
+-- What the pointers, the live blocks and the records of a world have to do with each other. Blocks may still be lost:
+-- live, and with no pair to them.
 pub record IsRaw (w : World) : Type 0 where
   pub sized : IsSized w
   pub version : (w.version ≡ 1) ⊎ (w.version ≡ 2)

@@ -1,5 +1,6 @@
 -- Which rule refuses a request: the first in this order that applies.
-use Rattle.std.specs.Prelude.{ℕ, ◌+◌, Bool, true, false, not, cond, ◌&&◌, ◌||◌, nat_lt, nat_le, List, [], ◌∷◌, ◌++◌, length, map, Option, Some, None, is_none, unwrap_or}
+use Rattle.std.specs.Prelude.{ℕ, ◌+◌, Bool, true, false, not, cond, ◌&&◌, ◌||◌, nat_lt, nat_le, List, [], ◌∷◌, ◌++◌}
+use Rattle.std.specs.Prelude.{length, map, Option, Some, None, is_none, unwrap_or}
 use Rattle.std.specs.List.{list_any}
 use Rattle.std.specs.Option.{option_map_or}
 use Rattle.tsd_model.specs.Geometry.{block_len}
@@ -103,7 +104,9 @@ has_no_room w q = option_map_or (λ more. nat_lt w.geometry.slots (length w.pair
 
 -- the level attained at a block is below the one needed there
 abbrev pub denied : World → Sessions → ℕ → Need → Check
-denied w v s n = check (not (level_le n.level (attained w v s n.block n.shown))) (rule.Denied (attained w v s n.block n.shown) n.level)
+denied w v s n =
+    check (not (level_le n.level (attained w v s n.block n.shown)))
+    (rule.Denied (attained w v s n.block n.shown) n.level)
 
 abbrev pub session_rules : Sessions → Request → List Check
 session_rules v q =

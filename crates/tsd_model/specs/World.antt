@@ -1,5 +1,7 @@
--- The disk as a value: how large it is, which blocks are live and what they contain, the pointers, and what is kept of the capabilities.
-use Rattle.std.specs.Prelude.{ℕ, Bool, ◌&&◌, ◌==◌, nat_lt, List, length, count_by, slice_index_or, Option, None, is_some, is_none}
+-- The disk as a value: how large it is, which blocks are live and what they contain, the pointers, and what is kept of
+-- the capabilities.
+use Rattle.std.specs.Prelude.{ℕ, Bool, ◌&&◌, ◌==◌, nat_lt, List, length, count_by, slice_index_or, Option, None}
+use Rattle.std.specs.Prelude.{is_some, is_none}
 use Rattle.std.specs.List.{list_any, range_with_len}
 use Rattle.tsd_model.specs.declared.geometry.Geometry.{Geometry}
 use Rattle.tsd_model.specs.declared.records.Record.{Record}

@@ -10,7 +10,7 @@ use Rattle.image_device.proofs.Moments.{weakened}
 use Rattle.image_device.proofs.Sets.{or_false, or_false_left, or_false_right}
 use Rattle.mirror_device.specs.Copying.{Copying, InCopying, IsLeftOfFirst}
 use Rattle.mirror_device.specs.Mirror.{CountsAgree, EachSound, LeftIsSound, Shows, image_left, start_at}
-use Rattle.mirror_device.specs.SidesView.{AreSound, IsItemNow, Item, SidesView}
+use Rattle.mirror_device.specs.SidesView.{SidesAreSound, IsItemNow, Item, SidesView}
 use Rattle.mirror_device.specs.declared.side.Serving.{Serving}
 use Rattle.mirror_device.specs.declared.side.Serving.TheVariants.{Both, First, Second}
 use Rattle.mirror_device.specs.declared.side.Side.TheVariants.{First as FirstSide, Second as SecondSide}
@@ -81,7 +81,7 @@ module _ (old new : SidesView) (c : Serving) (port : Moments) (begins : BeginsAs
 
 -- ---- the first side failed in the copying
 
-module _ (old new : SidesView) (sound : AreSound old) (copying : Copying old new) where
+module _ (old new : SidesView) (sound : SidesAreSound old) (copying : Copying old new) where
   in_copying : (i : Item) → new.left old.clock i → InCopying old i
   in_copying i left = ⊎_elim (λ was. now_in (sound.only_now i was)) (λ here. here) (copying.nothing_else old.clock i (omega arith) left)
     where
@@ -137,7 +137,7 @@ headline_over command.Upgrade source old new c port begins ends ran = tt
 headline_over command.Audit source old new c port begins ends ran = tt
 headline_over command.Verify source old new c port begins ends ran = tt
 
-pub headline_unbegun : (words : Command) (source : Taking) (old new : SidesView) → source.came [] → AreSound old → Copying old new → MirrorHeadline words source old new
+pub headline_unbegun : (words : Command) (source : Taking) (old new : SidesView) → source.came [] → SidesAreSound old → Copying old new → MirrorHeadline words source old new
 headline_unbegun (command.Run kind) source old new came sound copying = λ firm w stands. none_asked old new sound copying line_spelling source (IsPrefixLeft line_voice kind w old.sent) came (none_on_first old line_voice kind w lines_apart.nothing firm stands)
 headline_unbegun (command.Serve kind) source old new came sound copying = λ firm w stands. none_asked old new sound copying frame_spelling source (IsPrefixLeft frame_voice kind w old.sent) came (none_on_first old frame_voice kind w frames_apart.nothing firm stands)
 headline_unbegun (command.Fresh fresh) source old new came sound copying = none_asked old new sound copying line_spelling source _ came (λ x f was. inl (formatting_first old (single_world fresh.geometry fresh.caps) x f was, was.1))

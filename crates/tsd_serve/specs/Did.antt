@@ -29,15 +29,16 @@ use Rattle.image_runs.specs.Opened.{IsJudged, IsNotImage}
 use Rattle.image_runs.specs.Served.{ImageRan}
 use Rattle.image_shell.specs.Served.{IsShellJudged, ShellRan}
 
--- What a command that opens an image leaves of one that stands for no world. Where it fails one of the first three tests, of the format
--- gate, the journal and the header, nothing was written, and the disk reads as before. Where it fails another, all that a repair could use
--- is still there, in the end and after a crash at any moment.
+-- What a command that opens an image leaves of one that stands for no world. Where it fails one of the first three
+-- tests, of the format gate, the journal and the header, nothing was written, and the disk reads as before. Where it
+-- fails another, all that a repair could use is still there, in the end and after a crash at any moment.
 pub record SparesImage (r : Status) (port : Moments) : Type 0 where
   pub foreign : port.tells → IsForeign port.old.reads → IsUntouched port.old port.new
   pub damaged : port.tells → IsNotImage r → IsSpared port.old port.new
 
 -- An image was opened and served, at most 2^40 bytes of it, and a refusal says what is wrong with it.
-pub record Opened (r : Status) (v : Voice) (p : Spelling Request) (kind : PlaceKind) (source : Taking) (port : Moments) : Type 0 where
+pub record Opened (r : Status) (v : Voice) (p : Spelling Request) (kind : PlaceKind) (source : Taking)
+    (port : Moments) : Type 0 where
   pub judged : port.tells → IsJudged port.old.reads r
   pub ran : ImageRan r v p kind (2 ^ 40) source port
   pub spared : SparesImage r port
@@ -48,8 +49,8 @@ pub record HasNoCutter (r : Status) (source : Taking) (port : Moments) : Type 0 
   pub untaken : source.untouched
   pub unused : port.untouched
 
--- An image was opened, the tree under a root mounted, and asks of it were served, at most 2^40 bytes of them. A refusal says what is wrong
--- with the image, or with the capability.
+-- An image was opened, the tree under a root mounted, and asks of it were served, at most 2^40 bytes of them. A refusal
+-- says what is wrong with the image, or with the capability.
 pub record Mounted (r : Status) (shell : Shell) (source : Taking) (port : Moments) : Type 0 where
   pub judged : port.tells → IsShellJudged shell.root shell.cap port.old.reads r
   pub ran : ShellRan r shell.layout shell.root shell.cap (2 ^ 40) source port
@@ -62,12 +63,13 @@ pub record VerifiedBy (r : Status) (source : Taking) (port : Moments) : Type 0 w
 
 -- ---- commands that take no input
 
--- An image was judged: what the status says of it, and its line or a front of that was sent. It stands for the same world, or for
--- none as before.
+-- An image was judged: what the status says of it, and its line or a front of that was sent. It stands for the same
+-- world, or for none as before.
 pub record Checked (r : Status) (port : Moments) : Type 0 where
   pub ending : IsEnding r
   pub said : port.tells → HasChecked r port.old.reads port.old.sent port.new.sent
-  pub any_moment : port.tells → IsFirm port.old → LeavesOnly port.old port.new (λ x f. StandAlike port.old.reads x × IsSaying port.old.reads port.old.sent f)
+  pub any_moment : port.tells → IsFirm port.old
+      → LeavesOnly port.old port.new (λ x f. StandAlike port.old.reads x × IsSaying port.old.reads port.old.sent f)
   pub spared : SparesImage r port
 
 -- a disk was made, which opens no image and takes no memory
@@ -84,30 +86,36 @@ pub record Upgraded (r : Status) (port : Moments) : Type 0 where
   pub upgraded : port.tells → HasUpgraded r port.old port.new
   pub any_moment : port.tells → IsFirm port.old → LeavesOnly port.old port.new (IsLeftOfUpgrade port.old)
   pub spared : SparesImage r port
-  pub no_memory : port.tells → r ≡ status.NoMemory → IsFirm port.old → LeavesOnly port.old port.new (λ x f. StandAlike port.old.reads x × (f ≡ port.old.sent))
+  pub no_memory : port.tells → r ≡ status.NoMemory → IsFirm port.old
+      → LeavesOnly port.old port.new (λ x f. StandAlike port.old.reads x × (f ≡ port.old.sent))
 
 -- What is reached was told, as a certificate or a front of it.
 pub record Audited (r : Status) (port : Moments) : Type 0 where
   pub ending : IsEnding r
   pub said : port.tells → HasAudited r port.old.reads port.old.sent port.new.sent
-  pub any_moment : port.tells → IsFirm port.old → LeavesOnly port.old port.new (λ x f. StandAlike port.old.reads x × IsAuditing port.old.reads port.old.sent f)
+  pub any_moment : port.tells → IsFirm port.old
+      → LeavesOnly port.old port.new (λ x f. StandAlike port.old.reads x × IsAuditing port.old.reads port.old.sent f)
   pub spared : SparesImage r port
 
 -- The requests of a seed were carried out. Without memory none was.
 pub record Loaded (load : Load) (r : Status) (port : Moments) : Type 0 where
   pub ending : IsEnding r
   pub loaded : port.tells → HasLoaded r load.kind load.seed load.count port.old port.new
-  pub any_moment : port.tells → IsFirm port.old → LeavesOnly port.old port.new (IsLeftOfLoad load.kind load.seed load.count port.old)
+  pub any_moment : port.tells → IsFirm port.old
+      → LeavesOnly port.old port.new (IsLeftOfLoad load.kind load.seed load.count port.old)
   pub spared : SparesImage r port
-  pub no_memory : port.tells → r ≡ status.NoMemory → IsFirm port.old → LeavesOnly port.old port.new (λ x f. StandAlike port.old.reads x × (f ≡ port.old.sent))
+  pub no_memory : port.tells → r ≡ status.NoMemory → IsFirm port.old
+      → LeavesOnly port.old port.new (λ x f. StandAlike port.old.reads x × (f ≡ port.old.sent))
 
--- What the command that the words spell did, with this status, to its source and to its port. A command that takes no input leaves
--- the source as it was. Where they spell none, it was Usage.
+-- What the command that the words spell did, with this status, to its source and to its port. A command that takes no
+-- input leaves the source as it was. Where they spell none, it was Usage.
 abbrev pub Did : Option Command → Status → Taking → Moments → Type 0
-Did (Some (command.Fresh fresh)) r source port = FreshRan r line_voice line_spelling fresh.kind (single_world fresh.geometry fresh.caps) (2 ^ 40) source port
+Did (Some (command.Fresh fresh)) r source port =
+    FreshRan r line_voice line_spelling fresh.kind (single_world fresh.geometry fresh.caps) (2 ^ 40) source port
 Did (Some (command.Format words)) r source port = source.untouched × Formatted words r port
 Did (Some (command.Run kind)) r source port = Opened r line_voice line_spelling kind source port
-Did (Some (command.Serve kind)) r source port = HasNoCutter r source port ⊎ Opened r frame_voice frame_spelling kind source port
+Did (Some (command.Serve kind)) r source port =
+    HasNoCutter r source port ⊎ Opened r frame_voice frame_spelling kind source port
 Did (Some (command.Shell shell)) r source port = Mounted r shell source port
 Did (Some command.Check) r source port = source.untouched × Checked r port
 Did (Some (command.Load load)) r source port = source.untouched × Loaded load r port

@@ -31,8 +31,8 @@ use Rattle.tsd_serve.specs.declared.mirror_status.MirrorStatus.TheVariants.{Ende
 
 -- ---- the counts
 
--- A side failed in this run: its count of faults rose. One that stood at the greatest u64 counts as one that rose; so does, for the
--- second side, that of syncs.
+-- A side failed in this run: its count of faults rose. One that stood at the greatest u64 counts as one that rose; so
+-- does, for the second side, that of syncs.
 abbrev pub HasFailed : Side → SidesView → SidesView → Type 0
 HasFailed First old new = Rose old.first.faults new.first.faults
 HasFailed Second old new = Rose old.second.faults new.second.faults ⊎ (2 ^ 64 - 1 ≤ old.second.syncs)
@@ -48,7 +48,8 @@ abbrev pub IsSoundAtEnd : Side → SidesView → SidesView → Type 0
 IsSoundAtEnd First old new = new.first.faults ≤ old.first.faults
 IsSoundAtEnd Second old new = (new.second.faults ≤ old.second.faults) × (old.second.syncs < new.second.syncs)
 
--- Which sides are sound at the end, by the status: both after Done; where one was lost, the other; and where no device fault came, one.
+-- Which sides are sound at the end, by the status: both after Done; where one was lost, the other; and where no device
+-- fault came, one.
 abbrev pub AreSoundAtEnd : MirrorStatus → SidesView → SidesView → Type 0
 AreSoundAtEnd (Ended status.Done) old new = IsSoundAtEnd First old new × IsSoundAtEnd Second old new
 AreSoundAtEnd (SideLost First) old new = IsSoundAtEnd Second old new
@@ -56,16 +57,16 @@ AreSoundAtEnd (SideLost Second) old new = IsSoundAtEnd First old new
 AreSoundAtEnd (Ended status.DeviceFault) old new = ⊤
 AreSoundAtEnd (Ended r) old new = IsSoundAtEnd First old new ⊎ IsSoundAtEnd Second old new
 
--- The cause of a device fault: the first side failed in this run, and the second one failed too or wasn't synced, so that the copying
--- hadn't ended.
+-- The cause of a device fault: the first side failed in this run, and the second one failed too or wasn't synced, so
+-- that the copying hadn't ended.
 pub record NoSideIsLeft (old new : SidesView) : Type 0 where
   pub first : Rose old.first.faults new.first.faults
   pub second : new.second.faults ≤ old.second.faults → new.second.syncs ≤ old.second.syncs
 
 -- ---- the command over both sides
 
--- The mirror as it began: it reads as the first side did, nothing is loose, and nothing was sent. What a crash left of it since the start
--- is what a crash then left of the first side.
+-- The mirror as it began: it reads as the first side did, nothing is loose, and nothing was sent. What a crash left of
+-- it since the start is what a crash then left of the first side.
 pub record BeginsAs (old : SidesView) (begun : View) : Type 0 where
   pub sound : IsSound begun
   pub reads : begun.reads ≡ old.first.reads
@@ -74,8 +75,8 @@ pub record BeginsAs (old : SidesView) (begun : View) : Type 0 where
   pub later : old.clock ≤ begun.clock
   pub left : (x : Image) (f : List ℕ) → begun.left old.clock x f → IsLeftOfFirst old x f
 
--- The mirror as it ended, where these sides count: what a crash left of it is, of each item of the sides, the image of each side that is
--- sound in it and, where neither is, that of the side that is left.
+-- The mirror as it ended, where these sides count: what a crash left of it is, of each item of the sides, the image of
+-- each side that is sound in it and, where neither is, that of the side that is left.
 pub record EndsAs (old new : SidesView) (c : Serving) (ended : View) : Type 0 where
   pub reads : ended.reads ≡ reads_of c new
   pub loose : ended.loose ≡ loose_of c new
@@ -83,7 +84,8 @@ pub record EndsAs (old new : SidesView) (c : Serving) (ended : View) : Type 0 wh
   pub left : (t : ℕ) (x : Image) (f : List ℕ) → IsShown new (start_at old) c t x f → ended.left t x f
 
 -- The command did over both sides, as one port, what it does over one image.
-pub record DidOver (words : Option Command) (r : MirrorStatus) (source : Taking) (old new : SidesView) (c : Serving) (port : Moments) : Type 0 where
+pub record DidOver (words : Option Command) (r : MirrorStatus) (source : Taking) (old new : SidesView) (c : Serving)
+    (port : Moments) : Type 0 where
   pub did : Did words (answered r) source port
   pub begins : port.tells → BeginsAs old port.old
   pub ends : port.tells → EndsAs old new c port.new
@@ -97,9 +99,11 @@ pub record DidCopy (told : Type 0) (r : MirrorStatus) (source : Taking) (old new
 
 -- ---- the headline on each side
 
--- For the requests of the input, and a crash at any moment since the start, the copying included: what is left on each side that is sound
--- then, with the bytes sent by then; and where neither is, on one side, the same one at all such moments.
-pub record EachSideKeeps (p : Spelling Request) (source : Taking) (old new : SidesView) (P : List Request → Image → List ℕ → Type 0) : Type 0 where
+-- For the requests of the input, and a crash at any moment since the start, the copying included: what is left on each
+-- side that is sound then, with the bytes sent by then; and where neither is, on one side, the same one at all such
+-- moments.
+pub record EachSideKeeps (p : Spelling Request) (source : Taking) (old new : SidesView)
+    (P : List Request → Image → List ℕ → Type 0) : Type 0 where
   pub bytes : List ℕ
   pub came_in : source.came bytes
   pub asked : List Request
@@ -120,13 +124,17 @@ first_view v = record {
   writes = 0;
 }
 
--- The headline over two sides: what it says of one image holds of each side that is sound, with the world of the first one at the start.
+-- The headline over two sides: what it says of one image holds of each side that is sound, with the world of the first
+-- one at the start.
 abbrev pub MirrorHeadline : Command → Taking → SidesView → SidesView → Type 0
 MirrorHeadline (command.Run kind) source old new =
-    IsFirm (first_view old) → (w : World) → Stands old.first.reads w → EachSideKeeps line_spelling source old new (IsPrefixLeft line_voice kind w old.sent)
+    IsFirm (first_view old) → (w : World) → Stands old.first.reads w
+    → EachSideKeeps line_spelling source old new (IsPrefixLeft line_voice kind w old.sent)
 MirrorHeadline (command.Serve kind) source old new =
-    IsFirm (first_view old) → (w : World) → Stands old.first.reads w → EachSideKeeps frame_spelling source old new (IsPrefixLeft frame_voice kind w old.sent)
+    IsFirm (first_view old) → (w : World) → Stands old.first.reads w
+    → EachSideKeeps frame_spelling source old new (IsPrefixLeft frame_voice kind w old.sent)
 MirrorHeadline (command.Fresh fresh) source old new =
     let w = single_world fresh.geometry fresh.caps in
-    EachSideKeeps line_spelling source old new (λ asked x sent. (IsFormatting (first_view old) w x sent × (sent ≡ old.sent)) ⊎ IsPrefixLeft line_voice fresh.kind w old.sent asked x sent)
+    EachSideKeeps line_spelling source old new (λ asked x sent. (IsFormatting (first_view old) w x sent
+    × (sent ≡ old.sent)) ⊎ IsPrefixLeft line_voice fresh.kind w old.sent asked x sent)
 MirrorHeadline words source old new = ⊤

@@ -10,10 +10,13 @@ use Rattle.serving.specs.Prompt.{IsOfPort}
 use Rattle.image_runs.specs.Fresh.{IsPromptFresh, single_world}
 use Rattle.image_runs.specs.Served.{IsPromptRun}
 
--- Of the commands that answer requests: what is written before each reply has a bound, and what is written behind it; where the input was
--- cut short, nothing is done behind the last reply but that.
+-- Of the commands that answer requests: what is written before each reply has a bound, and what is written behind it;
+-- where the input was cut short, nothing is done behind the last reply but that.
 abbrev pub AnswersPromptly : {P : Type 0} → Option Command → Status → (P → View) → P → P → Type 0
-AnswersPromptly (Some (command.Fresh fresh)) r view old new = IsPromptFresh r line_voice fresh.kind (single_world fresh.geometry fresh.caps) (IsOfPort view) (view old) (view new)
-AnswersPromptly (Some (command.Run kind)) r view old new = IsPromptRun r line_voice kind (IsOfPort view) (view old) (view new)
-AnswersPromptly (Some (command.Serve kind)) r view old new = IsPromptRun r frame_voice kind (IsOfPort view) (view old) (view new)
+AnswersPromptly (Some (command.Fresh fresh)) r view old new =
+    IsPromptFresh r line_voice fresh.kind (single_world fresh.geometry fresh.caps) (IsOfPort view) (view old) (view new)
+AnswersPromptly (Some (command.Run kind)) r view old new =
+    IsPromptRun r line_voice kind (IsOfPort view) (view old) (view new)
+AnswersPromptly (Some (command.Serve kind)) r view old new =
+    IsPromptRun r frame_voice kind (IsOfPort view) (view old) (view new)
 AnswersPromptly words r view old new = ⊤

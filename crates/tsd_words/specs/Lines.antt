@@ -29,8 +29,8 @@ cap_lines b (pair ∷ pairs) = line_of (cap_words b pair) ++ cap_lines (suc b) p
 abbrev pub upgrade_line : List ℕ
 upgrade_line = line_of (codes "version" ∷ decimal 2 ∷ [])
 
--- of `load`: how many requests there were, how many were granted and how many refused, and how many blocks are free and pointers
--- held in the end
+-- of `load`: how many requests there were, how many were granted and how many refused, and how many blocks are free and
+-- pointers held in the end
 abbrev pub load_words : ℕ → ℕ → ℕ → ℕ → ℕ → List (List ℕ)
 load_words count granted refused free pointers =
     codes "load" ∷ decimal count ∷ codes "granted" ∷ decimal granted ∷ codes "refused" ∷ decimal refused

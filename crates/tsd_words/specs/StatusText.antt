@@ -18,11 +18,13 @@ abbrev pub fault_words : ImageFault → List (List ℕ)
 fault_words fault.NotFormatted = codes "not-formatted" ∷ []
 fault_words fault.Descriptor = codes "damaged" ∷ codes "descriptor" ∷ []
 fault_words (fault.Header h) = codes "header" ∷ header_words h
-fault_words (fault.Slot slot source target) = codes "damaged" ∷ codes "slot" ∷ decimal slot ∷ decimal source ∷ decimal target ∷ []
+fault_words (fault.Slot slot source target) =
+    codes "damaged" ∷ codes "slot" ∷ decimal slot ∷ decimal source ∷ decimal target ∷ []
 fault_words (fault.Repeated source target) = codes "damaged" ∷ codes "repeated" ∷ decimal source ∷ decimal target ∷ []
 fault_words (fault.Primary block) = codes "damaged" ∷ codes "primary" ∷ decimal block ∷ []
 fault_words (fault.EndNotLive source target) = codes "damaged" ∷ codes "end" ∷ decimal source ∷ decimal target ∷ []
-fault_words (fault.Count block stored found) = codes "damaged" ∷ codes "count" ∷ decimal block ∷ decimal stored ∷ decimal found ∷ []
+fault_words (fault.Count block stored found) =
+    codes "damaged" ∷ codes "count" ∷ decimal block ∷ decimal stored ∷ decimal found ∷ []
 
 -- what is wrong with an image, without a line feed
 abbrev pub fault_text : ImageFault → List ℕ

@@ -1,5 +1,6 @@
 -- The words of a command, each a list of bytes.
-use Rattle.std.specs.Prelude.{◌≡◌, ℕ, ◌*◌, ◌≤◌, Bool, cond, ◌&&◌, ◌||◌, ◌==◌, nat_le, nat_lt, List, [], ◌∷◌, codes, bytes_eq, Option, Some, None, option_map}
+use Rattle.std.specs.Prelude.{◌≡◌, ℕ, ◌*◌, ◌≤◌, Bool, cond, ◌&&◌, ◌||◌, ◌==◌, nat_le, nat_lt, List, [], ◌∷◌, codes}
+use Rattle.std.specs.Prelude.{bytes_eq, Option, Some, None, option_map}
 use Rattle.std.specs.Result.{result_ok}
 use Rattle.hex.specs.Hex.{decode_sized}
 use Rattle.tsd_model.specs.Geometry.{IsLawful}
@@ -37,11 +38,14 @@ seed_of w = result_ok (decode_sized w 32)
 
 -- 8 to 1,048,576 blocks of 1, 2, 4 or 8 sectors
 abbrev pub is_size : ℕ → ℕ → Bool
-is_size blocks sectors = (nat_le 8 blocks && nat_le blocks 1048576) && ((((sectors == 1) || (sectors == 2)) || (sectors == 4)) || (sectors == 8))
+is_size blocks sectors =
+    (nat_le 8 blocks && nat_le blocks 1048576)
+    && ((((sectors == 1) || (sectors == 2)) || (sectors == 4)) || (sectors == 8))
 
 -- 1 to 4,194,304 pointer slots, and 1 to 16 primary blocks, but not all
 abbrev pub is_table : ℕ → ℕ → ℕ → Bool
-is_table blocks slots primaries = (nat_le 1 slots && nat_le slots 4194304) && ((nat_le 1 primaries && nat_le primaries 16) && nat_lt primaries blocks)
+is_table blocks slots primaries =
+    (nat_le 1 slots && nat_le slots 4194304) && ((nat_le 1 primaries && nat_le primaries 16) && nat_lt primaries blocks)
 
 -- one primary block, and four pointer slots for each block
 abbrev pub fresh_geometry : ℕ → ℕ → Geometry
@@ -117,12 +121,14 @@ made_of name a b c d e =
 
 -- load SEED COUNT PLACE
 unfoldable pub loaded_of : List ℕ → List ℕ → List ℕ → List ℕ → Option Command
-loaded_of name seed count place = cond (bytes_eq name (codes "load")) (option_map (λ load. command.Load load) (load_of seed count place)) None
+loaded_of name seed count place =
+    cond (bytes_eq name (codes "load")) (option_map (λ load. command.Load load) (load_of seed count place)) None
 
 -- shell KIND ROOT CAP PLACE
 unfoldable pub shelled_of : List ℕ → List ℕ → List ℕ → List ℕ → List ℕ → Option Command
 shelled_of name layout root cap place =
-    cond (bytes_eq name (codes "shell")) (option_map (λ shell. command.Shell shell) (shell_of layout root cap place)) None
+    cond (bytes_eq name (codes "shell")) (option_map (λ shell. command.Shell shell) (shell_of layout root cap place))
+    None
 
 -- the command that the words spell
 abbrev pub command_of : List (List ℕ) → Option Command

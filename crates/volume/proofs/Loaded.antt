@@ -7,7 +7,7 @@ use Rattle.image_device.specs.Runs.{IsFirm}
 use Rattle.image_device.specs.View.{View}
 use Rattle.image_layout.specs.declared.header.Header.{Header}
 use Rattle.image_layout.specs.Areas.{header_sector, sweep_flag}
-use Rattle.image_layout.specs.Header.{IsReading}
+use Rattle.image_layout.specs.Header.{IsHeaderReading}
 use Rattle.image_layout.specs.Image.{Image, is_open}
 use Rattle.intent_journal.specs.Home.{home}
 use Rattle.intent_journal.specs.Records.{open_records, is_open_gate}
@@ -32,16 +32,16 @@ use Rattle.volume_laws.specs.Volume.{IsVolumeAt, AreParts}
 at_home : (x : Image) → AreClosed x → home x ≡ x
 at_home x closed = home_of_empty x (opened_none x (closed 0 (omega arith))).0
 
-has_tables : (h : Header) (t : ImageTables) (s : Bool) (x : Image) → AreStored h t x → IsReading (x header_sector) (Ok h) → is_open (x sweep_flag) ≡ s → HasTables (tables_with h t s) x
+has_tables : (h : Header) (t : ImageTables) (s : Bool) (x : Image) → AreStored h t x → IsHeaderReading (x header_sector) (Ok h) → is_open (x sweep_flag) ≡ s → HasTables (tables_with h t s) x
 has_tables h t s x stored header flag = record { header = header; live = stored.live; slots = stored.slots; counts = stored.counts; records = stored.records; flag = flag }
 
-pub loaded_good : (h : Header) (t : ImageTables) (s : Bool) (x : Image) → DoFit h t → AreStored h t x → IsFormatGateOpen x → AreClosed x → IsReading (x header_sector) (Ok h) → is_open (x sweep_flag) ≡ s → IsGood x
+pub loaded_good : (h : Header) (t : ImageTables) (s : Bool) (x : Image) → DoFit h t → AreStored h t x → IsFormatGateOpen x → AreClosed x → IsHeaderReading (x header_sector) (Ok h) → is_open (x sweep_flag) ≡ s → IsGood x
 loaded_good h t s x fit stored formatted closed header flag =
     tables_good (tables_with h t s) x formatted (opened_none x (closed 0 (omega arith))).1 (fit.sound s)
     (subst (HasTables (tables_with h t s)) (sym (at_home x closed)) (has_tables h t s x stored header flag))
 
 -- ---- the volume
-pub loaded_at : (h : Header) (t : ImageTables) (s ready spent : Bool) (old new : View) → DoFit h t → AreStored h t old.reads → IsFirm old → IsFormatGateOpen old.reads → AreClosed old.reads → IsReading (old.reads header_sector) (Ok h) → is_open (old.reads sweep_flag) ≡ s
+pub loaded_at : (h : Header) (t : ImageTables) (s ready spent : Bool) (old new : View) → DoFit h t → AreStored h t old.reads → IsFirm old → IsFormatGateOpen old.reads → AreClosed old.reads → IsHeaderReading (old.reads header_sector) (Ok h) → is_open (old.reads sweep_flag) ≡ s
     → new.reads ≡ old.reads → new.loose ≡ old.loose → IsVolumeAt (record { tables = tables_with h t s; ring = []; is_ready = ready; is_spent = spent }) new
 loaded_at h t s ready spent old new fit stored firm formatted closed header flag reads loose =
     let x = old.reads in
@@ -58,11 +58,11 @@ loaded_at h t s ready spent old new fit stored firm formatted closed header flag
     }
 
 -- ---- a fault of the tables is one of the image
-pub loading_failed : (h : Header) (x : Image) (why : LoadFault) → IsFormatGateOpen x → AreClosed x → IsReading (x header_sector) (Ok h) → AreLoading x h (Err why) → AnswersVolume x (Err (of_tables why))
+pub loading_failed : (h : Header) (x : Image) (why : LoadFault) → IsFormatGateOpen x → AreClosed x → IsHeaderReading (x header_sector) (Ok h) → AreLoading x h (Err why) → AnswersVolume x (Err (of_tables why))
 loading_failed h x table_fault.NoMemory formatted closed header failed = tt
 loading_failed h x table_fault.Device formatted closed header failed = tt
 loading_failed h x (table_fault.Image why) formatted closed header failed =
-    let here : HasHeader x = subst (λ (k : Header). IsReading (x header_sector) (Ok k)) header.3 header in
+    let here : HasHeader x = subst (λ (k : Header). IsHeaderReading (x header_sector) (Ok k)) header.3 header in
     let found : IsTableFault x (header_on x).geometry why = subst (λ (k : Header). IsTableFault x k.geometry why) header.3 failed in
     damaged x why formatted (opened_none x (closed 0 (omega arith))).1 (subst HasHeader (sym (at_home x closed)) here)
     (subst (λ (y : Image). IsTableFault y (header_on y).geometry why) (sym (at_home x closed)) found)

@@ -22,7 +22,7 @@ use Rattle.image_world.specs.Sound.{AreSound}
 use Rattle.image_world.specs.Tables.{Tables}
 use Rattle.image_world.proofs.TurnLaws.{flag_turns}
 use Rattle.image_world.specs.Debt.{graph_in, owed}
-use Rattle.volume_laws.specs.Steps.{IsAllowed, IsPut, IsStepped}
+use Rattle.volume_laws.specs.Steps.{IsAllowed, IsStepPut, IsStepped}
 use Rattle.image_world.specs.Turns.{Turns}
 use Rattle.volume_laws.specs.Volume.{Volume}
 use Rattle.volume_laws.proofs.BlockLaws.{put_ok}
@@ -76,7 +76,7 @@ sweep_lowers t now s may kept is =
     ] in
     omega (arith, pairs, free, blocks, some, k.pairs, k.free, free_most now)
 
-pub sweep_op : (vol : Volume) (now : Tables) (s : OutStep) (batch : List Patch) → vol.tables.is_sweeping ≡ true → MaySweep (graph_in vol.tables) s → AreSweptBy (graph_in vol.tables) s → IsPut vol.tables s now batch
+pub sweep_op : (vol : Volume) (now : Tables) (s : OutStep) (batch : List Patch) → vol.tables.is_sweeping ≡ true → MaySweep (graph_in vol.tables) s → AreSweptBy (graph_in vol.tables) s → IsStepPut vol.tables s now batch
     → IsOp any_bytes vol now batch 33 (owed now) (λ w. w)
 sweep_op vol now s batch sweeping may kept put = record {
   turns = put.turns;

@@ -19,7 +19,7 @@ use Rattle.cycle_sweep.specs.Sweep.{MaySweep, AreSweptBy}
 use Rattle.image_world.specs.Debt.{graph_in, owed}
 use Rattle.image_world.specs.Tables.{Tables}
 use Rattle.volume_laws.specs.Operations.{IsOperation}
-use Rattle.volume_laws.specs.Steps.{MayPut, IsPut, live_after}
+use Rattle.volume_laws.specs.Steps.{MayPut, IsStepPut, live_after}
 use Rattle.volume_laws.specs.Volume.{Volume, IsVolumeAt, AreParts, told_by, tables_in}
 use Rattle.volume_laws.proofs.AheadKept.{hides_stepped}
 use Rattle.volume_laws.proofs.NextLaws.{same_graph}
@@ -92,7 +92,7 @@ module _ (h : Header) (p : Pointers) (k : Counts) (l : LiveMap) (c : Store) (is 
   }
 
   -- the parts once it is made: what is reached is marked as before
-  module _ (kept : AreSweptBy (graph_of p l) s) (q : Pointers) (j : Counts) (m : LiveMap) (batch : List Patch) (put : IsPut (tables_in h p k l c is) s (tables_in h q j m c is) batch)
+  module _ (kept : AreSweptBy (graph_of p l) s) (q : Pointers) (j : Counts) (m : LiveMap) (batch : List Patch) (put : IsStepPut (tables_in h p k l c is) s (tables_in h q j m c is) batch)
       (slots : q.geometry ≡ p.geometry) (counts : j.geometry ≡ k.geometry) (live : m.geometry ≡ l.geometry) (shown : m.unhidden ≡ live_after l.unhidden s.block s.freed) (unready : ready ≡ false) where
     pub parts_then : AreParts h q j m c is (length marks) a ready
     parts_then = record {
@@ -132,4 +132,4 @@ module _ (h : Header) (p : Pointers) (k : Counts) (l : LiveMap) (c : Store) (is 
         subst (λ (t : Tables). IsOp any_bytes vol t batch 33 (owed t) (λ w. w)) (sym then)
         (sweep_op vol (tables_in h q j m c is) s batch (ap (λ (t : Tables). t.is_sweeping) was ∙ sweeping)
         (subst (λ (t : Tables). MaySweep (graph_in t) s) (sym was) may_in) (subst (λ (t : Tables). AreSweptBy (graph_in t) s) (sym was) kept_in)
-        (subst (λ (t : Tables). IsPut t s (tables_in h q j m c is) batch) (sym was) put))
+        (subst (λ (t : Tables). IsStepPut t s (tables_in h q j m c is) batch) (sym was) put))

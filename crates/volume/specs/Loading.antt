@@ -8,8 +8,8 @@ use Rattle.volume_laws.specs.Volume.{Volume}
 use Rattle.volume.specs.declared.fault.VolumeFault.{VolumeFault}
 use Rattle.volume.specs.declared.fault.VolumeFault.TheVariants as fault
 
--- Where neither memory nor the device is at fault, each answer comes exactly where its line holds, since no two of them hold
--- together.
+-- Where neither memory nor the device is at fault, each answer comes exactly where its line holds, since no two of them
+-- hold together.
 abbrev pub AnswersVolume : Image → Result Volume VolumeFault → Type 0
 AnswersVolume image (Ok v) = IsGood image
 AnswersVolume image (Err fault.NoMemory) = ⊤

@@ -5,7 +5,7 @@ ghost use Rattle.image_device.specs.Calls.{Rests, Uses};
 ghost use Rattle.image_device.specs.Counts.{CountsFault, CountsFaultOf};
 ghost use Rattle.image_device.specs.Runs.{IsFirm};
 ghost use Rattle.image_layout.specs.Areas.{header_sector, sweep_flag};
-ghost use Rattle.image_layout.specs.Header.{IsReading, IsVersion};
+ghost use Rattle.image_layout.specs.Header.{IsHeaderReading, IsVersion};
 ghost use Rattle.image_layout.specs.Image.{is_open};
 ghost use Rattle.tsd_model.specs.Geometry.{IsLawful};
 ghost use Rattle.image_world.specs.Faults.{IsFormatGateOpen};
@@ -53,7 +53,7 @@ impl Volume {
         requires firm { D.told → IsFirm (D.view dev.old) }
         requires formatted { D.told → IsFormatGateOpen (D.view dev.old).reads }
         requires closed { D.told → AreClosed (D.view dev.old).reads }
-        requires header { D.told → IsReading ((D.view dev.old).reads header_sector) (Ok header.now) }
+        requires header { D.told → IsHeaderReading ((D.view dev.old).reads header_sector) (Ok header.now) }
         ensures read { D.told → AnswersVolume (D.view dev.old).reads result }
         ensures at { D.told → IfOk result (λ v. IsVolumeAt v (D.view dev.new)) }
         ensures of_header { IfOk result (λ v. (v.tables.version ≡ header.now.version)

@@ -15,7 +15,7 @@ ghost use Rattle.volume_laws.specs.Writes.{batch_cost, due, IsPaid, Works};
 ghost use Rattle.volume_laws.specs.Moments.{LeavesEither, LeavesWorld, LeavesOwed};
 ghost use Rattle.tsd_model.specs.Doomed.{doomed};
 ghost use Rattle.image_world.specs.Debt.{graph_in, owed};
-ghost use Rattle.volume_laws.specs.Graphs.{IsNext};
+ghost use Rattle.volume_laws.specs.Graphs.{IsStepNext};
 
 use crate::volume::Volume;
 use image_device::{Device, Failed};
@@ -78,7 +78,7 @@ impl Volume {
 impl Volume {
     /// Makes a step of reclamation, in one batch.
     fn make_step<D: Device>(&mut self, dev: &mut D, step: &OutStep) -> Result<(), Failed>
-        requires next { IsNext self.old.tables step.now }
+        requires next { IsStepNext self.old.tables step.now }
         requires still { self.old.tables.is_sweeping ≡ false }
         requires at { D.told → IsVolumeAt self.old (D.view dev.old) }
         ensures operation { IsOperation D.told [] (λ w. w) self.old self.new (D.view dev.old) (D.view dev.new) result }
@@ -169,7 +169,7 @@ impl Volume {
     /// The next step, if one is left.
     fn next(&mut self) -> Option<OutStep>
         ensures same { self.new ≡ self.old }
-        ensures next { IfSome result (λ s. IsNext self.old.tables s) }
+        ensures next { IfSome result (λ s. IsStepNext self.old.tables s) }
         ensures none { IsNone result ↔ (owed self.old.tables ≡ 0) }
     {
         if self.is_settled() {

@@ -4,7 +4,7 @@ ghost use Rattle.std.specs.Prelude.{◌≡◌, ◌≢◌, ℕ, ◌+◌, ◌≤�
 ghost use Rattle.tsd_model.specs.Geometry.{IsLawful};
 ghost use Rattle.image_device.specs.Image.{Image, put_at, zeros};
 ghost use Rattle.image_layout.specs.Areas.{caps_start};
-ghost use Rattle.image_layout.specs.Header.{header_bytes, IsReading, IsVersion};
+ghost use Rattle.image_layout.specs.Header.{header_bytes, IsHeaderReading, IsVersion};
 ghost use Rattle.intent_journal.specs.Home.{overlaid};
 ghost use Rattle.cap_store.specs.Stored.{caps_sector_bytes};
 
@@ -45,7 +45,7 @@ pub fn put_upgrade(batch: &mut Batch, was: u32, header: &Header, caps: &CapStore
     requires empty { caps.now.geometry.primaries ≤ 8 → caps_sector_bytes 2 caps.now.records 1 ≡ zeros }
     ensures none { was ≡ 2 → batch.new ≡ [] }
     ensures header { IsVersion header.now.version → IsLawful header.now.geometry
-        → IsReading (header_bytes header.now) (Ok header.now) }
+        → IsHeaderReading (header_bytes header.now) (Ok header.now) }
     ensures few { length batch.new ≤ 3 }
     ensures laid { was ≢ 2 → (x : Image) (n : ℕ) → overlaid batch.new x n ≡ put_at (caps_start + 1)
         (caps_sector_bytes 2 caps.now.records 1) (put_at caps_start (caps_sector_bytes 2 caps.now.records 0)

@@ -9,7 +9,7 @@ ghost use Rattle.intent_journal.specs.Home.{overlaid};
 ghost use Rattle.intent_journal.specs.Homes.{is_lawful_home};
 ghost use Rattle.pointer_table.specs.Table.{pairs};
 ghost use Rattle.block_alloc.specs.LiveMap.{is_live};
-ghost use Rattle.volume_laws.specs.Growing.{parts_of, DoFit, HasRoom, HidesNone, IsGrown};
+ghost use Rattle.volume_laws.specs.Growing.{parts_of, PartsFit, HasRoom, HidesNone, IsGrown};
 
 use block_alloc::LiveMap;
 use image_layout::Patch;
@@ -39,7 +39,7 @@ fn put_one(
     source: u32,
     block: u32,
 )
-    requires fit { DoFit live.old.geometry (parts_of pointers.old counts.old live.old) }
+    requires fit { PartsFit live.old.geometry (parts_of pointers.old counts.old live.old) }
     requires source { is_live live.old.live source ≡ true }
     requires inside { block < live.old.geometry.blocks }
     requires free { is_live live.old.live block ≡ false }
@@ -75,7 +75,7 @@ pub fn put_new(
     blocks: &[u32],
 )
     requires none { batch.old ≡ [] }
-    requires fit { DoFit live.old.geometry (parts_of pointers.old counts.old live.old) }
+    requires fit { PartsFit live.old.geometry (parts_of pointers.old counts.old live.old) }
     requires room { HasRoom live.old.geometry (parts_of pointers.old counts.old live.old) source blocks.now }
     requires most { length blocks.now ≤ 32 }
     ensures grown { IsGrown live.old.geometry source blocks.now (parts_of pointers.old counts.old live.old)

@@ -5,7 +5,8 @@ ghost use Rattle.tsd_model.specs.World.{World};
 ghost use Rattle.reclaim.specs.Ahead.{IsStepping, IsAheadOf};
 ghost use Rattle.reclaim.specs.Stepping.{after_step};
 ghost use Rattle.image_world.specs.Tables.{Tables};
-ghost use Rattle.volume_laws.specs.Steps.{MayTake, IsTaken, with_slots_and_counts, MayPut, IsPut, with_all, live_after};
+ghost use Rattle.volume_laws.specs.Steps.{MayTake, PairsAreTaken, with_slots_and_counts, MayPut, IsStepPut, with_all};
+ghost use Rattle.volume_laws.specs.Steps.{live_after};
 
 use block_alloc::LiveMap;
 use intent_journal::Batch;
@@ -25,7 +26,7 @@ fn put_pairs(
     requires few { length targets.now ≤ 16 }
     requires tables { (t : Tables) × MayTake t pointers.old counts.old source targets.now }
     ensures taken { (t : Tables) → MayTake t pointers.old counts.old source targets.now
-        → IsTaken t source targets.now (with_slots_and_counts t pointers.new counts.new) batch.new }
+        → PairsAreTaken t source targets.now (with_slots_and_counts t pointers.new counts.new) batch.new }
     ensures slots { pointers.new.geometry ≡ pointers.old.geometry }
     ensures counts { counts.new.geometry ≡ counts.old.geometry }
 {
@@ -51,7 +52,7 @@ pub fn put_step(
     requires none { batch.old ≡ [] }
     requires tables { (t : Tables) × MayPut t pointers.old counts.old live.old step.now }
     ensures put { (t : Tables) → MayPut t pointers.old counts.old live.old step.now
-        → IsPut t step.now (with_all t pointers.new counts.new live.new) batch.new }
+        → IsStepPut t step.now (with_all t pointers.new counts.new live.new) batch.new }
     ensures slots { pointers.new.geometry ≡ pointers.old.geometry }
     ensures counts { counts.new.geometry ≡ counts.old.geometry }
     ensures live { live.new.geometry ≡ live.old.geometry }

@@ -30,7 +30,7 @@ use Rattle.image_world.specs.Debt.{owed, graph_in}
 use Rattle.volume_laws.specs.Volume.{tables_in}
 use Rattle.volume_laws.proofs.Dropped.{less_slots, HoldsPair}
 use Rattle.volume_laws.proofs.Pointed.{with_slots, IsOpenTo, marked, raw_absent}
-use Rattle.volume_laws.specs.Graphs.{IsNext}
+use Rattle.volume_laws.specs.Graphs.{IsStepNext}
 use Rattle.volume_laws.specs.Steps.{IsStepped, live_after}
 use Rattle.volume_laws.proofs.StepWorlds.{graph_stepped}
 use Rattle.volume_laws.proofs.TableWorlds.{graph_laid_out, graph_raw, none_owed, told_live, told_held, settled_held}
@@ -55,7 +55,7 @@ hides_stepped l m a false gone then live shown hides same = λ b.
     ap (λ (xs : List Bool). is_live xs b) shown ∙ (hides b ∙ (λ i. is_live (sym live i) b && not (sym (same b refl) i)))
 
 -- what is doomed stays so, but for the freed block
-pub gone_stepped : (t now : Tables) (s : OutStep) (k l : Kept) → IsNext t s → IsStepped t now s.block s.targets s.freed → IsAheadOf (graph_in t) k → IsAheadOf (graph_in now) l
+pub gone_stepped : (t now : Tables) (s : OutStep) (k l : Kept) → IsStepNext t s → IsStepped t now s.block s.targets s.freed → IsAheadOf (graph_in t) k → IsAheadOf (graph_in now) l
     → (b : ℕ) → (s.freed && (b == s.block)) ≡ false → is_gone l.gone b ≡ is_gone k.gone b
 gone_stepped t now s k l next is old new b out =
     new.told b ∙ (ap (λ (w : World). has_number (doomed w) b) (graph_stepped t now s.block s.targets s.freed is)
@@ -66,7 +66,7 @@ gone_stepped t now s k l next is old new b out =
     both true = refl
     both false = refl
 
-module _ (t now : Tables) (s : OutStep) (k l : Kept) (ready : Bool) (next : IsNext t s) (is : IsStepped t now s.block s.targets s.freed)
+module _ (t now : Tables) (s : OutStep) (k l : Kept) (ready : Bool) (next : IsStepNext t s) (is : IsStepped t now s.block s.targets s.freed)
     (old : ready ≡ true → IsAheadOf (graph_in t) k) (done : ready ≡ true → (w : World) → IsStepping w s k → IsAheadOf (after_step w s) l) (same : ready ≡ false → l ≡ k) where
   -- before the step
   pub stepping : ready ≡ true → IsStepping (graph_in t) s k

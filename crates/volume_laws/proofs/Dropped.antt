@@ -14,7 +14,7 @@ use Rattle.image_layout.specs.Areas.{counts_start, bitmap_start, slots_start, da
 use Rattle.image_layout.specs.Image.{Image}
 use Rattle.image_layout.specs.declared.place.Patch.{Patch}
 use Rattle.intent_journal.specs.Batch.{with_patch}
-use Rattle.pointer_table.specs.Table.{pairs, IsTable, IsWithin}
+use Rattle.pointer_table.specs.Table.{pairs, IsTable, MayBeHeld}
 use Rattle.pointer_table.specs.Table.{Table as Pointers}
 use Rattle.pointer_table.specs.Changes.{IsSlotSector, KeepsStored}
 use Rattle.ref_counts.specs.Table.{Table as Counts}
@@ -49,7 +49,7 @@ pub record HoldsPair (t : Tables) (a b : ℕ) : Type 0 where
 pub raw_held : (t : Tables) (a b : ℕ) → HoldsPair t a b → holds (pairs_of t) a b ≡ true
 raw_held t a b o = (settled_held (graph_in t) a b (told_held t a b o.still o.held)).0
 
-pub held_within : (t : Tables) (a b : ℕ) → AreSound t → holds (pairs_of t) a b ≡ true → IsWithin t.geometry (a, b)
+pub held_within : (t : Tables) (a b : ℕ) → AreSound t → holds (pairs_of t) a b ≡ true → MayBeHeld t.geometry (a, b)
 held_within t a b sound o = let found = slot_from_holds t.slots a b o in sound.slots.ends found.0 (a, b) found.2
 
 pub count_some : (t : Tables) (a b : ℕ) → AreSound t → holds (pairs_of t) a b ≡ true → 0 < slice_index t.counts b

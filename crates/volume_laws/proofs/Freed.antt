@@ -10,7 +10,7 @@ use Rattle.tsd_model.specs.declared.geometry.Geometry.{Geometry}
 use Rattle.disk_laws.proofs.DoomLaws.{live_below}
 use Rattle.image_device.specs.Image.{put_at}
 use Rattle.image_layout.specs.Areas.{header_sector, format_gate, bitmap_start, slots_start}
-use Rattle.image_layout.specs.Header.{IsReading}
+use Rattle.image_layout.specs.Header.{IsHeaderReading}
 use Rattle.image_layout.specs.Image.{Image, is_open}
 use Rattle.image_layout.specs.declared.place.Patch.{Patch}
 use Rattle.intent_journal.proofs.Overlays.{put_elsewhere}
@@ -23,7 +23,7 @@ use Rattle.graph_laws.specs.Steps.{IsAlone, without_pointers}
 use Rattle.pointer_table.specs.declared.out_step.OutStep.{OutStep}
 use Rattle.image_world.specs.Sound.{AreSound}
 use Rattle.image_world.specs.Tables.{Tables, pairs_of}
-use Rattle.volume_laws.specs.Graphs.{IsNext}
+use Rattle.volume_laws.specs.Graphs.{IsStepNext}
 use Rattle.image_world.specs.Debt.{graph_in}
 use Rattle.volume_laws.specs.Steps.{pairs_without, IsAllowed}
 use Rattle.image_world.specs.Turns.{Turns}
@@ -34,7 +34,7 @@ away : (s n : ℕ) → n ≢ s → (n == s) ≡ false
 away s n other = grind (arith, nat_tests)
 
 -- a step of reclamation is allowed
-pub next_allowed : (t : Tables) (s : OutStep) → IsNext t s → IsAllowed t s
+pub next_allowed : (t : Tables) (s : OutStep) → IsStepNext t s → IsAllowed t s
 next_allowed t s next = record { live = next.may.lost.live; apart = next.may.lost.apart; step = next.may.step; few = next.may.few }
 
 pub allowed_inside : (t : Tables) (s : OutStep) → IsAllowed t s → s.block < t.geometry.blocks
@@ -82,7 +82,7 @@ module _ (t mid : Tables) (s : OutStep) (next : IsAllowed t s) (same : mid.geome
     has = λ z had.
         let other : (n : ℕ) → n ≢ r.sector → put_at r.sector r.bytes z n ≡ z n = λ n h. put_elsewhere r.sector r.bytes z n (away r.sector n h) in
         record {
-          header = subst (λ bytes. IsReading bytes (Ok (record { version = mid.version; geometry = mid.geometry }))) (sym (other header_sector (λ e. omega arith))) had.header;
+          header = subst (λ bytes. IsHeaderReading bytes (Ok (record { version = mid.version; geometry = mid.geometry }))) (sym (other header_sector (λ e. omega arith))) had.header;
           live = patched z (λ b within out. had.live b within ∙ sym (still b (λ e. out (ap (sector_of mid.geometry) e ∙ sym at))));
           slots = stored_elsewhere mid.slots mid.geometry z (put_at r.sector r.bytes z) (λ n f u. other n (λ e. omega arith)) had.slots;
           counts = same_counts mid.counts mid.geometry z (put_at r.sector r.bytes z) (λ n f u. other n (λ e. omega arith)) had.counts;

@@ -31,7 +31,7 @@ use Rattle.block_alloc.specs.Stored.{IsStored as AreBits, IsStoredAt, sector_of}
 use Rattle.block_alloc.proofs.StoredLaws.{same_sectors as same_bits}
 use Rattle.image_world.specs.Raw.{world_with}
 use Rattle.image_world.proofs.GrowLaws.{block_more}
-use Rattle.volume_laws.specs.Growing.{Parts, parts_of, with_parts, DoFit, AreFree, HasRoom, HasNoLost, AreStored, IsGrown}
+use Rattle.volume_laws.specs.Growing.{Parts, parts_of, with_parts, PartsFit, AreFree, HasRoom, HasNoLost, PartsAreStored, IsGrown}
 use Rattle.volume_laws.proofs.Pointed.{one_at, none_at}
 
 away : (s n : ℕ) → n ≢ s → (n == s) ≡ false
@@ -39,21 +39,21 @@ away s n other = grind (arith, nat_tests)
 
 -- ---- a free block
 -- no pair leads to it, so none from this source
-pub free_absent : (g : Geometry) (p : Parts) (a b : ℕ) → DoFit g p → is_live p.live.live b ≡ false → holds (pairs p.pointers) a b ≡ false
+pub free_absent : (g : Geometry) (p : Parts) (a b : ℕ) → PartsFit g p → is_live p.live.live b ≡ false → holds (pairs p.pointers) a b ≡ false
 free_absent g p a b fit free = elim (holds (pairs p.pointers) a b) as (λ t. holds (pairs p.pointers) a b ≡ t → t ≡ false) [
   | true ↦ λ e. absurd (both_ways (is_live p.live.live b) free (and_parts (is_live p.live.live a) (is_live p.live.live b) (fit.ends a b e)).1)
   | false ↦ λ e. refl
 ] refl
 
 -- its count is 0
-pub free_count : (g : Geometry) (p : Parts) (b : ℕ) → DoFit g p → b < g.blocks → is_live p.live.live b ≡ false → slice_index p.counts.counts b ≡ 0
+pub free_count : (g : Geometry) (p : Parts) (b : ℕ) → PartsFit g p → b < g.blocks → is_live p.live.live b ≡ false → slice_index p.counts.counts b ≡ 0
 free_count g p b fit inside free =
     let most = count_to_most b 0 (pairs p.pointers) (rising-pairs_in p.pointers.slots) (λ x h. absurd (both_ways (holds (pairs p.pointers) x b) (free_absent g p x b fit free) h)) in
     let count = fit.counted b inside in
     omega (arith, most, count)
 
 -- it isn't primary
-pub free_apart : (g : Geometry) (p : Parts) (b : ℕ) → DoFit g p → is_live p.live.live b ≡ false → g.primaries ≤ b
+pub free_apart : (g : Geometry) (p : Parts) (b : ℕ) → PartsFit g p → is_live p.live.live b ≡ false → g.primaries ≤ b
 free_apart g p b fit free = elim (cases_lt b g.primaries) [ inl h ↦ absurd (both_ways (is_live p.live.live b) free (fit.primaries b h)) | inr h ↦ h ]
 
 -- ---- live with a block more
@@ -65,7 +65,7 @@ live_more live b x inside was = elim (cases_eq x b) [
 
 -- ---- one block more
 pub one_grown : (g : Geometry) (a b : ℕ) (op np : Pointers) (oc nc : Counts) (ol nl : LiveMap) (p q r : Patch) (ps qs : List Patch)
-    → DoFit g (parts_of op oc ol) → is_live ol.live a ≡ true → b < g.blocks → is_live ol.live b ≡ false
+    → PartsFit g (parts_of op oc ol) → is_live ol.live a ≡ true → b < g.blocks → is_live ol.live b ≡ false
     → pairs np ≡ with_pair (a, b) (pairs op) → IsTable np → np.geometry ≡ op.geometry → (slots_start op.geometry ≤ p.sector) × (p.sector < data_start op.geometry) → KeepsStored op np p
     → nc ≡ record oc { counts = slice_set oc.counts b (slice_index oc.counts b + 1) }
     → (counts_start ≤ q.sector) × (q.sector < bitmap_start nc.geometry) → KeepsCounts oc nc q
@@ -121,7 +121,7 @@ one_grown g a b op np oc nc ol nl p q r ps qs fit source inside free more table 
     new_live : (x : ℕ) → is_live ol.live x ≡ true → is_live nl.live x ≡ true
     new_live x was = ap (λ (l : List Bool). is_live l x) live ∙ live_more ol.live b x within was
 
-    now : DoFit g (parts_of np nc nl)
+    now : PartsFit g (parts_of np nc nl)
     now = record {
       pointers = ng ∙ fit.pointers;
       counts = count_size;
@@ -181,7 +181,7 @@ one_grown g a b op np oc nc ol nl p q r ps qs fit source inside free more table 
         put_elsewhere r.sector r.bytes (put_at q.sector q.bytes (put_at p.sector p.bytes (overlaid ps z))) n (away r.sector n out.2)
         ∙ (put_elsewhere q.sector q.bytes (put_at p.sector p.bytes (overlaid ps z)) n (away q.sector n out.1) ∙ put_elsewhere p.sector p.bytes (overlaid ps z) n (away p.sector n out.0))
 
-    stored : (z : Image) → AreStored g (parts_of op oc ol) (overlaid ps z) → AreStored g (parts_of np nc nl) (overlaid qs z)
+    stored : (z : Image) → PartsAreStored g (parts_of op oc ol) (overlaid ps z) → PartsAreStored g (parts_of np nc nl) (overlaid qs z)
     stored z had =
         let x0 = overlaid ps z in
         let x1 = put_at p.sector p.bytes x0 in
@@ -195,7 +195,7 @@ one_grown g a b op np oc nc ol nl p q r ps qs fit source inside free more table 
         let counts3 : AreCounts nc.counts g x3 = same_counts nc.counts g x2 x3 (λ n f u. put_elsewhere r.sector r.bytes x2 n (away r.sector n (λ e. omega (arith, p_area.0, p_area.1, q_area.0, q_area.1, r_area.0, r_area.1)))) counts2 in
         let live2 : AreBits ol.live g x2 = same_bits ol.live g x0 x2 (λ n f u. put_elsewhere q.sector q.bytes x1 n (away q.sector n (λ e. omega (arith, p_area.0, p_area.1, q_area.0, q_area.1, r_area.0, r_area.1))) ∙ put_elsewhere p.sector p.bytes x0 n (away p.sector n (λ e. omega (arith, p_area.0, p_area.1, q_area.0, q_area.1, r_area.0, r_area.1)))) had.live in
         let live3 : AreBits nl.live g x3 = subst (λ k. AreBits nl.live k x3) live_size (bits x2 (λ k h other. kept x2 live2 k h other)) in
-        subst (AreStored g (parts_of np nc nl)) (sym is) (record { slots = slots3; counts = counts3; live = live3 })
+        subst (PartsAreStored g (parts_of np nc nl)) (sym is) (record { slots = slots3; counts = counts3; live = live3 })
       where
         kept : (x : Image) → AreBits ol.live g x → (k : ℕ) → k < nl.geometry.blocks → sector_of nl.geometry k ≢ r.sector → IsStoredAt nl.live nl.geometry x k
         kept x was k h other =
@@ -205,7 +205,7 @@ one_grown g a b op np oc nc ol nl p q r ps qs fit source inside free more table 
             subst (λ s. IsStoredAt nl.live s x k) (sym live_size) (was k below ∙ sym there)
 
 -- ---- one after another
-pub grown_none : (g : Geometry) (a : ℕ) (p : Parts) (ps : List Patch) → DoFit g p → IsGrown g a [] p p ps ps
+pub grown_none : (g : Geometry) (a : ℕ) (p : Parts) (ps : List Patch) → PartsFit g p → IsGrown g a [] p p ps ps
 grown_none g a p ps fit = record {
   fit = fit;
   world = λ t c same zeroed. refl;

@@ -9,7 +9,7 @@ use Rattle.tsd_model.specs.World.{has_number}
 use Rattle.tsd_model.specs.Step.{with_caps}
 use Rattle.image_device.specs.Image.{put_at}
 use Rattle.image_layout.specs.Areas.{header_sector, format_gate, caps_start, counts_start}
-use Rattle.image_layout.specs.Header.{IsReading}
+use Rattle.image_layout.specs.Header.{IsHeaderReading}
 use Rattle.image_layout.specs.Image.{Image, is_open}
 use Rattle.image_layout.specs.declared.place.Patch.{Patch}
 use Rattle.intent_journal.proofs.Overlays.{put_elsewhere}
@@ -74,7 +74,7 @@ caps_turn t b r p sound from to stored = record {
   has = λ z had.
       let same : (n : ℕ) → n ≢ p.sector → put_at p.sector p.bytes z n ≡ z n = λ n other. put_elsewhere p.sector p.bytes z n (away p.sector n other) in
       record {
-        header = subst (λ bytes. IsReading bytes (Ok (record { version = t.version; geometry = t.geometry }))) (sym (same header_sector (λ e. omega arith))) had.header;
+        header = subst (λ bytes. IsHeaderReading bytes (Ok (record { version = t.version; geometry = t.geometry }))) (sym (same header_sector (λ e. omega arith))) had.header;
         live = same_bits t.live t.geometry z (put_at p.sector p.bytes z) (λ n f u. same n (λ e. omega arith)) had.live;
         slots = stored_elsewhere t.slots t.geometry z (put_at p.sector p.bytes z) (λ n f u. same n (λ e. omega arith)) had.slots;
         counts = same_counts t.counts t.geometry z (put_at p.sector p.bytes z) (λ n f u. same n (λ e. omega arith)) had.counts;

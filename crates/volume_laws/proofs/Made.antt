@@ -7,7 +7,7 @@ use Rattle.tsd_model.specs.World.{World, has_number}
 use Rattle.tsd_model.specs.Doomed.{doomed}
 use Rattle.tsd_model.specs.Step.{with_new_blocks}
 use Rattle.image_layout.specs.Areas.{header_sector, format_gate}
-use Rattle.image_layout.specs.Header.{IsReading}
+use Rattle.image_layout.specs.Header.{IsHeaderReading}
 use Rattle.image_layout.specs.Image.{is_open}
 use Rattle.image_layout.specs.declared.place.Patch.{Patch}
 use Rattle.intent_journal.specs.Home.{overlaid}
@@ -28,11 +28,11 @@ use Rattle.tsd_model.proofs.CountLaws.{source_removed}
 use Rattle.image_world.specs.Debt.{graph_in, owed}
 use Rattle.volume_laws.proofs.TableWorlds.{laid_out, graph_laid_out, same_doomed, none_owed}
 use Rattle.image_world.proofs.RawLaws.{live_with, blocks_with}
-use Rattle.volume_laws.specs.Growing.{Parts, with_parts, DoFit, HasNoLost, IsGrown}
+use Rattle.volume_laws.specs.Growing.{Parts, with_parts, PartsFit, HasNoLost, IsGrown}
 use Rattle.image_world.specs.Turns.{Turns}
 
 -- ---- nothing is doomed
-pub full_of_settled : (t : Tables) (p : Parts) → with_parts t p ≡ t → DoFit t.geometry p → owed t ≡ 0 → HasNoLost t.geometry p
+pub full_of_settled : (t : Tables) (p : Parts) → with_parts t p ≡ t → PartsFit t.geometry p → owed t ≡ 0 → HasNoLost t.geometry p
 full_of_settled t p same fit none = λ b inside live apart.
     let led = none_is_led (graph_in t) (graph_laid_out t).each_block ((none_owed t).0 none) b apart
     (live-graph t.geometry t.live (pairs_of t) (ap (λ (u : Tables). length u.live) (sym same) ∙ fit.each_block) b ∙ (ap (λ (u : Tables). is_marked_in u.live b) (sym same) ∙ live)) in
@@ -41,7 +41,7 @@ full_of_settled t p same fit none = λ b inside live apart.
     let count = fit.counted b inside in
     omega (arith, one, count)
 
-pub none_doomed : (t : Tables) (p : Parts) (c : ℕ → List ℕ) → DoFit t.geometry p → HasNoLost t.geometry p → doomed (world_with (with_parts t p) c) ≡ []
+pub none_doomed : (t : Tables) (p : Parts) (c : ℕ → List ℕ) → PartsFit t.geometry p → HasNoLost t.geometry p → doomed (world_with (with_parts t p) c) ≡ []
 unfolding world_with
 none_doomed t p c fit full =
     let u = with_parts t p in
@@ -55,17 +55,17 @@ none_doomed t p c fit full =
       | inr alone ↦ absurd (let none = alone_count (pairs p.pointers) b alone in omega (arith, some, count, none))
     ])
 
-pub left_whole : (t : Tables) (p : Parts) (c : ℕ → List ℕ) → t.is_sweeping ≡ false → DoFit t.geometry p → HasNoLost t.geometry p → left_of (with_parts t p) (world_with (with_parts t p) c) ≡ world_with (with_parts t p) c
+pub left_whole : (t : Tables) (p : Parts) (c : ℕ → List ℕ) → t.is_sweeping ≡ false → PartsFit t.geometry p → HasNoLost t.geometry p → left_of (with_parts t p) (world_with (with_parts t p) c) ≡ world_with (with_parts t p) c
 unfolding left_of world_with
 left_whole t p c still fit full = rw still (settle_none (world_with (with_parts t p) c) (laid_out (with_parts t p) c) (none_doomed t p c fit full))
 
-pub owed_none : (t : Tables) (p : Parts) → DoFit t.geometry p → HasNoLost t.geometry p → owed (with_parts t p) ≡ 0
+pub owed_none : (t : Tables) (p : Parts) → PartsFit t.geometry p → HasNoLost t.geometry p → owed (with_parts t p) ≡ 0
 owed_none t p fit full =
     let u = with_parts t p in
     (none_owed u).1 (sym (same_doomed u (zeros_of u)) ∙ none_doomed t p (zeros_of u) fit full)
 
 -- ---- tables
-pub sound_parts : (t : Tables) (p : Parts) → AreSound t → DoFit t.geometry p → AreSound (with_parts t p)
+pub sound_parts : (t : Tables) (p : Parts) → AreSound t → PartsFit t.geometry p → AreSound (with_parts t p)
 sound_parts t p sound fit = record {
   version = sound.version;
   slots = subst (λ k. IsTable (record { geometry = k; slots = p.pointers.slots })) fit.pointers fit.table;
@@ -78,8 +78,8 @@ sound_parts t p sound fit = record {
 }
 
 -- and tables that are sound have parts that fit
-pub fits : (g h : Geometry) → g ≡ h → (t : Tables) (p : Parts) → t.geometry ≡ g → with_parts t p ≡ t → AreSound t → p.pointers.geometry ≡ g → p.counts.geometry ≡ g → p.live.geometry ≡ g → DoFit h p
-fits g h is t p size same sound pg cg lg = subst (λ k. DoFit k p) is (subst (λ k. DoFit k p) size (record {
+pub fits : (g h : Geometry) → g ≡ h → (t : Tables) (p : Parts) → t.geometry ≡ g → with_parts t p ≡ t → AreSound t → p.pointers.geometry ≡ g → p.counts.geometry ≡ g → p.live.geometry ≡ g → PartsFit h p
+fits g h is t p size same sound pg cg lg = subst (λ k. PartsFit k p) is (subst (λ k. PartsFit k p) size (record {
   pointers = pg ∙ sym size;
   counts = cg ∙ sym size;
   live = lg ∙ sym size;
@@ -112,7 +112,7 @@ blank_graph t p q a bs batch is =
     let told : Tables = record t { version = 2; records = replicate t.geometry.primaries no_record } in
     is.world told (zeros_of told) refl (λ b h. refl)
 
-pub made : (t : Tables) (p q : Parts) (a : ℕ) (bs : List ℕ) (batch : List Patch) → AreSound t → t.is_sweeping ≡ false → owed t ≡ 0 → with_parts t p ≡ t → DoFit t.geometry p → IsGrown t.geometry a bs p q [] batch → IsMade t a bs (with_parts t q) batch
+pub made : (t : Tables) (p q : Parts) (a : ℕ) (bs : List ℕ) (batch : List Patch) → AreSound t → t.is_sweeping ≡ false → owed t ≡ 0 → with_parts t p ≡ t → PartsFit t.geometry p → IsGrown t.geometry a bs p q [] batch → IsMade t a bs (with_parts t q) batch
 made t p q a bs batch sound still none same fit grown = record {
   turns = record {
     sound = now;
@@ -121,7 +121,7 @@ made t p q a bs batch sound still none same fit grown = record {
         let was : HasTables (with_parts t p) z = subst (λ (u : Tables). HasTables u z) (sym same) had in
         let stored = grown.stored z (record { slots = was.slots; counts = was.counts; live = was.live }) in
         record {
-          header = subst (λ bytes. IsReading bytes (Ok (record { version = t.version; geometry = t.geometry }))) (sym (grown.others z header_sector (inl (omega arith)))) had.header;
+          header = subst (λ bytes. IsHeaderReading bytes (Ok (record { version = t.version; geometry = t.geometry }))) (sym (grown.others z header_sector (inl (omega arith)))) had.header;
           live = stored.live;
           slots = stored.slots;
           counts = stored.counts;

@@ -13,14 +13,14 @@ use Rattle.tsd_model.specs.Doomed.{settle}
 use Rattle.tsd_model.specs.Step.{with_pointer}
 use Rattle.image_device.specs.Image.{put_at}
 use Rattle.image_layout.specs.Areas.{header_sector, format_gate, counts_start, bitmap_start, slots_start, data_start}
-use Rattle.image_layout.specs.Header.{IsReading}
+use Rattle.image_layout.specs.Header.{IsHeaderReading}
 use Rattle.image_layout.specs.Image.{Image, is_open}
 use Rattle.image_layout.specs.declared.place.Patch.{Patch}
 use Rattle.intent_journal.specs.Batch.{with_patch}
 use Rattle.intent_journal.specs.Home.{overlaid}
 use Rattle.intent_journal.proofs.Overlays.{put_elsewhere}
 use Rattle.intent_journal.proofs.Uses.{overlaid_with_patch}
-use Rattle.pointer_table.specs.Table.{pairs, IsTable, IsWithin}
+use Rattle.pointer_table.specs.Table.{pairs, IsTable, MayBeHeld}
 use Rattle.pointer_table.specs.Table.{Table as Pointers}
 use Rattle.pointer_table.specs.Changes.{IsSlotSector, KeepsStored}
 use Rattle.ref_counts.specs.Table.{Table as Counts}
@@ -79,7 +79,7 @@ raw_absent t a b o = told_absent t a b o.still o.source o.absent
 pub marked : (t : Tables) (c : ℕ) → t.is_sweeping ≡ false → is_live (blank_of t) c ≡ true → (c < t.geometry.blocks) × (is_marked_in t.live c ≡ true)
 marked t c still live = let told = told_live t c still live in (told.1, told.2)
 
-pub ends_within : (t : Tables) (a b : ℕ) → IsOpenTo t a b → IsWithin t.geometry (a, b)
+pub ends_within : (t : Tables) (a b : ℕ) → IsOpenTo t a b → MayBeHeld t.geometry (a, b)
 ends_within t a b o = ((marked t a o.still o.source).0, o.apart, (marked t b o.still o.target).0)
 
 -- the count of the target is below the number of blocks
@@ -163,7 +163,7 @@ pointer_turn t slots counts p q batch sound now is at to slot count = record {
       let new = put_at q.sector q.bytes mid in
       let here : overlaid batch z ≡ new = λ i n. laid z n i in
       subst (HasTables (record t { slots = slots; counts = counts })) (sym here) (record {
-        header = subst (λ bytes. IsReading bytes (Ok (record { version = t.version; geometry = t.geometry }))) (sym (others z header_sector (λ e. omega arith) (λ e. omega arith))) had.header;
+        header = subst (λ bytes. IsHeaderReading bytes (Ok (record { version = t.version; geometry = t.geometry }))) (sym (others z header_sector (λ e. omega arith) (λ e. omega arith))) had.header;
         live = same_bits t.live t.geometry z new (λ n f u. others z n (λ e. omega arith) (λ e. omega arith)) had.live;
         slots = stored_elsewhere slots t.geometry mid new (λ n f u. put_elsewhere q.sector q.bytes mid n (away q.sector n (λ e. omega arith))) (slot z had.slots);
         counts = count mid (same_counts t.counts t.geometry z mid (λ n f u. put_elsewhere p.sector p.bytes z n (away p.sector n (λ e. omega arith))) had.counts);

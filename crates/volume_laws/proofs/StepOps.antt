@@ -24,10 +24,10 @@ use Rattle.image_world.specs.Raw.{world_with, left_of}
 use Rattle.image_world.specs.Stands.{Stands}
 use Rattle.image_world.proofs.AlikeLaws.{alike_tables}
 use Rattle.image_world.proofs.SoundLaws.{has_one}
-use Rattle.volume_laws.specs.Graphs.{IsNext}
+use Rattle.volume_laws.specs.Graphs.{IsStepNext}
 use Rattle.image_world.specs.Debt.{graph_in, owed}
 use Rattle.volume_laws.specs.Moments.{LeavesEither, LeavesWorld, LeavesOwed}
-use Rattle.volume_laws.specs.Steps.{IsPut, IsStepped}
+use Rattle.volume_laws.specs.Steps.{IsStepPut, IsStepped}
 use Rattle.image_world.specs.Turns.{Turns}
 use Rattle.volume_laws.specs.Volume.{Volume, IsVolumeAt, world_on}
 use Rattle.volume_laws.specs.Writes.{batch_cost, due, IsPaid}
@@ -40,14 +40,14 @@ use Rattle.volume_laws.proofs.TableWorlds.{laid_out, graph_laid_out}
 use Rattle.image_world.proofs.DebtLaws.{world_graph}
 
 -- ---- what is owed
-pub step_owed : (t now : Tables) (s : OutStep) → IsNext t s → IsStepped t now s.block s.targets s.freed → owed t ≡ owed now + (cond s.freed 1 0 + length s.targets)
+pub step_owed : (t now : Tables) (s : OutStep) → IsStepNext t s → IsStepped t now s.block s.targets s.freed → owed t ≡ owed now + (cond s.freed 1 0 + length s.targets)
 step_owed t now s next is =
     let then : owed now ≡ doomed_size (stepped (graph_in t) s.block s.targets s.freed) = ap doomed_size (graph_stepped t now s.block s.targets s.freed is) in
     let less = step_lowers (graph_in t) s.block s.targets (graph_laid_out t) next.may.lost s.freed next.may.step in
     omega (arith, then, less.0, less.1)
 
 -- so many blocks fewer are doomed
-pub step_blocks : (t now : Tables) (s : OutStep) → IsNext t s → IsStepped t now s.block s.targets s.freed → length (doomed (graph_in t)) ≡ cond s.freed 1 0 + length (doomed (graph_in now))
+pub step_blocks : (t now : Tables) (s : OutStep) → IsStepNext t s → IsStepped t now s.block s.targets s.freed → length (doomed (graph_in t)) ≡ cond s.freed 1 0 + length (doomed (graph_in now))
 step_blocks t now s next is =
     let then = ap (λ (w : World). length (doomed w)) (graph_stepped t now s.block s.targets s.freed is) in
     let less = step_lowers (graph_in t) s.block s.targets (graph_laid_out t) next.may.lost s.freed next.may.step in
@@ -58,7 +58,7 @@ pub still_left : (t : Tables) (w : World) → t.is_sweeping ≡ false → left_o
 unfolding left_of
 still_left t w still = rw still refl
 
-pub step_left : (t now : Tables) (s : OutStep) (c : ℕ → List ℕ) → t.is_sweeping ≡ false → IsNext t s → IsStepped t now s.block s.targets s.freed → left_of now (world_with now c) ≡ left_of t (world_with t c)
+pub step_left : (t now : Tables) (s : OutStep) (c : ℕ → List ℕ) → t.is_sweeping ≡ false → IsStepNext t s → IsStepped t now s.block s.targets s.freed → left_of now (world_with now c) ≡ left_of t (world_with t c)
 step_left t now s c still next is =
     let same = graph_of_same (world_with t c) (graph_in t) (world_graph t c) in
     still_left now (world_with now c) (ap (λ (u : Tables). u.is_sweeping) is.same ∙ still)
@@ -76,7 +76,7 @@ pub record IsStepOf (vol : Volume) (s : OutStep) (now : Tables) (batch : List Pa
   pub cheap : batch_cost (length batch) ≤ 5 * (cond s.freed 1 0 + length s.targets)
   pub some : 0 < cond s.freed 1 0 + length s.targets
 
-pub step_of : (vol : Volume) (s : OutStep) (now : Tables) (batch : List Patch) → vol.tables.is_sweeping ≡ false → IsNext vol.tables s → IsPut vol.tables s now batch → IsStepOf vol s now batch
+pub step_of : (vol : Volume) (s : OutStep) (now : Tables) (batch : List Patch) → vol.tables.is_sweeping ≡ false → IsStepNext vol.tables s → IsStepPut vol.tables s now batch → IsStepOf vol s now batch
 step_of vol s now batch still next put =
     let takes = step_owed vol.tables now s next put.stepped in
     let few = put.few in

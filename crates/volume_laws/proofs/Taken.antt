@@ -24,7 +24,7 @@ use Rattle.image_world.specs.Sound.{HasTables}
 use Rattle.image_world.specs.Tables.{Tables, pairs_of}
 use Rattle.image_world.specs.Raw.{world_with, zeros_of}
 use Rattle.image_world.specs.Turns.{Turns}
-use Rattle.volume_laws.specs.Steps.{AreHeld, MayTake, IsTaken, pairs_without, with_slots_and_counts}
+use Rattle.volume_laws.specs.Steps.{AreHeld, MayTake, PairsAreTaken, pairs_without, with_slots_and_counts}
 use Rattle.volume_laws.proofs.BlockLaws.{length-with_patch}
 use Rattle.volume_laws.proofs.StepWorlds.{without_parts}
 use Rattle.volume_laws.proofs.Dropped.{IsDropped, dropped}
@@ -76,8 +76,8 @@ next_pair t a b bs i held within is =
     none false = refl
 
 -- ---- the loop
-pub taken_none : (t : Tables) (p : Pointers) (c : Counts) (a : ℕ) (bs : List ℕ) (ps : List Patch) → ps ≡ [] → MayTake t p c a bs → IsTaken t a [] (with_slots_and_counts t p c) ps
-taken_none t p c a bs ps none may = subst (λ (qs : List Patch). IsTaken t a [] (with_slots_and_counts t p c) qs) (sym none) (subst (λ (u : Tables). IsTaken t a [] u []) same (record {
+pub taken_none : (t : Tables) (p : Pointers) (c : Counts) (a : ℕ) (bs : List ℕ) (ps : List Patch) → ps ≡ [] → MayTake t p c a bs → PairsAreTaken t a [] (with_slots_and_counts t p c) ps
+taken_none t p c a bs ps none may = subst (λ (qs : List Patch). PairsAreTaken t a [] (with_slots_and_counts t p c) qs) (sym none) (subst (λ (u : Tables). PairsAreTaken t a [] u []) same (record {
   pairs = refl;
   turns = record { sound = may.sound; size = refl; has = λ z had. had; contents = λ z n above. refl; gate = λ z. refl };
   few = omega arith;
@@ -87,12 +87,12 @@ taken_none t p c a bs ps none may = subst (λ (qs : List Patch). IsTaken t a [] 
     same i = record t { slots = sym may.parts.slots i; counts = sym may.parts.counts i }
 
 pub taken_more : (t : Tables) (old new : Pointers) (oc nc : Counts) (a b : ℕ) (bs : List ℕ) (i : ℕ) (p q : Patch) (ps grown now : List Patch)
-    → AreHeld t a bs → i < length bs → b ≡ get_or bs i 0 → IsTaken t a (take i bs) (with_slots_and_counts t old oc) ps
+    → AreHeld t a bs → i < length bs → b ≡ get_or bs i 0 → PairsAreTaken t a (take i bs) (with_slots_and_counts t old oc) ps
     → IsBatch ps → IsBatch grown → grown ≡ with_patch p ps → now ≡ with_patch q grown → old.geometry ≡ t.geometry → oc.geometry ≡ t.geometry
     → pairs new ≡ without_pair a b (pairs old) → IsTable new → new.geometry ≡ old.geometry → IsSlotSector old p → KeepsStored old new p
     → nc ≡ record oc { counts = slice_set oc.counts b (slice_index oc.counts b - 1) }
     → (counts_start ≤ q.sector) × (q.sector < bitmap_start nc.geometry) → KeepsCounts oc nc q
-    → IsTaken t a (take (i + 1) bs) (with_slots_and_counts t new nc) now
+    → PairsAreTaken t a (take (i + 1) bs) (with_slots_and_counts t new nc) now
 taken_more t old new oc nc a b bs i p q ps grown now held within is taken batch more first second og cg less table ng sector keeps lowered inside counted = record {
   pairs = less ∙ (ap (without_pair a b) taken.pairs ∙ (sym (without_push (pairs_of t) a b (take i bs)) ∙ ap (pairs_without (pairs_of t) a) (ap (λ k. take i bs ++ k ∷ []) is ∙ sym (take_more bs i 0 within))));
   turns = two_turn t mid (with_slots_and_counts t new nc) ps taken.turns p q grown now batch more first second next.turns;

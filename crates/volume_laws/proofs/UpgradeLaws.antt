@@ -6,7 +6,7 @@ use Rattle.std.proofs.lemmas.List.{length-map}
 use Rattle.tsd_model.specs.Records.{upgraded, upgraded_record}
 use Rattle.image_device.specs.Image.{put_at}
 use Rattle.image_layout.specs.Areas.{header_sector, format_gate, caps_start}
-use Rattle.image_layout.specs.Header.{IsReading}
+use Rattle.image_layout.specs.Header.{IsHeaderReading}
 use Rattle.image_layout.specs.Image.{Image, is_open}
 use Rattle.image_layout.specs.declared.header.Header.{Header}
 use Rattle.image_layout.specs.declared.place.Patch.{Patch}
@@ -47,7 +47,7 @@ away : (s n : ℕ) → n ≢ s → (n == s) ≡ false
 away s n other = grind (arith, nat_tests)
 
 -- the batch of the header and both sectors of records
-pub upgrade_turn : (t : Tables) (batch : List Patch) (h first second : List ℕ) → AreSound t → IsReading h (Ok (record { version = 2; geometry = t.geometry }))
+pub upgrade_turn : (t : Tables) (batch : List Patch) (h first second : List ℕ) → AreSound t → IsHeaderReading h (Ok (record { version = 2; geometry = t.geometry }))
     → ((y : Image) → y caps_start ≡ first → y (caps_start + 1) ≡ second → AreKept 2 (map upgraded_record t.records) y)
     → ((x : Image) (n : ℕ) → overlaid batch x n ≡ put_at (caps_start + 1) second (put_at caps_start first (put_at 0 h x)) n)
     → Turns t (upgraded_tables t) batch
@@ -55,7 +55,7 @@ upgrade_turn t batch h first second sound reads kept laid = record {
   sound = sound_upgraded t sound;
   size = refl;
   has = λ z had. record {
-    header = subst (λ bytes. IsReading bytes (Ok (record { version = 2; geometry = t.geometry }))) (sym (laid z header_sector ∙ zero_ z)) reads;
+    header = subst (λ bytes. IsHeaderReading bytes (Ok (record { version = 2; geometry = t.geometry }))) (sym (laid z header_sector ∙ zero_ z)) reads;
     live = same_bits t.live t.geometry z (overlaid batch z) (λ n f u. others z n (λ e. omega arith) (λ e. omega arith) (λ e. omega arith)) had.live;
     slots = stored_elsewhere t.slots t.geometry z (overlaid batch z) (λ n f u. others z n (λ e. omega arith) (λ e. omega arith) (λ e. omega arith)) had.slots;
     counts = same_counts t.counts t.geometry z (overlaid batch z) (λ n f u. others z n (λ e. omega arith) (λ e. omega arith) (λ e. omega arith)) had.counts;

@@ -1,5 +1,6 @@
 -- New blocks in tables, one after another.
-use Rattle.std.specs.Prelude.{◌≡◌, ◌⊎◌, ℕ, ◌+◌, ◌*◌, ◌<◌, ◌≤◌, ◌&&◌, Bool, true, false, List, [], ◌∷◌, length, replicate, slice_index}
+use Rattle.std.specs.Prelude.{◌≡◌, ◌⊎◌, ℕ, ◌+◌, ◌*◌, ◌<◌, ◌≤◌, ◌&&◌, Bool, true, false, List, [], ◌∷◌, length}
+use Rattle.std.specs.Prelude.{replicate, slice_index}
 use Rattle.tsd_model.specs.declared.geometry.Geometry.{Geometry}
 use Rattle.tsd_model.specs.Geometry.{block_len}
 use Rattle.tsd_model.specs.Pairs.{holds, count_to}
@@ -32,7 +33,7 @@ abbrev pub with_parts : Tables → Parts → Tables
 with_parts t p = record t { live = p.live.live; slots = p.pointers.slots; counts = p.counts.counts }
 
 -- the parts are of one disk, and fit one another
-pub record DoFit (g : Geometry) (p : Parts) : Type 0 where
+pub record PartsFit (g : Geometry) (p : Parts) : Type 0 where
   pub pointers : p.pointers.geometry ≡ g
   pub counts : p.counts.geometry ≡ g
   pub live : p.live.geometry ≡ g
@@ -60,19 +61,22 @@ HidesNone live = (b : ℕ) → is_live live.unhidden b ≡ is_live live.live b
 
 -- each live block but a primary one has a pair to it
 abbrev pub HasNoLost : Geometry → Parts → Type 0
-HasNoLost g p = (b : ℕ) → b < g.blocks → is_live p.live.live b ≡ true → g.primaries ≤ b → 1 ≤ slice_index p.counts.counts b
+HasNoLost g p = (b : ℕ) → b < g.blocks → is_live p.live.live b ≡ true → g.primaries ≤ b
+    → 1 ≤ slice_index p.counts.counts b
 
 -- the sectors have these parts
-pub record AreStored (g : Geometry) (p : Parts) (x : Image) : Type 0 where
+pub record PartsAreStored (g : Geometry) (p : Parts) (x : Image) : Type 0 where
   pub slots : AreSlots p.pointers.slots g x
   pub counts : AreCounts p.counts.counts g x
   pub live : AreBits p.live.live g x
 
 -- Parts with these blocks more, and patches with what they change.
 pub record IsGrown (g : Geometry) (a : ℕ) (bs : List ℕ) (p q : Parts) (ps qs : List Patch) : Type 0 where
-  pub fit : DoFit g q
-  pub world : (t : Tables) (c : ℕ → List ℕ) → t.geometry ≡ g → ((b : ℕ) → has_number bs b ≡ true → c b ≡ replicate (block_len g) 0) → world_with (with_parts t q) c ≡ with_new_blocks (world_with (with_parts t p) c) a bs
-  pub stored : (z : Image) → AreStored g p (overlaid ps z) → AreStored g q (overlaid qs z)
+  pub fit : PartsFit g q
+  pub world : (t : Tables) (c : ℕ → List ℕ) → t.geometry ≡ g
+      → ((b : ℕ) → has_number bs b ≡ true → c b ≡ replicate (block_len g) 0)
+      → world_with (with_parts t q) c ≡ with_new_blocks (world_with (with_parts t p) c) a bs
+  pub stored : (z : Image) → PartsAreStored g p (overlaid ps z) → PartsAreStored g q (overlaid qs z)
   pub others : (z : Image) (n : ℕ) → (n < counts_start) ⊎ (data_start g ≤ n) → overlaid qs z n ≡ overlaid ps z n
   pub few : length qs ≤ length ps + 3 * length bs
   pub full : HasNoLost g p → HasNoLost g q

@@ -10,10 +10,11 @@ use Rattle.volume_laws.specs.Moments.{LeavesEither, LeavesOwed}
 use Rattle.volume_laws.specs.Volume.{Volume, IsVolumeAt, world_on}
 use Rattle.volume_laws.specs.Writes.{IsPaid, Works}
 
--- A call that makes this change of the world, from one volume to another and between these devices, and gives bytes to these
--- blocks alone. A call that keeps the world makes the change `λ w. w`. What is said under `told` is said where the device tells its
--- contents.
-pub record IsOperation {T : Type 0} (told : Type 0) (blocks : List ℕ) (change : World → World) (old new : Volume) (v w : View) (result : Result T Failed) : Type 0 where
+-- A call that makes this change of the world, from one volume to another and between these devices, and gives bytes to
+-- these blocks alone. A call that keeps the world makes the change `λ w. w`. What is said under `told` is said where
+-- the device tells its contents.
+pub record IsOperation {T : Type 0} (told : Type 0) (blocks : List ℕ) (change : World → World) (old new : Volume)
+    (v w : View) (result : Result T Failed) : Type 0 where
   -- it is whole once it is answered, and at any moment before it is whole or absent
   pub at : told → OnOk result (IsVolumeAt new w)
   pub done : told → OnOk result (world_on w ≡ change (world_on v))
@@ -28,9 +29,10 @@ pub record IsOperation {T : Type 0} (told : Type 0) (blocks : List ℕ) (change 
   pub works : Works v w
   pub geometry : new.tables.geometry ≡ old.tables.geometry
 
--- What a call costs: at any moment a crash leaves at most `owes` to be reclaimed; what it writes and what is due then is at
--- most what was due and `cost`; and it writes at most `most` times itself.
-pub record IsWithin {T : Type 0} (told : Type 0) (owes cost most : ℕ) (old new : Volume) (v w : View) (result : Result T Failed) : Type 0 where
+-- What a call costs: at any moment a crash leaves at most `owes` to be reclaimed; what it writes and what is due then
+-- is at most what was due and `cost`; and it writes at most `most` times itself.
+pub record IsWithin {T : Type 0} (told : Type 0) (owes cost most : ℕ) (old new : Volume) (v w : View)
+    (result : Result T Failed) : Type 0 where
   pub any_owed : told → LeavesOwed v w owes
   pub paid : OnOk result (IsPaid cost old v new w)
   pub uses : Uses most v w

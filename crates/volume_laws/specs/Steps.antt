@@ -36,7 +36,7 @@ pairs_without es a [] = es
 pairs_without es a (b ∷ bs) = pairs_without (without_pair a b es) a bs
 
 -- The tables have these pairs no more, and the batch does the same to an image that has them.
-pub record IsTaken (t : Tables) (a : ℕ) (bs : List ℕ) (now : Tables) (batch : List Patch) : Type 0 where
+pub record PairsAreTaken (t : Tables) (a : ℕ) (bs : List ℕ) (now : Tables) (batch : List Patch) : Type 0 where
   pub pairs : pairs_of now ≡ pairs_without (pairs_of t) a bs
   pub turns : Turns t now batch
   pub few : length batch ≤ 2 * length bs
@@ -63,8 +63,8 @@ pub record IsStepped (t now : Tables) (a : ℕ) (bs : List ℕ) (freed : Bool) :
 abbrev pub with_all : Tables → Pointers → Counts → LiveMap → Tables
 with_all t p c l = record t { slots = p.slots; counts = c.counts; live = l.live }
 
--- A step that the tables allow, of reclamation or of a sweep: it is at a live block that isn't primary, and takes at most 16
--- of its pairs.
+-- A step that the tables allow, of reclamation or of a sweep: it is at a live block that isn't primary, and takes at
+-- most 16 of its pairs.
 pub record IsAllowed (t : Tables) (s : OutStep) : Type 0 where
   pub live : IsTrue (is_live (graph_in t) s.block)
   pub apart : t.geometry.primaries ≤ s.block
@@ -80,7 +80,7 @@ pub record MayPut (t : Tables) (p : Pointers) (c : Counts) (l : LiveMap) (s : Ou
   pub next : IsAllowed t s
 
 -- The step was made in these tables, and the batch makes it in an image.
-pub record IsPut (t : Tables) (s : OutStep) (now : Tables) (batch : List Patch) : Type 0 where
+pub record IsStepPut (t : Tables) (s : OutStep) (now : Tables) (batch : List Patch) : Type 0 where
   pub stepped : IsStepped t now s.block s.targets s.freed
   pub turns : Turns t now batch
   pub few : length batch ≤ 2 * length s.targets + cond s.freed 1 0

@@ -1,5 +1,5 @@
--- How often is written. What is written is paid for when it becomes due: a batch is written again when the ring is emptied, and
--- what is doomed is reclaimed in later calls. So a call's cost counts all three.
+-- How often is written. What is written is paid for when it becomes due: a batch is written again when the ring is
+-- emptied, and what is doomed is reclaimed in later calls. So a call's cost counts all three.
 use Rattle.std.specs.Prelude.{◌≡◌, ℕ, ◌+◌, ◌*◌, ◌≤◌}
 use Rattle.tsd_model.specs.declared.geometry.Geometry.{Geometry}
 use Rattle.image_device.specs.View.{View}

@@ -21,7 +21,8 @@ is_data g bs n = list_any (λ b. is_part g b n) bs
 
 -- none of these patches has a data sector of one of these blocks
 abbrev pub AreMissed : Geometry → List Patch → List ℕ → Type 0
-AreMissed g ps bs = (b part : ℕ) → has_number bs b ≡ true → part < g.sectors → has_home ps (data_sector g b part) ≡ false
+AreMissed g ps bs = (b part : ℕ) → has_number bs b ≡ true → part < g.sectors
+    → has_home ps (data_sector g b part) ≡ false
 
 -- the same device, were nothing loose
 abbrev pub firmed : View → View
@@ -31,4 +32,5 @@ firmed v = record v { loose = λ n. false }
 pub record IsZeroedAt (vol : Volume) (v : View) (bs : List ℕ) : Type 0 where
   pub at : IsVolumeAt vol (firmed v)
   pub loose : (n : ℕ) → is_data vol.tables.geometry bs n ≡ false → v.loose n ≡ false
-  pub zeroed : (b part : ℕ) → has_number bs b ≡ true → part < vol.tables.geometry.sectors → home v.reads (data_sector vol.tables.geometry b part) ≡ zeros
+  pub zeroed : (b part : ℕ) → has_number bs b ≡ true → part < vol.tables.geometry.sectors
+      → home v.reads (data_sector vol.tables.geometry b part) ≡ zeros

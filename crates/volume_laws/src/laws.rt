@@ -6,7 +6,7 @@ ghost use Rattle.image_world.specs.Tables.{Tables};
 ghost use Rattle.intent_journal.specs.Records.{Record};
 ghost use Rattle.intent_journal.specs.Ring.{committed, commit_writes, checkpoint_writes};
 ghost use Rattle.pointer_table.specs.declared.out_step.OutStep.{OutStep};
-ghost use Rattle.volume_laws.specs.Graphs.{IsNext};
+ghost use Rattle.volume_laws.specs.Graphs.{IsStepNext};
 ghost use Rattle.image_world.specs.Debt.{owed};
 ghost use Rattle.volume_laws.specs.Steps.{IsStepped};
 ghost use Rattle.volume_laws.specs.Writes.{batch_cost};
@@ -20,6 +20,6 @@ pub fn commits_are_paid_for()
 
 /// A step of reclamation owes just so much less as it takes away.
 pub fn steps_owe_less()
-    ensures { (t now : Tables) (s : OutStep) → IsNext t s → IsStepped t now s.block s.targets s.freed
+    ensures { (t now : Tables) (s : OutStep) → IsStepNext t s → IsStepped t now s.block s.targets s.freed
         → owed t ≡ owed now + (cond s.freed 1 0 + length s.targets) }
 {}

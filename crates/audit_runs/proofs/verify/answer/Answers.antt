@@ -2,7 +2,7 @@ use Rattle.std.proofs.Common.{◌≡◌, ◌∙◌, List, ℕ}
 use Rattle.script_text.specs.Pieces.{all_lines}
 use Rattle.tsd_core.proofs.AtLaws.{like_at}
 use Rattle.volume_laws.specs.Volume.{told_by, world_on}
-use Rattle.audit_runs.specs.Verify.{IsAnswer, IsAnswerOf}
+use Rattle.audit_runs.specs.Verify.{IsVerdictOver, IsAnswerOf}
 use Rattle.audit_runs.proofs.AnswerLaws.{answer_on, answered_on, judged_on, unopened_unanswered, unread_spared}
 use Rattle.audit_runs.proofs.verify.answer.Goals as goal
 
@@ -12,7 +12,7 @@ returns-in-Ok-clause-answered g c =
     let mid = g.D.Device.view c.open_volume.new.dev in
     let v = told_by c.in-Ok.volume in
     let line = c.read_and_verify.new.line in
-    answered_on c.read_and_verify.result _ (λ bytes. IsAnswer v (all_lines bytes) line) (λ bytes. g.D.Device.told → IsAnswerOf old.reads bytes line)
+    answered_on c.read_and_verify.result _ (λ bytes. IsVerdictOver v (all_lines bytes) line) (λ bytes. g.D.Device.told → IsAnswerOf old.reads bytes line)
     (λ bytes is told. answer_on old.reads v (world_on mid) bytes line (c.in-Ok.ensures.read told) (like_at c.in-Ok.volume mid (c.in-Ok.ensures.at told)) (c.in-Ok.ensures.done told) is)
     c.read_and_verify.ensures.answered
 

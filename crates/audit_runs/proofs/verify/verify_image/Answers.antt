@@ -1,7 +1,7 @@
 use Rattle.std.proofs.Common.{◌≡◌, ◌++◌, ◌∙◌, ap, subst, List, ℕ}
 use Rattle.image_device.specs.View.{IsLeftInPut}
 use Rattle.image_device.specs.Runs.{LeavesOnly}
-use Rattle.image_runs.specs.Sending.{IsCut}
+use Rattle.image_runs.specs.Sending.{ProperFrontWasSent}
 use Rattle.image_runs.proofs.Opened.{spared_put, untouched_put}
 use Rattle.audit_runs.specs.Verify.{IsAnswerOf}
 use Rattle.audit_runs.proofs.AnswerLaws.{cut_from, silent_moments, told_moments, unanswered_ends, unverified}
@@ -34,7 +34,7 @@ returns-in-Err-put_all-clause-ran g c =
       bytes = a.bytes;
       came_in = a.came_in;
       taken = (a.taken.0, a.taken.1);
-      said = λ told. (c.answer.new.line, a.taken.2 told, subst (λ (t : List ℕ). IsCut old.sent t new.sent) c.as_slice.ensures.value (cut_from old.sent mid.sent c.as_slice.result.now new.sent (c.answer.ensures.sent told) (c.in-Err-put_all.ensures.part told)));
+      said = λ told. (c.answer.new.line, a.taken.2 told, subst (λ (t : List ℕ). ProperFrontWasSent old.sent t new.sent) c.as_slice.ensures.value (cut_from old.sent mid.sent c.as_slice.result.now new.sent (c.answer.ensures.sent told) (c.in-Err-put_all.ensures.part told)));
       any_moment = λ told firm. told_moments old mid new c.answer.new.line (IsAnswerOf old.reads a.bytes) (g.met.P.Device.sound c.answer.new.dev told) (a.taken.2 told) (c.answer.ensures.sent told) (c.answer.ensures.any_moment told firm)
           (subst (λ (t : List ℕ). LeavesOnly mid new (IsLeftInPut t mid)) c.as_slice.ensures.value (c.put_all.ensures.any_moment told));
     }

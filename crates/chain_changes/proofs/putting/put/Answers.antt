@@ -15,7 +15,7 @@ use Rattle.fs_client.proofs.AgainLaws.{answers_again, changes_again}
 use Rattle.chain_layout.specs.Block.{cluster_of, block_len_of}
 use Rattle.chain_layout.specs.Held.{cluster_in, entries_in}
 use Rattle.chain_reading.specs.Asking.{MayAsk, mounted_by}
-use Rattle.chain_reading.specs.Finding.{IsWithin}
+use Rattle.chain_reading.specs.Finding.{IsPlaceWithin}
 use Rattle.chain_changes.specs.Places.{StandsAtPlace}
 use Rattle.chain_changes.proofs.PlacedLaws.{entries_used, new_count, new_entry, refused_full, refused_lost, refused_since, name_of_path}
 use Rattle.chain_changes.proofs.AgainLaws.{may_ask_again}
@@ -60,7 +60,7 @@ replace-requires g c =
     record {
       may = may_ask_again told me first mid c.in-Ok.found e.looks c.requires.may;
       found = λ t. subst (StandsAtPlace me mid n) c.in-Taken.is (e.found t);
-      within = subst IsWithin c.in-Taken.is e.within;
+      within = subst IsPlaceWithin c.in-Taken.is e.within;
       named = name_of_path path n e.path c.requires.named;
     }
 

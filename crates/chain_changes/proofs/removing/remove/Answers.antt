@@ -19,7 +19,7 @@ use Rattle.chain_layout.specs.Block.{cluster_of}
 use Rattle.chain_layout.specs.Held.{cluster_in, entries_in}
 use Rattle.chain_layout.specs.Listed.{unlisted_at}
 use Rattle.chain_reading.specs.Asking.{tree_of, mounted_by}
-use Rattle.chain_reading.specs.Finding.{IsWithin}
+use Rattle.chain_reading.specs.Finding.{IsPlaceWithin}
 use Rattle.chain_changes.specs.Places.{StandsAtPlace}
 use Rattle.chain_changes.proofs.PlaceLaws.{free_at}
 use Rattle.chain_changes.proofs.AfterLaws.{None_loose, decided_answers, decided_leaves, loose_gone, loose_runs}
@@ -69,7 +69,7 @@ returns-in-Free g c =
     }
 
 pub directory_without-bytes-requires : goal.directory_without-bytes-requires
-directory_without-bytes-requires g c = subst IsWithin c.in-Taken.is c.in-Ok.ensures.within
+directory_without-bytes-requires g c = subst IsPlaceWithin c.in-Taken.is c.in-Ok.ensures.within
 
 pub write_block-requires : goal.write_block-requires
 write_block-requires g c =

@@ -3,7 +3,7 @@ use Rattle.fs_trees.specs.Tree.{is_there}
 use Rattle.fs_trees.specs.ChainTree.{chain_tree}
 use Rattle.fs_trees.specs.declared.ask.ShellKind.TheVariants as kind
 use Rattle.fs_trees.specs.declared.refusal.FsRefusal.TheVariants as no
-use Rattle.fs_port.specs.View.{IsSound}
+use Rattle.fs_port.specs.View.{IsDiskSound}
 use Rattle.fs_client.specs.May.{OnlyLooks}
 use Rattle.fs_client.proofs.LookLaws.{looks_refused, looks_but_refuses}
 use Rattle.fs_client.proofs.RunLaws.{on_any, device_alone}
@@ -24,7 +24,7 @@ tidy-requires g c κs within =
     let mid = g.K.Blocks.view c.is_tree.new.disk in
     let me = c.args.client.now in
     let looks = c.in-Ok-true.ensures.looks in
-    let sound : told → IsSound mid = λ t. g.met.K.Blocks.sound c.is_tree.new.disk t looks.unspent.0 in
+    let sound : told → IsDiskSound mid = λ t. g.met.K.Blocks.sound c.is_tree.new.disk t looks.unspent.0 in
     let there : told → is_there (chain_tree old.world me.root) ≡ true = λ t. sym (c.in-Ok-true.ensures.tells t) ∙ c.in-Ok-true.field-0-test in
     (within, may_mid told me old mid c.in-Ok-true.field-0 c.requires.ready sound there looks)
 
@@ -37,7 +37,7 @@ returns-in-Ok-true g c =
     let me = c.args.client.now in
     let x = c.in-Ok-true.field-0 in
     let looks = c.in-Ok-true.ensures.looks in
-    let sound : told → IsSound mid = λ t. g.met.K.Blocks.sound c.is_tree.new.disk t looks.unspent.0 in
+    let sound : told → IsDiskSound mid = λ t. g.met.K.Blocks.sound c.is_tree.new.disk t looks.unspent.0 in
     let there : told → is_there (chain_tree old.world me.root) ≡ true = λ t. sym (c.in-Ok-true.ensures.tells t) ∙ c.in-Ok-true.field-0-test in
     let result = c.tidy.result in
     let trims = c.tidy.ensures.trims in

@@ -4,7 +4,7 @@ use Rattle.fs_client.proofs.LookLaws.{looks_as, looks_refused, then_looks, may_a
 use Rattle.chain_layout.specs.Block.{cluster_of}
 use Rattle.chain_layout.specs.Held.{part_cluster}
 use Rattle.chain_layout.specs.Listed.{next_blocks}
-use Rattle.chain_reading.specs.Standing.{IsPart}
+use Rattle.chain_reading.specs.Standing.{IsPartOfRoot}
 use Rattle.chain_reading.proofs.SeenLaws.{no_part, seen_part, unfilled, unheld, if_some, if_none}
 use Rattle.chain_reading.proofs.looking.look_at_part.Goals as goal
 
@@ -32,7 +32,7 @@ returns-in-Err-clause-looks g c = looks_refused g.K.Blocks.told (g.K.Blocks.view
 pub returns-then-not-is_filled-clause-seen : goal.returns-then-not-is_filled-clause-seen
 returns-then-not-is_filled-clause-seen g c = λ t.
     let w = (g.K.Blocks.view c.args.disk.now).world in
-    let is = if_some (IsPart w c.args.block) c.in-Ok-Some.field-0 c.in-Ok-Some.part c.in-Ok-Some.field-0-is (c.in-Ok-Some.ensures.part t) in
+    let is = if_some (IsPartOfRoot w c.args.block) c.in-Ok-Some.field-0 c.in-Ok-Some.part c.in-Ok-Some.field-0-is (c.in-Ok-Some.ensures.part t) in
     unfilled w c.args.is_first c.args.block c.in-Ok-Some.part is (sym c.if-not-is_filled.true ∙ c.is_filled.ensures.filled)
 
 pub returns-then-not-is_filled-clause-looks : goal.returns-then-not-is_filled-clause-looks
@@ -56,7 +56,7 @@ returns-in-Ok-true-clause-seen g c = λ t.
     let w = (g.K.Blocks.view c.args.disk.now).world in
     let part = c.in-Ok-Some.part in
     let names = next_blocks (cluster_of (part_cluster part.cluster)).next in
-    let is = if_some (IsPart w c.args.block) c.in-Ok-Some.field-0 part c.in-Ok-Some.field-0-is (c.in-Ok-Some.ensures.part t) in (
+    let is = if_some (IsPartOfRoot w c.args.block) c.in-Ok-Some.field-0 part c.in-Ok-Some.field-0-is (c.in-Ok-Some.ensures.part t) in (
       seen_part w c.args.is_first c.args.block part is c.is_filled.ensures.fits (sym c.if-not-is_filled.false ∙ c.is_filled.ensures.filled)
           (sym c.in-Ok-true.field-0-test ∙ (c.in-Ok-true.ensures.held t ∙ ap (λ u. are_held u c.args.block names) (c.in-Ok-Some.ensures.looks.looked t).0.world)),
       (c.in-Ok-true.ensures.looks.looked t).0.ways c.args.client.now.session c.args.block (c.in-Ok-Some.ensures.held t),
@@ -75,7 +75,7 @@ returns-in-Ok-false-clause-seen g c = λ t.
     let w = (g.K.Blocks.view c.args.disk.now).world in
     let part = c.in-Ok-Some.part in
     let names = next_blocks (cluster_of (part_cluster part.cluster)).next in
-    let is = if_some (IsPart w c.args.block) c.in-Ok-Some.field-0 part c.in-Ok-Some.field-0-is (c.in-Ok-Some.ensures.part t) in
+    let is = if_some (IsPartOfRoot w c.args.block) c.in-Ok-Some.field-0 part c.in-Ok-Some.field-0-is (c.in-Ok-Some.ensures.part t) in
     unheld w c.args.is_first c.args.block part is
     (sym c.in-Ok-false.field-0-test ∙ (c.in-Ok-false.ensures.held t ∙ ap (λ u. are_held u c.args.block names) (c.in-Ok-Some.ensures.looks.looked t).0.world))
 

@@ -1,4 +1,4 @@
-use Rattle.fs_port.specs.View.{IsSound}
+use Rattle.fs_port.specs.View.{IsDiskSound}
 use Rattle.std.proofs.Common.{◌≡◌, refl, sym, ◌∙◌, subst, inl, inr, Ok, Err}
 use Rattle.fs_trees.specs.Copying.{copy_steps}
 use Rattle.fs_port.specs.Files.{mounted_now}
@@ -27,7 +27,7 @@ returns-in-Err-clause-copies g c =
     let to = g.B.Files.view c.args.into.now in
     let old = g.K.Blocks.view c.args.disk.now in
     let u = tree_under f old in
-    let sound : told → IsSound old = λ t. g.met.K.Blocks.sound c.args.disk.now t c.requires.from_ready.unspent in
+    let sound : told → IsDiskSound old = λ t. g.met.K.Blocks.sound c.args.disk.now t c.requires.from_ready.unspent in
     let src : IsSource told f old = record { ready = c.requires.from_ready; mounted = c.requires.mounted; valid = c.requires.valid; there = λ t. c.requires.tree t c.requires.mounted } in
     let apart = c.requires.apart in
     let v1 = g.K.Blocks.view c.nested_dir.new.disk in
@@ -40,7 +40,7 @@ returns-in-Err-clause-runs g c =
     let to = g.B.Files.view c.args.into.now in
     let old = g.K.Blocks.view c.args.disk.now in
     let u = tree_under f old in
-    let sound : told → IsSound old = λ t. g.met.K.Blocks.sound c.args.disk.now t c.requires.from_ready.unspent in
+    let sound : told → IsDiskSound old = λ t. g.met.K.Blocks.sound c.args.disk.now t c.requires.from_ready.unspent in
     let src : IsSource told f old = record { ready = c.requires.from_ready; mounted = c.requires.mounted; valid = c.requires.valid; there = λ t. c.requires.tree t c.requires.mounted } in
     let apart = c.requires.apart in
     let v1 = g.K.Blocks.view c.nested_dir.new.disk in
@@ -57,7 +57,7 @@ returns-in-Some-clause-copies g c =
     let to = g.B.Files.view c.args.into.now in
     let old = g.K.Blocks.view c.args.disk.now in
     let u = tree_under f old in
-    let sound : told → IsSound old = λ t. g.met.K.Blocks.sound c.args.disk.now t c.requires.from_ready.unspent in
+    let sound : told → IsDiskSound old = λ t. g.met.K.Blocks.sound c.args.disk.now t c.requires.from_ready.unspent in
     let src : IsSource told f old = record { ready = c.requires.from_ready; mounted = c.requires.mounted; valid = c.requires.valid; there = λ t. c.requires.tree t c.requires.mounted } in
     let apart = c.requires.apart in
     let v1 = g.K.Blocks.view c.nested_dir.new.disk in
@@ -72,7 +72,7 @@ returns-in-Some-clause-runs g c =
     let to = g.B.Files.view c.args.into.now in
     let old = g.K.Blocks.view c.args.disk.now in
     let u = tree_under f old in
-    let sound : told → IsSound old = λ t. g.met.K.Blocks.sound c.args.disk.now t c.requires.from_ready.unspent in
+    let sound : told → IsDiskSound old = λ t. g.met.K.Blocks.sound c.args.disk.now t c.requires.from_ready.unspent in
     let src : IsSource told f old = record { ready = c.requires.from_ready; mounted = c.requires.mounted; valid = c.requires.valid; there = λ t. c.requires.tree t c.requires.mounted } in
     let apart = c.requires.apart in
     let v1 = g.K.Blocks.view c.nested_dir.new.disk in
@@ -91,7 +91,7 @@ make-requires-clause-ready g c =
     let to = g.B.Files.view c.args.into.now in
     let old = g.K.Blocks.view c.args.disk.now in
     let u = tree_under f old in
-    let sound : told → IsSound old = λ t. g.met.K.Blocks.sound c.args.disk.now t c.requires.from_ready.unspent in
+    let sound : told → IsDiskSound old = λ t. g.met.K.Blocks.sound c.args.disk.now t c.requires.from_ready.unspent in
     let src : IsSource told f old = record { ready = c.requires.from_ready; mounted = c.requires.mounted; valid = c.requires.valid; there = λ t. c.requires.tree t c.requires.mounted } in
     let apart = c.requires.apart in
     let v1 = g.K.Blocks.view c.nested_dir.new.disk in
@@ -112,14 +112,14 @@ returns-in-Err-make-clause-copies g c =
     let to = g.B.Files.view c.args.into.now in
     let old = g.K.Blocks.view c.args.disk.now in
     let u = tree_under f old in
-    let sound : told → IsSound old = λ t. g.met.K.Blocks.sound c.args.disk.now t c.requires.from_ready.unspent in
+    let sound : told → IsDiskSound old = λ t. g.met.K.Blocks.sound c.args.disk.now t c.requires.from_ready.unspent in
     let src : IsSource told f old = record { ready = c.requires.from_ready; mounted = c.requires.mounted; valid = c.requires.valid; there = λ t. c.requires.tree t c.requires.mounted } in
     let apart = c.requires.apart in
     let v1 = g.K.Blocks.view c.nested_dir.new.disk in
     let looks = c.in-Ok.ensures.looks in
     let x = c.in-Ok.nested in
     let ready1 = ready_still to old v1 looks.runs.stays.0 looks.runs.counts looks.runs.unspent.0 c.requires.into_ready in
-    let sound1 : told → IsSound v1 = λ t. g.met.K.Blocks.sound c.nested_dir.new.disk t ready1.unspent in
+    let sound1 : told → IsDiskSound v1 = λ t. g.met.K.Blocks.sound c.nested_dir.new.disk t ready1.unspent in
     let holds : told → CanHold to.kind u = λ t. can_hold to.kind u (sym c.in-None.is ∙ c.in-Ok.ensures.told t) in
     let v2 = g.K.Blocks.view c.make.new.disk in
     let why = c.in-Err-make.why in
@@ -134,14 +134,14 @@ returns-in-Err-make-clause-runs g c =
     let to = g.B.Files.view c.args.into.now in
     let old = g.K.Blocks.view c.args.disk.now in
     let u = tree_under f old in
-    let sound : told → IsSound old = λ t. g.met.K.Blocks.sound c.args.disk.now t c.requires.from_ready.unspent in
+    let sound : told → IsDiskSound old = λ t. g.met.K.Blocks.sound c.args.disk.now t c.requires.from_ready.unspent in
     let src : IsSource told f old = record { ready = c.requires.from_ready; mounted = c.requires.mounted; valid = c.requires.valid; there = λ t. c.requires.tree t c.requires.mounted } in
     let apart = c.requires.apart in
     let v1 = g.K.Blocks.view c.nested_dir.new.disk in
     let looks = c.in-Ok.ensures.looks in
     let x = c.in-Ok.nested in
     let ready1 = ready_still to old v1 looks.runs.stays.0 looks.runs.counts looks.runs.unspent.0 c.requires.into_ready in
-    let sound1 : told → IsSound v1 = λ t. g.met.K.Blocks.sound c.nested_dir.new.disk t ready1.unspent in
+    let sound1 : told → IsDiskSound v1 = λ t. g.met.K.Blocks.sound c.nested_dir.new.disk t ready1.unspent in
     let holds : told → CanHold to.kind u = λ t. can_hold to.kind u (sym c.in-None.is ∙ c.in-Ok.ensures.told t) in
     let v2 = g.K.Blocks.view c.make.new.disk in
     let why = c.in-Err-make.why in
@@ -164,14 +164,14 @@ copy_entries-requires-clause-set g c =
     let to = g.B.Files.view c.args.into.now in
     let old = g.K.Blocks.view c.args.disk.now in
     let u = tree_under f old in
-    let sound : told → IsSound old = λ t. g.met.K.Blocks.sound c.args.disk.now t c.requires.from_ready.unspent in
+    let sound : told → IsDiskSound old = λ t. g.met.K.Blocks.sound c.args.disk.now t c.requires.from_ready.unspent in
     let src : IsSource told f old = record { ready = c.requires.from_ready; mounted = c.requires.mounted; valid = c.requires.valid; there = λ t. c.requires.tree t c.requires.mounted } in
     let apart = c.requires.apart in
     let v1 = g.K.Blocks.view c.nested_dir.new.disk in
     let looks = c.in-Ok.ensures.looks in
     let x = c.in-Ok.nested in
     let ready1 = ready_still to old v1 looks.runs.stays.0 looks.runs.counts looks.runs.unspent.0 c.requires.into_ready in
-    let sound1 : told → IsSound v1 = λ t. g.met.K.Blocks.sound c.nested_dir.new.disk t ready1.unspent in
+    let sound1 : told → IsDiskSound v1 = λ t. g.met.K.Blocks.sound c.nested_dir.new.disk t ready1.unspent in
     let holds : told → CanHold to.kind u = λ t. can_hold to.kind u (sym c.in-None.is ∙ c.in-Ok.ensures.told t) in
     let v2 = g.K.Blocks.view c.make.new.disk in
     let y = c.in-Ok-make.field-0 in
@@ -189,14 +189,14 @@ copy_entries-requires-clause-hold g c =
     let to = g.B.Files.view c.args.into.now in
     let old = g.K.Blocks.view c.args.disk.now in
     let u = tree_under f old in
-    let sound : told → IsSound old = λ t. g.met.K.Blocks.sound c.args.disk.now t c.requires.from_ready.unspent in
+    let sound : told → IsDiskSound old = λ t. g.met.K.Blocks.sound c.args.disk.now t c.requires.from_ready.unspent in
     let src : IsSource told f old = record { ready = c.requires.from_ready; mounted = c.requires.mounted; valid = c.requires.valid; there = λ t. c.requires.tree t c.requires.mounted } in
     let apart = c.requires.apart in
     let v1 = g.K.Blocks.view c.nested_dir.new.disk in
     let looks = c.in-Ok.ensures.looks in
     let x = c.in-Ok.nested in
     let ready1 = ready_still to old v1 looks.runs.stays.0 looks.runs.counts looks.runs.unspent.0 c.requires.into_ready in
-    let sound1 : told → IsSound v1 = λ t. g.met.K.Blocks.sound c.nested_dir.new.disk t ready1.unspent in
+    let sound1 : told → IsDiskSound v1 = λ t. g.met.K.Blocks.sound c.nested_dir.new.disk t ready1.unspent in
     let holds : told → CanHold to.kind u = λ t. can_hold to.kind u (sym c.in-None.is ∙ c.in-Ok.ensures.told t) in
     let v2 = g.K.Blocks.view c.make.new.disk in
     let y = c.in-Ok-make.field-0 in
@@ -214,14 +214,14 @@ returns-in-Ok-copy_entries-clause-copies g c =
     let to = g.B.Files.view c.args.into.now in
     let old = g.K.Blocks.view c.args.disk.now in
     let u = tree_under f old in
-    let sound : told → IsSound old = λ t. g.met.K.Blocks.sound c.args.disk.now t c.requires.from_ready.unspent in
+    let sound : told → IsDiskSound old = λ t. g.met.K.Blocks.sound c.args.disk.now t c.requires.from_ready.unspent in
     let src : IsSource told f old = record { ready = c.requires.from_ready; mounted = c.requires.mounted; valid = c.requires.valid; there = λ t. c.requires.tree t c.requires.mounted } in
     let apart = c.requires.apart in
     let v1 = g.K.Blocks.view c.nested_dir.new.disk in
     let looks = c.in-Ok.ensures.looks in
     let x = c.in-Ok.nested in
     let ready1 = ready_still to old v1 looks.runs.stays.0 looks.runs.counts looks.runs.unspent.0 c.requires.into_ready in
-    let sound1 : told → IsSound v1 = λ t. g.met.K.Blocks.sound c.nested_dir.new.disk t ready1.unspent in
+    let sound1 : told → IsDiskSound v1 = λ t. g.met.K.Blocks.sound c.nested_dir.new.disk t ready1.unspent in
     let holds : told → CanHold to.kind u = λ t. can_hold to.kind u (sym c.in-None.is ∙ c.in-Ok.ensures.told t) in
     let v2 = g.K.Blocks.view c.make.new.disk in
     let y = c.in-Ok-make.field-0 in
@@ -242,14 +242,14 @@ returns-in-Ok-copy_entries-clause-runs g c =
     let to = g.B.Files.view c.args.into.now in
     let old = g.K.Blocks.view c.args.disk.now in
     let u = tree_under f old in
-    let sound : told → IsSound old = λ t. g.met.K.Blocks.sound c.args.disk.now t c.requires.from_ready.unspent in
+    let sound : told → IsDiskSound old = λ t. g.met.K.Blocks.sound c.args.disk.now t c.requires.from_ready.unspent in
     let src : IsSource told f old = record { ready = c.requires.from_ready; mounted = c.requires.mounted; valid = c.requires.valid; there = λ t. c.requires.tree t c.requires.mounted } in
     let apart = c.requires.apart in
     let v1 = g.K.Blocks.view c.nested_dir.new.disk in
     let looks = c.in-Ok.ensures.looks in
     let x = c.in-Ok.nested in
     let ready1 = ready_still to old v1 looks.runs.stays.0 looks.runs.counts looks.runs.unspent.0 c.requires.into_ready in
-    let sound1 : told → IsSound v1 = λ t. g.met.K.Blocks.sound c.nested_dir.new.disk t ready1.unspent in
+    let sound1 : told → IsDiskSound v1 = λ t. g.met.K.Blocks.sound c.nested_dir.new.disk t ready1.unspent in
     let holds : told → CanHold to.kind u = λ t. can_hold to.kind u (sym c.in-None.is ∙ c.in-Ok.ensures.told t) in
     let v2 = g.K.Blocks.view c.make.new.disk in
     let y = c.in-Ok-make.field-0 in
@@ -282,14 +282,14 @@ returns-in-Err-copy_entries-clause-copies g c =
     let to = g.B.Files.view c.args.into.now in
     let old = g.K.Blocks.view c.args.disk.now in
     let u = tree_under f old in
-    let sound : told → IsSound old = λ t. g.met.K.Blocks.sound c.args.disk.now t c.requires.from_ready.unspent in
+    let sound : told → IsDiskSound old = λ t. g.met.K.Blocks.sound c.args.disk.now t c.requires.from_ready.unspent in
     let src : IsSource told f old = record { ready = c.requires.from_ready; mounted = c.requires.mounted; valid = c.requires.valid; there = λ t. c.requires.tree t c.requires.mounted } in
     let apart = c.requires.apart in
     let v1 = g.K.Blocks.view c.nested_dir.new.disk in
     let looks = c.in-Ok.ensures.looks in
     let x = c.in-Ok.nested in
     let ready1 = ready_still to old v1 looks.runs.stays.0 looks.runs.counts looks.runs.unspent.0 c.requires.into_ready in
-    let sound1 : told → IsSound v1 = λ t. g.met.K.Blocks.sound c.nested_dir.new.disk t ready1.unspent in
+    let sound1 : told → IsDiskSound v1 = λ t. g.met.K.Blocks.sound c.nested_dir.new.disk t ready1.unspent in
     let holds : told → CanHold to.kind u = λ t. can_hold to.kind u (sym c.in-None.is ∙ c.in-Ok.ensures.told t) in
     let v2 = g.K.Blocks.view c.make.new.disk in
     let y = c.in-Ok-make.field-0 in
@@ -310,14 +310,14 @@ returns-in-Err-copy_entries-clause-runs g c =
     let to = g.B.Files.view c.args.into.now in
     let old = g.K.Blocks.view c.args.disk.now in
     let u = tree_under f old in
-    let sound : told → IsSound old = λ t. g.met.K.Blocks.sound c.args.disk.now t c.requires.from_ready.unspent in
+    let sound : told → IsDiskSound old = λ t. g.met.K.Blocks.sound c.args.disk.now t c.requires.from_ready.unspent in
     let src : IsSource told f old = record { ready = c.requires.from_ready; mounted = c.requires.mounted; valid = c.requires.valid; there = λ t. c.requires.tree t c.requires.mounted } in
     let apart = c.requires.apart in
     let v1 = g.K.Blocks.view c.nested_dir.new.disk in
     let looks = c.in-Ok.ensures.looks in
     let x = c.in-Ok.nested in
     let ready1 = ready_still to old v1 looks.runs.stays.0 looks.runs.counts looks.runs.unspent.0 c.requires.into_ready in
-    let sound1 : told → IsSound v1 = λ t. g.met.K.Blocks.sound c.nested_dir.new.disk t ready1.unspent in
+    let sound1 : told → IsDiskSound v1 = λ t. g.met.K.Blocks.sound c.nested_dir.new.disk t ready1.unspent in
     let holds : told → CanHold to.kind u = λ t. can_hold to.kind u (sym c.in-None.is ∙ c.in-Ok.ensures.told t) in
     let v2 = g.K.Blocks.view c.make.new.disk in
     let y = c.in-Ok-make.field-0 in

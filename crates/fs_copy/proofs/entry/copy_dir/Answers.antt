@@ -1,4 +1,4 @@
-use Rattle.fs_port.specs.View.{IsSound}
+use Rattle.fs_port.specs.View.{IsDiskSound}
 use Rattle.std.proofs.Common.{◌≡◌, true, [], ◌∷◌, refl, ◌∙◌, arith, Ok, Err, None}
 use Rattle.std.proofs.lemmas.Bool.Decides.{nat_tests}
 use Rattle.fs_trees.specs.declared.ask.ShellAsk.TheVariants as ask
@@ -12,7 +12,7 @@ returns-then-not-has_dirs-clause-goes g c =
     let told = g.K.Blocks.told in
     let to = g.B.Files.view c.args.into.now in
     let old = g.K.Blocks.view c.args.disk.now in
-    let sound : told → IsSound old = λ t. g.met.K.Blocks.sound c.args.disk.now t c.requires.set.ready.unspent in
+    let sound : told → IsDiskSound old = λ t. g.met.K.Blocks.sound c.args.disk.now t c.requires.set.ready.unspent in
     let qs = ask.MakeDir c.args.path.now ∷ [] in
     lost_goes told to old old [] qs tt no.IsDir (λ t. let yes : c.has_dirs.result ≡ true = c.has_dirs.ensures ∙ c.requires.hold t in let no_dirs = c.if-not-has_dirs.true in absurd (grind (arith, nat_tests))) (dir_no_fault no.IsDir refl) (none_goes told to old c.requires.set.ready.unspent sound c.requires.set.valid)
 
@@ -34,7 +34,7 @@ returns-in-Ok-clause-goes g c =
     let to = g.B.Files.view c.args.into.now in
     let old = g.K.Blocks.view c.args.disk.now in
     let new = g.K.Blocks.view c.make_dir.new.disk in
-    let sound : told → IsSound old = λ t. g.met.K.Blocks.sound c.args.disk.now t c.requires.set.ready.unspent in
+    let sound : told → IsDiskSound old = λ t. g.met.K.Blocks.sound c.args.disk.now t c.requires.set.ready.unspent in
     let qs = ask.MakeDir c.args.path.now ∷ [] in
     ok_as told to old new qs c.in-Ok.field-0 None (change_goes told to old new (Ok c.in-Ok.field-0) (λ t. (c.requires.set.valid t).valid) (ask.MakeDir c.args.path.now) tt c.requires.set.mounted sound (λ t. (g.met.K.Blocks.sound c.make_dir.new.disk t c.in-Ok.ensures.changes.unspent.0, tt)) c.in-Ok.ensures.answer c.in-Ok.ensures.changes)
 
@@ -44,6 +44,6 @@ returns-in-Err-clause-goes g c =
     let to = g.B.Files.view c.args.into.now in
     let old = g.K.Blocks.view c.args.disk.now in
     let new = g.K.Blocks.view c.make_dir.new.disk in
-    let sound : told → IsSound old = λ t. g.met.K.Blocks.sound c.args.disk.now t c.requires.set.ready.unspent in
+    let sound : told → IsDiskSound old = λ t. g.met.K.Blocks.sound c.args.disk.now t c.requires.set.ready.unspent in
     let qs = ask.MakeDir c.args.path.now ∷ [] in
     err_same told to old new qs c.in-Err.why (change_goes told to old new (Err c.in-Err.why) (λ t. (c.requires.set.valid t).valid) (ask.MakeDir c.args.path.now) tt c.requires.set.mounted sound (λ t. (tt, λ ne. g.met.K.Blocks.sound c.make_dir.new.disk t (c.in-Err.ensures.changes.unspent.1 ne))) c.in-Err.ensures.answer c.in-Err.ensures.changes)

@@ -1,10 +1,10 @@
-use Rattle.fs_port.specs.View.{IsSound}
+use Rattle.fs_port.specs.View.{IsDiskSound}
 use Rattle.std.proofs.Common.{◌≡◌, ◌^◌, ◌<◌, [], ◌∷◌, length, take, sym, ◌∙◌, ap, subst, arith, rules, Ok, Err}
 use Rattle.std.specs.Int.{div_ceil}
 use Rattle.fs_trees.specs.Tree.{at, bytes_in}
 use Rattle.fs_trees.specs.declared.ask.ShellAsk.TheVariants as ask
 use Rattle.fs_port.specs.Files.{FilesView}
-use Rattle.fs_copy.specs.Going.{tree_under, AreSet, Goes}
+use Rattle.fs_copy.specs.Going.{tree_under, AreSet, MakesSteps}
 use Rattle.fs_copy.proofs.GoingLaws.{err_as, now_set, same_source}
 use Rattle.fs_copy.proofs.PieceLaws.{pieces_from, piece_at, place_fits, up_end, up_first, up_lost, up_next}
 use Rattle.fs_copy.proofs.pieces.copy_file.Goals as goal
@@ -49,7 +49,7 @@ append_piece-requires-clause-set g c =
     let old = g.K.Blocks.view c.args.disk.now in
     let p = c.args.path.now in
     let x = bytes_in (at (tree_under f old) p) in
-    let sound : told → IsSound old = λ t. g.met.K.Blocks.sound c.args.disk.now t c.requires.set.from_ready.unspent in
+    let sound : told → IsDiskSound old = λ t. g.met.K.Blocks.sound c.args.disk.now t c.requires.set.from_ready.unspent in
     let n = c.div_ceil-pieces.result in
     let i = c.loop-i.i in
     let inv = c.loop-i.invariant in
@@ -67,7 +67,7 @@ append_piece-requires-clause-file g c =
     let old = g.K.Blocks.view c.args.disk.now in
     let p = c.args.path.now in
     let x = bytes_in (at (tree_under f old) p) in
-    let sound : told → IsSound old = λ t. g.met.K.Blocks.sound c.args.disk.now t c.requires.set.from_ready.unspent in
+    let sound : told → IsDiskSound old = λ t. g.met.K.Blocks.sound c.args.disk.now t c.requires.set.from_ready.unspent in
     let n = c.div_ceil-pieces.result in
     let i = c.loop-i.i in
     let inv = c.loop-i.invariant in
@@ -85,7 +85,7 @@ returns-in-Err-append_piece-clause-goes g c =
     let old = g.K.Blocks.view c.args.disk.now in
     let p = c.args.path.now in
     let x = bytes_in (at (tree_under f old) p) in
-    let sound : told → IsSound old = λ t. g.met.K.Blocks.sound c.args.disk.now t c.requires.set.from_ready.unspent in
+    let sound : told → IsDiskSound old = λ t. g.met.K.Blocks.sound c.args.disk.now t c.requires.set.from_ready.unspent in
     let n = c.div_ceil-pieces.result in
     let i = c.loop-i.i in
     let inv = c.loop-i.invariant in
@@ -96,7 +96,7 @@ returns-in-Err-append_piece-clause-goes g c =
     let y = bytes_in (at (tree_under h now) p) in
     let is : told → y ≡ x = λ t. ap (λ u. bytes_in (at u p)) (same t) in
     let v2 = g.K.Blocks.view c.append_piece.new.disk in
-    up_lost told to old now p x n i inv.0 v2 y is c.loop-i-test.true c.in-Err-append_piece.why (subst (λ (w : FilesView). Goes {X = Unit {0}} told w now v2 (piece_at p i y ∷ []) (Err c.in-Err-append_piece.why)) inv.2 c.in-Err-append_piece.ensures.goes)
+    up_lost told to old now p x n i inv.0 v2 y is c.loop-i-test.true c.in-Err-append_piece.why (subst (λ (w : FilesView). MakesSteps {X = Unit {0}} told w now v2 (piece_at p i y ∷ []) (Err c.in-Err-append_piece.why)) inv.2 c.in-Err-append_piece.ensures.goes)
 
 pub returns-in-Err-append_piece-clause-from_same : goal.returns-in-Err-append_piece-clause-from_same
 returns-in-Err-append_piece-clause-from_same g c =
@@ -116,7 +116,7 @@ loop-i-preserved g c =
     let old = g.K.Blocks.view c.args.disk.now in
     let p = c.args.path.now in
     let x = bytes_in (at (tree_under f old) p) in
-    let sound : told → IsSound old = λ t. g.met.K.Blocks.sound c.args.disk.now t c.requires.set.from_ready.unspent in
+    let sound : told → IsDiskSound old = λ t. g.met.K.Blocks.sound c.args.disk.now t c.requires.set.from_ready.unspent in
     let n = c.div_ceil-pieces.result in
     let i = c.loop-i.i in
     let inv = c.loop-i.invariant in
@@ -127,7 +127,7 @@ loop-i-preserved g c =
     let y = bytes_in (at (tree_under h now) p) in
     let is : told → y ≡ x = λ t. ap (λ u. bytes_in (at u p)) (same t) in
     let v2 = g.K.Blocks.view c.append_piece.new.disk in (
-      up_next told to old now p x n i inv.0 v2 y is c.loop-i-test.true (subst (λ (w : FilesView). Goes {X = Unit {0}} told w now v2 (piece_at p i y ∷ []) (Ok tt)) inv.2 c.in-Ok-append_piece.ensures.goes),
+      up_next told to old now p x n i inv.0 v2 y is c.loop-i-test.true (subst (λ (w : FilesView). MakesSteps {X = Unit {0}} told w now v2 (piece_at p i y ∷ []) (Ok tt)) inv.2 c.in-Ok-append_piece.ensures.goes),
       c.in-Ok-append_piece.ensures.from_same ∙ inv.1,
       c.in-Ok-append_piece.ensures.into_same ∙ inv.2,
     )

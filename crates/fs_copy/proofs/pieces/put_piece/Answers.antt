@@ -1,7 +1,7 @@
 use Rattle.std.proofs.Common.{◌≡◌, false, [], ◌∷◌, take, ap, Err}
 use Rattle.fs_trees.specs.Tree.{at, bytes_in}
 use Rattle.fs_trees.specs.declared.ask.ShellAsk.TheVariants as ask
-use Rattle.fs_port.specs.View.{IsSound}
+use Rattle.fs_port.specs.View.{IsDiskSound}
 use Rattle.fs_port.proofs.RunLaws.{on_answer}
 use Rattle.fs_copy.specs.Going.{tree_under}
 use Rattle.fs_copy.proofs.GoingLaws.{change_goes, err_as, goes_as, looked, look_lost, now_set, then_goes}
@@ -61,7 +61,7 @@ returns-in-Ok-clause-goes g c =
     let changes = c.put.ensures.changes in
     let made = change_goes told to mid new c.put.result (λ t. (set.valid t).valid) (ask.Put c.args.path.now piece) tt set.into_mounted
     (λ t. g.met.K.Blocks.sound c.read_part.new.disk t set.into_ready.unspent)
-    (λ t. on_answer (new.spent ≡ false) (IsSound new) c.put.result (λ u. g.met.K.Blocks.sound c.put.new.disk t u) changes.unspent)
+    (λ t. on_answer (new.spent ≡ false) (IsDiskSound new) c.put.result (λ u. g.met.K.Blocks.sound c.put.new.disk t u) changes.unspent)
     c.put.ensures.answer changes in
     goes_as told to old new (ask.Put c.args.path.now piece ∷ []) (ask.Put c.args.path.now (take 4096 (bytes_in (at (tree_under f old) c.args.path.now))) ∷ []) c.put.result
     (λ t. ap (λ y. ask.Put c.args.path.now y ∷ []) (part_tells f old c.requires.set.from_mounted c.args.path.now (c.requires.file t) 0 piece (c.in-Ok.ensures.answer t).ok.0))

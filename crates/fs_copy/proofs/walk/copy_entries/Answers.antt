@@ -1,4 +1,4 @@
-use Rattle.fs_port.specs.View.{IsSound}
+use Rattle.fs_port.specs.View.{IsDiskSound}
 use Rattle.std.proofs.Common.{◌≡◌, ◌+◌, ◌*◌, true, false, [], refl, sym, ◌∙◌, ap, subst, arith, Ok, Err}
 use Rattle.std.proofs.lemmas.Bool.Decides.{nat_tests}
 use Rattle.fs_trees.specs.Copying.{entry_steps}
@@ -8,7 +8,7 @@ use Rattle.fs_trees.specs.declared.refusal.FsRefusal.TheVariants as no
 use Rattle.fs_port.specs.Files.{FilesView}
 use Rattle.fs_copy.specs.Going.{tree_under, AreSet}
 use Rattle.fs_copy.specs.Nesting.{CanMake}
-use Rattle.fs_copy.specs.Walk.{Turns, inside, todo}
+use Rattle.fs_copy.specs.Walk.{WalksOn, inside, todo}
 use Rattle.fs_copy.specs.declared.copied.Copied.{Copied}
 use Rattle.fs_copy.proofs.CopyLaws.{source_dir}
 use Rattle.fs_copy.proofs.GoingLaws.{lost_goes, none_goes, now_set, same_source, source_of}
@@ -25,7 +25,7 @@ loop-left-init g c =
     let old = g.K.Blocks.view c.args.disk.now in
     let u = tree_under f old in
     let set = c.requires.set in
-    let sound : told → IsSound old = λ t. g.met.K.Blocks.sound c.args.disk.now t set.from_ready.unspent in
+    let sound : told → IsDiskSound old = λ t. g.met.K.Blocks.sound c.args.disk.now t set.from_ready.unspent in
     let src = source_of told f to old set in
     let many : c.turns_max-left.result ≡ 2 * (old.geometry.blocks + 4096) + 1 = c.turns_max-left.ensures ∙ ap (λ x. 2 * (x.blocks + 4096) + 1) c.geometry.ensures in
     let zero_copied : Copied = record { files = 0; bytes = 0 } in
@@ -44,7 +44,7 @@ turn-requires-clause-set g c =
     let old = g.K.Blocks.view c.args.disk.now in
     let u = tree_under f old in
     let set = c.requires.set in
-    let sound : told → IsSound old = λ t. g.met.K.Blocks.sound c.args.disk.now t set.from_ready.unspent in
+    let sound : told → IsDiskSound old = λ t. g.met.K.Blocks.sound c.args.disk.now t set.from_ready.unspent in
     let inv = c.loop-left.invariant in
     let h = g.A.Files.view c.loop-left.from in
     let k = g.B.Files.view c.loop-left.into in
@@ -69,7 +69,7 @@ turn-requires-clause-dir g c =
     let old = g.K.Blocks.view c.args.disk.now in
     let u = tree_under f old in
     let set = c.requires.set in
-    let sound : told → IsSound old = λ t. g.met.K.Blocks.sound c.args.disk.now t set.from_ready.unspent in
+    let sound : told → IsDiskSound old = λ t. g.met.K.Blocks.sound c.args.disk.now t set.from_ready.unspent in
     let inv = c.loop-left.invariant in
     let h = g.A.Files.view c.loop-left.from in
     let k = g.B.Files.view c.loop-left.into in
@@ -89,7 +89,7 @@ turn-requires-clause-hold g c =
     let old = g.K.Blocks.view c.args.disk.now in
     let u = tree_under f old in
     let set = c.requires.set in
-    let sound : told → IsSound old = λ t. g.met.K.Blocks.sound c.args.disk.now t set.from_ready.unspent in
+    let sound : told → IsDiskSound old = λ t. g.met.K.Blocks.sound c.args.disk.now t set.from_ready.unspent in
     let inv = c.loop-left.invariant in
     let h = g.A.Files.view c.loop-left.from in
     let k = g.B.Files.view c.loop-left.into in
@@ -111,7 +111,7 @@ returns-then-not-more-clause-goes g c =
     let old = g.K.Blocks.view c.args.disk.now in
     let u = tree_under f old in
     let set = c.requires.set in
-    let sound : told → IsSound old = λ t. g.met.K.Blocks.sound c.args.disk.now t set.from_ready.unspent in
+    let sound : told → IsDiskSound old = λ t. g.met.K.Blocks.sound c.args.disk.now t set.from_ready.unspent in
     let inv = c.loop-left.invariant in
     let h = g.A.Files.view c.loop-left.from in
     let k = g.B.Files.view c.loop-left.into in
@@ -125,7 +125,7 @@ returns-then-not-more-clause-goes g c =
     let q = c.turn.new.path in
     let b = c.turn.new.after in
     let d = c.turn.new.copied in
-    let turn = subst (λ (w : FilesView). Turns told w (tree_under h now) now new p q a b cp d (Ok c.in-Ok.more)) inv.2 c.in-Ok.ensures.turns in
+    let turn = subst (λ (w : FilesView). WalksOn told w (tree_under h now) now new p q a b cp d (Ok c.in-Ok.more)) inv.2 c.in-Ok.ensures.turns in
     let over : c.in-Ok.more ≡ false = (let no_more = c.if-not-more.true in grind (arith, nat_tests)) in
     walked_end told to u (tree_under h now) old now new p q a b cp d left inv.0 same c.in-Ok.more turn over
 
@@ -137,7 +137,7 @@ returns-then-not-more-clause-count g c =
     let old = g.K.Blocks.view c.args.disk.now in
     let u = tree_under f old in
     let set = c.requires.set in
-    let sound : told → IsSound old = λ t. g.met.K.Blocks.sound c.args.disk.now t set.from_ready.unspent in
+    let sound : told → IsDiskSound old = λ t. g.met.K.Blocks.sound c.args.disk.now t set.from_ready.unspent in
     let inv = c.loop-left.invariant in
     let h = g.A.Files.view c.loop-left.from in
     let k = g.B.Files.view c.loop-left.into in
@@ -151,7 +151,7 @@ returns-then-not-more-clause-count g c =
     let q = c.turn.new.path in
     let b = c.turn.new.after in
     let d = c.turn.new.copied in
-    let turn = subst (λ (w : FilesView). Turns told w (tree_under h now) now new p q a b cp d (Ok c.in-Ok.more)) inv.2 c.in-Ok.ensures.turns in
+    let turn = subst (λ (w : FilesView). WalksOn told w (tree_under h now) now new p q a b cp d (Ok c.in-Ok.more)) inv.2 c.in-Ok.ensures.turns in
     let src = source_of told f to old set in
     let over : c.in-Ok.more ≡ false = (let no_more = c.if-not-more.true in grind (arith, nat_tests)) in
     λ t. walked_count told to u (tree_under h now) old now new p q a b cp d left inv.0 same c.in-Ok.more turn over t (source_dir told f old src t)
@@ -174,7 +174,7 @@ returns-in-Err-clause-goes g c =
     let old = g.K.Blocks.view c.args.disk.now in
     let u = tree_under f old in
     let set = c.requires.set in
-    let sound : told → IsSound old = λ t. g.met.K.Blocks.sound c.args.disk.now t set.from_ready.unspent in
+    let sound : told → IsDiskSound old = λ t. g.met.K.Blocks.sound c.args.disk.now t set.from_ready.unspent in
     let inv = c.loop-left.invariant in
     let h = g.A.Files.view c.loop-left.from in
     let k = g.B.Files.view c.loop-left.into in
@@ -188,7 +188,7 @@ returns-in-Err-clause-goes g c =
     let q = c.turn.new.path in
     let b = c.turn.new.after in
     let d = c.turn.new.copied in
-    walked_lost told to u (tree_under h now) old now new p q a b cp d left inv.0 same c.in-Err.why (subst (λ (w : FilesView). Turns told w (tree_under h now) now new p q a b cp d (Err c.in-Err.why)) inv.2 c.in-Err.ensures.turns)
+    walked_lost told to u (tree_under h now) old now new p q a b cp d left inv.0 same c.in-Err.why (subst (λ (w : FilesView). WalksOn told w (tree_under h now) now new p q a b cp d (Err c.in-Err.why)) inv.2 c.in-Err.ensures.turns)
 
 pub returns-in-Err-clause-from_same : goal.returns-in-Err-clause-from_same
 returns-in-Err-clause-from_same g c =
@@ -208,7 +208,7 @@ loop-left-preserved g c =
     let old = g.K.Blocks.view c.args.disk.now in
     let u = tree_under f old in
     let set = c.requires.set in
-    let sound : told → IsSound old = λ t. g.met.K.Blocks.sound c.args.disk.now t set.from_ready.unspent in
+    let sound : told → IsDiskSound old = λ t. g.met.K.Blocks.sound c.args.disk.now t set.from_ready.unspent in
     let inv = c.loop-left.invariant in
     let h = g.A.Files.view c.loop-left.from in
     let k = g.B.Files.view c.loop-left.into in
@@ -222,7 +222,7 @@ loop-left-preserved g c =
     let q = c.turn.new.path in
     let b = c.turn.new.after in
     let d = c.turn.new.copied in
-    let turn = subst (λ (w : FilesView). Turns told w (tree_under h now) now new p q a b cp d (Ok c.in-Ok.more)) inv.2 c.in-Ok.ensures.turns in
+    let turn = subst (λ (w : FilesView). WalksOn told w (tree_under h now) now new p q a b cp d (Ok c.in-Ok.more)) inv.2 c.in-Ok.ensures.turns in
     let on : c.in-Ok.more ≡ true = (let more = c.if-not-more.false in grind (arith, nat_tests)) in (
       walked_next told to u (tree_under h now) old now new p q a b cp d left inv.0 same c.in-Ok.more turn on c.loop-left-test.true,
       c.in-Ok.ensures.from_same ∙ inv.1,
@@ -237,7 +237,7 @@ returns-clause-goes g c =
     let old = g.K.Blocks.view c.args.disk.now in
     let u = tree_under f old in
     let set = c.requires.set in
-    let sound : told → IsSound old = λ t. g.met.K.Blocks.sound c.args.disk.now t set.from_ready.unspent in
+    let sound : told → IsDiskSound old = λ t. g.met.K.Blocks.sound c.args.disk.now t set.from_ready.unspent in
     let inv = c.loop-left.invariant in
     let h = g.A.Files.view c.loop-left.from in
     let k = g.B.Files.view c.loop-left.into in

@@ -1,4 +1,4 @@
-use Rattle.fs_port.specs.View.{IsSound}
+use Rattle.fs_port.specs.View.{IsDiskSound}
 use Rattle.fs_laws.specs.Small.{IsNameListing}
 use Rattle.std.proofs.Common.{◌≡◌, ◌≤◌, ℕ, true, [], ◌∷◌, ◌++◌, length, sym, ◌∙◌, ap, subst, arith, length-append, Ok, Err, Option}
 use Rattle.std.proofs.lemmas.Bool.Decides.{nat_tests}
@@ -7,7 +7,7 @@ use Rattle.fs_trees.specs.Tree.{at, is_dir, is_there, names_in}
 use Rattle.fs_trees.specs.declared.refusal.FsRefusal.TheVariants as no
 use Rattle.fs_copy.specs.Going.{tree_under, own_steps, size_of}
 use Rattle.fs_copy.specs.Nesting.{CanMake}
-use Rattle.fs_copy.specs.Walk.{IsCountedOn, Turns}
+use Rattle.fs_copy.specs.Walk.{IsCountedOn, WalksOn}
 use Rattle.fs_copy.proofs.GoingLaws.{err_same, goes_as, lost_goes, none_goes, ok_as}
 use Rattle.fs_copy.proofs.ReadLaws.{other_fault}
 use Rattle.fs_copy.proofs.TodoLaws.{there_now}
@@ -27,7 +27,7 @@ returns-in-Err-clause-turns g c =
     let cp = c.args.copied.now in
     let q = p ++ n ∷ [] in
     let set = c.requires.set in
-    let sound : told → IsSound old = λ t. g.met.K.Blocks.sound c.args.disk.now t set.from_ready.unspent in
+    let sound : told → IsDiskSound old = λ t. g.met.K.Blocks.sound c.args.disk.now t set.from_ready.unspent in
     let next = c.requires.next in
     let listing : told → IsNameListing (names_in (at u q)) = λ t. listing_of f old q (set.valid t).valid in
     let steps = own_steps q (at u q) in
@@ -49,7 +49,7 @@ returns-then-not-is_path-clause-turns g c =
     let cp = c.args.copied.now in
     let q = p ++ n ∷ [] in
     let set = c.requires.set in
-    let sound : told → IsSound old = λ t. g.met.K.Blocks.sound c.args.disk.now t set.from_ready.unspent in
+    let sound : told → IsDiskSound old = λ t. g.met.K.Blocks.sound c.args.disk.now t set.from_ready.unspent in
     let next = c.requires.next in
     let listing : told → IsNameListing (names_in (at u q)) = λ t. listing_of f old q (set.valid t).valid in
     let steps = own_steps q (at u q) in
@@ -72,7 +72,7 @@ copy_entry-requires-clause-there g c =
     let cp = c.args.copied.now in
     let q = p ++ n ∷ [] in
     let set = c.requires.set in
-    let sound : told → IsSound old = λ t. g.met.K.Blocks.sound c.args.disk.now t set.from_ready.unspent in
+    let sound : told → IsDiskSound old = λ t. g.met.K.Blocks.sound c.args.disk.now t set.from_ready.unspent in
     let next = c.requires.next in
     let listing : told → IsNameListing (names_in (at u q)) = λ t. listing_of f old q (set.valid t).valid in
     let steps = own_steps q (at u q) in
@@ -92,7 +92,7 @@ copy_entry-requires-clause-hold g c =
     let cp = c.args.copied.now in
     let q = p ++ n ∷ [] in
     let set = c.requires.set in
-    let sound : told → IsSound old = λ t. g.met.K.Blocks.sound c.args.disk.now t set.from_ready.unspent in
+    let sound : told → IsDiskSound old = λ t. g.met.K.Blocks.sound c.args.disk.now t set.from_ready.unspent in
     let next = c.requires.next in
     let listing : told → IsNameListing (names_in (at u q)) = λ t. listing_of f old q (set.valid t).valid in
     let steps = own_steps q (at u q) in
@@ -112,7 +112,7 @@ returns-in-Err-copy_entry-clause-turns g c =
     let cp = c.args.copied.now in
     let q = p ++ n ∷ [] in
     let set = c.requires.set in
-    let sound : told → IsSound old = λ t. g.met.K.Blocks.sound c.args.disk.now t set.from_ready.unspent in
+    let sound : told → IsDiskSound old = λ t. g.met.K.Blocks.sound c.args.disk.now t set.from_ready.unspent in
     let next = c.requires.next in
     let listing : told → IsNameListing (names_in (at u q)) = λ t. listing_of f old q (set.valid t).valid in
     let steps = own_steps q (at u q) in
@@ -133,7 +133,7 @@ returns-in-Some-clause-turns g c =
     let cp = c.args.copied.now in
     let q = p ++ n ∷ [] in
     let set = c.requires.set in
-    let sound : told → IsSound old = λ t. g.met.K.Blocks.sound c.args.disk.now t set.from_ready.unspent in
+    let sound : told → IsDiskSound old = λ t. g.met.K.Blocks.sound c.args.disk.now t set.from_ready.unspent in
     let next = c.requires.next in
     let listing : told → IsNameListing (names_in (at u q)) = λ t. listing_of f old q (set.valid t).valid in
     let steps = own_steps q (at u q) in
@@ -161,7 +161,7 @@ returns-in-None-clause-turns g c =
     let cp = c.args.copied.now in
     let q = p ++ n ∷ [] in
     let set = c.requires.set in
-    let sound : told → IsSound old = λ t. g.met.K.Blocks.sound c.args.disk.now t set.from_ready.unspent in
+    let sound : told → IsDiskSound old = λ t. g.met.K.Blocks.sound c.args.disk.now t set.from_ready.unspent in
     let next = c.requires.next in
     let listing : told → IsNameListing (names_in (at u q)) = λ t. listing_of f old q (set.valid t).valid in
     let steps = own_steps q (at u q) in
@@ -173,4 +173,4 @@ returns-in-None-clause-turns g c =
     let size_is : told → size ≡ size_of (at u q) = λ t. c.in-Ok-copy_entry.ensures.told t ∙ ap (λ (z : Path). size_of (at u z)) is in
     let count : told → IsCountedOn cp d (size_of (at u q)) = λ t. subst (λ (o : Option ℕ). IsCountedOn cp d o) (size_is t) c.counted.ensures in
     let goes = goes_as told to old new (own_steps c.push.new.self (at u c.push.new.self)) steps (Ok size) (λ t. ap (λ (z : Path). own_steps z (at u z)) is) c.in-Ok-copy_entry.ensures.goes in
-    subst (λ (z : Path). Turns told to u old new p z a c.new.result cp d (Ok true)) (sym is) (dir_entered told to u old new p a n cp d next listing count named c.new.result c.new.ensures (λ t. sym (size_is t) ∙ c.in-None.is) (ok_as told to old new steps size true goes))
+    subst (λ (z : Path). WalksOn told to u old new p z a c.new.result cp d (Ok true)) (sym is) (dir_entered told to u old new p a n cp d next listing count named c.new.result c.new.ensures (λ t. sym (size_is t) ∙ c.in-None.is) (ok_as told to old new steps size true goes))

@@ -1,4 +1,4 @@
-use Rattle.fs_port.specs.View.{IsSound}
+use Rattle.fs_port.specs.View.{IsDiskSound}
 use Rattle.std.proofs.Common.{◌≡◌, [], refl, sym, ◌∙◌, ap, subst, Err}
 use Rattle.fs_trees.specs.Tree.{at, is_dir, names_in}
 use Rattle.fs_trees.specs.declared.ask.ShellAsk.TheVariants as ask
@@ -50,7 +50,7 @@ enter-requires-clause-set g c =
     let a = c.args.after.now in
     let cp = c.args.copied.now in
     let set = c.requires.set in
-    let sound : told → IsSound old = λ t. g.met.K.Blocks.sound c.args.disk.now t set.from_ready.unspent in
+    let sound : told → IsDiskSound old = λ t. g.met.K.Blocks.sound c.args.disk.now t set.from_ready.unspent in
     let mid = g.K.Blocks.view c.name_after.new.disk in
     let h = g.A.Files.view c.name_after.new.self in
     let same = c.in-Ok.ensures.same in
@@ -72,7 +72,7 @@ enter-requires-clause-next g c =
     let a = c.args.after.now in
     let cp = c.args.copied.now in
     let set = c.requires.set in
-    let sound : told → IsSound old = λ t. g.met.K.Blocks.sound c.args.disk.now t set.from_ready.unspent in
+    let sound : told → IsDiskSound old = λ t. g.met.K.Blocks.sound c.args.disk.now t set.from_ready.unspent in
     let mid = g.K.Blocks.view c.name_after.new.disk in
     let h = g.A.Files.view c.name_after.new.self in
     let same = c.in-Ok.ensures.same in
@@ -98,7 +98,7 @@ enter-requires-clause-hold g c =
     let a = c.args.after.now in
     let cp = c.args.copied.now in
     let set = c.requires.set in
-    let sound : told → IsSound old = λ t. g.met.K.Blocks.sound c.args.disk.now t set.from_ready.unspent in
+    let sound : told → IsDiskSound old = λ t. g.met.K.Blocks.sound c.args.disk.now t set.from_ready.unspent in
     let mid = g.K.Blocks.view c.name_after.new.disk in
     let h = g.A.Files.view c.name_after.new.self in
     let same = c.in-Ok.ensures.same in
@@ -120,7 +120,7 @@ returns-in-Some-clause-turns g c =
     let a = c.args.after.now in
     let cp = c.args.copied.now in
     let set = c.requires.set in
-    let sound : told → IsSound old = λ t. g.met.K.Blocks.sound c.args.disk.now t set.from_ready.unspent in
+    let sound : told → IsDiskSound old = λ t. g.met.K.Blocks.sound c.args.disk.now t set.from_ready.unspent in
     let mid = g.K.Blocks.view c.name_after.new.disk in
     let h = g.A.Files.view c.name_after.new.self in
     let same = c.in-Ok.ensures.same in
@@ -147,7 +147,7 @@ returns-in-None-clause-turns g c =
     let a = c.args.after.now in
     let cp = c.args.copied.now in
     let set = c.requires.set in
-    let sound : told → IsSound old = λ t. g.met.K.Blocks.sound c.args.disk.now t set.from_ready.unspent in
+    let sound : told → IsDiskSound old = λ t. g.met.K.Blocks.sound c.args.disk.now t set.from_ready.unspent in
     let mid = g.K.Blocks.view c.name_after.new.disk in
     let h = g.A.Files.view c.name_after.new.self in
     let same = c.in-Ok.ensures.same in

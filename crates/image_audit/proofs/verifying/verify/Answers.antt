@@ -5,12 +5,12 @@ use Rattle.tsd_model.specs.declared.geometry.Geometry.{Geometry}
 use Rattle.tsd_model.specs.Valid.{IsSized}
 use Rattle.tsd_model.specs.World.{World, is_live}
 use Rattle.volume_laws.specs.Volume.{told_by}
-use Rattle.image_audit.specs.Certificates.{IsLeastPrimaryOut, IsLeastBad, IsLeastOut, HasPrimaries, HasGoodEntries, IsClosed}
-use Rattle.image_audit.specs.Laws.{IsWhole}
+use Rattle.image_audit.specs.Certificates.{IsLeastPrimaryOut, IsLeastBadEntry, IsLeastOut, ListsPrimaries, HasGoodEntries, IsClosed}
+use Rattle.image_audit.specs.Laws.{IsWholeWorld}
 use Rattle.image_audit.proofs.VerdictLaws.{shown_reached, found_primaries, found_closed, found_no_bad}
 use Rattle.image_audit.proofs.verifying.verify.Goals as goal
 
-whole_of : (w : World) → IsSized w → ((a b : ℕ) → holds w.pairs a b ≡ true → (is_live w a ≡ true) × (is_live w b ≡ true)) → IsWhole w
+whole_of : (w : World) → IsSized w → ((a b : ℕ) → holds w.pairs a b ≡ true → (is_live w a ≡ true) × (is_live w b ≡ true)) → IsWholeWorld w
 whole_of w sized ends = record { each_block = sized.each_block; targets = λ a b held. (ends a b held).1 }
 
 pub returns-in-Some-clause-found : goal.returns-in-Some-clause-found
@@ -24,7 +24,7 @@ pub returns-in-Some-first_bad-clause-found : goal.returns-in-Some-first_bad-clau
 returns-in-Some-first_bad-clause-found c found =
     let w = told_by c.args.volume.now in
     let size = c.geometry-size.ensures in
-    let out = subst (λ es. IsLeastBad w es c.in-Some-first_bad.block) c.entries-entries.ensures c.in-Some-first_bad.ensures in
+    let out = subst (λ es. IsLeastBadEntry w es c.in-Some-first_bad.block) c.entries-entries.ensures c.in-Some-first_bad.ensures in
     absurd (found_no_bad w (whole_of w size.sized size.ends) size.sized.lawful.primaries.2 c.args.certificate.now.entries found c.in-Some-first_bad.block out.bad)
 
 pub returns-in-Some-first_out-clause-found : goal.returns-in-Some-first_out-clause-found
@@ -48,6 +48,6 @@ returns-clause-reached c n is =
     let w = told_by c.args.volume.now in
     let size = c.geometry-size.ensures in
     shown_reached w (whole_of w size.sized size.ends) size.sized.lawful.primaries.2 c.args.certificate.now.entries
-    (subst (HasPrimaries w) c.entries-entries.ensures c.in_default.ensures)
+    (subst (ListsPrimaries w) c.entries-entries.ensures c.in_default.ensures)
     (subst (HasGoodEntries w) c.entries-entries.ensures c.in_default-first_bad.ensures)
     (subst (IsClosed w) c.entries-entries.ensures c.in_default-first_out.ensures)

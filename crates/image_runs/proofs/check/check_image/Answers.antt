@@ -2,7 +2,7 @@ use Rattle.std.proofs.Common.{ℕ, List, ◌++◌, ◌∙◌, ap, subst, inl}
 use Rattle.image_device.specs.View.{IsLeftInPut}
 use Rattle.image_device.specs.Runs.{LeavesOnly}
 use Rattle.image_device.proofs.Moments.{weakened}
-use Rattle.image_runs.specs.Sending.{IsCut}
+use Rattle.image_runs.specs.Sending.{ProperFrontWasSent}
 use Rattle.image_runs.proofs.Opened.{not_stopped, spared_put, untouched_put}
 use Rattle.image_runs.proofs.Saying.{saying_moments, checked_whole, unchecked, cut_from}
 use Rattle.image_runs.proofs.check.check_image.Goals as goal
@@ -30,7 +30,7 @@ returns-in-Err-put_all-clause-said g c told =
       c.in-Ok.found,
       c.judge.new.line,
       c.in-Ok.ensures.found told,
-      subst (λ (t : List ℕ). IsCut old.sent t new.sent) c.as_slice.ensures.value (cut_from old.sent mid.sent c.as_slice.result.now new.sent (c.judge.ensures.sent told) (c.in-Err-put_all.ensures.part told)),
+      subst (λ (t : List ℕ). ProperFrontWasSent old.sent t new.sent) c.as_slice.ensures.value (cut_from old.sent mid.sent c.as_slice.result.now new.sent (c.judge.ensures.sent told) (c.in-Err-put_all.ensures.part told)),
     )
 
 pub returns-in-Err-put_all-clause-any_moment : goal.returns-in-Err-put_all-clause-any_moment

@@ -7,7 +7,7 @@ use Rattle.image_device.proofs.Moments.{weakened}
 use Rattle.image_world.specs.Stands.{Stands}
 use Rattle.recovery.specs.Formatting.{IsFormatting}
 use Rattle.tsd_words.specs.Lines.{cap_lines}
-use Rattle.image_runs.specs.Sending.{IsCut}
+use Rattle.image_runs.specs.Sending.{ProperFrontWasSent}
 use Rattle.image_runs.proofs.Saying.{cut_from}
 use Rattle.image_runs.proofs.Formatted.{formatted_still, format_moments}
 use Rattle.image_runs.proofs.format.format_image.Goals as goal
@@ -33,7 +33,7 @@ returns-in-Err-put_all-clause-made g c told =
     let text = c.as_slice.ensures.value ∙ c.cap_lines.ensures ∙ ap (λ (l : List CapPair). cap_lines 0 l) c.caps_of-caps.ensures.value in (
       formatted_still c.args.words.now mid new (c.in-Ok.ensures.firm told) (subst (λ (l : List CapPair). Stands mid.reads (fresh_world geometry l)) c.caps_of-caps.ensures.value (c.in-Ok.ensures.done told))
           (c.in-Ok.ensures.quiet told) (c.put_all.ensures.reads told) (c.put_all.ensures.loose told),
-      subst (λ (t : List ℕ). IsCut old.sent t new.sent) text (cut_from old.sent mid.sent c.as_slice.result.now new.sent (c.format.ensures.sent told) (c.in-Err-put_all.ensures.part told)),
+      subst (λ (t : List ℕ). ProperFrontWasSent old.sent t new.sent) text (cut_from old.sent mid.sent c.as_slice.result.now new.sent (c.format.ensures.sent told) (c.in-Err-put_all.ensures.part told)),
     )
 
 pub returns-in-Ok-put_all-clause-any_moment : goal.returns-in-Ok-put_all-clause-any_moment

@@ -2,7 +2,7 @@ use Rattle.std.proofs.Common.{inl, ℕ, List, ◌++◌, ◌∙◌, ap, subst}
 use Rattle.image_device.specs.View.{IsLeftInPut}
 use Rattle.image_device.specs.Runs.{LeavesOnly}
 use Rattle.image_device.proofs.Moments.{weakened}
-use Rattle.image_runs.specs.Sending.{IsCut}
+use Rattle.image_runs.specs.Sending.{ProperFrontWasSent}
 use Rattle.image_runs.proofs.Opened.{untouched_put}
 use Rattle.image_runs.proofs.Saying.{cut_from}
 use Rattle.image_runs.proofs.Loaded.{line_is, line_moments, loaded_still, not_loaded}
@@ -26,7 +26,7 @@ returns-in-Err-put_all-clause-loaded g c told =
     let kind = c.args.place.now.kind in
     let text = c.as_slice.ensures.value ∙ c.load_line.ensures ∙ line_is kind c.args.load.now.seed old.reads c.args.load.now.count c.in-Ok.summary (c.in-Ok.ensures.summary told) in (
       loaded_still kind c.args.load.now.seed old.reads c.args.load.now.count mid new (c.in-Ok.ensures.loaded told) (c.put_all.ensures.reads told) (c.put_all.ensures.loose told),
-      subst (λ (t : List ℕ). IsCut old.sent t new.sent) text (cut_from old.sent mid.sent c.as_slice.result.now new.sent (c.carry_out.ensures.sent told) (c.in-Err-put_all.ensures.part told)),
+      subst (λ (t : List ℕ). ProperFrontWasSent old.sent t new.sent) text (cut_from old.sent mid.sent c.as_slice.result.now new.sent (c.carry_out.ensures.sent told) (c.in-Err-put_all.ensures.part told)),
     )
 
 pub returns-in-Ok-put_all-clause-any_moment : goal.returns-in-Ok-put_all-clause-any_moment

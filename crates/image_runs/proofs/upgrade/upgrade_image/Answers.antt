@@ -2,7 +2,7 @@ use Rattle.std.proofs.Common.{inl, ℕ, List, ◌++◌, ◌∙◌, ap, subst}
 use Rattle.image_device.specs.View.{IsLeftInPut}
 use Rattle.image_device.specs.Runs.{LeavesOnly}
 use Rattle.image_device.proofs.Moments.{weakened}
-use Rattle.image_runs.specs.Sending.{IsCut}
+use Rattle.image_runs.specs.Sending.{ProperFrontWasSent}
 use Rattle.image_runs.proofs.Opened.{untouched_put}
 use Rattle.image_runs.proofs.Saying.{cut_from}
 use Rattle.image_runs.proofs.Upgraded.{upgraded_still, line_moments, not_upgraded}
@@ -22,7 +22,7 @@ returns-in-Err-put_all-clause-upgraded g c told =
     let mid = g.P.Device.view c.upgrade.new.dev in
     let new = g.P.Device.view c.put_all.new.port in (
       upgraded_still old.reads mid new (c.in-Ok.ensures.upgraded told) (c.put_all.ensures.reads told) (c.put_all.ensures.loose told),
-      subst (λ (t : List ℕ). IsCut old.sent t new.sent) (c.as_slice.ensures.value ∙ c.upgrade_line.ensures)
+      subst (λ (t : List ℕ). ProperFrontWasSent old.sent t new.sent) (c.as_slice.ensures.value ∙ c.upgrade_line.ensures)
           (cut_from old.sent mid.sent c.as_slice.result.now new.sent (c.upgrade.ensures.sent told) (c.in-Err-put_all.ensures.part told)),
     )
 

@@ -22,7 +22,7 @@ use Rattle.inode_walks.specs.Asking.{tree_of, mounted_by}
 use Rattle.inode_walks.specs.Reading.{part, bytes_said}
 use Rattle.inode_changes.specs.Content.{new_count, all_count}
 use Rattle.inode_changes.specs.Filling.{IsAside}
-use Rattle.inode_changes.specs.Entering.{IsMade, EntersOrNot}
+use Rattle.inode_changes.specs.Entering.{IsMadeInode, EntersOrNot}
 use Rattle.inode_changes.proofs.EntryLaws.{stage_of}
 use Rattle.inode_changes.specs.Growing.{Grows}
 use Rattle.inode_changes.proofs.GrowLaws.{size_is_small, big_refuses, has_room, is_for, of_files, made_bytes, need_is, room_is}
@@ -192,7 +192,7 @@ enter-requires g c =
         path t,
         a_file (bytes_in (at (tree_of me lb) (path t)) ++ y),
         (x t).grounds,
-        subst (λ xs. IsMade me.root lb.world place.directory.block new (a_file xs) mk.world) (made_bytes me lb (path t) place file (x t) no_dir (now t) front y content h (front_is t)) (m.made t),
+        subst (λ xs. IsMadeInode me.root lb.world place.directory.block new (a_file xs) mk.world) (made_bytes me lb (path t) place file (x t) no_dir (now t) front y content h (front_is t)) (m.made t),
       );
     }
 
@@ -220,8 +220,8 @@ returns-in-Ok-enter g c =
     let new = c.in-Ok-make_file.new in
     let m = c.in-Ok-make_file.ensures in
     let n = c.in-Ok-enter.ensures in
-    let made : (t : told) (path : Path) (x : Grows me old path place file) → IsMade me.root lb.world place.directory.block new (a_file (bytes_in (at (tree_of me lb) path) ++ y)) mk.world =
-    λ t path x. subst (λ xs. IsMade me.root lb.world place.directory.block new (a_file xs) mk.world) (made_bytes me lb path place file (still t path x) no_dir (now t) front y content h (front_is t)) (m.made t) in
+    let made : (t : told) (path : Path) (x : Grows me old path place file) → IsMadeInode me.root lb.world place.directory.block new (a_file (bytes_in (at (tree_of me lb) path) ++ y)) mk.world =
+    λ t path x. subst (λ xs. IsMadeInode me.root lb.world place.directory.block new (a_file xs) mk.world) (made_bytes me lb path place file (still t path x) no_dir (now t) front y content h (front_is t)) (m.made t) in
     let none : (t : told) (path : Path) (x : Grows me old path place file) → ◌≡◌ {A = Option FsRefusal} (refused_on (mounted_by me) lb (ask.Append path y)) None =
     λ t path x. room_is me lb path place file (still t path x) no_dir (now t) front y content h (front_is t) c.requires.some (big ∙ c.if-is_too_big.false) ∙ m.room t in
     let kept : (t : told) (path : Path) (x : Grows me old path place file) → KeepsRoom (need_on (mounted_by me) lb (ask.Append path y)) lb.world fin.world = λ t path x.
@@ -269,8 +269,8 @@ returns-in-Err-enter g c =
     let m = c.in-Ok-make_file.ensures in
     let r = c.in-Err-enter.refusal in
     let n = c.in-Err-enter.ensures in
-    let made : (t : told) (path : Path) (x : Grows me old path place file) → IsMade me.root lb.world place.directory.block new (a_file (bytes_in (at (tree_of me lb) path) ++ y)) mk.world =
-    λ t path x. subst (λ xs. IsMade me.root lb.world place.directory.block new (a_file xs) mk.world) (made_bytes me lb path place file (still t path x) no_dir (now t) front y content h (front_is t)) (m.made t) in
+    let made : (t : told) (path : Path) (x : Grows me old path place file) → IsMadeInode me.root lb.world place.directory.block new (a_file (bytes_in (at (tree_of me lb) path) ++ y)) mk.world =
+    λ t path x. subst (λ xs. IsMadeInode me.root lb.world place.directory.block new (a_file xs) mk.world) (made_bytes me lb path place file (still t path x) no_dir (now t) front y content h (front_is t)) (m.made t) in
     let none : (t : told) (path : Path) (x : Grows me old path place file) → ◌≡◌ {A = Option FsRefusal} (refused_on (mounted_by me) lb (ask.Append path y)) None =
     λ t path x. room_is me lb path place file (still t path x) no_dir (now t) front y content h (front_is t) c.requires.some (big ∙ c.if-is_too_big.false) ∙ m.room t in
     record {

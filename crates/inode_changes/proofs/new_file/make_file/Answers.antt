@@ -5,7 +5,7 @@ use Rattle.fs_client.specs.Steps.{no_room_in}
 use Rattle.fs_port.specs.Runs.{Runs}
 use Rattle.fs_client.proofs.RunLaws.{runs_look, then_runs, runs_as, runs_refused, runs_more}
 use Rattle.fs_client.proofs.NeedLaws.{refused_at_once, refused_later, room_for_both}
-use Rattle.inode_changes.specs.Content.{shared_of, new_count, all_count, AreReached}
+use Rattle.inode_changes.specs.Content.{shared_of, new_count, all_count, RootReaches}
 use Rattle.inode_changes.specs.Making.{Making}
 use Rattle.inode_changes.specs.Filling.{Stage, IsAside, AsideOf}
 use Rattle.inode_changes.specs.Beginning.{AsideOr}
@@ -132,7 +132,7 @@ returns-in-Ok-fill g c =
     let P = IsAside me.root old.world in
     let enough : told → 1 + n ≤ free_count old.world = λ t. subst (λ k. 1 + k ≤ free_count old.world) c.new_count.ensures (e.enough t) in
     let making : told → Making me.root old.world d i [] [] v2.world = λ t. making_first me old v1 v2 d i (c.requires.stage t) (c.requires.valid t) (e.looks.looked t).0 e.looks.stays.0 (h.began t) in
-    let reached : told → AreReached me.root old.world (shared_of content) = λ t. files_reached me.root old.world d (shared_of content) (c.requires.stage t) (c.requires.of_files t) in
+    let reached : told → RootReaches me.root old.world (shared_of content) = λ t. files_reached me.root old.world d (shared_of content) (c.requires.stage t) (c.requires.of_files t) in
     let before = runs_look told old v1 P (Ok tt) (λ t w is. subst P (sym is) (as_it_was me.root old.world d (c.requires.stage t))) e.looks in
     let begun = then_runs told old v1 v2 P tt (Ok i) before (runs_more told v1 v2 (IsAside me.root v1.world) P (Ok i) (λ t w k. subst (λ x. IsAside me.root x w) (e.looks.looked t).0.world k) h.runs) in
     record {
@@ -189,7 +189,7 @@ returns-in-Device g c =
     let r = c.in-Err-fill.refusal in
     let P = IsAside me.root old.world in
     let making : told → Making me.root old.world d i [] [] v2.world = λ t. making_first me old v1 v2 d i (c.requires.stage t) (c.requires.valid t) (e.looks.looked t).0 e.looks.stays.0 (h.began t) in
-    let reached : told → AreReached me.root old.world (shared_of content) = λ t. files_reached me.root old.world d (shared_of content) (c.requires.stage t) (c.requires.of_files t) in
+    let reached : told → RootReaches me.root old.world (shared_of content) = λ t. files_reached me.root old.world d (shared_of content) (c.requires.stage t) (c.requires.of_files t) in
     let before = runs_look told old v1 P (Ok tt) (λ t w is. subst P (sym is) (as_it_was me.root old.world d (c.requires.stage t))) e.looks in
     let begun = then_runs told old v1 v2 P tt (Ok i) before (runs_more told v1 v2 (IsAside me.root v1.world) P (Ok i) (λ t w k. subst (λ x. IsAside me.root x w) (e.looks.looked t).0.world k) h.runs) in
     record {
@@ -227,7 +227,7 @@ returns-in_default g c =
     let P = IsAside me.root old.world in
     let enough : told → 1 + n ≤ free_count old.world = λ t. subst (λ k. 1 + k ≤ free_count old.world) c.new_count.ensures (e.enough t) in
     let making : told → Making me.root old.world d i [] [] v2.world = λ t. making_first me old v1 v2 d i (c.requires.stage t) (c.requires.valid t) (e.looks.looked t).0 e.looks.stays.0 (h.began t) in
-    let reached : told → AreReached me.root old.world (shared_of content) = λ t. files_reached me.root old.world d (shared_of content) (c.requires.stage t) (c.requires.of_files t) in
+    let reached : told → RootReaches me.root old.world (shared_of content) = λ t. files_reached me.root old.world d (shared_of content) (c.requires.stage t) (c.requires.of_files t) in
     let left : told → (shared : List ℕ) × Making me.root old.world d i shared [] v3.world = λ t. left_making me old v1 v2 d i (c.requires.stage t) (c.requires.valid t) (e.looks.looked t).0 e.looks.stays.0 (h.began t) content (c.requires.of_files t) v3 (f.stopped t no_fault) in
     let before = runs_look told old v1 P (Ok tt) (λ t w is. subst P (sym is) (as_it_was me.root old.world d (c.requires.stage t))) e.looks in
     let begun = then_runs told old v1 v2 P tt (Ok i) before (runs_more told v1 v2 (IsAside me.root v1.world) P (Ok i) (λ t w k. subst (λ x. IsAside me.root x w) (e.looks.looked t).0.world k) h.runs) in

@@ -1,5 +1,5 @@
 use Rattle.std.proofs.Common.{sym, ◌∙◌, ap, arith, Ok, Err}
-use Rattle.fs_port.specs.View.{IsSound}
+use Rattle.fs_port.specs.View.{IsDiskSound}
 use Rattle.fs_client.proofs.LookLaws.{no_look}
 use Rattle.fs_client.proofs.TrimLaws.{trims_by_looks, then_trims}
 use Rattle.inode_fs.proofs.TidyLaws.{tidy_still, under, clean_next, clean_all}
@@ -11,7 +11,7 @@ loop-block-init g c =
     let first = g.K.Blocks.view c.args.disk.now in
     let me = c.args.client.now in
     let may = c.requires.1 in
-    let sound : told → IsSound first = λ t. g.met.K.Blocks.sound c.args.disk.now t may.ready.unspent in
+    let sound : told → IsDiskSound first = λ t. g.met.K.Blocks.sound c.args.disk.now t may.ready.unspent in
     record {
       may = may;
       trims = trims_by_looks told me g.kept first first (Ok tt) may.valid (λ t. under told me g.kept first c.args.marks.now t may (sound t)) (λ t. tt) (no_look told first may.ready.unspent sound may.valid);

@@ -1,6 +1,6 @@
 use contract.BorrowLft.{⊑_static}
 use Rattle.std.proofs.Common.{◌≡◌, true, false, [], sym, ◌∙◌, ap, Ok, Err}
-use Rattle.fs_port.specs.View.{IsSound}
+use Rattle.fs_port.specs.View.{IsDiskSound}
 use Rattle.fs_client.proofs.LookLaws.{no_look}
 use Rattle.fs_client.specs.Trimming.{MayDelete, IsClean, OnlyNamed}
 use Rattle.fs_client.proofs.RunLaws.{on_ok}
@@ -19,7 +19,7 @@ returns-then-not-has_leftovers g c =
     let me = c.args.client.now in
     let m = c.args.marks.now in
     let may = c.requires.1 in
-    let sound : told → IsSound v = λ t. g.met.K.Blocks.sound c.args.disk.now t may.ready.unspent in
+    let sound : told → IsDiskSound v = λ t. g.met.K.Blocks.sound c.args.disk.now t may.ready.unspent in
     record {
       trims = trims_by_looks told me g.kept v v (Ok tt) may.valid (λ t. under told me g.kept v m t may (sound t)) (λ t. tt) (no_look told v may.ready.unspent sound may.valid);
       clean = λ t. clean_before me g.kept v m (may.named t) (may.marked t) (may.noted t) c.args.block (sym c.has_leftovers.ensures ∙ c.if-not-has_leftovers.true);
@@ -53,7 +53,7 @@ delete_others-requires g c κs within =
     let found = c.in-Ok.found in
     let names = blocks_said (inode_of found.inode) in
     let one : is_inode m c.args.block ≡ true = sym c.is_inode.ensures ∙ c.if-is_inode.true in
-    let sound : told → IsSound v = λ t. g.met.K.Blocks.sound c.args.disk.now t may.ready.unspent in
+    let sound : told → IsDiskSound v = λ t. g.met.K.Blocks.sound c.args.disk.now t may.ready.unspent in
     let deletes : MayDelete told me g.kept v c.args.block names = record {
       unspent = may.ready.unspent;
       valid = may.valid;
@@ -79,7 +79,7 @@ returns-in-Ok g c =
     let found = c.in-Ok.found in
     let names = blocks_said (inode_of found.inode) in
     let one : is_inode m c.args.block ≡ true = sym c.is_inode.ensures ∙ c.if-is_inode.true in
-    let sound : told → IsSound v = λ t. g.met.K.Blocks.sound c.args.disk.now t may.ready.unspent in
+    let sound : told → IsDiskSound v = λ t. g.met.K.Blocks.sound c.args.disk.now t may.ready.unspent in
     record {
       trims = then_trims told me g.kept v mid new found c.delete_others.result
           (trims_by_looks told me g.kept v mid (Ok found) may.valid (λ t. under told me g.kept v m t may (sound t)) (λ t. tt) c.in-Ok.ensures.looks) c.delete_others.ensures.trims;
@@ -96,7 +96,7 @@ returns-in-Err g c =
     let me = c.args.client.now in
     let m = c.args.marks.now in
     let may = c.requires.1 in
-    let sound : told → IsSound v = λ t. g.met.K.Blocks.sound c.args.disk.now t may.ready.unspent in
+    let sound : told → IsDiskSound v = λ t. g.met.K.Blocks.sound c.args.disk.now t may.ready.unspent in
     record {
       trims = trims_refused told me g.kept v mid c.in-Err.refusal
           (trims_by_looks told me g.kept v mid (Err c.in-Err.refusal) may.valid (λ t. under told me g.kept v m t may (sound t)) c.in-Err.ensures.only c.in-Err.ensures.looks);
@@ -139,7 +139,7 @@ returns-else-is_data_block g c =
     let me = c.args.client.now in
     let m = c.args.marks.now in
     let may = c.requires.1 in
-    let sound : told → IsSound v = λ t. g.met.K.Blocks.sound c.args.disk.now t may.ready.unspent in
+    let sound : told → IsDiskSound v = λ t. g.met.K.Blocks.sound c.args.disk.now t may.ready.unspent in
     record {
       trims = trims_by_looks told me g.kept v v (Ok tt) may.valid (λ t. under told me g.kept v m t may (sound t)) (λ t. tt) (no_look told v may.ready.unspent sound may.valid);
       clean = λ t. clean_unmarked me g.kept v m (may.named t) (may.marked t) (may.noted t) c.args.block (sym c.is_inode.ensures ∙ c.if-is_inode.false) (sym c.is_data_block.ensures ∙ c.if-is_data_block.false) v.world;

@@ -4,7 +4,7 @@ use Rattle.std.specs.Int.{div_ceil}
 use Rattle.image_device.specs.Counts.{CountsFault}
 use Rattle.image_layout.specs.Areas.{slots_start, data_start}
 use Rattle.pointer_table.specs.Raw.{slots_in}
-use Rattle.pointer_table.specs.Reading.{IsReadTo, AreWithinTo}
+use Rattle.pointer_table.specs.Reading.{AreReadTo, AreWithinTo}
 use Rattle.image_device.proofs.Outcomes.{unless_err}
 use Rattle.image_device.proofs.Resting.{rests_joined, uses_read}
 use Rattle.pointer_table.proofs.LoadLaws.{part_inside}
@@ -37,8 +37,8 @@ loop-part-preserved g c =
           let bytes = unless_err c.read.result c.is_err.result c.if-is_err.false c.is_err.ensures.value (c.read.ensures.bytes told) in
           let sector : v0.reads (slots_start size + part) ≡ c.read.new.into =
           ap (λ (s : ℕ). v0.reads (s + part)) (sym starts) ∙ (sym (ap (λ r. r (c.slots_start-start.result + part)) still) ∙ sym bytes) in
-          subst (λ (n : ℕ). IsReadTo v0.reads size n (slots_in c.take_sector.new.slots)) end
-          (c.in_default.ensures.read v0.reads sector (subst (λ (n : ℕ). IsReadTo v0.reads size n (slots_in c.loop-part.slots)) first (so_far.read told)));
+          subst (λ (n : ℕ). AreReadTo v0.reads size n (slots_in c.take_sector.new.slots)) end
+          (c.in_default.ensures.read v0.reads sector (subst (λ (n : ℕ). AreReadTo v0.reads size n (slots_in c.loop-part.slots)) first (so_far.read told)));
       within =
           subst (λ (n : ℕ). AreWithinTo size n (slots_in c.take_sector.new.slots)) end
           (c.in_default.ensures.within (subst (λ (n : ℕ). AreWithinTo size n (slots_in c.loop-part.slots)) first so_far.within));

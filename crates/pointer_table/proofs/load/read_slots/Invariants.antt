@@ -1,14 +1,14 @@
 use Rattle.std.proofs.Common.{◌≡◌, ◌*◌, min}
 use Rattle.image_device.specs.Calls.{Rests, Uses}
 use Rattle.pointer_table.specs.Raw.{slots_in}
-use Rattle.pointer_table.specs.Reading.{IsReadTo, AreWithinTo}
+use Rattle.pointer_table.specs.Reading.{AreReadTo, AreWithinTo}
 use Rattle.pointer_table.proofs.load.read_slots.Given as goal
 
 abbrev pub invariant-loop-part : goal.invariant-loop-part
 invariant-loop-part g l =
     let view = g.D.Device.view in
     record {
-      read : g.D.Device.told → IsReadTo (view l.fn.dev).reads l.geometry (min l.geometry.slots (64 * l.part)) (slots_in l.slots);
+      read : g.D.Device.told → AreReadTo (view l.fn.dev).reads l.geometry (min l.geometry.slots (64 * l.part)) (slots_in l.slots);
       within : AreWithinTo l.geometry (min l.geometry.slots (64 * l.part)) (slots_in l.slots);
       rests : g.D.Device.told → Rests (view l.fn.dev) (view l.dev);
       uses : Uses 0 (view l.fn.dev) (view l.dev);

@@ -4,7 +4,7 @@ use Rattle.image_device.proofs.Confined.{confined_sync}
 use Rattle.image_device.specs.Runs.{IsConfined}
 use Rattle.image_device.proofs.Outcomes.{on_ok}
 use Rattle.image_layout.specs.Areas.{sweep_flag}
-use Rattle.image_layout.specs.Header.{IsReading}
+use Rattle.image_layout.specs.Header.{IsHeaderReading}
 use Rattle.recovery.specs.Areas.{fresh_end, fresh_bytes, is_fresh}
 use Rattle.recovery.proofs.AreaRuns.{but_gate, after_header, after_gates, after_tables, all_written, header_inside, gates_inside, inside_joined}
 use Rattle.recovery.proofs.areas.write_areas.Goals as goal
@@ -47,7 +47,7 @@ returns-clause-inside g c told =
 
 pub returns-clause-written : goal.returns-clause-written
 returns-clause-written g c told =
-    let header = subst (λ bytes. IsReading bytes (Ok (record { version = 1; geometry = c.args.geometry.now }))) (sym (c.in_ok-write.ensures.written told)) (c.write_header.ensures.reads_back (inl refl) c.requires.lawful) in
+    let header = subst (λ bytes. IsHeaderReading bytes (Ok (record { version = 1; geometry = c.args.geometry.now }))) (sym (c.in_ok-write.ensures.written told)) (c.write_header.ensures.reads_back (inl refl) c.requires.lawful) in
     let now = g.D.Device.view c.write_tables.new.dev in
     let fresh = subst (λ (k : Geometry). (n : ℕ) → sweep_flag ≤ n → n < fresh_end k → now.reads n ≡ fresh_bytes k c.args.caps.now n) c.of.ensures (c.in_ok-write_tables.ensures.fresh told) in
     on_ok c.sync.result

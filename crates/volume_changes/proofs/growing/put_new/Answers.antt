@@ -3,7 +3,7 @@ use Rattle.std.specs.Prelude.{slice_index}
 use Rattle.std.proofs.lemmas.List.{drop_more}
 use Rattle.tsd_model.specs.declared.geometry.Geometry.{Geometry}
 use Rattle.block_alloc.specs.LiveMap.{LiveMap}
-use Rattle.volume_laws.specs.Growing.{parts_of, DoFit, HasRoom, IsGrown}
+use Rattle.volume_laws.specs.Growing.{parts_of, PartsFit, HasRoom, IsGrown}
 use Rattle.volume_laws.proofs.Grown.{grown_none, grown_more, room_more}
 use Rattle.volume_changes.proofs.growing.put_new.Goals as goal
 
@@ -22,7 +22,7 @@ loop-index-preserved c =
     let size : c.put_one.new.live.geometry ≡ c.loop-index.live.geometry = ap (λ (m : LiveMap). m.geometry) c.put_one.ensures.live in
     record {
       size = size ∙ inv.size;
-      fit = subst (λ (k : Geometry). DoFit k new) (sym size) one.fit;
+      fit = subst (λ (k : Geometry). PartsFit k new) (sym size) one.fit;
       room = subst (λ (k : Geometry). HasRoom k new a (drop (i + 1) bs)) (sym size)
           (room_more c.loop-index.live.geometry a b (drop (i + 1) bs) old new (subst (λ (xs : List ℕ). HasRoom c.loop-index.live.geometry old a xs) here inv.room) inv.fit.each_block c.put_one.ensures.live c.put_one.ensures.pairs);
       shown = λ none. c.put_one.ensures.shown (inv.shown none);
@@ -42,6 +42,6 @@ returns c =
     let none : drop i bs ≡ [] = drop_of_length-le bs (omega (arith, c.loop-index-test.false)) in
     record {
       grown = inv.goes cur c.loop-index.batch (subst (λ (xs : List ℕ). IsGrown g c.args.source xs cur cur c.loop-index.batch c.loop-index.batch) (sym none)
-          (grown_none g c.args.source cur c.loop-index.batch (subst (λ (k : Geometry). DoFit k cur) inv.size inv.fit)));
+          (grown_none g c.args.source cur c.loop-index.batch (subst (λ (k : Geometry). PartsFit k cur) inv.size inv.fit)));
       shown = inv.shown;
     }

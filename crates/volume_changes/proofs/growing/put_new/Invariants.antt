@@ -1,13 +1,13 @@
 use Rattle.std.proofs.Common.{◌≡◌, ◌≤◌, ◌*◌, List, [], length, drop}
 use Rattle.image_layout.specs.declared.place.Patch.{Patch}
-use Rattle.volume_laws.specs.Growing.{Parts, parts_of, DoFit, HasRoom, HidesNone, IsGrown}
+use Rattle.volume_laws.specs.Growing.{Parts, parts_of, PartsFit, HasRoom, HidesNone, IsGrown}
 use Rattle.volume_changes.proofs.growing.put_new.Given as goal
 
 -- The rest of the blocks have room, and whatever grows by them from here has grown by all from the start.
 abbrev pub invariant-loop-index : goal.invariant-loop-index
 invariant-loop-index l = record {
   size : l.live.geometry ≡ l.fn.live.geometry;
-  fit : DoFit l.live.geometry (parts_of l.pointers l.counts l.live);
+  fit : PartsFit l.live.geometry (parts_of l.pointers l.counts l.live);
   room : HasRoom l.live.geometry (parts_of l.pointers l.counts l.live) l.source (drop l.index l.blocks);
   shown : HidesNone l.fn.live → HidesNone l.live;
   few : length l.batch ≤ 3 * l.index;

@@ -9,7 +9,7 @@ use Rattle.pointer_table.specs.Table.{Table as Pointers}
 use Rattle.ref_counts.specs.Table.{Table as Counts}
 use Rattle.ref_counts.specs.Changes.{KeepsStored as KeepsCounts}
 use Rattle.image_world.specs.Tables.{Tables, pairs_of}
-use Rattle.volume_laws.specs.Steps.{MayTake, IsTaken, with_slots_and_counts}
+use Rattle.volume_laws.specs.Steps.{MayTake, PairsAreTaken, with_slots_and_counts}
 use Rattle.volume_laws.proofs.BlockLaws.{put_ok, length-with_patch}
 use Rattle.volume_laws.proofs.Dropped.{count_some}
 use Rattle.volume_laws.proofs.Taken.{taken_none, taken_more, next_pair}
@@ -24,7 +24,7 @@ loop-target-init c = record {
 }
 
 -- the next pair is held in the tables so far
-held_now : (t : Tables) (p0 p : Pointers) (c0 c : Counts) (a : ℕ) (bs : List ℕ) (i : ℕ) (ps : List Patch) → MayTake t p0 c0 a bs → i < length bs → IsTaken t a (take i bs) (with_slots_and_counts t p c) ps → holds (pairs_of (with_slots_and_counts t p c)) a (get_or bs i 0) ≡ true
+held_now : (t : Tables) (p0 p : Pointers) (c0 c : Counts) (a : ℕ) (bs : List ℕ) (i : ℕ) (ps : List Patch) → MayTake t p0 c0 a bs → i < length bs → PairsAreTaken t a (take i bs) (with_slots_and_counts t p c) ps → holds (pairs_of (with_slots_and_counts t p c)) a (get_or bs i 0) ≡ true
 held_now t p0 p c0 c a bs i ps may within taken = ap (λ es. holds es a (get_or bs i 0)) taken.pairs ∙ next_pair t a (get_or bs i 0) bs i may.held within refl
 
 pub unwrap-slot-requires : goal.unwrap-slot-requires

@@ -9,7 +9,7 @@ use Rattle.intent_journal.specs.Batch.{with_patch}
 use Rattle.block_alloc.specs.LiveMap.{LiveMap}
 use Rattle.block_alloc.specs.Stored.{IsStoredAt, IsStored, sector_of}
 use Rattle.image_world.specs.Tables.{Tables}
-use Rattle.volume_laws.specs.Steps.{MayTake, IsTaken, with_slots_and_counts, MayPut, with_all, live_after}
+use Rattle.volume_laws.specs.Steps.{MayTake, PairsAreTaken, with_slots_and_counts, MayPut, with_all, live_after}
 use Rattle.image_world.specs.Turns.{Turns}
 use Rattle.volume_laws.proofs.BlockLaws.{put_ok, length-with_patch}
 use Rattle.volume_laws.proofs.Freed.{freed_turn, allowed_inside}
@@ -30,7 +30,7 @@ returns-then-step-clause-put c = λ t may.
     let mid = with_slots_and_counts t p k in
     let bits : m.live ≡ slice_set t.live s.block false = ap (λ (x : LiveMap). x.live) c.set_free.ensures ∙ ap (λ (xs : List Bool). slice_set xs s.block false) may.live in
     let size : m.geometry ≡ t.geometry = ap (λ (x : LiveMap). x.geometry) c.set_free.ensures ∙ may.live_size in
-    let taken : IsTaken t s.block s.targets mid c.put_pairs.new.batch = subst (λ (bs : List ℕ). IsTaken t s.block bs mid c.put_pairs.new.batch) c.as_slice.ensures.value
+    let taken : PairsAreTaken t s.block s.targets mid c.put_pairs.new.batch = subst (λ (bs : List ℕ). PairsAreTaken t s.block bs mid c.put_pairs.new.batch) c.as_slice.ensures.value
     (c.put_pairs.ensures.taken t (subst (λ (bs : List ℕ). MayTake t c.args.pointers.now c.args.counts.now s.block bs) (sym c.as_slice.ensures.value) (record { parts = may.parts; sound = may.sound; held = record { held = may.next.step.taken.held; once = may.next.step.taken.once } }))) in
     let put : c.put.new.self ≡ with_patch r c.put_pairs.new.batch = put_ok c.put.result _ _ (length c.put_pairs.new.batch) c.put.ensures.ok c.put.ensures.full
     (let f = taken.few in let few = may.next.few in omega (arith, f, few)) in
@@ -50,7 +50,7 @@ pub returns-else-step-clause-put : goal.returns-else-step-clause-put
 returns-else-step-clause-put c = λ t may.
     let s = c.args.step.now in
     let mid = with_slots_and_counts t c.put_pairs.new.pointers c.put_pairs.new.counts in
-    let taken : IsTaken t s.block s.targets mid c.put_pairs.new.batch = subst (λ (bs : List ℕ). IsTaken t s.block bs mid c.put_pairs.new.batch) c.as_slice.ensures.value
+    let taken : PairsAreTaken t s.block s.targets mid c.put_pairs.new.batch = subst (λ (bs : List ℕ). PairsAreTaken t s.block bs mid c.put_pairs.new.batch) c.as_slice.ensures.value
     (c.put_pairs.ensures.taken t (subst (λ (bs : List ℕ). MayTake t c.args.pointers.now c.args.counts.now s.block bs) (sym c.as_slice.ensures.value) (record { parts = may.parts; sound = may.sound; held = record { held = may.next.step.taken.held; once = may.next.step.taken.once } }))) in
     record {
       stepped = record { same = refl; pairs = taken.pairs; live = may.live ∙ sym (ap (live_after t.live s.block) c.if-step.false) };

@@ -2,7 +2,7 @@ use Rattle.std.proofs.Common.{◌≤◌, ◌+◌, ◌++◌, [], ◌∷◌, lengt
 use Rattle.image_device.specs.declared.event.Event.TheVariants.{Write}
 use Rattle.image_device.specs.declared.mem.MemStation.{MemStation}
 use Rattle.image_device.specs.Image.{IsSector}
-use Rattle.image_device.specs.History.{State}
+use Rattle.image_device.specs.History.{HistoryState}
 use Rattle.image_device.specs.Cells.{begun}
 use Rattle.image_device.specs.MemStation.{found_in}
 use Rattle.image_device.proofs.Outcomes.{unless_err, where_err}
@@ -47,5 +47,5 @@ pub returns-clause-synced : goal.returns-clause-synced
 returns-clause-synced c =
     let counted = c.is_failing.ensures.counted in
     let kept = unless_err c.keep_write.result c.is_err.result c.if-is_err.false c.is_err.ensures.value c.keep_write.ensures.ok in
-    ap (λ (s : State). s.synced) (after_one (begun (found_in c.args.self.now)) _ c.args.self.now.log.items _ (kept_begun _ _ _ _ _ _ _ kept.2 refl ∙ ap (λ (m : MemStation). begun (found_in m)) counted) (Write c.args.sector kept.0)
+    ap (λ (s : HistoryState). s.synced) (after_one (begun (found_in c.args.self.now)) _ c.args.self.now.log.items _ (kept_begun _ _ _ _ _ _ _ kept.2 refl ∙ ap (λ (m : MemStation). begun (found_in m)) counted) (Write c.args.sector kept.0)
     (kept.2.log ∙ ap (λ (m : MemStation). m.log.items ++ Write c.args.sector kept.0 ∷ []) counted))

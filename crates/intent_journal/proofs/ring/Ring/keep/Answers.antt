@@ -1,7 +1,7 @@
 use Rattle.std.proofs.Common.{◌≡◌, ◌+◌, ◌≤◌, ◌∷◌, [], ◌++◌, List, length, ℕ, sym, ◌∙◌, ap, arith, subst, lit<}
 use Rattle.image_layout.specs.declared.place.Patch.{Patch}
 use Rattle.image_layout.specs.Ring.{bodies, records}
-use Rattle.intent_journal.specs.Parts.{AreParts, parted}
+use Rattle.intent_journal.specs.Parts.{ArePatchesOfRing, parted}
 use Rattle.intent_journal.specs.Records.{patches_of}
 use Rattle.intent_journal.proofs.Parts.{length_parted, patches_parted, parts_push, view_push}
 use Rattle.intent_journal.proofs.ring.Ring.keep.Goals as goal
@@ -27,8 +27,8 @@ invariant_of-self c =
     let len : length c.args.self.now ≡ length cs = ap length (sym c.self.view_is) ∙ length_parted cs ps in
     let room : length ps + length b ≤ bodies = omega (arith, ap length is, c.requires.room) in
     let more : length cs + 1 ≤ records = omega (arith, len, c.requires.records) in
-    subst (λ (l : List ℕ). AreParts l c.append.new.patches) (sym counts)
-    (subst (λ (l : List Patch). AreParts (cs ++ length b ∷ []) l) (sym patches) (parts_push cs ps b c.self.invariant c.patches.ensures.batch c.requires.some room more))
+    subst (λ (l : List ℕ). ArePatchesOfRing l c.append.new.patches) (sym counts)
+    (subst (λ (l : List Patch). ArePatchesOfRing (cs ++ length b ∷ []) l) (sym patches) (parts_push cs ps b c.self.invariant c.patches.ensures.batch c.requires.some room more))
 
 pub returns : goal.returns
 returns c =

@@ -3,7 +3,7 @@ use Rattle.tsd_model.specs.Placing.{chosen}
 use Rattle.tsd_model.specs.declared.requests.Hint.TheVariants as hint
 use Rattle.volume_laws.specs.Volume.{told_by}
 use Rattle.tsd_core.specs.Core.{Core, told_world}
-use Rattle.tsd_core.specs.Growing.{AreNew}
+use Rattle.tsd_core.specs.Growing.{AreToBeTaken}
 use Rattle.tsd_core.proofs.Choosing.{new_chosen}
 use Rattle.tsd_core.proofs.disk.Core.alloc.Goals as goal
 
@@ -13,8 +13,8 @@ grow-requires-clause-new g c =
     let t = told_by c.self.inside.volume in
     let picked : c.in-Ok.blocks ≡ chosen kind t c.args.hint.now c.args.count = c.in-Ok.ensures.chosen ∙ ap (λ b. chosen kind t (hint.At b) c.args.count) c.hint_block.ensures in
     let same : length (chosen kind t c.args.hint.now c.args.count) ≡ c.args.count = sym (ap length picked) ∙ c.in-Ok.ensures.counted in
-    subst (λ (x : Core). AreNew (told_world x) c.in-Ok.blocks) c.self.view_is
-    (subst (AreNew t) (sym picked) (new_chosen kind t c.args.hint.now c.args.count c.requires.count.0 c.requires.count.1 same))
+    subst (λ (x : Core). AreToBeTaken (told_world x) c.in-Ok.blocks) c.self.view_is
+    (subst (AreToBeTaken t) (sym picked) (new_chosen kind t c.args.hint.now c.args.count c.requires.count.0 c.requires.count.1 same))
 
 pub returns-in-Ok : goal.returns-in-Ok
 returns-in-Ok g c = λ session shown.

@@ -8,7 +8,7 @@ use Rattle.tsd_model.specs.declared.requests.Hint.TheVariants as hint
 use Rattle.disk_laws.proofs.GraphLaws.{length-range}
 use Rattle.volume_laws.specs.Volume.{told_by}
 use Rattle.tsd_core.specs.Core.{Core, told_world}
-use Rattle.tsd_core.specs.Growing.{AreNew}
+use Rattle.tsd_core.specs.Growing.{AreToBeTaken}
 use Rattle.tsd_core.specs.Carrying.{IsKnown}
 use Rattle.tsd_core.proofs.Choosing.{new_run, run_inside}
 use Rattle.tsd_core.proofs.disk.Core.contig.Goals as goal
@@ -34,8 +34,8 @@ grow-requires-clause-new g c =
     let kind = c.args.place.now.kind in
     let t = told_by c.self.inside.volume in
     let e = picked kind t c.args.hint.now c.hint_block.result c.args.count c.in-Ok.first c.hint_block.ensures c.in-Ok.ensures.chosen in
-    before (λ (x : Core). AreNew (told_world x) c.run_of.result) (record { volume = c.self.inside.volume; grants = c.self.inside.grants }) c.args.self.now c.self.view_is
-    (subst (AreNew t) (sym c.run_of.ensures) (new_run kind t c.args.hint.now c.args.count c.in-Ok.first c.requires.count.0 c.requires.count.1 e))
+    before (λ (x : Core). AreToBeTaken (told_world x) c.run_of.result) (record { volume = c.self.inside.volume; grants = c.self.inside.grants }) c.args.self.now c.self.view_is
+    (subst (AreToBeTaken t) (sym c.run_of.ensures) (new_run kind t c.args.hint.now c.args.count c.in-Ok.first c.requires.count.0 c.requires.count.1 e))
 
 pub grow-requires-clause-room : goal.grow-requires-clause-room
 grow-requires-clause-room g c = omega (arith, c.requires.room, ap length c.run_of.ensures, length-range c.in-Ok.first c.args.count)

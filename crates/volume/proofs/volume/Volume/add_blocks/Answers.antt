@@ -8,7 +8,7 @@ use Rattle.image_layout.specs.declared.place.Patch.{Patch}
 use Rattle.block_alloc.specs.LiveMap.{is_live as is_marked_in}
 use Rattle.image_world.specs.Sound.{AreSound}
 use Rattle.image_world.specs.Tables.{Tables, pairs_of}
-use Rattle.volume_laws.specs.Growing.{Parts, parts_of, with_parts, DoFit, AreFree, IsGrown}
+use Rattle.volume_laws.specs.Growing.{Parts, parts_of, with_parts, PartsFit, AreFree, IsGrown}
 use Rattle.volume_laws.specs.Volume.{Volume, tables_in}
 use Rattle.volume_laws.specs.Writes.{batch_cost, lost_cost, IsPaid}
 use Rattle.volume_laws.specs.Zeroed.{firmed}
@@ -59,7 +59,7 @@ these g c =
     let sound = subst (λ (u : Tables). AreSound u) is c.self.invariant.sound in
     let size : i.live.geometry ≡ t.geometry = c.self.invariant.live ∙ ap (λ (u : Tables). u.geometry) is in
     let both = parts_are t (tables_in i.header i.pointers i.counts i.live i.caps i.is_sweeping) is p q refl in
-    let fit : DoFit t.geometry p = fits i.header.geometry t.geometry (ap (λ (u : Tables). u.geometry) is) (tables_in i.header i.pointers i.counts i.live i.caps i.is_sweeping) p refl refl c.self.invariant.sound c.self.invariant.pointers c.self.invariant.counts c.self.invariant.live in
+    let fit : PartsFit t.geometry p = fits i.header.geometry t.geometry (ap (λ (u : Tables). u.geometry) is) (tables_in i.header i.pointers i.counts i.live i.caps i.is_sweeping) p refl refl c.self.invariant.sound c.self.invariant.pointers c.self.invariant.counts c.self.invariant.live in
     let grown = subst (λ (k : Geometry). IsGrown k c.args.source c.args.blocks.now p q [] c.put_new.new.batch) size c.put_new.ensures.grown in
     subst (λ (u : Tables). IsMade t c.args.source c.args.blocks.now u c.put_new.new.batch) (sym both.1)
     (made t p q c.args.source c.args.blocks.now c.put_new.new.batch sound c.requires.ready.1 c.requires.settled both.0 fit grown)

@@ -8,7 +8,7 @@ use Rattle.tsd_model.specs.World.{is_live}
 use Rattle.tsd_model.specs.Step.{with_pointer}
 use Rattle.image_layout.specs.declared.place.Patch.{Patch}
 use Rattle.pointer_table.specs.Slots.{pairs_in}
-use Rattle.pointer_table.specs.Table.{IsWithin}
+use Rattle.pointer_table.specs.Table.{MayBeHeld}
 use Rattle.pointer_table.specs.Table.{Table as Pointers}
 use Rattle.ref_counts.specs.Table.{Table as Counts}
 use Rattle.ref_counts.specs.Changes.{KeepsStored as KeepsCounts}
@@ -41,7 +41,7 @@ pub add-requires-clause-within : goal.add-requires-clause-within
 add-requires-clause-within g c =
     let o = open_to c.args.self.now c.args.source c.args.target c.requires.ready.1 c.requires.source c.requires.target c.requires.apart c.requires.absent in
     let size = c.self.invariant.pointers ∙ ap (λ (w : Volume). w.tables.geometry) c.self.view_is in
-    subst (λ (k : Geometry). IsWithin k (c.args.source, c.args.target)) (sym size) (ends_within c.args.self.now.tables c.args.source c.args.target o)
+    subst (λ (k : Geometry). MayBeHeld k (c.args.source, c.args.target)) (sym size) (ends_within c.args.self.now.tables c.args.source c.args.target o)
 
 pub raise-requires-clause-block : goal.raise-requires-clause-block
 raise-requires-clause-block g c =

@@ -9,7 +9,7 @@ use Rattle.tsd_model.specs.Records.{upgraded, upgraded_record}
 use Rattle.tsd_model.specs.Geometry.{IsLawful}
 use Rattle.tsd_model.specs.declared.geometry.Geometry.{Geometry}
 use Rattle.tsd_model.specs.declared.records.Record.{Record}
-use Rattle.image_layout.specs.Header.{IsReading, header_bytes}
+use Rattle.image_layout.specs.Header.{IsHeaderReading, header_bytes}
 use Rattle.cap_store.specs.Store.{Store}
 use Rattle.cap_store.specs.Stored.{caps_sector_bytes}
 use Rattle.cap_store.specs.Stored.{IsStored as AreKept}
@@ -44,7 +44,7 @@ turns g c =
           no_upgrade t c.put_upgrade.new.batch sound (sym (ap (λ (u : Tables). u.version) is) ∙ two) (ap (map upgraded_record) (sym records) ∙ (same ∙ records)) (c.put_upgrade.ensures.none two)
       | inr other ↦
           upgrade_turn t c.put_upgrade.new.batch (header_bytes (record { version = 2; geometry = i.header.geometry })) (caps_sector_bytes 2 c.upgrade.new.self.records 0) (caps_sector_bytes 2 c.upgrade.new.self.records 1) sound
-          (subst (λ (k : Geometry). IsReading (header_bytes (record { version = 2; geometry = i.header.geometry })) (Ok (record { version = 2; geometry = k }))) size
+          (subst (λ (k : Geometry). IsHeaderReading (header_bytes (record { version = 2; geometry = i.header.geometry })) (Ok (record { version = 2; geometry = k }))) size
           (c.put_upgrade.ensures.header (inr refl) (subst (λ (k : Geometry). IsLawful k) (sym size) sound.slots.lawful)))
           (λ y first second. subst (λ (rs : List Record). AreKept 2 rs y) up (c.upgrade.ensures.both y first second))
           (c.put_upgrade.ensures.laid other)

@@ -3,13 +3,13 @@ use Rattle.std.proofs.Common.{◌≡◌, refl, sym, ◌∙◌, ap, subst, arith}
 use Rattle.image_device.proofs.Outcomes.{on_ok}
 use Rattle.image_world.specs.Sound.{AreSound}
 use Rattle.image_world.specs.Tables.{Tables}
-use Rattle.volume_laws.specs.Graphs.{IsNext}
+use Rattle.volume_laws.specs.Graphs.{IsStepNext}
 use Rattle.image_world.specs.Debt.{graph_in, owed}
 use Rattle.reclaim.specs.Ahead.{Kept, is_gone}
 use Rattle.volume_laws.proofs.AheadKept.{hides_stepped, ahead_then, gone_then, counted_then}
 use Rattle.volume_laws.proofs.Freed.{next_allowed}
 use Rattle.volume_laws.proofs.TableWorlds.{graph_laid_out}
-use Rattle.volume_laws.specs.Steps.{MayPut, IsPut, IsStepped, with_all}
+use Rattle.volume_laws.specs.Steps.{MayPut, IsStepPut, IsStepped, with_all}
 use Rattle.volume_laws.specs.Volume.{Volume, tables_in}
 use Rattle.volume_laws.proofs.Ops.{any_bytes, op_told}
 use Rattle.volume_laws.proofs.RingLaws.{batch_ok}
@@ -46,10 +46,10 @@ now g c = let i = c.self.inside in record { tables = tables_in i.header c.put_st
 abbrev was : (g : Given.Over) → goal.After-self-1 g → Tables
 was g c = let i = c.self.inside in tables_in i.header i.pointers i.counts i.live i.caps i.is_sweeping
 
-put : (g : Given.Over) (c : goal.After-self-1 g) → IsPut c.args.self.now.tables c.args.step.now (now g c).tables c.put_step.new.batch
+put : (g : Given.Over) (c : goal.After-self-1 g) → IsStepPut c.args.self.now.tables c.args.step.now (now g c).tables c.put_step.new.batch
 put g c =
     let is = ap (λ (w : Volume). w.tables) c.self.view_is in
-    subst (λ (t : Tables). IsPut c.args.self.now.tables c.args.step.now (with_all t c.put_step.new.pointers c.put_step.new.counts c.put_step.new.live) c.put_step.new.batch) (sym is)
+    subst (λ (t : Tables). IsStepPut c.args.self.now.tables c.args.step.now (with_all t c.put_step.new.pointers c.put_step.new.counts c.put_step.new.live) c.put_step.new.batch) (sym is)
     (c.put_step.ensures.put c.args.self.now.tables (may g c))
 
 this : (g : Given.Over) (c : goal.After-self-1 g) → IsStepOf c.args.self.now c.args.step.now (now g c).tables c.put_step.new.batch
@@ -64,7 +64,7 @@ invariant_of-self g c =
     let v = c.self.invariant in
     let s = c.args.step.now in
     let n = c.note_step.ensures in
-    let next : IsNext (was g c) s = subst (λ (t : Tables). IsNext t s) (sym (ap (λ (w : Volume). w.tables) c.self.view_is)) c.requires.next in
+    let next : IsStepNext (was g c) s = subst (λ (t : Tables). IsStepNext t s) (sym (ap (λ (w : Volume). w.tables) c.self.view_is)) c.requires.next in
     let gone = gone_then (was g c) (now g c).tables s i.ahead c.note_step.new.ahead i.is_ready next (stepped g c) v.ahead n.ahead n.same in
     record {
       pointers = c.put_step.ensures.slots ∙ v.pointers;
@@ -85,7 +85,7 @@ pub note_step-requires : goal.note_step-requires
 note_step-requires g c =
     let i = c.self.inside in
     let t = tables_in i.header i.pointers i.counts i.live i.caps i.is_sweeping in
-    let next : IsNext t c.args.step.now = subst (λ (u : Tables). IsNext u c.args.step.now) (sym (ap (λ (w : Volume). w.tables) c.self.view_is)) c.requires.next in
+    let next : IsStepNext t c.args.step.now = subst (λ (u : Tables). IsStepNext u c.args.step.now) (sym (ap (λ (w : Volume). w.tables) c.self.view_is)) c.requires.next in
     record { told = λ e. (graph_in t, record { laid_out = graph_laid_out t; lost = next.may.lost; step = next.may.step; ahead = c.self.invariant.ahead e }) }
 
 pub returns-clause-told : goal.returns-clause-told

@@ -1,7 +1,7 @@
 use Rattle.std.proofs.Common.{[], Bool, List, refl, sym, ◌∙◌, subst, length}
 use Rattle.image_world.specs.Debt.{owed}
 use Rattle.volume_laws.specs.Operations.{IsOperation}
-use Rattle.volume_laws.specs.Steps.{IsPut}
+use Rattle.volume_laws.specs.Steps.{IsStepPut}
 use Rattle.volume_laws.specs.Volume.{Volume, AreParts, tables_in}
 use Rattle.volume_laws.proofs.NextLaws.{are_tables}
 use Rattle.volume_laws.proofs.OperationLaws.{committed_op}
@@ -55,7 +55,7 @@ was g c = let i = c.loop-step.self-inside in record { tables = tables_in i.heade
 abbrev now : (g : Given.Over) → goal.In_ok-outcome g → Volume
 now g c = let i = c.loop-step.self-inside in record { tables = tables_in i.header c.put_step.new.pointers c.put_step.new.counts c.put_step.new.live i.caps i.is_sweeping; ring = c.commit-outcome.new.self; is_ready = i.is_ready; is_spent = c.is_err-self-inside.result }
 
-put : (g : Given.Over) (c : goal.In_ok-outcome g) → IsPut (was g c).tables c.in-Some.step (now g c).tables c.put_step.new.batch
+put : (g : Given.Over) (c : goal.In_ok-outcome g) → IsStepPut (was g c).tables c.in-Some.step (now g c).tables c.put_step.new.batch
 put g c =
     let i = c.loop-step.self-inside in
     c.put_step.ensures.put (was g c).tables (may_put i.header i.pointers i.counts i.live i.caps i.is_sweeping i.marks i.ahead i.is_ready c.loop-step.invariant.parts c.in-Some.step c.in-Some.ensures.step)
@@ -112,7 +112,7 @@ was-failed g c = let i = c.loop-step.self-inside in record { tables = tables_in 
 abbrev now-failed : (g : Given.Over) → goal.After-from_residual g → Volume
 now-failed g c = let i = c.loop-step.self-inside in record { tables = tables_in i.header c.put_step.new.pointers c.put_step.new.counts c.put_step.new.live i.caps i.is_sweeping; ring = c.commit-outcome.new.self; is_ready = i.is_ready; is_spent = c.is_err-self-inside.result }
 
-put-failed : (g : Given.Over) (c : goal.After-from_residual g) → IsPut (was-failed g c).tables c.in-Some.step (now-failed g c).tables c.put_step.new.batch
+put-failed : (g : Given.Over) (c : goal.After-from_residual g) → IsStepPut (was-failed g c).tables c.in-Some.step (now-failed g c).tables c.put_step.new.batch
 put-failed g c =
     let i = c.loop-step.self-inside in
     c.put_step.ensures.put (was-failed g c).tables (may_put i.header i.pointers i.counts i.live i.caps i.is_sweeping i.marks i.ahead i.is_ready c.loop-step.invariant.parts c.in-Some.step c.in-Some.ensures.step)
