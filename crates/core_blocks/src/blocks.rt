@@ -6,7 +6,7 @@ ghost use Rattle.core_blocks.specs.Once.{at_prop, ready_prop};
 
 use crate::places::Places;
 use fs_port::Blocks;
-use image_device::{Device, Failed};
+use image_device::{Device, Failed, WorkDone};
 use tsd_core::Core;
 use tsd_model::{Geometry, Reply, Request};
 
@@ -58,5 +58,9 @@ impl<'a, D: Device, L: Places> Blocks for CoreBlocks<'a, D, L> {
 
     fn is_spent(&self) -> bool {
         self.core.is_spent()
+    }
+
+    fn show_work_done(&self, done: WorkDone) {
+        self.dev.show_work_done(done);
     }
 }

@@ -5,7 +5,7 @@ ghost use Rattle.image_device.specs.Counts.{CountsFault};
 ghost use Rattle.fs_port.specs.View.{DiskView, IsDiskSound};
 ghost use Rattle.fs_port.specs.Calls.{Counts, IsAskCarriedOut, IsEitherSide, LeavesWorldsOnly, Stays, is_steady};
 
-use image_device::Failed;
+use image_device::{Failed, WorkDone};
 use tsd_model::{Geometry, Reply, Request};
 
 /// A disk of blocks, as its clients ask it. An ask that is answered leaves the count of faults as it was, so that no
@@ -38,6 +38,12 @@ pub trait Blocks {
     /// Whether an ask failed.
     fn is_spent(&self) -> bool
         ensures { result ≡ (view self.now).spent };
+
+    /// Shows what long work has done by now, where somebody looks. It changes nothing, and a disk that shows nothing
+    /// leaves it out.
+    fn show_work_done(&self, done: WorkDone) {
+        let _ = done;
+    }
 
     /// What holds of it at each moment.
     ghost sound: { (d : Self) → told → (view d).spent ≡ false → IsDiskSound (view d) };

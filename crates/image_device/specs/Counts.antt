@@ -1,5 +1,5 @@
 -- Counts of calls and of failures, each kept in a u64.
-use Rattle.std.specs.Prelude.{ℕ, Result, MatchResult, IsErrOf, ◌≡◌, ◌+◌, ◌-◌, ◌^◌, ◌≤◌, min}
+use Rattle.std.specs.Prelude.{ℕ, Result, MatchResult, IsErrOf, ◌≡◌, ◌==◌, if◌then◌else◌, ◌+◌, ◌-◌, ◌^◌, ◌≤◌, min}
 
 -- one more, but never above the greatest u64
 abbrev pub raised : ℕ → ℕ
@@ -18,6 +18,11 @@ CountsFault result before now = MatchResult result (λ _. now ≡ before) (λ _.
 abbrev pub CountsFaultOf : {T E : Type 0} → E → Result T E → ℕ → ℕ → Type 0
 CountsFaultOf device result before now =
     (IsErrOf result device → Rose before now) × (¬ IsErrOf result device → now ≡ before)
+
+-- Each take that finds the end of a source is counted, and no other.
+abbrev pub CountsEnd : {E : Type 0} → Result ℕ E → ℕ → ℕ → Type 0
+CountsEnd result before now =
+    MatchResult result (λ count. now ≡ (if count == 0 then raised before else before)) (λ _. now ≡ before)
 
 -- two counts of one kind together
 abbrev pub both : ℕ → ℕ → ℕ

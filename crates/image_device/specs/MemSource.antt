@@ -23,6 +23,10 @@ takes_of s = s.calls
 abbrev pub failing_takes_of : MemSource → List ℕ
 failing_takes_of s = s.fail.items
 
+-- how often a take found the end
+abbrev pub ends_of : MemSource → ℕ
+ends_of s = s.ends
+
 -- how often a take failed
 abbrev pub faults_of : MemSource → ℕ
 faults_of s = s.faults

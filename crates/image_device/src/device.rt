@@ -6,6 +6,8 @@ ghost use Rattle.image_device.specs.View.{View, IsLeftInPut, IsSound};
 ghost use Rattle.image_device.specs.Calls.{Appends, Includes, Puts, Rests, Settles, Touches, Uses};
 ghost use Rattle.image_device.specs.Runs.{IsFirm};
 
+use crate::WorkDone;
+
 /// The call failed, and the count of its kind rose.
 #[derive(Clone, Copy, Debug, PartialEq, Eq)]
 pub struct Failed;
@@ -43,6 +45,12 @@ pub trait Device {
         ensures settles { told → Settles (view self.old) (view self.new) }
         ensures uses { Uses 0 (view self.old) (view self.new) }
         ensures faults { CountsFault result (view self.old).faults (view self.new).faults };
+
+    /// Shows what long work has done by now, where somebody looks. It changes nothing, and a device that
+    /// shows nothing leaves it out.
+    fn show_work_done(&self, done: WorkDone) {
+        let _ = done;
+    }
 
     /// What holds of it at each moment.
     ghost sound: { (d : Self) → told → IsSound (view d) };

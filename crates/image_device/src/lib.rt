@@ -19,6 +19,7 @@ mod mem;
 mod mem_source;
 mod put;
 mod source;
+mod work_done;
 mod write;
 
 pub use cell::Pick;
@@ -28,4 +29,5 @@ pub use mem::MemStation;
 pub use mem_source::MemSource;
 pub use put::put_all;
 pub use source::Source;
+pub use work_done::WorkDone;
 pub use write::{write_run, write_through};

@@ -1,5 +1,6 @@
 // A source in memory.
-ghost use Rattle.std.specs.Prelude.{◌≡◌, ◌≤◌, ◌<◌, ◌+◌, [], length, take, drop};
+ghost use Rattle.std.specs.Prelude.{◌≡◌, ◌==◌, ◌≤◌, ◌<◌, ◌+◌, if◌then◌else◌, [], length, take, drop};
+ghost use Rattle.image_device.specs.Counts.{raised};
 
 use crate::{Failed, Source};
 
@@ -11,13 +12,15 @@ pub struct MemSource {
     cut: usize,
     fail: Vec<u64>,
     calls: u64,
+    ends: u64,
     faults: u64,
     ghost inside: { at ≤ length bytes.items },
     ghost some: { 0 < cut },
 }
 
 impl MemSource {
-    ghost use Rattle.image_device.specs.MemSource.{cut_of, failing_takes_of, faults_of, front_of, rest_of, takes_of};
+    ghost use Rattle.image_device.specs.MemSource.{cut_of, ends_of, failing_takes_of, faults_of, front_of, rest_of};
+    ghost use Rattle.image_device.specs.MemSource.{takes_of};
 
     /// These bytes, at most `cut` of them at a time. Its takes are numbered from 0, and those in
     /// `fail` fail.
@@ -27,6 +30,7 @@ impl MemSource {
         ensures taken { front_of result ≡ [] }
         ensures cut { cut_of result ≡ cut }
         ensures takes { takes_of result ≡ 0 }
+        ensures ends { ends_of result ≡ 0 }
         ensures faults { faults_of result ≡ 0 }
         ensures fail { failing_takes_of result ≡ fail.items }
     {
@@ -36,14 +40,15 @@ impl MemSource {
             cut,
             fail,
             calls: 0,
+            ends: 0,
             faults: 0,
         }
     }
 }
 
 impl Source for MemSource {
-    ghost use Rattle.image_device.specs.MemSource.{cut_of, faults_of, front_of, rest_of, IsTakeCalled};
-    ghost use Rattle.image_device.specs.Counts.{CountsFault};
+    ghost use Rattle.image_device.specs.MemSource.{cut_of, ends_of, faults_of, front_of, rest_of, IsTakeCalled};
+    ghost use Rattle.image_device.specs.Counts.{CountsEnd, CountsFault};
     ghost use Rattle.std.specs.Prelude.{◌≡◌, ◌≤◌, ◌++◌, ◌↔◌, [], length, take, drop, min, IfOk};
     ghost use Rattle.std.specs.Prelude.{OnOk, OnErr};
 
@@ -55,6 +60,8 @@ impl Source for MemSource {
 
     ghost ended = { λ s. rest_of s ≡ [] };
 
+    ghost ends = { ends_of };
+
     ghost faults = { faults_of };
 
     fn take(&mut self, into: &mut [u8]) -> Result<usize, Failed>
@@ -65,6 +72,7 @@ impl Source for MemSource {
         ensures end { IfOk result (λ count. (count ≡ 0) ↔ (rest_of self.old ≡ [])) }
         ensures found_end { IfOk result (λ count. ((count ≡ 0) → rest_of self.new ≡ [])
             × (rest_of self.old ≡ [] → count ≡ 0)) }
+        ensures ends { CountsEnd result (ends_of self.old) (ends_of self.new) }
         ensures stays { rest_of self.old ≡ [] → rest_of self.new ≡ [] }
         ensures err { OnErr result ((rest_of self.new ≡ rest_of self.old)
             × (front_of self.new ≡ front_of self.old)) }
@@ -87,7 +95,19 @@ impl Source for MemSource {
         let count = left.min(self.cut).min(into.len());
         copy_some(&self.bytes, self.at, into, count);
         self.at += count;
+        self.ends = counted(self.ends, count);
         Ok(count)
+    }
+}
+
+/// One end more, where a take gave so many bytes.
+fn counted(ends: u64, count: usize) -> u64
+    ensures { result ≡ (if count == 0 then raised ends else ends) }
+{
+    if count == 0 {
+        ends.saturating_add(1)
+    } else {
+        ends
     }
 }
 

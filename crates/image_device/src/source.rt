@@ -1,7 +1,7 @@
 // Where the program's input comes from.
 ghost use Rattle.std.specs.Prelude.{◌≡◌, ◌≤◌, ◌<◌, ◌++◌, ◌↔◌, [], ℕ, List, length, take};
 ghost use Rattle.std.specs.Prelude.{drop, OnOk, OnErr, IfOk};
-ghost use Rattle.image_device.specs.Counts.{CountsFault};
+ghost use Rattle.image_device.specs.Counts.{CountsEnd, CountsFault};
 
 use crate::Failed;
 
@@ -19,6 +19,9 @@ pub trait Source {
     /// Whether a take must find the end.
     ghost ended: { Self → Type 0 };
 
+    /// How often a take found the end.
+    ghost ends: { Self → ℕ };
+
     /// How often a take failed.
     ghost faults: { Self → ℕ };
 
@@ -34,6 +37,7 @@ pub trait Source {
         ensures end { told → IfOk result (λ count. (count ≡ 0) ↔ (left_bytes self.old ≡ [])) }
         ensures found_end { IfOk result (λ count. ((count ≡ 0) → ended self.new) × (ended self.old
             → count ≡ 0)) }
+        ensures ends { CountsEnd result (ends self.old) (ends self.new) }
         ensures stays { ended self.old → ended self.new }
         ensures err { told → OnErr result ((left_bytes self.new ≡ left_bytes self.old)
             × (taken self.new ≡ taken self.old)) }

@@ -6,7 +6,7 @@ use crate::copy::{Copied, copy_all};
 use crate::ready::{Began, Ready};
 use crate::side::{Serving, Side};
 use crate::sides::Sides;
-use image_device::{Device, Failed, Port};
+use image_device::{Device, Failed, Port, WorkDone};
 use std::marker::PhantomData;
 
 /// Two sides served as one device. It owns them, so that what it keeps of them holds on through code
@@ -276,6 +276,10 @@ impl<P: Sides, K: Began> Device for Mirror<P, K> {
                 Ok(())
             }
         }
+    }
+
+    fn show_work_done(&self, done: WorkDone) {
+        self.sides.show_work_done(done);
     }
 }
 

@@ -5,7 +5,7 @@ ghost use Rattle.mirror_device.specs.Sending.{SendsLate};
 
 use crate::side::{Seen, Side};
 use crate::sides::Sides;
-use image_device::Failed;
+use image_device::{Failed, WorkDone};
 use std::marker::{Brand, PhantomData};
 
 /// The counts, the time and the bytes sent as a mirror of two sides began, which proofs pick.
@@ -54,5 +54,9 @@ impl<P: Sides, K: Began> Sides for Ready<P, K> {
 
     fn put(&mut self, piece: &[u8]) -> Result<usize, Failed> {
         self.sides.put(piece)
+    }
+
+    fn show_work_done(&self, done: WorkDone) {
+        self.sides.show_work_done(done);
     }
 }

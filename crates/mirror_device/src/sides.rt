@@ -8,7 +8,7 @@ ghost use Rattle.mirror_device.specs.SideCalls.{IncludesPut, IsSideFirm, SideRes
 ghost use Rattle.mirror_device.specs.SideCalls.{SidesAppend, SidesPut, SideTouches, SideUses};
 
 use crate::side::{Seen, Side};
-use image_device::Failed;
+use image_device::{Failed, WorkDone};
 
 /// Two disks of sectors of 512 bytes, with a port beside them, under one clock. A call on one side
 /// leaves the other as it was. A call that answers Ok leaves the count of faults of its side as it
@@ -84,6 +84,12 @@ pub trait Sides {
         ensures puts { SidesPut (view self.old) (view self.new) }
         ensures faults { CountsFault result (view self.old).put_faults (view self.new).put_faults };
 
+    /// Shows what long work has done by now, where somebody looks. It changes nothing, and sides that
+    /// show nothing leave it out.
+    fn show_work_done(&self, done: WorkDone) {
+        let _ = done;
+    }
+
     /// What holds of them at each moment.
     ghost sound: { (d : Self) → told → SidesAreSound (view d) };
 }
@@ -117,5 +123,9 @@ impl<P: Sides> Sides for &mut P {
 
     fn put(&mut self, piece: &[u8]) -> Result<usize, Failed> {
         (**self).put(piece)
+    }
+
+    fn show_work_done(&self, done: WorkDone) {
+        (**self).show_work_done(done);
     }
 }
