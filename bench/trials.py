@@ -60,16 +60,24 @@ class Spent(NamedTuple):
     peak: float
 
 
+# Runs a command, and prints what it took. The most memory of a process counts that of the one that began it up to then,
+# so this one is a small one.
+LAUNCHER = """
+import os, subprocess, sys
+process = subprocess.Popen(sys.argv[1:], stdout=subprocess.DEVNULL)
+_, status, usage = os.wait4(process.pid, 0)
+process.returncode = os.waitstatus_to_exitcode(status)
+print(usage.ru_utime + usage.ru_stime, usage.ru_maxrss / 1024)
+sys.exit(process.returncode != 0)
+"""
+
+
 def spent(*words: object, source: Optional[Path] = None) -> Spent:
     """Runs the program over a file or no input, and tells what that took; it has to be done."""
-    command = [PROGRAM, *map(str, words)]
+    command = [sys.executable, "-c", LAUNCHER, PROGRAM, *map(str, words)]
     with open(source or os.devnull, "rb") as given:
-        process = subprocess.Popen(command, stdin=given, stdout=subprocess.DEVNULL)
-    _, status, usage = os.wait4(process.pid, 0)
-    process.returncode = os.waitstatus_to_exitcode(status)
-    if process.returncode:
-        raise subprocess.CalledProcessError(process.returncode, command)
-    return Spent(usage.ru_utime + usage.ru_stime, usage.ru_maxrss / 1024)
+        told = subprocess.run(command, stdin=given, stdout=subprocess.PIPE, check=True).stdout
+    return Spent(*map(float, told.split()))
 
 
 def fresh(image: Path, blocks: int) -> Path:

@@ -10,7 +10,7 @@ ghost use Rattle.block_alloc.specs.Choosing.{all_blocks, free_blocks, chosen, is
 ghost use Rattle.block_alloc.specs.Choosing.{IsRow, IsShort, IsRunRefusal};
 ghost use Rattle.block_alloc.specs.Groups.{is_run_within, IsKeptFrom};
 
-use crate::groups::{GROUP_BLOCKS, best_of, group_at, is_within, turns};
+use crate::groups::{GROUP_BLOCKS, best_of, group_at, is_within, start_of, turns};
 use crate::least::{Least, Ranked};
 use crate::map::LiveMap;
 use place_policy::Placement;
@@ -267,15 +267,15 @@ impl LiveMap {
         None
     }
 
-    /// Finds blocks of a group where a run of so many free ones begins, as many as are left to be found.
+    /// Finds blocks of a group where a run of so many free ones begins, as many as are left to be found, from the one
+    /// on at which a guess begins.
     fn find_in(&self, kind: PlaceKind, hint: u32, run: u32, group: u32, found: &mut Found)
         requires run { run ≤ 32 }
         requires group { 256 * group < self.now.geometry.blocks }
     {
         let blocks = self.geometry().blocks;
-        let first = GROUP_BLOCKS * group;
-        let end = blocks.min(first + GROUP_BLOCKS);
-        for block in first..end {
+        let end = blocks.min(GROUP_BLOCKS * group + GROUP_BLOCKS);
+        for block in start_of(kind, hint, group)..end {
             if found.left == 0 {
                 return;
             }

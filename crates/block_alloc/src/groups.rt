@@ -33,6 +33,17 @@ pub(crate) fn best_of(kind: PlaceKind, hint: u32, group: u32) -> u32
     }
 }
 
+/// The block of a group from which on a ceiling is guessed. For `Spread` it is the one of least rank, since those below
+/// a hint in its group have the greatest ranks of all.
+pub(crate) fn start_of(kind: PlaceKind, hint: u32, group: u32) -> u32
+    requires { group < 2 ^ 24 }
+{
+    match kind {
+        PlaceKind::Low | PlaceKind::Near | PlaceKind::Zone => GROUP_BLOCKS * group,
+        PlaceKind::Spread => best_of(kind, hint, group),
+    }
+}
+
 /// Whether a rank is at most a ceiling, where there is one.
 pub(crate) fn is_within(ceiling: Option<u64>, rank: u64) -> bool
     ensures { result ≡ is_within ceiling rank }
