@@ -1,6 +1,7 @@
 -- The step of a sweep at a block.
-use Rattle.std.proofs.Common.{◌≡◌, ℕ, ◌+◌, ◌≤◌, Bool, true, false, not, cond, ◌&&◌, ◌==◌, nat_le, List, [], ◌∷◌, length, refl, sym, ◌∙◌, ap, subst, arith, take, ◌⊎◌, ◌↔◌, inl, inr, Option, Some, None}
+use Rattle.std.proofs.Common.{◌≡◌, ℕ, ◌+◌, ◌<◌, ◌≤◌, Bool, true, false, not, cond, ◌&&◌, ◌==◌, nat_le, List, [], ◌∷◌, length, refl, sym, ◌∙◌, ap, subst, arith, take, ◌⊎◌, ◌↔◌, inl, inr, Option, Some, None}
 use Rattle.std.proofs.lemmas.Bool.{eq-eqb, eqb-true, ne_eqb, and_parts, and_from, both_ways, cases_eq, cases_Bool, false_from_ne_true}
+use Rattle.std.proofs.lemmas.Bool.Decides.{nat_tests}
 use Rattle.std.proofs.lemmas.List.{length-take, take-take}
 use Rattle.std.specs.Prelude.{filter, IfSome}
 use Rattle.tsd_model.specs.Pairs.{is_pair, holds, count_to}
@@ -18,6 +19,7 @@ use Rattle.graph_laws.proofs.SameGraphLaws.{raw_by_graph, reach_by_graph, step_b
 use Rattle.graph_laws.proofs.StepLaws.{holds-without_pointers, nothing_out, raw-stepped}
 use Rattle.graph_laws.proofs.SweepLaws.{target_reached, unreached_apart, sweeps-stepped, swept_whole}
 use Rattle.graph_laws.proofs.WeightLaws.{step_takes}
+use Rattle.reclaim.specs.Stepping.{TakesAll}
 use Rattle.reclaim.proofs.StepLaws.{few_of}
 use Rattle.reclaim.proofs.TargetLaws.{first_targets_taken, takes_all, takes_all_only}
 use Rattle.cycle_sweep.specs.Sweep.{MaySweep, AreSweptBy, IsStuck, is_last}
@@ -118,6 +120,16 @@ module _ (w : World) (b : ℕ) (all ts : List ℕ) (count : ℕ) (raw : IsRawGra
     few = omega (arith, ap length first, length-take 16 all);
     some = some;
   }
+
+  -- it takes 16 targets, or all
+  pub takes_wide : (freed : Bool) → TakesAll w (record { block = b; targets = ts; freed = freed }) ⊎ (length ts ≡ 16)
+  takes_wide freed = elim (cases_Bool (nat_le (length all) 16)) [
+    | inl few ↦ inl (λ c held. takes few c held)
+    | inr many ↦ inr (let more : 16 < length all = above (length all) many in omega (arith, ap length first, length-take 16 all, more))
+  ]
+    where
+      above : (n : ℕ) → nat_le n 16 ≡ false → 16 < n
+      above n e = grind (arith, nat_tests)
 
   -- no step can be taken at the block
   pub is_stuck : ts ≡ [] → (nat_le (length all) 16 && is_last count (has_number ts b)) ≡ false → IsStuck w b

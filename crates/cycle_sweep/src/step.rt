@@ -1,6 +1,6 @@
 //! The next step of a sweep.
 
-ghost use Rattle.std.specs.Prelude.{◌≡◌, ℕ, ◌<◌, ◌≤◌, ◌&&◌, nat_le, not, false, [], length};
+ghost use Rattle.std.specs.Prelude.{◌≡◌, ◌⊎◌, ℕ, ◌<◌, ◌≤◌, ◌&&◌, nat_le, not, false, [], length};
 ghost use Rattle.std.specs.Prelude.{IfSome, IsNone, IsTrue, ◌↔◌};
 ghost use Rattle.tsd_model.specs.Reach.{reach, swept};
 ghost use Rattle.tsd_model.specs.World.{World, is_live, has_number};
@@ -8,6 +8,7 @@ ghost use Rattle.block_alloc.specs.LiveMap.{is_live as is_live_in};
 ghost use Rattle.graph_laws.specs.Graph.{HasGraphOf};
 ghost use Rattle.cycle_sweep.specs.Marked.{is_marked};
 ghost use Rattle.cycle_sweep.specs.Sweep.{MaySweep, AreSweptBy, IsAloneAfter, IsStuck, is_last};
+ghost use Rattle.reclaim.specs.Stepping.{TakesAll};
 ghost use Rattle.reclaim.specs.Tables.{graph_of, AreTables, HaveCounts};
 
 use crate::marks::Marks;
@@ -34,6 +35,9 @@ pub fn next_sweep_step(
     requires marks { (b : ℕ) → is_marked marks.old b ≡ has_number (reach (graph_of pointers.now live.now)) b }
     ensures step { IfSome result (λ s. MaySweep (graph_of pointers.now live.now) s) }
     ensures freed { IfSome result (λ s. IsTrue s.freed ↔ IsAloneAfter (graph_of pointers.now live.now) s) }
+
+    // It takes 16 targets, or all that are left.
+    ensures wide { IfSome result (λ s. TakesAll (graph_of pointers.now live.now) s ⊎ (length s.targets ≡ 16)) }
 
     // What a disk with this graph sweeps to is the same after the step, and there is less of it.
     ensures kept { IfSome result (λ s. AreSweptBy (graph_of pointers.now live.now) s) }
@@ -63,6 +67,7 @@ fn step_around(
     requires marks { (b : ℕ) → is_marked marks.now b ≡ has_number (reach (graph_of pointers.now live.now)) b }
     ensures step { IfSome result (λ s. MaySweep (graph_of pointers.now live.now) s) }
     ensures freed { IfSome result (λ s. IsTrue s.freed ↔ IsAloneAfter (graph_of pointers.now live.now) s) }
+    ensures wide { IfSome result (λ s. TakesAll (graph_of pointers.now live.now) s ⊎ (length s.targets ≡ 16)) }
     ensures stuck { IsNone result → (b : ℕ) → IsTrue (is_live (graph_of pointers.now live.now) b)
         → is_marked marks.now b ≡ false → IsStuck (graph_of pointers.now live.now) b }
 {
@@ -90,6 +95,7 @@ fn step_within(
     requires end { end ≤ pointers.now.geometry.blocks }
     ensures step { IfSome result (λ s. MaySweep (graph_of pointers.now live.now) s) }
     ensures freed { IfSome result (λ s. IsTrue s.freed ↔ IsAloneAfter (graph_of pointers.now live.now) s) }
+    ensures wide { IfSome result (λ s. TakesAll (graph_of pointers.now live.now) s ⊎ (length s.targets ≡ 16)) }
     ensures stuck { IsNone result → (b : ℕ) → start ≤ b → b < end
         → IsTrue (is_live (graph_of pointers.now live.now) b) → is_marked marks.now b ≡ false
         → IsStuck (graph_of pointers.now live.now) b }
@@ -127,6 +133,7 @@ fn step_at(
     requires unreached { has_number (reach (graph_of pointers.now live.now)) block ≡ false }
     ensures step { IfSome result (λ s. MaySweep (graph_of pointers.now live.now) s) }
     ensures freed { IfSome result (λ s. IsTrue s.freed ↔ IsAloneAfter (graph_of pointers.now live.now) s) }
+    ensures wide { IfSome result (λ s. TakesAll (graph_of pointers.now live.now) s ⊎ (length s.targets ≡ 16)) }
     ensures none { IsNone result → IsStuck (graph_of pointers.now live.now) block }
 {
     let all = pointers.least_targets(block, STEP_TARGETS + 1);

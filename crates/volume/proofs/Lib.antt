@@ -2,3 +2,4 @@ pub mod Loaded
 pub mod FinishLaws
 pub mod SweepOps
 pub mod SweepRun
+pub mod SweepCosts

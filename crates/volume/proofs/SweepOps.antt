@@ -46,7 +46,7 @@ sweep_allowed t s sound may = record {
   few = may.few;
 }
 
-sweeping_left : (t : Tables) (w : World) → t.is_sweeping ≡ true → left_of t w ≡ swept w
+pub sweeping_left : (t : Tables) (w : World) → t.is_sweeping ≡ true → left_of t w ≡ swept w
 unfolding left_of
 sweeping_left t w sweeping = rw sweeping refl
 
@@ -63,18 +63,25 @@ graph_itself w = record { geometry = refl; each_block = refl; live = λ b. refl;
 free_most : (t : Tables) → free_count (graph_in t) ≤ t.geometry.blocks
 free_most t = omega (arith, count_by-le-length is_none (graph_in t).blocks, (graph_laid_out t).each_block)
 
-pub sweep_lowers : (t now : Tables) (s : OutStep) → MaySweep (graph_in t) s → AreSweptBy (graph_in t) s → IsStepped t now s.block s.targets s.freed → sweep_left now < sweep_left t
-sweep_lowers t now s may kept is =
+-- a step takes a pair, or frees its block
+pub some_taken : (w : World) (s : OutStep) → MaySweep w s → 1 ≤ cond s.freed 1 0 + length s.targets
+some_taken w s may = elim may.some [
+  | inl f ↦ let one : ◌≡◌ {A = ℕ} (cond s.freed 1 0) 1 = ap (λ b. cond b 1 0) f in omega (arith, one)
+  | inr one ↦ omega (arith, one)
+]
+
+-- so much less is left then
+pub sweep_takes : (t now : Tables) (s : OutStep) → AreSweptBy (graph_in t) s → IsStepped t now s.block s.targets s.freed → sweep_left t ≡ sweep_left now + (cond s.freed 1 0 + length s.targets)
+sweep_takes t now s kept is =
     let k = kept (graph_in t) (graph_itself (graph_in t)) in
     let w = stepped (graph_in t) s.block s.targets s.freed in
     let pairs : length (graph_in now).pairs ≡ length w.pairs = ap (λ (v : World). length v.pairs) (graph_stepped t now s.block s.targets s.freed is) in
     let free : free_count (graph_in now) ≡ free_count w = ap (λ (v : World). free_count v) (graph_stepped t now s.block s.targets s.freed is) in
     let blocks : now.geometry.blocks ≡ t.geometry.blocks = ap (λ (u : Tables). u.geometry.blocks) is.same in
-    let some : 1 ≤ cond s.freed 1 0 + length s.targets = elim may.some [
-      | inl f ↦ let one : ◌≡◌ {A = ℕ} (cond s.freed 1 0) 1 = ap (λ b. cond b 1 0) f in omega (arith, one)
-      | inr one ↦ omega (arith, one)
-    ] in
-    omega (arith, pairs, free, blocks, some, k.pairs, k.free, free_most now)
+    omega (arith, pairs, free, blocks, k.pairs, k.free, free_most now)
+
+pub sweep_lowers : (t now : Tables) (s : OutStep) → MaySweep (graph_in t) s → AreSweptBy (graph_in t) s → IsStepped t now s.block s.targets s.freed → sweep_left now < sweep_left t
+sweep_lowers t now s may kept is = let takes = sweep_takes t now s kept is in let some = some_taken (graph_in t) s may in omega (arith, takes, some)
 
 pub sweep_op : (vol : Volume) (now : Tables) (s : OutStep) (batch : List Patch) → vol.tables.is_sweeping ≡ true → MaySweep (graph_in vol.tables) s → AreSweptBy (graph_in vol.tables) s → IsStepPut vol.tables s now batch
     → IsOp any_bytes vol now batch 33 (owed now) (λ w. w)

@@ -1,12 +1,14 @@
 -- In the middle of a sweep: the world is as at the start.
-use Rattle.std.proofs.Common.{[], ◌≡◌, ℕ, Bool, true, false, List, length, refl, sym, ◌∙◌, ◌<◌, ap, subst, Result, Ok, Err}
+use Rattle.std.proofs.Common.{[], ◌≡◌, ℕ, ◌+◌, ◌*◌, ◌≤◌, Bool, true, false, List, length, refl, sym, ◌∙◌, ◌<◌, ap, subst, arith, Result, Ok, Err}
 use Rattle.std.specs.Prelude.{OnOk, IsErrAnd}
 use Rattle.tsd_model.specs.Reach.{reach}
 use Rattle.tsd_model.specs.World.{World, has_number}
+use Rattle.image_device.specs.Calls.{Uses}
 use Rattle.image_device.specs.View.{View, IsSound}
 use Rattle.image_device.specs.declared.device.Failed.{Failed}
 use Rattle.image_layout.specs.declared.header.Header.{Header}
 use Rattle.image_layout.specs.declared.place.Patch.{Patch}
+use Rattle.intent_journal.specs.Ring.{committed, commit_writes}
 use Rattle.pointer_table.specs.Table.{Table as Pointers}
 use Rattle.pointer_table.specs.declared.out_step.OutStep.{OutStep}
 use Rattle.ref_counts.specs.Table.{Table as Counts}
@@ -27,7 +29,9 @@ use Rattle.volume_laws.proofs.OperationLaws.{no_op, kept_then, op_answers, op_fa
 use Rattle.volume_laws.proofs.Ops.{any_bytes, IsOp}
 use Rattle.volume_laws.proofs.SettlingLaws.{done}
 use Rattle.volume_laws.proofs.StepWorlds.{graph_stepped}
-use Rattle.volume.specs.Sweeping.{sweep_left}
+use Rattle.volume_laws.specs.Writes.{batch_cost}
+use Rattle.volume.specs.Sweeping.{sweep_left, taken_cost}
+use Rattle.volume.proofs.SweepCosts.{IsPaidSoFar, paid_more, step_cheap}
 use Rattle.volume.proofs.SweepOps.{sweep_allowed, sweep_lowers, sweep_op, graph_itself}
 
 pub record IsSweepRun (told : Type 0) (first : Volume) (start : View) (vol : Volume) (v : View) : Type 0 where
@@ -36,6 +40,7 @@ pub record IsSweepRun (told : Type 0) (first : Volume) (start : View) (vol : Vol
   pub version : vol.tables.version ≡ first.tables.version
   pub sweeping : vol.tables.is_sweeping ≡ true
   pub unready : vol.is_ready ≡ false
+  pub cost : IsPaidSoFar first start vol v
 
 -- exactly the reached blocks are marked
 abbrev pub AreMarksOf : List Bool → Pointers → LiveMap → Type 0
@@ -48,6 +53,7 @@ run_none told first start sound sweeping unready unspent at = record {
   version = refl;
   sweeping = sweeping;
   unready = unready;
+  cost = omega arith;
 }
 
 module _ (told : Type 0) (first : Volume) (start : View) (vol : Volume) (v : View) (so_far : IsSweepRun told first start vol v) (now : Volume) (new : View) where
@@ -55,20 +61,23 @@ module _ (told : Type 0) (first : Volume) (start : View) (vol : Volume) (v : Vie
   pub run_op : {T : Type 0} (r : Result T Failed) → IsOperation told [] (λ w. w) vol now v new r → IsOperation told [] (λ w. w) first now start new r
   run_op r op = kept_then told (λ w. w) first vol now start v new tt r so_far.operation op
 
-  pub run_more : {T : Type 0} (x : T) → IsOperation {T = T} told [] (λ w. w) vol now v new (Ok x) → told_by now ≡ told_by vol → now.tables.version ≡ vol.tables.version → now.tables.is_sweeping ≡ true → now.is_ready ≡ false → IsSweepRun told first start now new
-  run_more x op tells version sweeping unready = record {
+  pub run_more : {T : Type 0} (x : T) → IsOperation {T = T} told [] (λ w. w) vol now v new (Ok x) → told_by now ≡ told_by vol → now.tables.version ≡ vol.tables.version → now.tables.is_sweeping ≡ true → now.is_ready ≡ false → IsPaidSoFar first start now new → IsSweepRun told first start now new
+  run_more x op tells version sweeping unready cost = record {
     operation = op_answers told (λ w. w) first now start new x tt (run_op (Ok x) op);
     tells = tells ∙ so_far.tells;
     version = version ∙ so_far.version;
     sweeping = sweeping;
     unready = unready;
+    cost = cost;
   }
 
   -- a step that was committed, and one that failed
   pub run_made : (r : Result (Unit {0}) Failed) (x : Unit {0}) → r ≡ Ok x → IsOperation told [] (λ w. w) vol now v new r → OnOk r (told_by now ≡ told_by vol) → now.tables.version ≡ vol.tables.version
-      → now.tables.is_sweeping ≡ true → now.is_ready ≡ false → IsSweepRun told first start now new
-  run_made r x is op tells version sweeping unready =
+      → now.tables.is_sweeping ≡ true → now.is_ready ≡ false → (batch : List Patch) → Uses (commit_writes vol.ring batch) v new → OnOk r (now.ring ≡ committed vol.ring batch)
+      → batch_cost (length batch) + taken_cost * sweep_left now.tables ≤ taken_cost * sweep_left vol.tables → IsSweepRun told first start now new
+  run_made r x is op tells version sweeping unready batch uses ring cheap =
       run_more x (subst (λ (o : Result (Unit {0}) Failed). IsOperation told [] (λ w. w) vol now v new o) is op) (subst (λ (o : Result (Unit {0}) Failed). OnOk o (told_by now ≡ told_by vol)) is tells) version sweeping unready
+      (paid_more first start vol v so_far.cost now new batch uses (subst (λ (o : Result (Unit {0}) Failed). OnOk o (now.ring ≡ committed vol.ring batch)) is ring) cheap)
 
   pub run_failed : (r : Result (Unit {0}) Failed) (e : Failed) (Q : Failed → Type 0) (s : Result (Unit {0}) Failed) → r ≡ Err e → IsErrAnd s Q → IsOperation told [] (λ w. w) vol now v new r → IsOperation told [] (λ w. w) first now start new s
   run_failed r e Q s is err op = op_fails told (λ w. w) first now start new e Q s err (run_op (Err e) (subst (λ (o : Result (Unit {0}) Failed). IsOperation told [] (λ w. w) vol now v new o) is op))
@@ -122,6 +131,9 @@ module _ (h : Header) (p : Pointers) (k : Counts) (l : LiveMap) (c : Store) (is 
         ∙ (sym ((kept_in (graph_in t) (graph_itself (graph_in t))).same.reached b)
         ∙ (ap reached (sym (graph_stepped t (tables_in h q j m c is) s.block s.targets s.freed put.stepped))
         ∙ ap reached (same_graph h q j m c is (length marks) a ready parts_then))))
+
+    pub cheap : batch_cost (length batch) + taken_cost * sweep_left (tables_in h q j m c is) ≤ taken_cost * sweep_left (tables_in h p k l c is)
+    cheap = step_cheap (tables_in h p k l c is) (tables_in h q j m c is) s batch may_in kept_in put
 
     pub lowers : sweep_left (tables_in h q j m c is) < sweep_left (tables_in h p k l c is)
     lowers = sweep_lowers (tables_in h p k l c is) (tables_in h q j m c is) s may_in kept_in put.stepped

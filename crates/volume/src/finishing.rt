@@ -1,11 +1,12 @@
 //! Ending what an image holds of a sweep and a cascade.
 
-ghost use Rattle.std.specs.Prelude.{◌≡◌, [], ◌-◌, ◌≤◌, true, false, OnOk, OnErr, IfOk};
+ghost use Rattle.std.specs.Prelude.{◌≡◌, [], ◌+◌, ◌-◌, ◌≤◌, true, false, OnOk, OnErr, IfOk};
 ghost use Rattle.block_alloc.specs.LiveMap.{free_count as free_in};
 ghost use Rattle.image_device.specs.Calls.{Uses};
 ghost use Rattle.image_device.specs.Counts.{CountsFault};
 ghost use Rattle.image_world.specs.Raw.{world_with, zeros_of};
 ghost use Rattle.tsd_model.specs.World.{free_count};
+ghost use Rattle.volume.specs.Sweeping.{left_due};
 ghost use Rattle.volume_laws.specs.Moments.{LeavesWorld, LeavesOwed};
 ghost use Rattle.image_world.specs.Debt.{owed};
 ghost use Rattle.volume_laws.specs.Operations.{IsOperation, IsWithin};
@@ -44,6 +45,11 @@ impl Volume {
             (world_with self.old.tables (zeros_of self.old.tables))) }
         ensures settled { OnOk result (owed self.new.tables ≡ 0) }
         ensures ready { OnOk result (IsVolumeReady self.new) }
+
+        // Whether a sweep is open or not: at most what the image has left to be written.
+        ensures paid { OnOk result ((D.view dev.new).writes + due self.new
+            ≤ (D.view dev.old).writes + left_due self.old) }
+        ensures uses { Uses (left_due self.old) (D.view dev.old) (D.view dev.new) }
     {
         let before = self.raw_free_count();
         self.end_sweep(dev)?;
@@ -65,6 +71,9 @@ impl Volume {
         ensures less { self.old.tables.is_sweeping ≡ false
             → OnOk result (owed self.new.tables ≤ owed self.old.tables) }
         ensures same_ready { self.new.is_ready ≡ self.old.is_ready }
+        ensures paid { OnOk result ((D.view dev.new).writes + due self.new
+            ≤ (D.view dev.old).writes + left_due self.old) }
+        ensures uses { Uses (left_due self.old) (D.view dev.old) (D.view dev.new) }
     {
         if self.is_sweeping {
             self.end_open_sweep(dev)

@@ -1,17 +1,19 @@
 //! Reclaiming the unreached blocks, to which no primary block leads.
 
-ghost use Rattle.std.specs.Prelude.{◌≡◌, [], ◌-◌, ◌<◌, true, false, OnOk, OnErr, IfOk, IfSome, IsNone};
+ghost use Rattle.std.specs.Prelude.{◌≡◌, [], ◌+◌, ◌-◌, ◌*◌, ◌<◌, ◌≤◌, true, false, OnOk, OnErr, IfOk, IfSome, IsNone};
 ghost use Rattle.tsd_model.specs.Reach.{swept};
 ghost use Rattle.tsd_model.specs.World.{World, free_count};
 ghost use Rattle.cycle_sweep.specs.Sweep.{MaySweep, AreSweptBy};
 ghost use Rattle.graph_laws.specs.Graph.{HasGraphOf};
+ghost use Rattle.image_device.specs.Calls.{Uses};
 ghost use Rattle.image_device.specs.Counts.{CountsFault};
-ghost use Rattle.volume.specs.Sweeping.{sweep_left};
+ghost use Rattle.intent_journal.specs.Ring.{checkpoint_writes};
+ghost use Rattle.volume.specs.Sweeping.{sweep_cost, swept_size, taken_cost, unswept};
 ghost use Rattle.volume_laws.specs.Moments.{LeavesEither, LeavesWorld};
 ghost use Rattle.image_world.specs.Debt.{graph_in, owed};
 ghost use Rattle.volume_laws.specs.Operations.{IsOperation};
 ghost use Rattle.volume_laws.specs.Volume.{IsVolumeAt, IsVolumeReady, told_by, world_on};
-ghost use Rattle.volume_laws.specs.Writes.{Works};
+ghost use Rattle.volume_laws.specs.Writes.{batch_cost, due, IsPaid, Works};
 
 use crate::volume::Volume;
 use cycle_sweep::{mark, next_sweep_step};
@@ -34,6 +36,11 @@ impl Volume {
         ensures count { IfOk result (λ count. count ≡ free_count (told_by self.new) - free_count (told_by self.old)) }
         ensures settled { OnOk result (owed self.new.tables ≡ 0) }
         ensures ready { OnOk result (IsVolumeReady self.new) }
+
+        // At most 7 writes for each block and pair that it takes away, and 10 for its flag, beside what was due.
+        ensures paid { OnOk result (IsPaid (sweep_cost (told_by self.old)) self.old (D.view dev.old) self.new
+            (D.view dev.new)) }
+        ensures uses { Uses (due self.old + sweep_cost (told_by self.old)) (D.view dev.old) (D.view dev.new) }
     {
         self.settle_doomed(dev)?;
         let before = self.raw_free_count();
@@ -53,6 +60,10 @@ impl Volume {
         ensures told { OnOk result (told_by self.new ≡ swept (told_by self.old)) }
         ensures sweeping { self.new.tables.is_sweeping ≡ true }
         ensures unready { self.new.is_ready ≡ false }
+        ensures left { OnOk result (unswept self.new.tables ≡ swept_size (told_by self.old)) }
+        ensures paid { OnOk result ((D.view dev.new).writes + checkpoint_writes self.new.ring
+            ≤ (D.view dev.old).writes + checkpoint_writes self.old.ring + batch_cost 1) }
+        ensures uses { Uses (checkpoint_writes self.old.ring + batch_cost 1) (D.view dev.old) (D.view dev.new) }
     {
         self.is_ready = false;
         self.is_sweeping = true;
@@ -77,6 +88,10 @@ impl Volume {
         ensures settled { OnOk result (owed self.new.tables ≡ 0) }
         ensures still { OnOk result (self.new.tables.is_sweeping ≡ false) }
         ensures unready { self.new.is_ready ≡ false }
+        ensures paid { OnOk result ((D.view dev.new).writes + due self.new ≤ (D.view dev.old).writes
+            + (checkpoint_writes self.old.ring + taken_cost * unswept self.old.tables + batch_cost 1)) }
+        ensures uses { Uses (checkpoint_writes self.old.ring + taken_cost * unswept self.old.tables + batch_cost 1)
+            (D.view dev.old) (D.view dev.new) }
     {
         self.make_sweep_steps(dev)?;
         self.close_flag(dev)?;
@@ -95,6 +110,9 @@ impl Volume {
         ensures settled { OnOk result (owed self.new.tables ≡ 0) }
         ensures still { OnOk result (self.new.tables.is_sweeping ≡ false) }
         ensures unready { self.new.is_ready ≡ false }
+        ensures paid { OnOk result ((D.view dev.new).writes + due self.new
+            ≤ (D.view dev.old).writes + checkpoint_writes self.old.ring + batch_cost 1) }
+        ensures uses { Uses (checkpoint_writes self.old.ring + batch_cost 1) (D.view dev.old) (D.view dev.new) }
     {
         self.is_sweeping = false;
         self.batch.clear();
@@ -117,6 +135,10 @@ impl Volume {
         ensures whole { OnOk result ((r : World) → HasGraphOf (graph_in self.new.tables) r → swept r ≡ r) }
         ensures sweeping { OnOk result (self.new.tables.is_sweeping ≡ true) }
         ensures unready { self.new.is_ready ≡ false }
+        ensures paid { OnOk result ((D.view dev.new).writes + checkpoint_writes self.new.ring
+            ≤ (D.view dev.old).writes + (checkpoint_writes self.old.ring + taken_cost * unswept self.old.tables)) }
+        ensures uses { Uses (checkpoint_writes self.old.ring + taken_cost * unswept self.old.tables) (D.view dev.old)
+            (D.view dev.new) }
     {
         let primaries = self.header.geometry.primaries;
         mark(&self.pointers, &self.live, primaries, &mut self.marks);

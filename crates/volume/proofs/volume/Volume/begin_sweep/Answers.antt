@@ -1,5 +1,5 @@
-use Rattle.volume_laws.proofs.OperationLaws.{committed_op}
-use Rattle.std.proofs.Common.{◌≡◌, ℕ, List, [], ◌∷◌, true, false, inl, inr, sym, ◌∙◌, ap, subst}
+use Rattle.volume_laws.proofs.OperationLaws.{committed_op, committed_uses}
+use Rattle.std.proofs.Common.{◌≡◌, ℕ, List, [], ◌∷◌, true, false, inl, inr, sym, ◌∙◌, ap, subst, Ok}
 use Rattle.std.proofs.lemmas.Bool.{cases_Bool}
 use Rattle.tsd_model.specs.Reach.{swept}
 use Rattle.image_layout.specs.Areas.{sweep_flag}
@@ -10,6 +10,10 @@ use Rattle.volume_laws.specs.Volume.{Volume, tables_in}
 use Rattle.volume_laws.proofs.AheadKept.{none_gone}
 use Rattle.volume_laws.proofs.Ops.{any_bytes, IsOp, op_told}
 use Rattle.volume.proofs.SweepOps.{flag_patch, flag_alone, open_op}
+use Rattle.image_device.specs.declared.device.Failed.{Failed}
+use Rattle.image_device.proofs.Outcomes.{on_ok}
+use Rattle.volume.specs.Sweeping.{sweep_left}
+use Rattle.volume.proofs.SweepCosts.{opened_left, flag_paid}
 use Rattle.volume.proofs.volume.Volume.begin_sweep.Given
 use Rattle.volume.proofs.volume.Volume.begin_sweep.Goals as goal
 
@@ -59,3 +63,19 @@ returns-clause-operation g c =
     let e = c.commit-outcome.ensures in
     committed_op g.D.Device.told c.commit-outcome.result any_bytes c.args.self.now (now g c) (g.D.Device.view c.args.dev.now) (g.D.Device.view c.commit-outcome.new.dev) c.put.new.self 1 0 _ (λ w. swept w) (this g c) c.requires.at (λ told. tt)
     e.done e.at e.firm e.any_moment e.sent e.uses e.faults c.is_err-self-inside.ensures.value (ap (λ (w : Volume). w.tables.geometry) c.self.view_is)
+
+ring_is : (g : Given.Over) (c : goal.After-self-3-1 g) → c.self.inside.ring ≡ c.args.self.now.ring
+ring_is g c = ap (λ (w : Volume). w.ring) c.self.view_is
+
+pub returns-clause-left : goal.returns-clause-left
+returns-clause-left g c = on_ok c.commit-outcome.result
+    (opened_left c.args.self.now (now g c) c.requires.still c.requires.none (ap (λ (w : Volume). sweep_left w.tables) c.self.view_is)
+    (op_told {T = Unit {0}} {E = Failed} (Ok tt) any_bytes c.args.self.now (now g c) c.put.new.self 1 0 (λ w. swept w) (this g c)))
+
+pub returns-clause-paid : goal.returns-clause-paid
+returns-clause-paid g c =
+    flag_paid c.commit-outcome.result c.args.self.now (now g c) c.self.inside.ring c.put.new.self (g.D.Device.view c.args.dev.now) (g.D.Device.view c.commit-outcome.new.dev) (ring_is g c) (this g c).few c.commit-outcome.ensures.uses c.commit-outcome.ensures.records
+
+pub returns-clause-uses : goal.returns-clause-uses
+returns-clause-uses g c =
+    committed_uses c.args.self.now c.self.inside.ring (g.D.Device.view c.args.dev.now) (g.D.Device.view c.commit-outcome.new.dev) c.put.new.self 1 (this g c).few (ring_is g c) c.commit-outcome.ensures.uses

@@ -1,4 +1,4 @@
-use Rattle.volume_laws.proofs.OperationLaws.{committed_op}
+use Rattle.volume_laws.proofs.OperationLaws.{committed_op, committed_uses}
 use Rattle.std.proofs.Common.{◌≡◌, ℕ, List, [], ◌∷◌, false, refl, sym, ◌∙◌, ap, subst}
 use Rattle.image_device.proofs.Outcomes.{on_ok}
 use Rattle.tsd_model.specs.Doomed.{doomed}
@@ -10,6 +10,7 @@ use Rattle.volume_laws.specs.Volume.{Volume, tables_in}
 use Rattle.volume_laws.proofs.Ops.{any_bytes, IsOp, op_told}
 use Rattle.volume_laws.proofs.TableWorlds.{none_owed}
 use Rattle.volume.proofs.SweepOps.{flag_patch, flag_alone, close_op, whole_has_none}
+use Rattle.volume.proofs.SweepCosts.{flag_due, flag_paid}
 use Rattle.volume.proofs.volume.Volume.close_flag.Given
 use Rattle.volume.proofs.volume.Volume.close_flag.Goals as goal
 
@@ -59,3 +60,15 @@ returns-clause-operation g c =
     let e = c.commit-outcome.ensures in
     committed_op g.D.Device.told c.commit-outcome.result any_bytes c.args.self.now (now g c) (g.D.Device.view c.args.dev.now) (g.D.Device.view c.commit-outcome.new.dev) c.put.new.self 1 0 _ (λ w. w) (this g c) c.requires.at (λ told. tt)
     e.done e.at e.firm e.any_moment e.sent e.uses e.faults c.is_err-self-inside.ensures.value (ap (λ (w : Volume). w.tables.geometry) c.self.view_is)
+
+ring_is : (g : Given.Over) (c : goal.After-self-2-1 g) → c.self.inside.ring ≡ c.args.self.now.ring
+ring_is g c = ap (λ (w : Volume). w.ring) c.self.view_is
+
+pub returns-clause-paid : goal.returns-clause-paid
+returns-clause-paid g c =
+    flag_due c.commit-outcome.result c.args.self.now (now g c) (g.D.Device.view c.args.dev.now) (g.D.Device.view c.commit-outcome.new.dev) (returns-clause-settled g c)
+    (flag_paid c.commit-outcome.result c.args.self.now (now g c) c.self.inside.ring c.put.new.self (g.D.Device.view c.args.dev.now) (g.D.Device.view c.commit-outcome.new.dev) (ring_is g c) (this g c).few c.commit-outcome.ensures.uses c.commit-outcome.ensures.records)
+
+pub returns-clause-uses : goal.returns-clause-uses
+returns-clause-uses g c =
+    committed_uses c.args.self.now c.self.inside.ring (g.D.Device.view c.args.dev.now) (g.D.Device.view c.commit-outcome.new.dev) c.put.new.self 1 (this g c).few (ring_is g c) c.commit-outcome.ensures.uses

@@ -6,6 +6,9 @@ use Rattle.image_world.specs.Raw.{world_with, zeros_of}
 use Rattle.volume_laws.specs.Volume.{Volume, told_by}
 use Rattle.volume_laws.proofs.OperationLaws.{kept_then, op_answers, op_fails, op_ready, within_then, within_answers, within_fails, within_ready}
 use Rattle.volume.proofs.FinishLaws.{free_left, free_then}
+use Rattle.std.proofs.Common.{◌+◌, ◌≤◌, sym, subst}
+use Rattle.volume.specs.Sweeping.{left_due}
+use Rattle.volume.proofs.SweepCosts.{ended_paid, uses_then}
 use Rattle.volume.proofs.volume.Volume.finish.Given
 use Rattle.volume.proofs.volume.Volume.finish.Goals as goal
 
@@ -60,3 +63,19 @@ returns-clause-operation g c =
 
 pub returns-clause-settled : goal.returns-clause-settled
 returns-clause-settled g c = ap (λ (v : Volume). owed v.tables) c.make_ready.ensures ∙ c.in_ok-settle_doomed.ensures.settled
+
+pub returns-in_err-settle_doomed-clause-uses : goal.returns-in_err-settle_doomed-clause-uses
+returns-in_err-settle_doomed-clause-uses g c =
+    let e = c.in_ok-end_sweep.ensures in
+    uses_then (left_due c.args.self.now) (due c.end_sweep.new.self) (g.D.Device.view c.args.dev.now) (g.D.Device.view c.end_sweep.new.dev) (g.D.Device.view c.settle_doomed.new.dev) e.operation.works e.paid c.settle_doomed.ensures.cost.uses
+
+pub returns-clause-uses : goal.returns-clause-uses
+returns-clause-uses g c =
+    let e = c.in_ok-end_sweep.ensures in
+    uses_then (left_due c.args.self.now) (due c.end_sweep.new.self) (g.D.Device.view c.args.dev.now) (g.D.Device.view c.end_sweep.new.dev) (g.D.Device.view c.settle_doomed.new.dev) e.operation.works e.paid c.settle_doomed.ensures.cost.uses
+
+pub returns-clause-paid : goal.returns-clause-paid
+returns-clause-paid g c =
+    let view = g.D.Device.view in
+    subst (λ (x : Volume). (view c.settle_doomed.new.dev).writes + due x ≤ (view c.args.dev.now).writes + left_due c.args.self.now) (sym c.make_ready.ensures)
+    (ended_paid c.args.self.now c.end_sweep.new.self c.settle_doomed.new.self (view c.args.dev.now) (view c.end_sweep.new.dev) (view c.settle_doomed.new.dev) c.in_ok-end_sweep.ensures.paid c.in_ok-settle_doomed.ensures.cost.paid)

@@ -1,12 +1,14 @@
-use Rattle.std.proofs.Common.{[], Bool, List, refl, sym, ◌∙◌, subst, length}
+use Rattle.std.proofs.Common.{[], ◌≡◌, Bool, List, refl, sym, ◌∙◌, subst, length, Ok}
+use Rattle.image_device.specs.declared.device.Failed.{Failed}
 use Rattle.image_world.specs.Debt.{owed}
 use Rattle.volume_laws.specs.Operations.{IsOperation}
 use Rattle.volume_laws.specs.Steps.{IsStepPut}
-use Rattle.volume_laws.specs.Volume.{Volume, AreParts, tables_in}
+use Rattle.volume_laws.specs.Volume.{Volume, AreParts, tables_in, told_by}
 use Rattle.volume_laws.proofs.NextLaws.{are_tables}
 use Rattle.volume_laws.proofs.OperationLaws.{committed_op}
 use Rattle.volume_laws.proofs.Ops.{any_bytes, IsOp, op_told}
-use Rattle.volume.proofs.SweepRun.{IsSweepRun, AreMarksOf, run_none, run_made, run_failed, may_put, parts_then, marks_stay, lowers, step_op}
+use Rattle.volume.proofs.SweepRun.{IsSweepRun, AreMarksOf, run_none, run_made, run_failed, may_put, parts_then, marks_stay, cheap, lowers, step_op}
+use Rattle.volume.proofs.SweepCosts.{paid_failed, paid_all, used_all}
 use Rattle.volume.proofs.volume.Volume.make_sweep_steps.Given
 use Rattle.volume.proofs.volume.Volume.make_sweep_steps.Goals as goal
 
@@ -96,7 +98,10 @@ loop-step-preserved g c =
     let run = c.loop-step.invariant.run in
     record {
       run = run_made g.D.Device.told c.args.self.now (g.D.Device.view c.args.dev.now) (was g c) (g.D.Device.view c.loop-step.dev) run (now g c) (g.D.Device.view c.commit-outcome.new.dev) c.commit-outcome.result _ c.in_ok-outcome.was
-          (operation g c) (op_told c.commit-outcome.result any_bytes (was g c) (now g c) c.put_step.new.batch 33 (owed (now g c).tables) (λ w. w) (this g c)) refl run.sweeping run.unready;
+          (operation g c) (op_told c.commit-outcome.result any_bytes (was g c) (now g c) c.put_step.new.batch 33 (owed (now g c).tables) (λ w. w) (this g c)) refl run.sweeping run.unready
+          c.put_step.new.batch c.commit-outcome.ensures.uses c.commit-outcome.ensures.records
+          (cheap i.header i.pointers i.counts i.live i.caps i.is_sweeping i.marks i.ahead i.is_ready c.loop-step.invariant.parts c.in-Some.step c.in-Some.ensures.step c.in-Some.ensures.kept
+          c.put_step.new.pointers c.put_step.new.counts c.put_step.new.live c.put_step.new.batch (put g c) e.slots e.counts e.live e.shown run.unready);
       parts = then g c;
       marks = subst (λ (ms : List Bool). AreMarksOf ms c.put_step.new.pointers c.put_step.new.live) (sym c.next_sweep_step.ensures.marks)
           (marks_stay i.header i.pointers i.counts i.live i.caps i.is_sweeping i.marks i.ahead i.is_ready c.loop-step.invariant.parts c.in-Some.step c.in-Some.ensures.step c.in-Some.ensures.kept
@@ -146,3 +151,34 @@ pub returns-in_err-outcome-clause-operation : goal.returns-in_err-outcome-clause
 returns-in_err-outcome-clause-operation g c =
     run_failed g.D.Device.told c.args.self.now (g.D.Device.view c.args.dev.now) (was-failed g c) (g.D.Device.view c.loop-step.dev) c.loop-step.invariant.run (now-failed g c) (g.D.Device.view c.commit-outcome.new.dev)
     c.commit-outcome.result _ _ c.from_residual.result c.in_err-outcome.was c.from_residual.ensures.1 (operation-failed g c)
+
+-- as it was, it tells what the start does
+told-failed : (g : Given.Over) (c : goal.After-from_residual g) → told_by (now-failed g c) ≡ told_by c.args.self.now
+told-failed g c = op_told {T = Unit {0}} {E = Failed} (Ok tt) any_bytes (was-failed g c) (now-failed g c) c.put_step.new.batch 33 (owed (now-failed g c).tables) (λ w. w) (this-failed g c) ∙ c.loop-step.invariant.run.tells
+
+pub returns-in_err-outcome-clause-uses : goal.returns-in_err-outcome-clause-uses
+returns-in_err-outcome-clause-uses g c =
+    let i = c.loop-step.self-inside in
+    let e = c.put_step.ensures in
+    let run = c.loop-step.invariant.run in
+    paid_failed c.args.self.now (g.D.Device.view c.args.dev.now) (was-failed g c) (g.D.Device.view c.loop-step.dev) run.cost (now-failed g c) (g.D.Device.view c.commit-outcome.new.dev) c.put_step.new.batch
+    (returns-in_err-outcome-clause-operation g c).works c.commit-outcome.ensures.uses
+    (cheap i.header i.pointers i.counts i.live i.caps i.is_sweeping i.marks i.ahead i.is_ready c.loop-step.invariant.parts c.in-Some.step c.in-Some.ensures.step c.in-Some.ensures.kept
+    c.put_step.new.pointers c.put_step.new.counts c.put_step.new.live c.put_step.new.batch (put-failed g c) e.slots e.counts e.live e.shown run.unready)
+    run.sweeping (told-failed g c)
+
+-- ---- no step is left
+
+-- the volume then
+abbrev pub at-end : (g : Given.Over) → goal.In_default g → Volume
+at-end g c = let i = c.loop-step.self-inside in record { tables = tables_in i.header i.pointers i.counts i.live i.caps i.is_sweeping; ring = i.ring; is_ready = i.is_ready; is_spent = i.is_spent }
+
+pub returns-clause-paid : goal.returns-clause-paid
+returns-clause-paid g c =
+    let run = c.loop-step.invariant.run in
+    paid_all c.args.self.now (g.D.Device.view c.args.dev.now) (at-end g c) (g.D.Device.view c.loop-step.dev) run.cost run.sweeping run.tells
+
+pub returns-clause-uses : goal.returns-clause-uses
+returns-clause-uses g c =
+    let run = c.loop-step.invariant.run in
+    used_all c.args.self.now (g.D.Device.view c.args.dev.now) (at-end g c) (g.D.Device.view c.loop-step.dev) run.cost run.operation.works run.sweeping run.tells

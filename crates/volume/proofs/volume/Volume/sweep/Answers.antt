@@ -6,6 +6,11 @@ use Rattle.tsd_model.specs.World.{World, free_count, has_number}
 use Rattle.image_world.specs.Raw.{world_with, zeros_of}
 use Rattle.volume_laws.specs.Volume.{Volume, told_by}
 use Rattle.volume.proofs.FinishLaws.{free_restricted, free_then}
+use Rattle.std.proofs.Common.{◌+◌, ◌*◌, ◌≤◌, subst}
+use Rattle.intent_journal.specs.Ring.{checkpoint_writes}
+use Rattle.volume_laws.specs.Writes.{batch_cost, due}
+use Rattle.volume.specs.Sweeping.{sweep_cost, taken_cost, unswept}
+use Rattle.volume.proofs.SweepCosts.{uses_most, sweep_begins, sweep_ends, sweep_paid}
 use Rattle.volume.proofs.volume.Volume.sweep.Given
 use Rattle.volume.proofs.volume.Volume.sweep.Goals as goal
 
@@ -70,3 +75,36 @@ returns-clause-operation g c =
 
 pub returns-clause-settled : goal.returns-clause-settled
 returns-clause-settled g c = ap (λ (v : Volume). owed v.tables) c.make_ready.ensures ∙ c.in_ok-end_open_sweep.ensures.settled
+
+pub returns-in_err-settle_doomed-clause-uses : goal.returns-in_err-settle_doomed-clause-uses
+returns-in_err-settle_doomed-clause-uses g c =
+    uses_most (due c.args.self.now) (due c.args.self.now + sweep_cost (told_by c.args.self.now)) (g.D.Device.view c.args.dev.now) (g.D.Device.view c.settle_doomed.new.dev) (omega arith) c.settle_doomed.ensures.cost.uses
+
+pub returns-in_err-begin_sweep-clause-uses : goal.returns-in_err-begin_sweep-clause-uses
+returns-in_err-begin_sweep-clause-uses g c =
+    let s = c.in_ok-settle_doomed.ensures in
+    sweep_begins c.args.self.now c.settle_doomed.new.self (g.D.Device.view c.args.dev.now) (g.D.Device.view c.settle_doomed.new.dev) (g.D.Device.view c.begin_sweep.new.dev) s.cost.paid s.operation.works s.told c.begin_sweep.ensures.uses
+
+pub returns-in_err-end_open_sweep-clause-uses : goal.returns-in_err-end_open_sweep-clause-uses
+returns-in_err-end_open_sweep-clause-uses g c =
+    let s = c.in_ok-settle_doomed.ensures in
+    let b = c.in_ok-begin_sweep.ensures in
+    sweep_ends c.args.self.now c.settle_doomed.new.self (g.D.Device.view c.args.dev.now) (g.D.Device.view c.settle_doomed.new.dev) (g.D.Device.view c.begin_sweep.new.dev) s.cost.paid s.operation.works s.told
+    c.begin_sweep.new.self b.paid b.operation.works b.left (g.D.Device.view c.end_open_sweep.new.dev) c.end_open_sweep.ensures.uses
+
+pub returns-clause-uses : goal.returns-clause-uses
+returns-clause-uses g c =
+    let s = c.in_ok-settle_doomed.ensures in
+    let b = c.in_ok-begin_sweep.ensures in
+    sweep_ends c.args.self.now c.settle_doomed.new.self (g.D.Device.view c.args.dev.now) (g.D.Device.view c.settle_doomed.new.dev) (g.D.Device.view c.begin_sweep.new.dev) s.cost.paid s.operation.works s.told
+    c.begin_sweep.new.self b.paid b.operation.works b.left (g.D.Device.view c.end_open_sweep.new.dev) c.end_open_sweep.ensures.uses
+
+pub returns-clause-paid : goal.returns-clause-paid
+returns-clause-paid g c =
+    let s = c.in_ok-settle_doomed.ensures in
+    let b = c.in_ok-begin_sweep.ensures in
+    let view = g.D.Device.view in
+    sweep_paid c.args.self.now c.settle_doomed.new.self (view c.args.dev.now) (view c.settle_doomed.new.dev) (view c.begin_sweep.new.dev) s.cost.paid s.operation.works s.told
+    c.begin_sweep.new.self b.paid b.operation.works b.left c.make_ready.new.self (view c.end_open_sweep.new.dev)
+    (subst (λ (x : Volume). (view c.end_open_sweep.new.dev).writes + due x ≤ (view c.begin_sweep.new.dev).writes + (checkpoint_writes c.begin_sweep.new.self.ring + taken_cost * unswept c.begin_sweep.new.self.tables + batch_cost 1))
+    (sym c.make_ready.ensures) c.in_ok-end_open_sweep.ensures.paid)
