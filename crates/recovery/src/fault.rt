@@ -3,23 +3,19 @@
 use image_device::Failed;
 use image_layout::{HeaderFault, ImageFault};
 use intent_journal::ReplayFault;
-use thiserror::Error;
 use tsd_model::NoMemory;
 use volume::VolumeFault;
 
 /// Why an image wasn't opened.
-#[derive(Clone, Copy, Debug, PartialEq, Eq, Error)]
+#[derive(Clone, Copy, Debug, PartialEq, Eq)]
 pub enum OpenFault {
     /// The image stands for no world: this is the first test that it fails.
-    #[error("the image stands for no world")]
     Image(ImageFault),
 
     /// A call on the device failed, and its count of faults rose.
-    #[error("a call on the device failed")]
     Device,
 
     /// Memory was short.
-    #[error("there is not enough memory")]
     NoMemory,
 }
 
