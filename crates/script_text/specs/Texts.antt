@@ -1,5 +1,5 @@
 -- The texts of requests and replies as they are printed.
-use Rattle.std.specs.Prelude.{ℕ, Bool, true, false, cond, ◌==◌, List, [], ◌∷◌, map, codes, decimal}
+use Rattle.std.specs.Prelude.{ℕ, Bool, true, false, cond, ◌==◌, nat_le, List, [], ◌∷◌, length, map, codes, decimal}
 use Rattle.std.specs.List.{list_all, join_with_byte}
 use Rattle.hex.specs.Hex.{encode_lower}
 use Rattle.tsd_model.specs.declared.caps.Shown.TheVariants.{Nothing, Key}
@@ -84,11 +84,11 @@ reply_words (reply.Refused r) = codes "no" ∷ rule_words r
 abbrev pub reply_text : Reply → List ℕ
 reply_text r = join_with_byte 32 (reply_words r)
 
--- it tells neither bytes nor blocks
+-- it doesn't tell many bytes
 abbrev pub is_short : Reply → Bool
-is_short (reply.Bytes bytes) = false
-is_short (reply.Blocks blocks) = false
-is_short (reply.Targets blocks) = false
+is_short (reply.Bytes bytes) = nat_le (length (up_to_last bytes)) 512
+is_short (reply.Blocks blocks) = true
+is_short (reply.Targets blocks) = true
 is_short reply.Done = true
 is_short (reply.Free n) = true
 is_short (reply.Gone n) = true

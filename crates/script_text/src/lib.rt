@@ -29,6 +29,7 @@ pub mod printing;
 mod replies;
 mod requests;
 pub mod short;
+mod trimming;
 mod words;
 
 pub use cutter::{Fed, LineCutter};

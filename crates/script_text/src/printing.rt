@@ -1,7 +1,6 @@
 //! Words of lines as they are printed, each with the space before it.
 
-ghost use Rattle.std.specs.Prelude.{◌≡◌, ◌+◌, ◌*◌, ◌≤◌, [], ◌∷◌, ◌++◌, length, flat_map};
-ghost use Rattle.std.specs.Prelude.{decimal};
+ghost use Rattle.std.specs.Prelude.{◌≡◌, ◌+◌, ◌*◌, ◌≤◌, ◌∷◌, ◌++◌, length};
 ghost use Rattle.hex.specs.Hex.{decode_of, encode_lower};
 ghost use Rattle.script_text.specs.Grammar.{IsField, Number, Show, New, Near, Bytes};
 ghost use Rattle.script_text.specs.Texts.{field_text, data_text};
@@ -10,7 +9,7 @@ use crate::fields::{DATA_DIGITS, NUMBER_DIGITS};
 use crate::out_buf::OutBuf;
 use crate::parse::LINE_MAX;
 use tsd_model::caps::CAP_BYTES;
-use tsd_model::lists::{BLOCKS_MAX, DATA_MAX};
+use tsd_model::lists::DATA_MAX;
 use tsd_model::{Cap, Hint, Shown};
 
 /// The hexadecimal digits of a capability.
@@ -38,18 +37,6 @@ pub fn put_number(into: &mut OutBuf, n: u32)
 {
     let mut digits = itoa::Buffer::new();
     put_word(into, digits.format(n).as_bytes());
-}
-
-/// Numbers, at most 64.
-pub fn put_numbers(into: &mut OutBuf, items: &[u32])
-    requires few { length items.now ≤ BLOCKS_MAX }
-    requires room { length into.old + BLOCKS_MAX * NUMBER_ROOM ≤ LINE_MAX }
-    ensures text { into.new ≡ into.old ++ flat_map (λ n. 32 ∷ decimal n) items.now }
-    ensures room { length into.new ≤ length into.old + BLOCKS_MAX * NUMBER_ROOM }
-{
-    for n in items {
-        put_number(into, *n);
-    }
 }
 
 /// A capability, in lower case.

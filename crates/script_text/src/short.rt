@@ -1,21 +1,32 @@
-//! Replies that tell neither bytes nor blocks: they are short.
+//! Replies of short lines: all but those that tell many bytes.
 
-ghost use Rattle.std.specs.Prelude.{◌≡◌, ◌+◌, ◌<◌, ◌≤◌, [], ◌∷◌, ◌++◌, length, decimal, true, false, MatchOption};
+ghost use Rattle.std.specs.Prelude.{◌≡◌, ◌+◌, ◌*◌, ◌<◌, ◌≤◌, [], ◌∷◌, ◌++◌, length, decimal, true, false};
+ghost use Rattle.std.specs.Prelude.{MatchOption, flat_map};
 ghost use Rattle.std.specs.List.{join_with_byte};
-ghost use Rattle.script_text.specs.Texts.{is_short, level_text, reply_text, rule_words};
+ghost use Rattle.hex.specs.Hex.{encode_lower};
+ghost use Rattle.tsd_model.specs.declared.replies.Reply.TheVariants as answer;
+ghost use Rattle.script_text.specs.Texts.{data_text, is_short, level_text, reply_text, rule_words, target_words};
 
 use crate::fields::NUMBER_DIGITS;
+use crate::trimming::trimmed;
 use arrayvec::ArrayVec;
 use std::marker::Model;
-use tsd_model::{Level, Reply, Rule};
+use tsd_model::lists::BLOCKS_MAX;
+use tsd_model::{BlockList, Data, Level, Reply, Rule};
 
-/// The most bytes of a short reply with its line feed.
-pub const SHORT_MAX: usize = 64;
+/// The most bytes that a short reply tells, those not counted that are zeros at the end.
+pub const FEW_MAX: usize = 512;
+
+/// The most bytes of a short reply with its line feed: a name, a space, two digits for each byte.
+pub const SHORT_MAX: usize = 1032;
+
+/// The most bytes of numbers with the space before each.
+const BLOCKS_ROOM: usize = BLOCKS_MAX * (1 + NUMBER_DIGITS);
 
 /// The most bytes of a rule's words with the spaces before them.
 const RULE_ROOM: usize = 40;
 
-/// At most 64 bytes: room that costs nothing to clear. Contracts see it as the list of its bytes.
+/// At most 1,032 bytes: room that costs little to clear. Contracts see it as the list of its bytes.
 #[derive(Drop)]
 pub struct ShortLine {
     bytes: ArrayVec<u8, SHORT_MAX>,
@@ -76,7 +87,7 @@ impl ShortLine {
     }
 }
 
-/// The line of a short reply, with its line feed; None where the reply tells bytes or blocks.
+/// The line of a short reply, with its line feed; None where the reply tells many bytes.
 pub fn short_line(reply: &Reply) -> Option<ShortLine>
     ensures { MatchOption result (is_short reply.now ≡ false) (λ line. line ≡ reply_text reply.now ++ 10 ∷ []) }
 {
@@ -96,9 +107,15 @@ pub(crate) fn put_short(reply: &Reply, line: &mut ShortLine) -> bool
     ensures room { length line.new < SHORT_MAX }
 {
     match reply {
-        Reply::Bytes(_) => false,
-        Reply::Blocks(_) => false,
-        Reply::Targets(_) => false,
+        Reply::Bytes(all) => bytes(line, all),
+        Reply::Blocks(all) => {
+            blocks(line, all);
+            true
+        }
+        Reply::Targets(all) => {
+            targets(line, all);
+            true
+        }
         Reply::Done => {
             line.put(b"ok".as_slice());
             true
@@ -123,6 +140,95 @@ pub(crate) fn put_short(reply: &Reply, line: &mut ShortLine) -> bool
             true
         }
     }
+}
+
+/// Bytes, where they are few; it answers whether they are.
+#[inline(never)]
+fn bytes(line: &mut ShortLine, all: &Data) -> bool
+    requires { line.old ≡ [] }
+    ensures short { result ≡ is_short (answer.Bytes all.now) }
+    ensures text { result ≡ true → line.new ≡ reply_text (answer.Bytes all.now) }
+    ensures room { length line.new < SHORT_MAX }
+{
+    let few = trimmed(all.as_slice());
+    if few.len() > FEW_MAX {
+        return false;
+    }
+    line.put(b"data".as_slice());
+    data(line, few);
+    true
+}
+
+/// New blocks.
+fn blocks(line: &mut ShortLine, all: &BlockList)
+    requires { line.old ≡ [] }
+    ensures text { line.new ≡ reply_text (answer.Blocks all.now) }
+    ensures room { length line.new < SHORT_MAX }
+{
+    line.put(b"blocks".as_slice());
+    numbers(line, all.as_slice());
+}
+
+/// Targets, or a dash.
+fn targets(line: &mut ShortLine, all: &BlockList)
+    requires { line.old ≡ [] }
+    ensures text { line.new ≡ reply_text (answer.Targets all.now) }
+    ensures room { length line.new < SHORT_MAX }
+{
+    line.put(b"list".as_slice());
+    targets_or_dash(line, all.as_slice());
+}
+
+/// The targets, or a dash.
+fn targets_or_dash(line: &mut ShortLine, blocks: &[u32])
+    requires few { length blocks.now ≤ BLOCKS_MAX }
+    requires room { length line.old + BLOCKS_ROOM ≤ SHORT_MAX }
+    ensures text { line.new ≡ line.old ++ 32 ∷ join_with_byte 32 (target_words blocks.now) }
+    ensures room { length line.new ≤ length line.old + BLOCKS_ROOM }
+{
+    if blocks.is_empty() {
+        line.word(b"-".as_slice());
+    } else {
+        numbers(line, blocks);
+    }
+}
+
+/// Numbers, at most 64.
+fn numbers(line: &mut ShortLine, items: &[u32])
+    requires few { length items.now ≤ BLOCKS_MAX }
+    requires room { length line.old + BLOCKS_ROOM ≤ SHORT_MAX }
+    ensures text { line.new ≡ line.old ++ flat_map (λ n. 32 ∷ decimal n) items.now }
+    ensures room { length line.new ≤ length line.old + BLOCKS_ROOM }
+{
+    for n in items {
+        line.number(*n);
+    }
+}
+
+/// Bytes in lower case, at most 512.
+fn data(line: &mut ShortLine, bytes: &[u8])
+    requires few { length bytes.now ≤ FEW_MAX }
+    requires room { length line.old + 2 * FEW_MAX + 1 ≤ SHORT_MAX }
+    ensures text { line.new ≡ line.old ++ 32 ∷ data_text bytes.now }
+    ensures room { length line.new ≤ length line.old + 2 * FEW_MAX + 1 }
+{
+    if bytes.is_empty() {
+        return line.word(b"-".as_slice());
+    }
+    let mut room = [0u8; 2 * FEW_MAX];
+    let digits = &mut room[..2 * bytes.len()];
+    hex_word(line, bytes, digits);
+}
+
+/// Two lower-case digits for each byte. They are put together in `digits`, which is overwritten.
+fn hex_word(line: &mut ShortLine, bytes: &[u8], digits: &mut [u8])
+    requires twice { length digits.old ≡ 2 * length bytes.now }
+    requires room { length line.old + length digits.old + 1 ≤ SHORT_MAX }
+    ensures text { line.new ≡ line.old ++ 32 ∷ encode_lower bytes.now }
+    ensures room { length line.new ≡ length line.old + 2 * length bytes.now + 1 }
+{
+    let _fit = hex::encode_to_slice(bytes, digits);
+    line.word(digits);
 }
 
 /// The words of a rule.

@@ -1,7 +1,7 @@
 use Rattle.std.proofs.Common.{sym, ◌∙◌, arith}
 use Rattle.script_text.proofs.TextsLaws.{one_less, no_less, none_left}
-use Rattle.script_text.proofs.replies.trimmed.Goals as goal
-use Rattle.script_text.proofs.replies.trimmed.Goals.{then-loop-end-test+else-bytes-end-eq0, else-loop-end-test}
+use Rattle.script_text.proofs.trimming.trimmed.Goals as goal
+use Rattle.script_text.proofs.trimming.trimmed.Goals.{then-loop-end-test+else-bytes-end-eq0, else-loop-end-test}
 
 pub loop-end-preserved : goal.loop-end-preserved
 loop-end-preserved c = (omega arith, one_less c.args.bytes.now c.loop-end.end (omega arith) c.loop-end.invariant.0 (omega arith) ∙ c.loop-end.invariant.1)

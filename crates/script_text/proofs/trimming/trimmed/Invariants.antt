@@ -1,6 +1,6 @@
 use Rattle.std.proofs.Common.{◌≡◌, ◌≤◌, length, take}
 use Rattle.script_text.specs.Texts.{up_to_last}
-use Rattle.script_text.proofs.replies.trimmed.Given as goal
+use Rattle.script_text.proofs.trimming.trimmed.Given as goal
 
 abbrev pub invariant-loop-end : goal.invariant-loop-end
 invariant-loop-end l = (l.end ≤ length l.bytes) × (up_to_last (take l.end l.bytes) ≡ up_to_last l.bytes)
