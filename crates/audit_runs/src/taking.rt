@@ -3,7 +3,7 @@
 ghost use Rattle.std.specs.Prelude.{◌≡◌, ◌<◌, ◌-◌, ◌^◌, ◌⊎◌, ◌++◌, ◌∷◌, [], ℕ, List, Option, None, length};
 ghost use Rattle.std.specs.Prelude.{replicate, IfErr};
 ghost use Rattle.image_device.specs.Counts.{CountsFaultOf};
-ghost use Rattle.serving.specs.Ran.{taking};
+ghost use Rattle.serving.specs.Ran.{EndsOnce, taking};
 ghost use Rattle.image_audit.specs.declared.listing.Listing.{Listing as Said};
 ghost use Rattle.audit_runs.specs.Taking.{HasRead, HasTaken};
 
@@ -25,6 +25,7 @@ pub(crate) fn take_lines<S: Source>(
     ensures read { HasRead (length certificate.old.entries) result certificate.new.entries
         (taking S.told S.taken S.left_bytes S.ended source.old source.new) }
     ensures failing { IfErr result (λ why. (why ≡ Status.SourceFault) ⊎ (why ≡ Status.TooLong)) }
+    ensures once { EndsOnce (S.ends source.old) (S.ends source.new) }
     ensures faults { CountsFaultOf Status.SourceFault result (S.faults source.old) (S.faults source.new) }
 {
     let mut lines = ListingLines::new();

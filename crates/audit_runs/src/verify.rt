@@ -5,7 +5,7 @@ ghost use Rattle.image_device.specs.Counts.{CountsFaultOf, Rose};
 ghost use Rattle.image_device.specs.Runs.{IsFirm, LeavesOnly};
 ghost use Rattle.recovery.specs.Opening.{IsForeign, IsSpared, IsUntouched, StandAlike};
 ghost use Rattle.script_text.specs.Pieces.{all_lines};
-ghost use Rattle.serving.specs.Ran.{moments, taking};
+ghost use Rattle.serving.specs.Ran.{EndsOnce, moments, taking};
 ghost use Rattle.volume_laws.specs.Volume.{IsVolumeReady, told_by};
 ghost use Rattle.volume_laws.specs.Writes.{Works};
 ghost use Rattle.image_runs.specs.Opened.{IsJudged, IsNotImage};
@@ -36,6 +36,7 @@ pub fn verify_image<S: Source, P: Port>(alloc: Global, source: &mut S, port: &mu
     ensures untouched { P.told → IsForeign (P.view port.old).reads
         → IsUntouched (P.view port.old) (P.view port.new) }
     ensures spared { P.told → IsNotImage result → IsSpared (P.view port.old) (P.view port.new) }
+    ensures once { EndsOnce (S.ends source.old) (S.ends source.new) }
     // A count of faults rose only where the status is that fault's.
     ensures source_fault { result ≡ Status.SourceFault → Rose (S.faults source.old) (S.faults source.new) }
     ensures device_fault { result ≡ Status.DeviceFault → Rose (P.view port.old).faults (P.view port.new).faults }
@@ -73,6 +74,7 @@ fn answer<S: Source, D: Device>(
     ensures any_moment { D.told → IsFirm (D.view dev.old) → LeavesOnly (D.view dev.old) (D.view dev.new)
         (λ x f. StandAlike (D.view dev.old).reads x × (f ≡ (D.view dev.old).sent)) }
     ensures works { Works (D.view dev.old) (D.view dev.new) }
+    ensures once { EndsOnce (S.ends source.old) (S.ends source.new) }
     ensures source_faults { CountsFaultOf Status.SourceFault result (S.faults source.old) (S.faults source.new) }
     ensures faults { CountsFaultOf Status.DeviceFault result (D.view dev.old).faults (D.view dev.new).faults }
 {
@@ -93,6 +95,7 @@ fn read_and_verify<S: Source>(
     ensures answered { HasAnswered result (taking S.told S.taken S.left_bytes S.ended source.old source.new)
         (λ bytes. IsVerdictOver (told_by volume.now) (all_lines bytes) line.new) }
     ensures stops { IfErr result IsUnread }
+    ensures once { EndsOnce (S.ends source.old) (S.ends source.new) }
     ensures faults { CountsFaultOf Status.SourceFault result (S.faults source.old) (S.faults source.new) }
 {
     let Ok(mut certificate) = Certificate::new(alloc, volume.geometry().blocks) else {

@@ -7,7 +7,7 @@ use crate::image_file::ImageFile;
 use crate::outlet::Outlet;
 use crate::progress::Progress;
 use crate::trouble::Trouble;
-use image_device::Failed;
+use image_device::{Failed, WorkDone};
 use mirror_device::{Seen, Side, Sides};
 use std::alloc::Global;
 use std::io::Write;
@@ -251,5 +251,9 @@ impl<O: Write, C: Clock, E: Write, F: Write> Sides for FileSides<O, C, E, F> {
     fn put(&mut self, piece: &[u8]) -> Result<usize, Failed> {
         self.progress.wipe();
         self.outlet.put(piece)
+    }
+
+    fn show_work_done(&self, done: WorkDone) {
+        self.progress.note_work_done(done);
     }
 }

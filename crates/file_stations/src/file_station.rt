@@ -5,7 +5,7 @@ use crate::image_file::{ImageFile, Kind};
 use crate::outlet::Outlet;
 use crate::progress::Progress;
 use crate::trouble::Trouble;
-use image_device::{Device, Failed, Port};
+use image_device::{Device, Failed, Port, WorkDone};
 use std::alloc::Global;
 use std::io::Write;
 use std::time::Clock;
@@ -92,6 +92,10 @@ impl<O: Write, C: Clock, E: Write> Device for FileStation<O, C, E> {
     fn sync(&mut self) -> Result<(), Failed> {
         self.progress.note_sync();
         self.image.sync()
+    }
+
+    fn show_work_done(&self, done: WorkDone) {
+        self.progress.note_work_done(done);
     }
 }
 

@@ -15,6 +15,7 @@ const PIECE_MAX: usize = 4_096;
 pub struct InputSource<R> {
     input: R,
     ended: bool,
+    ends: u64,
     faults: u64,
     trouble: Option<Trouble>,
 }
@@ -25,6 +26,7 @@ impl<R> InputSource<R> {
         InputSource {
             input,
             ended: false,
+            ends: 0,
             faults: 0,
             trouble: None,
         }
@@ -61,10 +63,13 @@ impl<R: Read> Source for InputSource<R> {
 
     ghost ended = { λ s. s.ended ≡ true };
 
+    ghost ends = { λ s. s.ends };
+
     ghost faults = { λ s. s.faults };
 
     fn take(&mut self, into: &mut [u8]) -> Result<usize, Failed> {
         if self.ended {
+            self.ends = self.ends.saturating_add(1);
             return Ok(0);
         }
 
@@ -74,7 +79,10 @@ impl<R: Read> Source for InputSource<R> {
         match read_some(&mut self.input, &mut piece[..most]) {
             Ok(count) => {
                 into[..count].copy_from_slice(&piece[..count]);
-                self.ended = count == 0;
+                if count == 0 {
+                    self.ended = true;
+                    self.ends = self.ends.saturating_add(1);
+                }
                 Ok(count)
             }
             Err(error) => {

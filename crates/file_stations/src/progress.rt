@@ -1,5 +1,7 @@
 //! A line at a terminal that tells that long work goes on.
 
+use image_device::WorkDone;
+use std::cell::Cell;
 use std::io::{IsTerminal, Stderr, Write};
 use std::time::{Clock, Duration, Instant};
 
@@ -43,6 +45,9 @@ pub struct Progress<C, E> {
 
     /// While an image is copied, how many sectors are to be read of both.
     copied: Option<u64>,
+
+    /// What the work has done by now, where it tells that.
+    done: Cell<Option<WorkDone>>,
 }
 
 impl<'a> Progress<&'a HostRuntime, Stderr> {
@@ -69,6 +74,7 @@ impl<C: Clock, E: Write> Progress<C, E> {
             read: 0,
             written: 0,
             copied: None,
+            done: Cell::new(None),
         }
     }
 
@@ -103,6 +109,11 @@ impl<C: Clock, E: Write> Progress<C, E> {
         self.go_on(SYNC);
     }
 
+    /// Notes what the work has done by now: the next line that is written has it.
+    pub fn note_work_done(&self, done: WorkDone) {
+        self.done.set(Some(done));
+    }
+
     /// Wipes the line, if it is there, and begins anew: a reply is sent, or all is done.
     pub fn wipe(&mut self) {
         if let (Some(_), Some(terminal)) = (self.shown, &mut self.terminal) {
@@ -113,6 +124,7 @@ impl<C: Clock, E: Write> Progress<C, E> {
         self.shown = None;
         self.read = 0;
         self.written = 0;
+        self.done.set(None);
     }
 
     /// The terminal, if there is one.
@@ -157,12 +169,13 @@ impl<C: Clock, E: Write> Progress<C, E> {
 
     /// Writes the line over the one that stands there. A shorter number leaves nothing of a longer one.
     fn tell(&mut self, passed: u64) {
-        let (read, written) = (self.read, self.written);
+        let (read, written, known) = (self.read, self.written, self.done.get());
+        let rate = rate_of(read.saturating_add(written), passed);
         let Some(terminal) = &mut self.terminal else {
             return;
         };
-        let _told = match self.copied {
-            Some(sectors) => {
+        let _told = match (self.copied, known) {
+            (Some(sectors), _) => {
                 let share = share_of(read, sectors);
                 let bytes = rate_of(read, passed).saturating_mul(BYTES_COPIED);
                 let left = left_of(read, sectors, passed);
@@ -171,13 +184,24 @@ impl<C: Clock, E: Write> Progress<C, E> {
                     "\rtsd: {share} % copied, {bytes} bytes a second, {left} s left      "
                 )
             }
-            None => {
-                let rate = rate_of(read.saturating_add(written), passed);
+            (None, Some(WorkDone::Requests { done, of })) => {
+                let (done, of) = (u64::from(done), u64::from(of));
+                let share = share_of(done, of);
+                let rate = rate_of(done, passed);
+                let left = left_of(done, of, passed);
                 write!(
                     terminal,
-                    "\rtsd: {read} sectors read, {written} written, {rate} a second      "
+                    "\rtsd: {share} % done, {done} of {of} requests, {rate} a second, {left} s left      "
                 )
             }
+            (None, Some(WorkDone::Copied { files, bytes })) => write!(
+                terminal,
+                "\rtsd: {files} files copied, {bytes} bytes, {rate} sectors a second      "
+            ),
+            (None, None) => write!(
+                terminal,
+                "\rtsd: {read} sectors read, {written} written, {rate} a second      "
+            ),
         };
     }
 }

@@ -1,6 +1,7 @@
 //! What is told of long work, over a clock that goes on by so much at each look.
 
 use crate::progress::Progress;
+use image_device::WorkDone;
 use std::cell::Cell;
 use std::io;
 use std::test::Fail;
@@ -151,4 +152,47 @@ fn a_reply_wipes_the_line(rt: HostRuntime) -> Result<(), Fail> {
     let told = format!(in alloc; "{wiped}{again}")?;
     assert_eq!(rt; text(&progress), told.as_bytes());
     Ok(())
+}
+
+/// Where the work tells what it has done, the line has that in place of the sectors; a reply ends it.
+#[test]
+fn what_the_work_has_done_is_in_the_line(rt: HostRuntime) {
+    for (done, line) in [
+        (
+            WorkDone::Requests { done: 50, of: 200 },
+            "\rtsd: 25 % done, 50 of 200 requests, 25 a second, 6 s left      ",
+        ),
+        (
+            WorkDone::Requests {
+                done: 199_999,
+                of: 200_000,
+            },
+            "\rtsd: 99 % done, 199999 of 200000 requests, 99999 a second, 0 s left      ",
+        ),
+        (
+            WorkDone::Requests { done: 7, of: 7 },
+            "\rtsd: 100 % done, 7 of 7 requests, 3 a second, 0 s left      ",
+        ),
+        (
+            WorkDone::Copied {
+                files: 12,
+                bytes: 40_960,
+            },
+            "\rtsd: 12 files copied, 40960 bytes, 32 sectors a second      ",
+        ),
+    ] {
+        let mut progress = told(&rt, Steps::of(2_000, NEVER), 64);
+        progress.note_work_done(done);
+        assert!(rt; text(&progress).is_empty());
+        progress.count_read();
+        assert_eq!(rt; text(&progress), line.as_bytes());
+    }
+    let mut progress = told(&rt, Steps::of(2_000, NEVER), 0);
+    progress.note_work_done(WorkDone::Requests { done: 1, of: 2 });
+    progress.wipe();
+    for _ in 0..65 {
+        progress.count_read();
+    }
+    let line = "\rtsd: 65 sectors read, 0 written, 32 a second      ";
+    assert_eq!(rt; text(&progress), line.as_bytes());
 }

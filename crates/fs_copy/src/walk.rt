@@ -15,6 +15,7 @@ use crate::entry::copy_entry;
 use crate::paths::is_path;
 use fs_port::{Blocks, Files};
 use fs_trees::{FsRefusal, Name, Path};
+use image_device::WorkDone;
 use tsd_model::Geometry;
 
 /// How many names a directory has at most.
@@ -152,6 +153,10 @@ pub fn copy_entries<K: Blocks, A: Files, B: Files>(
             Ok(more) => more,
             Err(why) => return Err(why),
         };
+        disk.show_work_done(WorkDone::Copied {
+            files: copied.files,
+            bytes: copied.bytes,
+        });
         if !more {
             return Ok(copied);
         }

@@ -4,7 +4,7 @@ ghost use Rattle.std.specs.Prelude.{◌≡◌, ◌≢◌, ◌≤◌, ◌∷◌, 
 ghost use Rattle.image_device.specs.Counts.{Rose};
 ghost use Rattle.image_runs.specs.Fresh.{FreshRan, IsPromptFresh, single_world};
 ghost use Rattle.serving.specs.Prompt.{IsOfPort};
-ghost use Rattle.serving.specs.Ran.{moments, taking};
+ghost use Rattle.serving.specs.Ran.{EndsOnce, moments, taking};
 ghost use Rattle.tsd_model.specs.Geometry.{IsLawful};
 
 use crate::image::serve_image;
@@ -43,6 +43,7 @@ pub fn serve_fresh<S: Source, P: Port, R: Protocol<Request = Request> + Replies>
     // nothing is done behind the last one but that.
     ensures prompt { P.told → IsPromptFresh result R.voice place.now.kind (single_world geometry.now caps.now)
         (IsOfPort P.view) (P.view port.old) (P.view port.new) }
+    ensures once { EndsOnce (S.ends source.old) (S.ends source.new) }
     // A count of faults rose only where the status is that fault's.
     ensures source_fault { result ≡ Status.SourceFault → Rose (S.faults source.old) (S.faults source.new) }
     ensures device_fault { result ≡ Status.DeviceFault → Rose (P.view port.old).faults (P.view port.new).faults }

@@ -21,7 +21,7 @@ ghost use Rattle.image_runs.specs.Applying.{more_refused};
 ghost use Rattle.image_runs.specs.Opened.{IsJudged, IsNotImage, IsUnopened};
 
 use crate::opening::open_volume;
-use image_device::{Device, Failed, Port, put_all};
+use image_device::{Device, Failed, Port, WorkDone, put_all};
 use load_gen::LoadGen;
 use place_policy::Placement;
 use std::alloc::Global;
@@ -206,8 +206,12 @@ fn apply_all<D: Device>(
         granted: 0,
         refused: 0,
     };
-    for _number in 0..load.count {
+    for number in 0..load.count {
         apply_next(core, dev, place, &draws.next_request(), &mut tally)?;
+        dev.show_work_done(WorkDone::Requests {
+            done: number + 1,
+            of: load.count,
+        });
     }
     Ok(tally)
 }

@@ -3,7 +3,7 @@
 ghost use Rattle.std.specs.Prelude.{◌≡◌, ◌≢◌, ◌≤◌, [], true};
 ghost use Rattle.image_device.specs.Counts.{Rose};
 ghost use Rattle.serving.specs.Prompt.{IsOfPort, Promptly, mark};
-ghost use Rattle.serving.specs.Ran.{Ran, moments, taking};
+ghost use Rattle.serving.specs.Ran.{EndsOnce, Ran, moments, taking};
 ghost use Rattle.serving.specs.Voice.{spoken};
 ghost use Rattle.tsd_core.specs.Core.{IsCoreAt, IsCoreReady};
 ghost use Rattle.volume_laws.specs.Quiet.{IsQuiet};
@@ -45,6 +45,7 @@ pub fn serve_core<S: Source, P: Port, R: Protocol<Request = Request> + Replies>(
     ensures at { result ≢ Status.DeviceFault → P.told → IsCoreAt core.new (P.view port.new) }
     ensures spent { result ≡ Status.DeviceFault → core.new.volume.is_spent ≡ true }
     ensures closed { result ≡ Status.Done → P.told → IsQuiet (P.view port.new).reads }
+    ensures once { EndsOnce (S.ends source.old) (S.ends source.new) }
     // A count of faults rose only where the status is that fault's.
     ensures source_fault { result ≡ Status.SourceFault → Rose (S.faults source.old) (S.faults source.new) }
     ensures device_fault { result ≡ Status.DeviceFault → Rose (P.view port.old).faults (P.view port.new).faults }

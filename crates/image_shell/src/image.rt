@@ -3,7 +3,7 @@
 ghost use Rattle.std.specs.Prelude.{◌≡◌, ◌≢◌, ◌≤◌};
 ghost use Rattle.image_device.specs.Counts.{Rose};
 ghost use Rattle.image_world.specs.Stands.{world_of};
-ghost use Rattle.serving.specs.Ran.{moments, taking};
+ghost use Rattle.serving.specs.Ran.{EndsOnce, moments, taking};
 ghost use Rattle.shell_server.specs.Shell.{unmounted};
 ghost use Rattle.image_runs.specs.Opened.{IsNotImage};
 ghost use Rattle.recovery.specs.Opening.{IsForeign, IsSpared, IsUntouched};
@@ -49,6 +49,7 @@ pub fn serve_shell_image<F: Files, L: Places, Y: Layout, S: Source, P: Port>(
     ensures untouched { P.told → IsForeign (P.view port.old).reads
         → IsUntouched (P.view port.old) (P.view port.new) }
     ensures spared { P.told → IsNotImage result → IsSpared (P.view port.old) (P.view port.new) }
+    ensures once { EndsOnce (S.ends source.old) (S.ends source.new) }
     // A count of faults rose only where the status is that fault's.
     ensures source_fault { result ≡ Status.SourceFault → Rose (S.faults source.old) (S.faults source.new) }
     ensures device_fault { result ≡ Status.DeviceFault → Rose (P.view port.old).faults (P.view port.new).faults }
@@ -84,6 +85,7 @@ fn serve_from<F: Files, L: Places, K: Started, Y: Layout, S: Source, P: Port>(
     ensures untouched { P.told → IsForeign (P.view port.old).reads
         → IsUntouched (P.view port.old) (P.view port.new) }
     ensures spared { P.told → IsNotImage result → IsSpared (P.view port.old) (P.view port.new) }
+    ensures once { EndsOnce (S.ends source.old) (S.ends source.new) }
     // A count of faults rose only where the status is that fault's.
     ensures source_fault { result ≡ Status.SourceFault → Rose (S.faults source.old) (S.faults source.new) }
     ensures device_fault { result ≡ Status.DeviceFault → Rose (P.view port.old).faults (P.view port.new).faults }

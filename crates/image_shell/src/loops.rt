@@ -4,7 +4,7 @@ ghost use Rattle.std.specs.Prelude.{◌≡◌, ◌≢◌, ◌≤◌, true};
 ghost use Rattle.fs_trees.specs.declared.ask.ShellKind.TheVariants as kind;
 ghost use Rattle.inode_fs.specs.View.{inode_view};
 ghost use Rattle.chain_fs.specs.View.{chain_view};
-ghost use Rattle.serving.specs.Ran.{moments, taking};
+ghost use Rattle.serving.specs.Ran.{EndsOnce, moments, taking};
 ghost use Rattle.tsd_core.specs.Core.{IsCoreAt, IsCoreReady};
 ghost use Rattle.volume_laws.specs.Quiet.{IsQuiet};
 ghost use Rattle.volume_laws.specs.Writes.{due};
@@ -46,6 +46,7 @@ pub fn serve_inode<S: Source, P: Port>(
     ensures at { result ≢ Status.DeviceFault → P.told → IsCoreAt core.new (P.view port.new) }
     ensures spent { result ≡ Status.DeviceFault → core.new.volume.is_spent ≡ true }
     ensures closed { result ≡ Status.Done → P.told → IsQuiet (P.view port.new).reads }
+    ensures once { EndsOnce (S.ends source.old) (S.ends source.new) }
     ensures faults { TellsFaults result (S.faults source.old) (S.faults source.new) (P.view port.old)
         (P.view port.new) }
 {
@@ -78,6 +79,7 @@ pub fn serve_chain<S: Source, P: Port>(
     ensures at { result ≢ Status.DeviceFault → P.told → IsCoreAt core.new (P.view port.new) }
     ensures spent { result ≡ Status.DeviceFault → core.new.volume.is_spent ≡ true }
     ensures closed { result ≡ Status.Done → P.told → IsQuiet (P.view port.new).reads }
+    ensures once { EndsOnce (S.ends source.old) (S.ends source.new) }
     ensures faults { TellsFaults result (S.faults source.old) (S.faults source.new) (P.view port.old)
         (P.view port.new) }
 {

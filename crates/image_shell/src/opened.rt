@@ -4,7 +4,7 @@ ghost use Rattle.std.specs.Prelude.{◌≡◌, ◌≤◌};
 ghost use Rattle.tsd_model.specs.Sessions.{no_sessions};
 ghost use Rattle.tsd_model.specs.declared.requests.Level.TheVariants as level;
 ghost use Rattle.tsd_core.specs.Core.{IsCoreReady, told_world};
-ghost use Rattle.serving.specs.Ran.{moments, taking};
+ghost use Rattle.serving.specs.Ran.{EndsOnce, moments, taking};
 ghost use Rattle.shell_server.specs.Kept.{AreReady};
 ghost use Rattle.shell_server.specs.Shell.{unmounted};
 ghost use Rattle.image_shell.specs.Served.{level_at};
@@ -40,6 +40,7 @@ pub fn serve_opened<F: Files, L: Places, K: Started, Y: Layout, S: Source, P: Po
     ensures ran { RanFrom result (F.view files.old) Y.layout limit
         (taking S.told S.taken S.left_bytes S.ended source.old source.new) K.start
         (moments P.told P.view port.old port.new) }
+    ensures once { EndsOnce (S.ends source.old) (S.ends source.new) }
     ensures faults { TellsFaults result (S.faults source.old) (S.faults source.new) (P.view port.old)
         (P.view port.new) }
 {
@@ -114,6 +115,7 @@ pub fn serve_begun<F: Files, L: Places, K: Started, Y: Layout, S: Source, P: Por
     ensures ran { RanFrom result (F.view files.old) Y.layout limit
         (taking S.told S.taken S.left_bytes S.ended source.old source.new) K.start
         (moments P.told P.view port.old port.new) }
+    ensures once { EndsOnce (S.ends source.old) (S.ends source.new) }
     ensures faults { TellsFaults result (S.faults source.old) (S.faults source.new) (P.view port.old)
         (P.view port.new) }
 {

@@ -38,6 +38,10 @@ taking tells taken left ended old new = record {
   untouched = new ≡ old;
 }
 
+-- The end of a source was found once at most between two moments: nothing more was taken behind it.
+abbrev pub EndsOnce : ℕ → ℕ → Type 0
+EndsOnce before now = now ≤ before + 1
+
 -- What a port was at two moments, whether it tells that, and that it is as it was.
 pub record Moments : Type 1 where
   pub tells : Type 0

@@ -3,7 +3,7 @@
 ghost use Rattle.std.specs.Prelude.{◌≡◌, ◌≢◌, ◌≤◌, ◌<◌, ◌+◌, ◌-◌, ◌^◌, ◌++◌, []};
 ghost use Rattle.std.specs.Prelude.{ℕ, true, false, cond, List, min, IsSome, IsNone};
 ghost use Rattle.image_device.specs.Counts.{Rose};
-ghost use Rattle.serving.specs.Goes.{SameCounts, held, left_in, IsNextAtEnd, Handed, Reads, Found};
+ghost use Rattle.serving.specs.Goes.{SameCounts, held, left_in, ends_left, IsNextAtEnd, Handed, Reads, Found};
 ghost use Rattle.serving.specs.Input.{asked};
 ghost use Rattle.serving.specs.Ran.{IsAtEnd, taking};
 ghost use Rattle.serving.specs.declared.protocol.Ending.{Ending as EndingOf};
@@ -20,6 +20,7 @@ impl Intake {
         ensures taken { result.taken ≡ 0 }
         ensures held { held result ≡ [] }
         ensures over { result.over ≡ false }
+        ensures ends { ends_left result ≡ 1 }
     {
         Intake {
             room: [0; TAKE_MAX],
@@ -45,6 +46,10 @@ impl Intake {
             (more : List ℕ) × took.came more
             × Found R.spelling (λ x. R.was_fed x protocol.new) took.at_end self.new (bytes ++ more) qs result }
         ensures less { (q : R.Request) → result ≡ Next.Request q → left_in self.new < left_in self.old }
+        // The end is found once at most, and where a request was handed out before it, it may be found later.
+        ensures once { S.ends source.new ≤ S.ends source.old + ends_left self.old }
+        ensures later { (q : R.Request) → result ≡ Next.Request q
+            → S.ends source.new + ends_left self.new ≤ S.ends source.old + ends_left self.old }
         // Once the end has made the last request whole, nothing more is taken.
         ensures over { self.old.over ≡ true → source.new ≡ source.old }
         ensures source_fault { result ≡ Next.Fault → Rose (S.faults source.old) (S.faults source.new) }

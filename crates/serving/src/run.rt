@@ -4,7 +4,7 @@ ghost use Rattle.std.specs.Prelude.{◌≡◌, ◌≢◌, ◌≤◌, [], ℕ, Li
 ghost use Rattle.image_device.specs.Counts.{Rose};
 ghost use Rattle.serving.specs.Handling.{FitsDevice};
 ghost use Rattle.serving.specs.Prompt.{IsOfPort, Promptly, mark};
-ghost use Rattle.serving.specs.Ran.{Ran, moments, taking};
+ghost use Rattle.serving.specs.Ran.{EndsOnce, Ran, moments, taking};
 
 use crate::intake::{INPUT_MAX, Intake, Next};
 use crate::protocol::Protocol;
@@ -46,6 +46,8 @@ pub fn serve<S: Source, P: Port, R: Protocol, H: Server<R>>(
     ensures at { result ≢ Status.DeviceFault → P.told → FitsDevice (H.holds server.new) (P.view port.new) }
     ensures spent { result ≡ Status.DeviceFault → H.is_spent server.new }
     ensures closed { result ≡ Status.Done → P.told → H.is_closed (P.view port.new).reads }
+    // Nothing more is taken once the end was found.
+    ensures once { EndsOnce (S.ends source.old) (S.ends source.new) }
     // A count of faults rose only where the status is that fault's.
     ensures source_fault { result ≡ Status.SourceFault → Rose (S.faults source.old) (S.faults source.new) }
     ensures device_fault { result ≡ Status.DeviceFault → Rose (P.view port.old).faults (P.view port.new).faults }

@@ -14,6 +14,7 @@ loop-said-init g c =
     record {
       limit = limit;
       blocks = refl;
+      once = omega (arith, c.new-intake.ensures.ends);
       source_faults = refl;
       goes = (
         [],
@@ -35,6 +36,7 @@ loop-said-preserved g c =
     record {
       limit = c.next.ensures.limit ∙ i.limit;
       blocks = c.take_one-fault.ensures.blocks ∙ i.blocks;
+      once = omega (arith, i.once, c.in-Request.ensures.later c.in-Request.said refl);
       source_faults = c.in-Request.ensures.no_source_fault (λ e. cc) ∙ i.source_faults;
       goes = (
         was.0 ++ found.0,

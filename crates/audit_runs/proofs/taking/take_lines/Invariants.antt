@@ -1,6 +1,6 @@
 use Rattle.std.proofs.Common.{◌≡◌, ◌≤◌, ◌+◌, ◌^◌, ℕ, List, Option, length}
 use Rattle.script_text.specs.Lines.{WasFed}
-use Rattle.serving.specs.Goes.{Handed, left_in}
+use Rattle.serving.specs.Goes.{Handed, ends_left, left_in}
 use Rattle.serving.specs.Ran.{Came, IsAtEnd}
 use Rattle.image_audit.specs.declared.listing.Listing.{Listing}
 use Rattle.audit_runs.specs.Lines.{listing_spelling}
@@ -13,6 +13,7 @@ invariant-loop-said g l =
     record {
       limit : l.intake.limit ≡ 2 ^ 40;
       blocks : length l.certificate.entries ≡ length l.fn.certificate.entries;
+      once : g.S.Source.ends l.source + ends_left l.intake ≤ g.S.Source.ends before + 1;
       source_faults : g.S.Source.faults l.source ≡ g.S.Source.faults before;
       goes : (bytes : List ℕ) × (said : List (Option Listing))
           × Came g.S.Source.told (g.S.Source.taken before) (g.S.Source.taken l.source) (g.S.Source.left_bytes before) (g.S.Source.left_bytes l.source) bytes

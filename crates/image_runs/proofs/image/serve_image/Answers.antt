@@ -71,6 +71,9 @@ returns-in-Ok-clause-device_fault g c e = subst (λ (n : ℕ). Rose n (g.P.Devic
 pub returns-in-Ok-clause-put_fault : goal.returns-in-Ok-clause-put_fault
 returns-in-Ok-clause-put_fault g c e = subst (λ (n : ℕ). Rose n (g.P.Device.view c.serve_core.new.port).put_faults) c.open_core.ensures.works.put_faults (c.serve_core.ensures.put_fault e)
 
+pub returns-in-Ok-clause-once : goal.returns-in-Ok-clause-once
+returns-in-Ok-clause-once g c = c.serve_core.ensures.once
+
 pub returns-in-Ok-clause-no_source_fault : goal.returns-in-Ok-clause-no_source_fault
 returns-in-Ok-clause-no_source_fault g c = c.serve_core.ensures.no_source_fault
 
@@ -111,6 +114,9 @@ returns-in-Err-clause-device_fault g c e = c.in-Err.ensures.faults.0 (ap (λ (w 
 
 pub returns-in-Err-clause-put_fault : goal.returns-in-Err-clause-put_fault
 returns-in-Err-clause-put_fault g c e = absurd (not_of_put c.in-Err.why c.in-Err.ensures.stops e)
+
+pub returns-in-Err-clause-once : goal.returns-in-Err-clause-once
+returns-in-Err-clause-once g c = omega arith
 
 pub returns-in-Err-clause-no_source_fault : goal.returns-in-Err-clause-no_source_fault
 returns-in-Err-clause-no_source_fault g c other = refl

@@ -20,6 +20,9 @@ returns-in-Ok-clause-ran g c =
     ran_opened c.serve_opened.result g.Y.Layout.layout c.args.root c.args.cap.now c.args.limit _ g.P.Device.told _ _ g.K.Started.start (g.P.Device.view c.args.port.now) (g.P.Device.view c.open_core.new.dev) (g.P.Device.view c.serve_opened.new.port)
     c.requires.start o.read o.sent o.any_moment o.works.clock (g.F.Files.view c.args.files.now) c.requires.files c.serve_opened.ensures.ran
 
+pub returns-in-Ok-clause-once : goal.returns-in-Ok-clause-once
+returns-in-Ok-clause-once g c = c.serve_opened.ensures.once
+
 pub returns-in-Ok-clause-no_source_fault : goal.returns-in-Ok-clause-no_source_fault
 returns-in-Ok-clause-no_source_fault g c = c.serve_opened.ensures.faults.no_source_fault
 

@@ -1,5 +1,5 @@
-use Rattle.std.proofs.Common.{◌≡◌, ℕ, List}
-use Rattle.serving.specs.Goes.{Goes, Handed, left_in}
+use Rattle.std.proofs.Common.{◌≡◌, ◌≤◌, ◌+◌, ℕ, List}
+use Rattle.serving.specs.Goes.{Goes, Handed, ends_left, left_in}
 use Rattle.serving.specs.Handling.{FitsDevice}
 use Rattle.serving.specs.Prompt.{IsOfPort}
 use Rattle.serving.specs.Ran.{Came, IsAtEnd}
@@ -15,6 +15,7 @@ invariant-loop-request g l =
       lender : g.H.Server.lender l.server ≡ g.H.Server.lender l.initial.server;
       ready : g.H.Server.is_ready l.server;
       at : g.P.Device.told → FitsDevice (g.H.Server.holds l.server) (view l.port);
+      once : g.S.Source.ends l.source + ends_left l.intake ≤ g.S.Source.ends before + 1;
       source_faults : g.S.Source.faults l.source ≡ g.S.Source.faults before;
       faults : (view l.port).faults ≡ start.faults;
       put_faults : (view l.port).put_faults ≡ start.put_faults;

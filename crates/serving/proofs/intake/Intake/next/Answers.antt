@@ -1,6 +1,7 @@
-use Rattle.std.proofs.Common.{◌++◌, take, refl, ◌∙◌, subst, arith, append_assoc}
-use Rattle.serving.specs.Goes.{Reads}
+use Rattle.std.proofs.Common.{sym, ◌++◌, take, refl, ◌∙◌, subst, arith, append_assoc}
+use Rattle.serving.specs.Goes.{Reads, IsNextAtEnd}
 use Rattle.serving.proofs.Inputs.{at_the_end, came_more, came_none, came_same, reads_first, over_end, handed_on, none_read, found_fault, found_long, found_at_end, reads_more, left_filled, left_read}
+use Rattle.serving.proofs.Ends.{ends_open, more_taken, end_taken, later_same, later_at_end}
 use Rattle.serving.proofs.intake.Intake.next.Goals as goal
 
 pub returns-then-self-clause-found : goal.returns-then-self-clause-found
@@ -10,6 +11,7 @@ pub loop-request-init : goal.loop-request-init
 loop-request-init g c = record {
   over = c.if-self.false;
   limit = omega arith;
+  ends = refl;
   faults = omega arith;
   left = omega arith;
   reads = λ bytes qs was. reads_first g.R.Protocol.spelling _ _ _ _ _ c.args.self.now bytes qs c.if-self.false was;
@@ -48,6 +50,7 @@ pub loop-request-preserved : goal.loop-request-preserved
 loop-request-preserved g c = record {
   over = c.fill.ensures.over ∙ c.read_held.ensures.over ∙ c.loop-request.invariant.over;
   limit = c.fill.ensures.limit ∙ c.read_held.ensures.counts.limit ∙ c.loop-request.invariant.limit;
+  ends = more_taken c.in-Ok.count _ _ (omega (arith, c.in-Ok.count-test)) c.in-Ok.ensures.ends ∙ c.loop-request.invariant.ends;
   faults = c.in-Ok.ensures.faults ∙ c.loop-request.invariant.faults;
   left =
       let filled = left_filled c.read_held.new.self c.fill.new.self c.in-Ok.count c.fill.ensures.limit c.fill.ensures.taken c.fill.ensures.from c.fill.ensures.to c.fill.ensures.over (omega (arith, c.if-self-2.false)) in
@@ -63,3 +66,17 @@ loop-request-preserved g c = record {
             (omega (arith, c.in-Ok.ensures.room, c.take.auto.into)) c.fill.ensures.limit c.fill.ensures.taken c.fill.ensures.from c.fill.ensures.to c.fill.ensures.room),
       );
 }
+
+pub returns-in-Some-clause-later : goal.returns-in-Some-clause-later
+returns-in-Some-clause-later g c q is = later_same c.args.self.now c.read_held.new.self _ _ c.if-self.false (c.read_held.ensures.over ∙ c.loop-request.invariant.over) c.loop-request.invariant.ends
+
+pub returns-in-Ok-eq0-clause-once : goal.returns-in-Ok-eq0-clause-once
+returns-in-Ok-eq0-clause-once g c =
+    let unfound = ends_open c.args.self.now c.if-self.false in
+    let found = end_taken _ _ _ c.in-Ok-eq0.field-0-test c.in-Ok-eq0.ensures.ends in
+    omega (arith, unfound, found, c.loop-request.invariant.ends)
+
+pub returns-in-Ok-eq0-clause-later : goal.returns-in-Ok-eq0-clause-later
+returns-in-Ok-eq0-clause-later g c q is =
+    let found = end_taken _ _ _ c.in-Ok-eq0.field-0-test c.in-Ok-eq0.ensures.ends in
+    later_at_end c.last.ensures.next.0 c.last.result c.args.self.now c.last.new.self q _ _ (subst (λ over. IsNextAtEnd c.last.ensures.next.0 c.last.result c.last.new.self.over over) (c.read_held.ensures.over ∙ c.loop-request.invariant.over ∙ sym c.if-self.false) c.last.ensures.next.2) c.if-self.false (omega (arith, found, c.loop-request.invariant.ends)) is

@@ -9,6 +9,7 @@ invariant-loop-request g l =
     record {
       over : l.self.over ≡ false;
       limit : l.self.limit ≡ l.initial.self.limit;
+      ends : g.S.Source.ends l.source ≡ g.S.Source.ends before;
       faults : g.S.Source.faults l.source ≡ g.S.Source.faults before;
       left : left_in l.self ≤ left_in l.initial.self;
       reads : (bytes : List ℕ) (qs : List g.row.R-Request.Denot)
