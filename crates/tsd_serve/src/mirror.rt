@@ -6,7 +6,7 @@ ghost use Rattle.mirror_device.specs.Mirror.{start_at};
 ghost use Rattle.mirror_device.specs.Sending.{CanRise, IsIdle};
 ghost use Rattle.mirror_device.specs.SidesView.{Item};
 ghost use Rattle.mirror_device.specs.declared.side.Serving.{Serving};
-ghost use Rattle.serving.specs.Ran.{moments, taking};
+ghost use Rattle.serving.specs.Ran.{EndsOnce, moments, taking};
 ghost use Rattle.tsd_serve.specs.MirrorDid.{AreSoundAtEnd, DidCopy, DidOver, HasFailed, MirrorHeadline, NoSideIsLeft};
 ghost use Rattle.tsd_serve.specs.MirrorDid.{lost_of};
 ghost use Rattle.tsd_serve.specs.MirrorStatus.{answered};
@@ -58,6 +58,8 @@ pub fn tsd_mirror<S: Source, P: Sides + Drop, K: Began>(
         ↔ ((answered result.0 ≡ Status.Done) × HasFailed side (P.view sides) (P.view result.1)) }
     ensures device_fault { result.0 ≡ MirrorStatus.Ended Status.DeviceFault
         → NoSideIsLeft (P.view sides) (P.view result.1) }
+    // Nothing more is taken once the end was found.
+    ensures once { EndsOnce (S.ends source.old) (S.ends source.new) }
     // A count of faults of the source, or of puts, rose only where the status is that fault's.
     ensures source_fault { result.0 ≡ MirrorStatus.Ended Status.SourceFault
         → Rose (S.faults source.old) (S.faults source.new) }

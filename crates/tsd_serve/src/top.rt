@@ -2,7 +2,7 @@
 
 ghost use Rattle.std.specs.Prelude.{◌≡◌, ◌≢◌, ◌↔◌, ◌⊎◌, map, string_bytes, None, Some};
 ghost use Rattle.image_device.specs.Counts.{Rose};
-ghost use Rattle.serving.specs.Ran.{moments, taking};
+ghost use Rattle.serving.specs.Ran.{EndsOnce, moments, taking};
 ghost use Rattle.tsd_model.specs.Geometry.{IsLawful};
 ghost use Rattle.tsd_serve.specs.Did.{Did};
 ghost use Rattle.tsd_serve.specs.Prompt.{AnswersPromptly};
@@ -51,6 +51,8 @@ pub fn tsd<S: Source, P: Port>(
     // nothing is done behind the last one but that.
     ensures prompt { P.told → AnswersPromptly (command_of (map string_bytes words.now.items)) result P.view port.old
         port.new }
+    // Nothing more is taken once the end was found.
+    ensures once { EndsOnce (S.ends source.old) (S.ends source.new) }
     // A count of faults rose only where the status is that fault's.
     ensures source_fault { result ≡ Status.SourceFault → Rose (S.faults source.old) (S.faults source.new) }
     ensures device_fault { result ≡ Status.DeviceFault → Rose (P.view port.old).faults (P.view port.new).faults }
@@ -83,6 +85,7 @@ pub(crate) fn obey<S: Source, P: Port>(
     // What is written before each reply has a bound, and what is written behind it; where the input was cut short,
     // nothing is done behind the last one but that.
     ensures prompt { P.told → AnswersPromptly (Some words) result P.view port.old port.new }
+    ensures once { EndsOnce (S.ends source.old) (S.ends source.new) }
     // A count of faults rose only where the status is that fault's.
     ensures source_fault { result ≡ Status.SourceFault → Rose (S.faults source.old) (S.faults source.new) }
     ensures device_fault { result ≡ Status.DeviceFault → Rose (P.view port.old).faults (P.view port.new).faults }
@@ -120,6 +123,7 @@ fn fresh_lines<S: Source, P: Port>(
     ensures did { Did (Some (command.Fresh fresh.now)) result
         (taking S.told S.taken S.left_bytes S.ended source.old source.new) (moments P.told P.view port.old port.new) }
     ensures prompt { P.told → AnswersPromptly (Some (command.Fresh fresh.now)) result P.view port.old port.new }
+    ensures once { EndsOnce (S.ends source.old) (S.ends source.new) }
     ensures source_fault { result ≡ Status.SourceFault → Rose (S.faults source.old) (S.faults source.new) }
     ensures device_fault { result ≡ Status.DeviceFault → Rose (P.view port.old).faults (P.view port.new).faults }
     ensures put_fault { result ≡ Status.PutFault → Rose (P.view port.old).put_faults (P.view port.new).put_faults }
@@ -153,6 +157,7 @@ fn run_lines<S: Source, P: Port>(
     ensures did { Did (Some (command.Run kind)) result
         (taking S.told S.taken S.left_bytes S.ended source.old source.new) (moments P.told P.view port.old port.new) }
     ensures prompt { P.told → AnswersPromptly (Some (command.Run kind)) result P.view port.old port.new }
+    ensures once { EndsOnce (S.ends source.old) (S.ends source.new) }
     ensures source_fault { result ≡ Status.SourceFault → Rose (S.faults source.old) (S.faults source.new) }
     ensures device_fault { result ≡ Status.DeviceFault → Rose (P.view port.old).faults (P.view port.new).faults }
     ensures put_fault { result ≡ Status.PutFault → Rose (P.view port.old).put_faults (P.view port.new).put_faults }
@@ -184,6 +189,7 @@ fn run_frames<S: Source, P: Port>(
     ensures did { Did (Some (command.Serve kind)) result
         (taking S.told S.taken S.left_bytes S.ended source.old source.new) (moments P.told P.view port.old port.new) }
     ensures prompt { P.told → AnswersPromptly (Some (command.Serve kind)) result P.view port.old port.new }
+    ensures once { EndsOnce (S.ends source.old) (S.ends source.new) }
     ensures source_fault { result ≡ Status.SourceFault → Rose (S.faults source.old) (S.faults source.new) }
     ensures device_fault { result ≡ Status.DeviceFault → Rose (P.view port.old).faults (P.view port.new).faults }
     ensures put_fault { result ≡ Status.PutFault → Rose (P.view port.old).put_faults (P.view port.new).put_faults }
@@ -216,6 +222,7 @@ fn shell_lines<S: Source, P: Port>(
     ensures other { result ≢ Status.Usage }
     ensures did { Did (Some (command.Shell shell.now)) result
         (taking S.told S.taken S.left_bytes S.ended source.old source.new) (moments P.told P.view port.old port.new) }
+    ensures once { EndsOnce (S.ends source.old) (S.ends source.new) }
     ensures source_fault { result ≡ Status.SourceFault → Rose (S.faults source.old) (S.faults source.new) }
     ensures device_fault { result ≡ Status.DeviceFault → Rose (P.view port.old).faults (P.view port.new).faults }
     ensures put_fault { result ≡ Status.PutFault → Rose (P.view port.old).put_faults (P.view port.new).put_faults }
