@@ -1,12 +1,13 @@
 //! The words of each command.
 
+use fs_trees::ShellKind;
 use std::alloc::Global;
 use std::test::Fail;
 use tsd_model::{Cap, CapPair, Geometry, PlaceKind};
-use tsd_words::{Command, Format, Fresh, Load, command};
+use tsd_words::{Command, CopyFs, Format, Fresh, Load, TreeRoot, command};
 
 /// Words, and the command that they spell. R and W stand for 32 digits `a` and `b`, Z for 64 digits `0`.
-const SPELLED: [(&str, Command); 10] = [
+const SPELLED: [(&str, Command); 11] = [
     (
         "fresh 8 1 R W near",
         Command::Fresh(Fresh {
@@ -50,6 +51,22 @@ const SPELLED: [(&str, Command); 10] = [
     ("upgrade", Command::Upgrade),
     ("audit", Command::Audit),
     ("verify", Command::Verify),
+    (
+        "copyfs inode 0 R chain 4294967295 W low",
+        Command::CopyFs(CopyFs {
+            from: TreeRoot {
+                layout: ShellKind::Inode,
+                root: 0,
+                cap: Cap { bytes: [0xaa; 16] },
+            },
+            into: TreeRoot {
+                layout: ShellKind::Chain,
+                root: 4_294_967_295,
+                cap: Cap { bytes: [0xbb; 16] },
+            },
+            kind: PlaceKind::Low,
+        }),
+    ),
 ];
 
 /// The words of a text.
@@ -73,6 +90,12 @@ fn words_of_commands(rt: HostRuntime) -> Result<(), Fail> {
     for (text, want) in SPELLED {
         assert_eq!(rt; command(&words(alloc, text)?), Some(want), "{text}");
     }
-    assert_eq!(rt; command(&words(alloc, "run far")?), None);
+    for text in [
+        "run far",
+        "copyfs inode 0 R chain 1 W",
+        "copyfs inode 0 R chain 4294967296 W low",
+    ] {
+        assert_eq!(rt; command(&words(alloc, text)?), None, "{text}");
+    }
     Ok(())
 }

@@ -14,6 +14,8 @@ use Rattle.tsd_words.specs.declared.commands.Fresh.{Fresh}
 use Rattle.tsd_words.specs.declared.commands.Format.{Format}
 use Rattle.tsd_words.specs.declared.commands.Load.{Load}
 use Rattle.tsd_words.specs.declared.commands.Shell.{Shell}
+use Rattle.tsd_words.specs.declared.commands.TreeRoot.{TreeRoot}
+use Rattle.tsd_words.specs.declared.commands.CopyFs.{CopyFs}
 use Rattle.tsd_words.specs.declared.commands.Command.{Command}
 use Rattle.tsd_words.specs.declared.commands.Command.TheVariants as command
 
@@ -99,6 +101,22 @@ shell_of layout root cap place = do
   kind ← kind_of place
   Some (record { layout = l; root = a; cap = c; kind = kind })
 
+-- what KIND ROOT CAP say
+unfoldable pub root_of : List ℕ → List ℕ → List ℕ → Option TreeRoot
+root_of layout root cap = do
+  l ← layout_of layout
+  a ← num_of root
+  c ← new_of cap
+  Some (record { layout = l; root = a; cap = c })
+
+-- what KIND ROOT CAP KIND ROOT CAP PLACE say: the tree that is copied, and where to
+unfoldable pub copy_of : List ℕ → List ℕ → List ℕ → List ℕ → List ℕ → List ℕ → List ℕ → Option CopyFs
+copy_of layout root cap to_layout to_root to_cap place = do
+  f ← root_of layout root cap
+  g ← root_of to_layout to_root to_cap
+  kind ← kind_of place
+  Some (record { from = f; into = g; kind = kind })
+
 -- check; upgrade; audit; verify
 unfoldable pub alone_of : List ℕ → Option Command
 alone_of name =
@@ -130,6 +148,12 @@ shelled_of name layout root cap place =
     cond (bytes_eq name (codes "shell")) (option_map (λ shell. command.Shell shell) (shell_of layout root cap place))
     None
 
+-- copyfs KIND ROOT CAP KIND ROOT CAP PLACE
+unfoldable pub copied_of : List ℕ → List ℕ → List ℕ → List ℕ → List ℕ → List ℕ → List ℕ → List ℕ → Option Command
+copied_of name layout root cap to_layout to_root to_cap place =
+    cond (bytes_eq name (codes "copyfs")) (option_map (λ copy. command.CopyFs copy)
+    (copy_of layout root cap to_layout to_root to_cap place)) None
+
 -- the command that the words spell
 abbrev pub command_of : List (List ℕ) → Option Command
 command_of (name ∷ []) = alone_of name
@@ -137,6 +161,8 @@ command_of (name ∷ place ∷ []) = served_of name place
 command_of (name ∷ seed ∷ count ∷ place ∷ []) = loaded_of name seed count place
 command_of (name ∷ layout ∷ root ∷ cap ∷ place ∷ []) = shelled_of name layout root cap place
 command_of (name ∷ a ∷ b ∷ c ∷ d ∷ e ∷ []) = made_of name a b c d e
+command_of (name ∷ layout ∷ root ∷ cap ∷ to_layout ∷ to_root ∷ to_cap ∷ place ∷ []) =
+    copied_of name layout root cap to_layout to_root to_cap place
 command_of ws = None
 
 -- its numbers are within their limits

@@ -61,6 +61,32 @@ pub struct Shell {
     pub kind: PlaceKind,
 }
 
+/// A tree of files, by the block under which it hangs.
+#[derive(Clone, Copy, Debug, PartialEq, Eq)]
+pub struct TreeRoot {
+    /// How the tree is kept in blocks.
+    pub layout: ShellKind,
+
+    /// The block.
+    pub root: u32,
+
+    /// The capability that is shown for that block.
+    pub cap: Cap,
+}
+
+/// A tree of files to be copied.
+#[derive(Clone, Copy, Debug, PartialEq, Eq)]
+pub struct CopyFs {
+    /// The tree.
+    pub from: TreeRoot,
+
+    /// Where it is copied to, in place of the tree that is there.
+    pub into: TreeRoot,
+
+    /// In which order free blocks are taken.
+    pub kind: PlaceKind,
+}
+
 /// A command, without the image's name.
 #[derive(Clone, Copy, Debug, PartialEq, Eq)]
 pub enum Command {
@@ -93,4 +119,7 @@ pub enum Command {
 
     /// Opens an image, reads a certificate, and tells what that shows of it.
     Verify,
+
+    /// Opens an image, and copies the tree of files under one block to another block.
+    CopyFs(CopyFs),
 }

@@ -2,11 +2,14 @@
 
 ghost use Rattle.std.specs.Prelude.{◌≡◌, ◌≤◌, map, string_bytes, IfSome};
 ghost use Rattle.tsd_model.specs.Geometry.{IsLawful};
-ghost use Rattle.tsd_words.specs.Words.{IsInLimits, alone_of, command_of, format_of, fresh_of, geometry_of, is_size};
-ghost use Rattle.tsd_words.specs.Words.{is_table, kind_of, layout_of, load_of, loaded_of, made_of, seed_of, served_of};
-ghost use Rattle.tsd_words.specs.Words.{shell_of, shelled_of, size_of};
+ghost use Rattle.tsd_words.specs.Words.{IsInLimits, alone_of, command_of, copied_of, copy_of, format_of, fresh_of};
+ghost use Rattle.tsd_words.specs.Words.{geometry_of, is_size, is_table, kind_of, layout_of, load_of, loaded_of};
+ghost use Rattle.tsd_words.specs.Words.{made_of};
+ghost use Rattle.tsd_words.specs.Words.{root_of, seed_of, served_of, shell_of, shelled_of, size_of};
 
-use crate::commands::{Command, Format, Fresh, LOAD_MAX, Load, SEED_BYTES, Shell};
+use crate::commands::{
+    Command, CopyFs, Format, Fresh, LOAD_MAX, Load, SEED_BYTES, Shell, TreeRoot,
+};
 use fs_trees::ShellKind;
 use hex::FromHex;
 use script_text::fields::{parse_cap, parse_number};
@@ -38,6 +41,16 @@ pub fn command(words: &Vec<String>) -> Option<Command>
             bytes(third),
             bytes(fourth),
             bytes(fifth),
+        ),
+        [name, layout, root, cap, to_layout, to_root, to_cap, place] => copied(
+            bytes(name),
+            bytes(layout),
+            bytes(root),
+            bytes(cap),
+            bytes(to_layout),
+            bytes(to_root),
+            bytes(to_cap),
+            bytes(place),
         ),
         _ => None,
     }
@@ -132,6 +145,29 @@ fn made(
     }
 }
 
+/// `copyfs KIND ROOT CAP KIND ROOT CAP PLACE`.
+#[tactic(auto, unfolding(crate::specs::Words::copied_of))]
+fn copied(
+    name: &[u8],
+    layout: &[u8],
+    root: &[u8],
+    cap: &[u8],
+    to_layout: &[u8],
+    to_root: &[u8],
+    to_cap: &[u8],
+    place: &[u8],
+) -> Option<Command>
+    ensures value { result ≡ copied_of name.now layout.now root.now cap.now to_layout.now to_root.now to_cap.now
+        place.now }
+    ensures limits { IfSome result IsInLimits }
+{
+    if name == b"copyfs".as_slice() {
+        Some(Command::CopyFs(copy(layout, root, cap, to_layout, to_root, to_cap, place)?))
+    } else {
+        None
+    }
+}
+
 /// What follows `load`.
 #[tactic(auto, unfolding(crate::specs::Words::load_of))]
 fn load(seed: &[u8], count: &[u8], place: &[u8]) -> Option<Load>
@@ -163,6 +199,36 @@ fn shell(layout: &[u8], root: &[u8], cap: &[u8], place: &[u8]) -> Option<Shell>
         cap,
         kind,
     })
+}
+
+/// What follows `copyfs`.
+#[tactic(auto, unfolding(crate::specs::Words::copy_of))]
+fn copy(
+    layout: &[u8],
+    root: &[u8],
+    cap: &[u8],
+    to_layout: &[u8],
+    to_root: &[u8],
+    to_cap: &[u8],
+    place: &[u8],
+) -> Option<CopyFs>
+    ensures { result ≡ copy_of layout.now root.now cap.now to_layout.now to_root.now to_cap.now place.now }
+{
+    let from = parse_root(layout, root, cap)?;
+    let into = parse_root(to_layout, to_root, to_cap)?;
+    let kind = kind(place)?;
+    Some(CopyFs { from, into, kind })
+}
+
+/// A tree, by its layout, its block and a capability.
+#[tactic(auto, unfolding(crate::specs::Words::root_of))]
+fn parse_root(layout: &[u8], root: &[u8], cap: &[u8]) -> Option<TreeRoot>
+    ensures { result ≡ root_of layout.now root.now cap.now }
+{
+    let layout = parse_layout(layout)?;
+    let root = parse_number(root)?;
+    let cap = parse_cap(cap)?;
+    Some(TreeRoot { layout, root, cap })
 }
 
 /// What follows `fresh`.
