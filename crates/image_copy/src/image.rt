@@ -1,0 +1,157 @@
+//! One copy over an image.
+
+ghost use Rattle.std.specs.Prelude.{◌≡◌, ◌≢◌, false};
+ghost use Rattle.image_device.specs.Counts.{Rose};
+ghost use Rattle.image_device.specs.Runs.{IsFirm, LeavesOnly};
+ghost use Rattle.image_runs.specs.Opened.{IsNotImage};
+ghost use Rattle.recovery.specs.Opening.{IsForeign, IsSpared, IsUntouched, StandAlike};
+ghost use Rattle.volume_laws.specs.Volume.{IsVolumeAt, IsVolumeReady, told_by};
+ghost use Rattle.image_copy.specs.Copied.{HasCopied, IsCopyEnding, IsCopyJudged, IsLeftOfCopy, IsNotBegun};
+ghost use Rattle.image_copy.specs.Copied.{AreAdmitted, source, target};
+ghost use Rattle.image_copy.specs.Steps.{CarriesOut, CopiesFrom};
+
+use crate::denied::denied;
+use crate::ending::CopyEnd;
+use crate::lines::end_line;
+use crate::opened::copy_and_close;
+use crate::shared::first_shared;
+use core_blocks::Places;
+use fs_port::Files;
+use image_device::{Device, Port, put_all};
+use image_runs::open_volume;
+use std::alloc::Global;
+use tsd_core::Core;
+use tsd_words::{CopyFs, Status};
+use volume::Volume;
+
+/// Opens an image, mounts the tree under one root and copies it under another, in place of what is there, does what is
+/// left to be done, and puts one line that says how the copy ended.
+///
+/// The status is Done, NotImage where the image stands for no world, RootDenied where a capability doesn't attain write
+/// at its root, the source's first, DeviceFault or PutFault where that count rose, or NoMemory where none was found
+/// before the first step.
+pub fn copy_over_image<A: Files, B: Files, L: Places, P: Port>(
+    alloc: Global,
+    from: &mut A,
+    into: &mut B,
+    words: &CopyFs,
+    place: &L,
+    port: &mut P,
+) -> Status
+    requires source { A.view from.old ≡ source words.now }
+    requires target { B.view into.old ≡ target words.now }
+    ensures ending { IsCopyEnding result }
+    ensures read { P.told → IsCopyJudged words.now (P.view port.old).reads result }
+    // How the copy ended, and what of its line was sent.
+    ensures copied { P.told → HasCopied result words.now (P.view port.old) (P.view port.new) }
+    // A crash at any moment leaves the world at the start, one on the way, or with a front of the line the one that it
+    // tells.
+    ensures any_moment { P.told → IsFirm (P.view port.old) → LeavesOnly (P.view port.old) (P.view port.new)
+        (IsLeftOfCopy words.now (P.view port.old)) }
+    // Where no copy was begun, all is as it was.
+    ensures not_begun { P.told → IsNotBegun result → IsFirm (P.view port.old)
+        → LeavesOnly (P.view port.old) (P.view port.new) (λ x f. StandAlike (P.view port.old).reads x
+        × (f ≡ (P.view port.old).sent)) }
+    // Where the image fails one of the tests that need no write, nothing is written, and the disk reads as before;
+    // where it fails another, nothing is lost that a repair could use.
+    ensures untouched { P.told → IsForeign (P.view port.old).reads
+        → IsUntouched (P.view port.old) (P.view port.new) }
+    ensures spared { P.told → IsNotImage result → IsSpared (P.view port.old) (P.view port.new) }
+    // A count of faults rose only where the status is that fault's.
+    ensures device_fault { result ≡ Status.DeviceFault → Rose (P.view port.old).faults (P.view port.new).faults }
+    ensures put_fault { result ≡ Status.PutFault → Rose (P.view port.old).put_faults (P.view port.new).put_faults }
+    ensures no_device_fault { result ≢ Status.DeviceFault → (P.view port.new).faults ≡ (P.view port.old).faults }
+    ensures no_put_fault { result ≢ Status.PutFault → (P.view port.new).put_faults ≡ (P.view port.old).put_faults }
+{
+    match carry_out(alloc, from, into, words, place, port) {
+        Ok(end) => match put_all(port, end_line(&end).as_slice()) {
+            Ok(()) => Status::Done,
+            Err(_) => Status::PutFault,
+        },
+        Err(why) => why,
+    }
+}
+
+/// Opens an image and copies.
+fn carry_out<A: Files, B: Files, L: Places, D: Device>(
+    alloc: Global,
+    from: &mut A,
+    into: &mut B,
+    words: &CopyFs,
+    place: &L,
+    dev: &mut D,
+) -> Result<CopyEnd, Status>
+    requires source { A.view from.old ≡ source words.now }
+    requires target { B.view into.old ≡ target words.now }
+    ensures { CarriesOut D.told words.now (D.view dev.old) (D.view dev.new) result }
+{
+    match open_volume(alloc, dev) {
+        Ok(volume) => copy_opened(alloc, volume, from, into, words, place, dev),
+        Err(why) => Err(why),
+    }
+}
+
+/// Copies on a volume that was opened, where both capabilities attain write.
+fn copy_opened<A: Files, B: Files, L: Places, D: Device>(
+    alloc: Global,
+    volume: Volume,
+    from: &mut A,
+    into: &mut B,
+    words: &CopyFs,
+    place: &L,
+    dev: &mut D,
+) -> Result<CopyEnd, Status>
+    requires source { A.view from.old ≡ source words.now }
+    requires target { B.view into.old ≡ target words.now }
+    requires ready { IsVolumeReady volume }
+    requires unspent { volume.is_spent ≡ false }
+    requires at { D.told → IsVolumeAt volume (D.view dev.old) }
+    ensures { CopiesFrom D.told words.now (D.view dev.old) (D.view dev.new) result }
+{
+    match denied(&volume, words) {
+        Some(attained) => {
+            let_volume_go(volume);
+            Err(Status::RootDenied(attained))
+        }
+        None => copy_admitted(alloc, volume, from, into, words, place, dev),
+    }
+}
+
+/// Copies on a volume where no block is shared.
+fn copy_admitted<A: Files, B: Files, L: Places, D: Device>(
+    alloc: Global,
+    volume: Volume,
+    from: &mut A,
+    into: &mut B,
+    words: &CopyFs,
+    place: &L,
+    dev: &mut D,
+) -> Result<CopyEnd, Status>
+    requires source { A.view from.old ≡ source words.now }
+    requires target { B.view into.old ≡ target words.now }
+    requires ready { IsVolumeReady volume }
+    requires unspent { volume.is_spent ≡ false }
+    requires at { D.told → IsVolumeAt volume (D.view dev.old) }
+    requires admitted { AreAdmitted (told_by volume) words.now }
+    ensures { CopiesFrom D.told words.now (D.view dev.old) (D.view dev.new) result }
+{
+    let _size = volume.geometry();
+    match first_shared(alloc, &volume, words.from.root, words.into.root) {
+        Ok(shared) => {
+            let mut core = Core::new(alloc, volume);
+            let end = copy_and_close(shared, &mut core, from, into, place, dev);
+            let_core_go(core);
+            end
+        }
+        Err(_) => {
+            let_volume_go(volume);
+            Err(Status::NoMemory)
+        }
+    }
+}
+
+/// Gives back the memory of a core.
+fn let_core_go(_core: Core) {}
+
+/// Gives back the memory of a volume.
+fn let_volume_go(_volume: Volume) {}

@@ -1,0 +1,101 @@
+//! A copy on a core that is open.
+
+ghost use Rattle.std.specs.Prelude.{◌≡◌, OnOk};
+ghost use Rattle.tsd_model.specs.Sessions.{no_sessions};
+ghost use Rattle.image_world.specs.Stands.{world_of};
+ghost use Rattle.volume_laws.specs.Quiet.{IsQuiet};
+ghost use Rattle.fs_laws.specs.Apart.{AreApart};
+ghost use Rattle.image_copy.specs.Steps.{AreBothOpen, CopiesOn, IsSharing, IsStartOf, RunsOn};
+
+use crate::between::copy_between;
+use crate::ending::CopyEnd;
+use crate::sessions::begin_both;
+use core_blocks::{CoreBlocks, Places};
+use fs_port::Files;
+use image_device::Device;
+use tsd_core::Core;
+use tsd_words::Status;
+
+/// Copies where no block is shared, and then does what is left to be done on the disk and puts the records of its
+/// journal in place.
+pub(crate) fn copy_and_close<A: Files, B: Files, L: Places, D: Device>(
+    shared: Option<u32>,
+    core: &mut Core,
+    from: &mut A,
+    into: &mut B,
+    place: &L,
+    dev: &mut D,
+) -> Result<CopyEnd, Status>
+    requires start { IsStartOf D.told (A.view from.old) (B.view into.old) core.old (D.view dev.old) }
+    requires none { core.old.grants.sessions ≡ no_sessions }
+    requires shared { D.told → IsSharing (world_of (D.view dev.old).reads) (A.view from.old).root (B.view into.old).root
+        shared }
+    ensures copies { CopiesOn D.told (A.view from.old) (B.view into.old) core.new (D.view dev.old) (D.view dev.new)
+        result }
+    ensures closed { D.told → OnOk result (IsQuiet (D.view dev.new).reads) }
+{
+    match copy_unless_shared(shared, core, from, into, place, dev) {
+        Ok(end) => match core.close(dev) {
+            Ok(()) => Ok(end),
+            Err(_) => Err(Status::DeviceFault),
+        },
+        Err(why) => Err(why),
+    }
+}
+
+/// Copies where no block is shared.
+fn copy_unless_shared<A: Files, B: Files, L: Places, D: Device>(
+    shared: Option<u32>,
+    core: &mut Core,
+    from: &mut A,
+    into: &mut B,
+    place: &L,
+    dev: &mut D,
+) -> Result<CopyEnd, Status>
+    requires start { IsStartOf D.told (A.view from.old) (B.view into.old) core.old (D.view dev.old) }
+    requires none { core.old.grants.sessions ≡ no_sessions }
+    requires shared { D.told → IsSharing (world_of (D.view dev.old).reads) (A.view from.old).root (B.view into.old).root
+        shared }
+    ensures { CopiesOn D.told (A.view from.old) (B.view into.old) core.new (D.view dev.old) (D.view dev.new) result }
+{
+    match shared {
+        Some(block) => Ok(CopyEnd::Shared { block }),
+        None => copy_apart(core, from, into, place, dev),
+    }
+}
+
+/// Opens the sessions, mounts the source and copies.
+fn copy_apart<A: Files, B: Files, L: Places, D: Device>(
+    core: &mut Core,
+    from: &mut A,
+    into: &mut B,
+    place: &L,
+    dev: &mut D,
+) -> Result<CopyEnd, Status>
+    requires start { IsStartOf D.told (A.view from.old) (B.view into.old) core.old (D.view dev.old) }
+    requires none { core.old.grants.sessions ≡ no_sessions }
+    requires apart { D.told → AreApart (world_of (D.view dev.old).reads) (A.view from.old).root (B.view into.old).root }
+    ensures { CopiesOn D.told (A.view from.old) (B.view into.old) core.new (D.view dev.old) (D.view dev.new) result }
+{
+    match begin_both(core, place, dev) {
+        Ok(()) => copy_on(core, from, into, place, dev),
+        Err(why) => Err(why),
+    }
+}
+
+/// Mounts the source and copies, on a core with both sessions open.
+fn copy_on<A: Files, B: Files, L: Places, D: Device>(
+    core: &mut Core,
+    from: &mut A,
+    into: &mut B,
+    place: &L,
+    dev: &mut D,
+) -> Result<CopyEnd, Status>
+    requires start { IsStartOf D.told (A.view from.old) (B.view into.old) core.old (D.view dev.old) }
+    requires open { AreBothOpen core.old }
+    requires apart { D.told → AreApart (world_of (D.view dev.old).reads) (A.view from.old).root (B.view into.old).root }
+    ensures { RunsOn D.told (A.view from.old) (B.view into.old) core.new (D.view dev.old) (D.view dev.new) result }
+{
+    let mut blocks = CoreBlocks::new(core, place, dev);
+    copy_between(&mut blocks, from, into)
+}
