@@ -9,7 +9,7 @@ pub const USAGE: &str =
 
 /// The topics of the help.
 pub const TOPICS: &str =
-    "fresh, format, run, serve, shell, check, load, upgrade, audit, verify, mirror, requests and replies";
+    "fresh, format, run, serve, shell, copyfs, check, load, upgrade, audit, verify, mirror, requests and replies";
 
 /// The text of a topic of the help.
 pub fn text_of(topic: &str) -> Option<&'static str> {
@@ -19,6 +19,7 @@ pub fn text_of(topic: &str) -> Option<&'static str> {
         "run" => Some(RUN),
         "serve" => Some(SERVE),
         "shell" => Some(SHELL),
+        "copyfs" => Some(COPYFS),
         "check" => Some(CHECK),
         "load" => Some(LOAD),
         "upgrade" => Some(UPGRADE),
@@ -52,6 +53,7 @@ commands
   run      opens the disk and answers lines
   serve    opens the disk and answers frames
   shell    opens the disk and answers lines on a tree of files in it
+  copyfs   copies a tree of files from one primary block to another
   check    tells how full the disk is, or what is wrong with the image
   load     carries out requests drawn from a seed, and counts the answers
   upgrade  keeps digests in place of capabilities from then on
@@ -217,6 +219,48 @@ example
 
   printf 'mkfs\\nput /a 6869\\nls /\\ncat /a\\n' \\
     | tsd disk.img shell inode 0 $(printf %032d 2) near
+";
+
+/// The topic `copyfs`.
+pub const COPYFS: &str = "tsd IMAGE copyfs KIND ROOT CAP KIND ROOT CAP PLACE
+
+Opens the disk and copies the tree of files that hangs under one primary block
+to another one, in place of what is there: first stands the source, then the
+target, each by its KIND, ROOT and CAP. It prints one line, when the disk holds
+what that tells.
+
+  KIND   how the tree is kept: inode or chain
+  ROOT   the primary block
+  CAP    its capability to write: 32 hexadecimal digits
+  PLACE  which free block is taken first: low (the lowest), near (the nearest to
+         the hint), spread (from the hint on, round the disk) or zone (by zones
+         of 256 blocks, from the hint's on)
+
+lines, the first of these that applies
+
+  no shared B          a path leads from both roots to block B, the least such;
+                       nothing is changed
+  no not-this-fs       no tree of this kind is at the source; nothing is changed
+  no nested PATH       a chain has no directories, and the tree has this one
+                       first; the target is as it was
+  no REFUSAL           the target has no room for more, as `tsd help shell` has
+                       it: full, pointers-full, dir-full or too-big; it has the
+                       tree so far
+  copied FILES BYTES   the target has the tree: so many files, and bytes in them
+
+The source stays as it is. After a crash the target has what was there before,
+or the tree so far: its directories and files in their order, depth first by
+ascending names, and of at most one file only the first bytes.
+
+Other users see the words of a command line. @FILE stands for the first word in
+that file.
+
+example
+
+  tsd disk.img format 64 1 256 2 $(printf %064d 0) | tee caps
+  awk '{ print $4 > \"write\" $2 }' caps
+  printf 'mkfs\\nput /a 6869\\n' | tsd disk.img shell inode 0 @write0 near
+  tsd disk.img copyfs inode 0 @write0 chain 1 @write1 near
 ";
 
 /// The topic `check`.

@@ -82,7 +82,7 @@ const RUNS: [(&str, &str, u64, Status, &str, &str); 13] = [
         NEVER,
         Status::Usage,
         "",
-        "tsd: usage\ntsd: behind IMAGE stands a command: fresh, format, run, serve, shell, check, load, \
+        "tsd: usage\ntsd: behind IMAGE stands a command: fresh, format, run, serve, shell, copyfs, check, load, \
             upgrade, audit or verify\n",
     ),
     (
@@ -108,7 +108,7 @@ const RUNS: [(&str, &str, u64, Status, &str, &str); 13] = [
         Status::Usage,
         "",
         "tsd: usage\ntsd: no command is called ran; there are fresh, format, run, serve, shell, \
-            check, load, upgrade, audit and verify\n",
+            copyfs, check, load, upgrade, audit and verify\n",
     ),
     (
         "disk.img check near",
@@ -226,12 +226,13 @@ fn an_output_that_fails_says_why(rt: HostRuntime) -> Result<(), Fail> {
 }
 
 /// The words that a reader of the help looks for: each command, each status, and where more is told.
-const TOLD: [&str; 22] = [
+const TOLD: [&str; 23] = [
     USAGE,
     "\n  fresh ",
     "\n  format ",
     "\n  run ",
     "\n  serve ",
+    "\n  copyfs ",
     "\n  check ",
     "\n  load ",
     "\n  upgrade ",
@@ -306,8 +307,9 @@ fn the_help_tells_all(rt: HostRuntime) {
 }
 
 /// The commands.
-const COMMANDS: [&str; 10] = [
-    "fresh", "format", "run", "serve", "shell", "check", "load", "upgrade", "audit", "verify",
+const COMMANDS: [&str; 11] = [
+    "fresh", "format", "run", "serve", "shell", "copyfs", "check", "load", "upgrade", "audit",
+    "verify",
 ];
 
 #[test]

@@ -212,6 +212,15 @@ fn operands_of(command: &str) -> Option<&'static [Operand]> {
         ]),
         "run" | "serve" => Some(&[Operand::Place]),
         "shell" => Some(&[Operand::Kind, Operand::Root, Operand::Cap, Operand::Place]),
+        "copyfs" => Some(&[
+            Operand::Kind,
+            Operand::Root,
+            Operand::Cap,
+            Operand::Kind,
+            Operand::Root,
+            Operand::Cap,
+            Operand::Place,
+        ]),
         "load" => Some(&[Operand::Seed, Operand::Count, Operand::Place]),
         "check" | "upgrade" | "audit" | "verify" => Some(&[]),
         _ => None,
@@ -254,7 +263,8 @@ fn tell_command<W: fmt::Write>(
     let (Some((shown, given)), Some((name, meant))) = (given.split_first(), meant.split_first())
     else {
         return f.write_str(
-            "tsd: behind IMAGE stands a command: fresh, format, run, serve, shell, check, load, upgrade, audit or verify",
+            "tsd: behind IMAGE stands a command: fresh, format, run, serve, shell, copyfs, check, load, upgrade, \
+             audit or verify",
         );
     };
     match operands_of(name.as_str()) {
@@ -265,7 +275,9 @@ fn tell_command<W: fmt::Write>(
                 "tsd: no command is called {}; there are ",
                 Printable { word }
             )?;
-            f.write_str("fresh, format, run, serve, shell, check, load, upgrade, audit and verify")
+            f.write_str(
+                "fresh, format, run, serve, shell, copyfs, check, load, upgrade, audit and verify",
+            )
         }
         Some(operands) if operands.len() != meant.len() => {
             write!(f, "tsd: {name} takes")?;

@@ -23,7 +23,7 @@ fn told(rt: &HostRuntime, text: &str) -> Result<String, Fail> {
 const CAP: &str = "aaaaaaaaaaaaaaaaaaaaaaaaaaaaaaaa";
 
 /// Each word at its bounds and past them, with C for a capability and CC for a seed, and what is told behind `tsd: `.
-const BOUNDS: [(&str, &str); 30] = [
+const BOUNDS: [(&str, &str); 35] = [
     ("fresh 8 1 C C near", ""),
     ("fresh 1048576 8 C C low", ""),
     ("fresh 7 1 C C near", "BLOCKS is 8 to 1048576, not 7"),
@@ -98,6 +98,23 @@ const BOUNDS: [(&str, &str); 30] = [
     (
         "shell chain 0 - low",
         "CAP is 32 hexadecimal digits, and this word has 1 character",
+    ),
+    ("copyfs inode 0 C chain 4294967295 C zone", ""),
+    (
+        "copyfs inode 0 C chains 1 C low",
+        "KIND is inode or chain, not chains",
+    ),
+    (
+        "copyfs inode 0 C chain 4294967296 C low",
+        "ROOT is the number of a block, not 4294967296",
+    ),
+    (
+        "copyfs inode 0 C chain 1 - low",
+        "CAP is 32 hexadecimal digits, and this word has 1 character",
+    ),
+    (
+        "copyfs inode 0 C chain 1 C",
+        "copyfs takes KIND ROOT CAP KIND ROOT CAP PLACE, and 6 words came",
     ),
 ];
 

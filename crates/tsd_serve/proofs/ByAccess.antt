@@ -56,3 +56,4 @@ access_law (command.Load load) r source port none same sound did told = tt
 access_law command.Upgrade r source port none same sound did told = tt
 access_law command.Audit r source port none same sound did told = tt
 access_law command.Verify r source port none same sound did told = tt
+access_law (command.CopyFs words) r source port none same sound did told = tt

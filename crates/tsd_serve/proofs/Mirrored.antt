@@ -136,6 +136,7 @@ headline_over (command.Load load) source old new c port begins ends ran = tt
 headline_over command.Upgrade source old new c port begins ends ran = tt
 headline_over command.Audit source old new c port begins ends ran = tt
 headline_over command.Verify source old new c port begins ends ran = tt
+headline_over (command.CopyFs words) source old new c port begins ends ran = tt
 
 pub headline_unbegun : (words : Command) (source : Taking) (old new : SidesView) → source.came [] → SidesAreSound old → Copying old new → MirrorHeadline words source old new
 headline_unbegun (command.Run kind) source old new came sound copying = λ firm w stands. none_asked old new sound copying line_spelling source (IsPrefixLeft line_voice kind w old.sent) came (none_on_first old line_voice kind w lines_apart.nothing firm stands)
@@ -148,6 +149,7 @@ headline_unbegun (command.Load load) source old new came sound copying = tt
 headline_unbegun command.Upgrade source old new came sound copying = tt
 headline_unbegun command.Audit source old new came sound copying = tt
 headline_unbegun command.Verify source old new came sound copying = tt
+headline_unbegun (command.CopyFs words) source old new came sound copying = tt
 
 -- ---- which sides are sound at the end
 

@@ -94,3 +94,4 @@ headline (command.Load load) r source port none same sound did told = tt
 headline command.Upgrade r source port none same sound did told = tt
 headline command.Audit r source port none same sound did told = tt
 headline command.Verify r source port none same sound did told = tt
+headline (command.CopyFs words) r source port none same sound did told = tt

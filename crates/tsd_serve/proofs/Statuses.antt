@@ -10,6 +10,7 @@ use Rattle.serving.specs.Input.{Spelling}
 use Rattle.serving.specs.Ran.{Moments, Taking}
 use Rattle.serving.specs.Voice.{Voice}
 use Rattle.audit_runs.specs.Verify.{VerifyRan}
+use Rattle.image_copy.specs.Copied.{IsCopyEnding}
 use Rattle.image_runs.specs.Sending.{IsEnding}
 use Rattle.image_runs.specs.Served.{ImageRan}
 use Rattle.image_runs.specs.Fresh.{FreshRan}
@@ -39,3 +40,10 @@ no_source_ending r ending e = subst IsEnding e ending
 -- nor one that reads a certificate
 pub no_usage_verify : (source : Taking) (port : Moments) → VerifyRan status.Usage source port → ⊥
 no_usage_verify source port ran = ran.ending
+
+-- nor a copy
+pub no_usage_copy : (r : Status) → IsCopyEnding r → r ≡ status.Usage → ⊥
+no_usage_copy r ending e = subst IsCopyEnding e ending
+
+pub no_source_copy : (r : Status) → IsCopyEnding r → r ≡ status.SourceFault → ⊥
+no_source_copy r ending e = subst IsCopyEnding e ending

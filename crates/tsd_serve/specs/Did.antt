@@ -5,6 +5,7 @@ use Rattle.tsd_model.specs.declared.requests.Request.{Request}
 use Rattle.image_device.specs.Runs.{IsFirm, LeavesOnly}
 use Rattle.image_layout.specs.declared.fault.ImageFault.{ImageFault}
 use Rattle.recovery.specs.Opening.{IsForeign, IsSpared, IsUntouched, StandAlike}
+use Rattle.tsd_words.specs.declared.commands.CopyFs.{CopyFs}
 use Rattle.tsd_words.specs.declared.commands.Format.{Format}
 use Rattle.tsd_words.specs.declared.commands.Load.{Load}
 use Rattle.tsd_words.specs.declared.commands.Shell.{Shell}
@@ -19,6 +20,7 @@ use Rattle.serving.specs.Ran.{Moments, Taking}
 use Rattle.serving.specs.Voice.{Voice}
 use Rattle.audit_runs.specs.Audit.{HasAudited, IsAuditing}
 use Rattle.audit_runs.specs.Verify.{VerifyRan}
+use Rattle.image_copy.specs.Copied.{HasCopied, IsCopyEnding, IsCopyJudged, IsLeftOfCopy, IsNotBegun}
 use Rattle.image_runs.specs.Check.{HasChecked, IsSaying}
 use Rattle.image_runs.specs.Format.{HasFormatted, IsLeftOfFormat}
 use Rattle.image_runs.specs.Load.{HasLoaded, IsLeftOfLoad}
@@ -107,6 +109,18 @@ pub record Loaded (load : Load) (r : Status) (port : Moments) : Type 0 where
   pub no_memory : port.tells → r ≡ status.NoMemory → IsFirm port.old
       → LeavesOnly port.old port.new (λ x f. StandAlike port.old.reads x × (f ≡ port.old.sent))
 
+-- A tree was copied from one root to another: how the copy ended, and what of its line was sent. A crash leaves the
+-- source's tree, and under the target's root what was there before or the tree after some of the steps. Where no copy
+-- was begun, all is as it was.
+pub record TreeCopied (words : CopyFs) (r : Status) (port : Moments) : Type 0 where
+  pub ending : IsCopyEnding r
+  pub judged : port.tells → IsCopyJudged words port.old.reads r
+  pub copied : port.tells → HasCopied r words port.old port.new
+  pub any_moment : port.tells → IsFirm port.old → LeavesOnly port.old port.new (IsLeftOfCopy words port.old)
+  pub not_begun : port.tells → IsNotBegun r → IsFirm port.old
+      → LeavesOnly port.old port.new (λ x f. StandAlike port.old.reads x × (f ≡ port.old.sent))
+  pub spared : SparesImage r port
+
 -- What the command that the words spell did, with this status, to its source and to its port. A command that takes no
 -- input leaves the source as it was. Where they spell none, it was Usage.
 abbrev pub Did : Option Command → Status → Taking → Moments → Type 0
@@ -122,4 +136,5 @@ Did (Some (command.Load load)) r source port = source.untouched × Loaded load r
 Did (Some command.Upgrade) r source port = source.untouched × Upgraded r port
 Did (Some command.Audit) r source port = source.untouched × Audited r port
 Did (Some command.Verify) r source port = VerifiedBy r source port
+Did (Some (command.CopyFs words)) r source port = source.untouched × TreeCopied words r port
 Did None r source port = r ≡ status.Usage

@@ -1,8 +1,8 @@
 //! The program as one call: command words, an input, and an image with an output beside it.
 //!
 //! What it stands on: runs over an image (`image_runs`), over the tree of files in one (`image_shell`) and over what of
-//! one is reached (`audit_runs`), the outside (`image_device`), lines (`script_text`) and frames (`request_frames`),
-//! placements (`place_policy`), and words and statuses (`tsd_words`).
+//! one is reached (`audit_runs`), copies of such a tree (`image_copy`), the outside (`image_device`), lines
+//! (`script_text`) and frames (`request_frames`), placements (`place_policy`), and words and statuses (`tsd_words`).
 //!
 //! What it promises: [`tsd`] does what its words say, or is Usage where they are no command, and then has
 //! called nothing. By command and status it says what came in, which requests that holds, what was sent, what a crash
@@ -23,5 +23,5 @@ pub use mirror_status::{MirrorStatus, mirror_status_line};
 pub use serving::INPUT_MAX;
 pub use top::tsd;
 pub use tsd_words::{
-    Command, Format, Fresh, Load, Shell, Status, command, image_line, status_line,
+    Command, CopyFs, Format, Fresh, Load, Shell, Status, TreeRoot, command, image_line, status_line,
 };

@@ -11,6 +11,7 @@ ghost use Rattle.tsd_words.specs.declared.commands.Command.TheVariants as comman
 
 use audit_runs::{audit_image, verify_image};
 use fs_trees::ShellKind;
+use image_copy::copy_image;
 use image_device::{Port, Source};
 use image_runs::{check_image, format_image, load_image, serve_fresh, serve_image, upgrade_image};
 use image_shell::{serve_chain_image, serve_inode_image};
@@ -28,7 +29,7 @@ use tsd_words::{Command, Fresh, Shell, Status, command};
 /// that. `format BLOCKS SECTORS SLOTS PRIMARIES SEED` makes a disk, `check` tells what an image is, `load
 /// SEED COUNT PLACE` carries out the requests of a seed, and `upgrade` has an image keep digests in place of
 /// capabilities. `audit` puts a certificate of which blocks are reached, and `verify` reads one and tells what it
-/// shows.
+/// shows. `copyfs KIND ROOT CAP KIND ROOT CAP PLACE` copies the tree of files under one block to another block.
 ///
 /// Each reply is put whole before the next request is carried out.
 #[tactic(auto, using(crate::proofs::Statuses::no_usage_ending, crate::proofs::Statuses::no_source_ending))]
@@ -68,7 +69,7 @@ pub fn tsd<S: Source, P: Port>(
 }
 
 /// Does what a command says.
-#[tactic(auto, using(crate::proofs::Statuses::no_usage_ending, crate::proofs::Statuses::no_source_ending, crate::proofs::Statuses::no_usage_verify))]
+#[tactic(auto, using(crate::proofs::Statuses::no_usage_ending, crate::proofs::Statuses::no_source_ending, crate::proofs::Statuses::no_usage_verify, crate::proofs::Statuses::no_usage_copy, crate::proofs::Statuses::no_source_copy))]
 pub(crate) fn obey<S: Source, P: Port>(
     alloc: Global,
     words: Command,
@@ -105,6 +106,7 @@ pub(crate) fn obey<S: Source, P: Port>(
         Command::Upgrade => upgrade_image(alloc, port),
         Command::Audit => audit_image(alloc, port),
         Command::Verify => verify_image(alloc, source, port),
+        Command::CopyFs(words) => copy_image(alloc, &words, places.pick(words.kind), port),
     }
 }
 

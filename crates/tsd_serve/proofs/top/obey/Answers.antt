@@ -24,3 +24,20 @@ returns-in-Load-clause-did g c =
         no_memory = c.load_image.ensures.no_memory;
       },
     )
+
+pub returns-in-CopyFs-clause-did : goal.returns-in-CopyFs-clause-did
+returns-in-CopyFs-clause-did g c =
+    let source = taking g.S.Source.told g.S.Source.taken g.S.Source.left_bytes g.S.Source.ended c.args.source.now c.args.source.now in
+    let port = moments g.P.Device.told g.P.Device.view c.args.port.now c.copy_image.new.port in
+    let r = c.copy_image.result in
+    subst (λ (x : Command). Did (Some x) r source port) (sym c.in-CopyFs.is) (
+      refl,
+      record {
+        ending = c.copy_image.ensures.ending;
+        judged = c.copy_image.ensures.read;
+        copied = c.copy_image.ensures.copied;
+        any_moment = c.copy_image.ensures.any_moment;
+        not_begun = c.copy_image.ensures.not_begun;
+        spared = record { foreign = c.copy_image.ensures.untouched; damaged = c.copy_image.ensures.spared };
+      },
+    )
