@@ -243,7 +243,8 @@ SOUND_ONES: Dict[str, Tuple[str, Damage]] = {
         ("put_record", 0, 0, [(131, b"\1".ljust(SECTOR, b"\0"))]))),
 }
 
-OTHER_COMMANDS = (["run", "near"], ["serve", "low"], ["load", SEED, "2", "zone"], ["upgrade"], ["audit"], ["verify"])
+OTHER_COMMANDS = (["run", "near"], ["serve", "low"], ["load", SEED, "2", "zone"], ["upgrade"], ["audit"], ["verify"],
+                  ["copyfs", "inode", "0", SEED[:32], "chain", "1", SEED[:32], "near"])
 
 
 def fault_result(name: str, line: str, image: Image, context: Context, program: Program) -> Result:

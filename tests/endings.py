@@ -20,7 +20,7 @@ R, W = "aa" * 16, "bb" * 16
 SEED = "00" * 32
 FRESH = ["fresh", "8", "1", R, W, "near"]
 OPENING: Sequence[List[str]] = (["run", "near"], ["serve", "near"], ["check"], ["load", SEED, "1", "near"], ["upgrade"],
-                                   ["audit"], ["verify"])
+                                   ["audit"], ["verify"], ["copyfs", "inode", "0", W, "chain", "0", W, "near"])
 FULL = Path("/dev/full")
 # Enough for the program and its libraries, and too little for the tables of the largest disk.
 LITTLE_MEMORY = 64 * 2**20
@@ -45,6 +45,11 @@ USAGES: Sequence[List[Word]] = (
     ["format", "8", "1", "32", "1", SEED + "0"], ["format", "8", "1", "32", "1", "-"],
     ["format", "8", "1", "32", "1", SEED, "x"], ["load", SEED, "0", "near"], ["load", SEED, "200001", "near"],
     ["load", SEED, "-", "near"], ["load", SEED, "1"], ["load", SEED[2:], "1", "near"], ["load", SEED, "1", "nowhere"],
+    ["copyfs"], ["copyfs", "inode", "0", W, "near"], ["copyfs", "inode", "0", W, "chain", "1", W],
+    ["copyfs", "inode", "0", W, "chain", "1", W, "far"], ["copyfs", "inode", "0", W, "chains", "1", W, "near"],
+    ["copyfs", "inode", "4294967296", W, "chain", "1", W, "near"], ["copyfs", "inode", "0", W, "chain", "", W, "near"],
+    ["copyfs", "inode", "0", "-", "chain", "1", W, "near"], ["copyfs", "inode", "0", W, "chain", "1", W[1:], "near"],
+    ["copyfs", "inode", "0", W, "chain", "1", W, "near", "near"], ["CopyFs", "inode", "0", W, "chain", "1", W, "near"],
 )
 
 

@@ -12,7 +12,7 @@ from parts import Context, Result, compared, failed, skipped
 NAME = "tour"
 MOST_SECONDS = 120
 # What the tour's blocks use beside the program.
-TOOLS = ("bash", "timeout", "yes", "tail", "od")
+TOOLS = ("bash", "timeout", "yes", "tail", "od", "awk")
 # A block of the tour and the one below it, which has what it prints.
 BLOCKS = re.compile(r"^```sh\n(?P<text>.*?)^```\n\s*^```\n(?P<printed>.*?)^```$", re.MULTILINE | re.DOTALL)
 
