@@ -57,8 +57,8 @@ impl BitArray {
         ensures { self.new ≡ slice_set self.old i bit }
     {
         if i < self.len {
-            let place = (i / WORD_BITS) as usize;
-            self.words[place] = with_bit(self.words[place], i % WORD_BITS, bit);
+            let position = (i / WORD_BITS) as usize;
+            self.words[position] = with_bit(self.words[position], i % WORD_BITS, bit);
         }
     }
 
@@ -76,22 +76,22 @@ fn zero(words: &mut Vec<u64>)
     words.as_mut_slice().fill(0);
 }
 
-fn is_set(word: u64, place: u32) -> bool
-    requires { place < 64 }
-    ensures { result ≡ (bit_at word place == 1) }
+fn is_set(word: u64, position: u32) -> bool
+    requires { position < 64 }
+    ensures { result ≡ (bit_at word position == 1) }
 {
-    (word >> place) & 1 == 1
+    (word >> position) & 1 == 1
 }
 
 /// The word with one bit changed.
-fn with_bit(word: u64, place: u32, bit: bool) -> u64
-    requires { place < 64 }
-    ensures same { bit_at result place ≡ cond bit 1 0 }
-    ensures others { (i : ℕ) → i < 64 → i ≢ place → bit_at result i ≡ bit_at word i }
+fn with_bit(word: u64, position: u32, bit: bool) -> u64
+    requires { position < 64 }
+    ensures same { bit_at result position ≡ cond bit 1 0 }
+    ensures others { (i : ℕ) → i < 64 → i ≢ position → bit_at result i ≡ bit_at word i }
 {
     if bit {
-        word | (1 << place)
+        word | (1 << position)
     } else {
-        word & !(1 << place)
+        word & !(1 << position)
     }
 }

@@ -16,12 +16,12 @@ free_count live = count_by not live
 -- A hidden block is live in the bitmap, and free for each question and each choice.
 pub record LiveMap : Type 0 where
   pub geometry : Geometry
-  -- at place b whether block b is live in the bitmap
+  -- at index b whether block b is live in the bitmap
   pub live : List Bool
-  -- at place b whether block b is live there and isn't hidden
+  -- at index b whether block b is live there and isn't hidden
   pub unhidden : List Bool
 
--- a lawful geometry, and in both lists a place for each of its blocks
+-- a lawful geometry, and in both lists an entry for each of its blocks
 pub record IsTable (m : LiveMap) : Type 0 where
   pub lawful : IsLawful m.geometry
   pub each_block : length m.live ≡ m.geometry.blocks

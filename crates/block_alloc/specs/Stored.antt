@@ -1,10 +1,10 @@
 -- When an image's bitmap says what a map says.
 use Rattle.std.specs.Prelude.{◌≡◌, ◌≢◌, ◌⊎◌, ℕ, ◌+◌, ◌/◌, ◌<◌, Bool, List}
 use Rattle.image_device.specs.Image.{Image, put_at}
-use Rattle.image_layout.specs.declared.place.Patch.{Patch}
+use Rattle.image_layout.specs.declared.offset.Patch.{Patch}
 use Rattle.image_layout.specs.Areas.{bitmap_start, slots_start}
 use Rattle.image_layout.specs.Image.{is_marked}
-use Rattle.image_layout.specs.Places.{bit_place}
+use Rattle.image_layout.specs.Offsets.{bit_offset}
 use Rattle.tsd_model.specs.declared.geometry.Geometry.{Geometry}
 use Rattle.block_alloc.specs.Bytes.{bitmap_sector_bytes}
 use Rattle.block_alloc.specs.LiveMap.{is_live}
@@ -23,7 +23,7 @@ per_sector = 4096
 
 -- the sector of a block's bit
 abbrev pub sector_of : Geometry → ℕ → ℕ
-sector_of g b = (bit_place g b).sector
+sector_of g b = (bit_offset g b).sector
 
 -- the sectors of an image's bitmap are written as those of a map
 abbrev pub AreWritten : List Bool → Geometry → Image → Type 0

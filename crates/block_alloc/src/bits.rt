@@ -106,8 +106,8 @@ pub fn put_bit(bytes: &mut Vec<u8>, b: u32, bit: bool)
     requires { b / 8 < length bytes.old.items }
     ensures { IsBitPut bytes.old.items bytes.new.items b bit }
 {
-    let place = (b / BYTE_BITS) as usize;
-    bytes[place] = with_bit(bytes[place], b, bit);
+    let byte_index = (b / BYTE_BITS) as usize;
+    bytes[byte_index] = with_bit(bytes[byte_index], b, bit);
 }
 
 /// Gives a bit a value, and tells how many of the first so many are 0 then, where so many were.

@@ -79,9 +79,9 @@ impl LiveMap {
     /// So many free blocks, those of least rank, in the order of their ranks. The placement is asked for the rank of
     /// every free block in a group of 256 that may hold one of them (tested). `Short` comes exactly where fewer are
     /// free.
-    pub fn choose(&self, place: &Placement, hint: u32, count: u32) -> Result<BlockList, Short>
+    pub fn choose(&self, placement: &Placement, hint: u32, count: u32) -> Result<BlockList, Short>
         requires { (1 ≤ count) × (count ≤ 32) }
-        ensures chosen { IfOk result (λ blocks. blocks ≡ chosen place.now.kind self.now.unhidden hint count) }
+        ensures chosen { IfOk result (λ blocks. blocks ≡ chosen placement.now.kind self.now.unhidden hint count) }
         ensures counted { IfOk result (λ blocks. length blocks ≡ count) }
         ensures enough { OnOk result (count ≤ free_count self.now.unhidden) }
         ensures refused { IfErr result (λ s. IsShort self.now.unhidden count s.free s.wanted) }
@@ -93,15 +93,20 @@ impl LiveMap {
                 wanted: count,
             });
         }
-        Ok(self.least_free(place, hint, count).blocks())
+        Ok(self.least_free(placement, hint, count).blocks())
     }
 
     /// The first block of a run of so many free blocks: of all such runs, the one whose first block has the least rank.
     /// The placement is asked for the rank of each one's first block in a group that may hold it (tested). `Short`
     /// comes exactly where fewer blocks are free, `NoRun` exactly where enough are and no run is that long.
-    pub fn choose_run(&self, place: &Placement, hint: u32, count: u32) -> Result<u32, RunRefusal>
+    pub fn choose_run(
+        &self,
+        placement: &Placement,
+        hint: u32,
+        count: u32,
+    ) -> Result<u32, RunRefusal>
         requires { (1 ≤ count) × (count ≤ 32) }
-        ensures chosen { IfOk result (λ first. chosen_run place.now.kind self.now.unhidden hint count ≡ Some first) }
+        ensures chosen { IfOk result (λ first. chosen_run placement.now.kind self.now.unhidden hint count ≡ Some first) }
         ensures enough { OnOk result (count ≤ free_count self.now.unhidden) }
         ensures refused { IfErr result (IsRunRefusal self.now.unhidden count) }
     {
@@ -112,7 +117,7 @@ impl LiveMap {
                 wanted: count,
             });
         }
-        match self.least_run(place, hint, count).first() {
+        match self.least_run(placement, hint, count).first() {
             Some(first) => Ok(first),
             None => Err(RunRefusal::NoRun {
                 free,
@@ -122,43 +127,43 @@ impl LiveMap {
     }
 
     /// So many free blocks of least rank, or all where there are fewer.
-    fn least_free(&self, place: &Placement, hint: u32, count: u32) -> Least
+    fn least_free(&self, placement: &Placement, hint: u32, count: u32) -> Least
         requires { count ≤ 32 }
-        ensures { result.kept.items ≡ least_of (rank_of place.now.kind hint) count (free_blocks self.now.unhidden) }
+        ensures { result.kept.items ≡ least_of (rank_of placement.now.kind hint) count (free_blocks self.now.unhidden) }
     {
-        self.least_starts(place, hint, 1, count)
+        self.least_starts(placement, hint, 1, count)
     }
 
     /// Where the run of so many free blocks begins whose first block has the least rank.
-    fn least_run(&self, place: &Placement, hint: u32, count: u32) -> Least
+    fn least_run(&self, placement: &Placement, hint: u32, count: u32) -> Least
         requires { (1 ≤ count) × (count ≤ 32) }
-        ensures { result.kept.items ≡ least_of (rank_of place.now.kind hint) 1 (runs self.now.unhidden count) }
+        ensures { result.kept.items ≡ least_of (rank_of placement.now.kind hint) 1 (runs self.now.unhidden count) }
     {
-        self.least_starts(place, hint, count, 1)
+        self.least_starts(placement, hint, count, 1)
     }
 
     /// Of the blocks where a run of so many free ones begins, so many of least rank, or all where there are fewer. A
     /// ceiling is guessed first, and where enough stand below it, groups whose least rank is above it are passed by.
-    fn least_starts(&self, place: &Placement, hint: u32, run: u32, wanted: u32) -> Least
+    fn least_starts(&self, placement: &Placement, hint: u32, run: u32, wanted: u32) -> Least
         requires run { (1 ≤ run) × (run ≤ 32) }
         requires wanted { wanted ≤ 32 }
-        ensures { result.kept.items ≡ least_of (rank_of place.now.kind hint) wanted (runs self.now.unhidden run) }
+        ensures { result.kept.items ≡ least_of (rank_of placement.now.kind hint) wanted (runs self.now.unhidden run) }
     {
-        let Some(ceiling) = self.ceiling(place.kind(), hint, run, wanted) else {
-            return self.least_within(place, hint, run, wanted, None);
+        let Some(ceiling) = self.ceiling(placement.kind(), hint, run, wanted) else {
+            return self.least_within(placement, hint, run, wanted, None);
         };
-        let least = self.least_within(place, hint, run, wanted, Some(ceiling));
+        let least = self.least_within(placement, hint, run, wanted, Some(ceiling));
         if least.is_full() {
             least
         } else {
-            self.least_within(place, hint, run, wanted, None)
+            self.least_within(placement, hint, run, wanted, None)
         }
     }
 
     /// The same of those blocks alone whose rank is at most a ceiling.
     fn least_within(
         &self,
-        place: &Placement,
+        placement: &Placement,
         hint: u32,
         run: u32,
         wanted: u32,
@@ -167,15 +172,15 @@ impl LiveMap {
         requires run { (1 ≤ run) × (run ≤ 32) }
         requires wanted { wanted ≤ 32 }
         ensures wanted { result.wanted ≡ wanted }
-        ensures kept { let rank = rank_of place.now.kind hint in result.kept.items ≡ least_of rank wanted
+        ensures kept { let rank = rank_of placement.now.kind hint in result.kept.items ≡ least_of rank wanted
             (filter (is_run_within rank self.now.unhidden run ceiling) (all_blocks self.now.unhidden)) }
     {
         let groups = self.groups();
         let mut least = Least::new(wanted as usize);
         for group in (0..groups).rev() {
-            let best = best_of(place.kind(), hint, group);
-            if is_within(ceiling, rank(place.kind(), hint, best)) {
-                self.offer_group(place, hint, run, ceiling, group, &mut least);
+            let best = best_of(placement.kind(), hint, group);
+            if is_within(ceiling, rank(placement.kind(), hint, best)) {
+                self.offer_group(placement, hint, run, ceiling, group, &mut least);
             }
         }
         least
@@ -184,7 +189,7 @@ impl LiveMap {
     /// Offers the blocks of a group where a run of so many free ones begins, if their rank is at most a ceiling.
     fn offer_group(
         &self,
-        place: &Placement,
+        placement: &Placement,
         hint: u32,
         run: u32,
         ceiling: Option<u64>,
@@ -194,7 +199,7 @@ impl LiveMap {
         requires run { (1 ≤ run) × (run ≤ 32) }
         requires group { 256 * group < self.now.geometry.blocks }
         ensures wanted { least.new.wanted ≡ least.old.wanted }
-        ensures kept { let rank = rank_of place.now.kind hint in
+        ensures kept { let rank = rank_of placement.now.kind hint in
             IsKeptFrom rank self.now.unhidden run ceiling least.old.wanted (256 * (group + 1)) least.old.kept.items
             → IsKeptFrom rank self.now.unhidden run ceiling least.old.wanted (256 * group) least.new.kept.items }
     {
@@ -206,7 +211,7 @@ impl LiveMap {
         let end = blocks.min(first + GROUP_BLOCKS);
         for block in (first..end).rev() {
             if self.is_run(block, run) {
-                let rank = place.rank(hint, block);
+                let rank = placement.rank(hint, block);
                 if is_within(ceiling, rank) {
                     least.offer(Ranked { rank, block });
                 }

@@ -21,8 +21,8 @@ fn set_bit(sector: &mut [u8; SECTOR_BYTES], bit: u32)
     ensures others { (b : ℕ) → b ≢ bit → bit_in sector.new b ≡ bit_in sector.old b }
     ensures fits { (i : ℕ) → slice_index sector.new i < 256 }
 {
-    let place = (bit / BYTE_BITS) as usize;
-    sector[place] = with_bit(sector[place], bit, true);
+    let byte_index = (bit / BYTE_BITS) as usize;
+    sector[byte_index] = with_bit(sector[byte_index], bit, true);
 }
 
 /// A sector whose first so many bits are 1.

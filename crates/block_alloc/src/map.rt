@@ -189,7 +189,7 @@ impl LiveMap {
     {
         let first = SECTOR_BYTES * (block / PER_SECTOR) as usize;
         Patch {
-            sector: Layout::of(&self.geometry).bit_place(block).sector,
+            sector: Layout::of(&self.geometry).bit_offset(block).sector,
             bytes: sector_from(&self.bytes, first),
         }
     }

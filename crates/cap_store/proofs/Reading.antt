@@ -54,8 +54,8 @@ module _ (version part each : ℕ) (old new : List Record) (bytes : List ℕ) (i
       | inl inside ↦
           let k : ℕ = block - part * each in
           let fits : k < per_sector version = omega arith in
-          let place : block ≡ part * each + k = omega arith in
-          subst (IsRecord version) (same_Some (record_at version bytes k) r (sym (here k fits (omega arith)) ∙ ap (slice_get new) (sym place) ∙ is_r)) (kept k fits)
+          let position : block ≡ part * each + k = omega arith in
+          subst (IsRecord version) (same_Some (record_at version bytes k) r (sym (here k fits (omega arith)) ∙ ap (slice_get new) (sym position) ∙ is_r)) (kept k fits)
       | inr past ↦ absurd (none-some r (sym (slice_get_past new block (omega arith)) ∙ is_r))
     ]
   ]
@@ -69,7 +69,7 @@ module _ (version part each : ℕ) (old new : List Record) (bytes : List ℕ) (i
     | inr at ↦
         let k : ℕ = block - part * each in
         let fits : k < per_sector version = omega arith in
-        let place : block ≡ part * each + k = omega arith in
-        ap (slice_get new) place ∙ here k fits (omega arith)
-        ∙ ap Some (ap (λ l. record_at version l k) read ∙ sym (record_in x part k version is fits) ∙ ap (λ b. stored_record version x b) (ap (λ n. part * n + k) (sym size) ∙ sym place))
+        let position : block ≡ part * each + k = omega arith in
+        ap (slice_get new) position ∙ here k fits (omega arith)
+        ∙ ap Some (ap (λ l. record_at version l k) read ∙ sym (record_in x part k version is fits) ∙ ap (λ b. stored_record version x b) (ap (λ n. part * n + k) (sym size) ∙ sym position))
   ]

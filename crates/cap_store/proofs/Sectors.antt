@@ -10,7 +10,7 @@ use Rattle.tsd_model.specs.declared.records.Record.{Record}
 use Rattle.image_device.specs.Image.{put_at}
 use Rattle.image_device.proofs.Sets.{or_false, or_false_left, or_false_right, not_same}
 use Rattle.image_layout.specs.Header.{IsVersion}
-use Rattle.image_layout.specs.Image.{Image, kept_len, kept_place}
+use Rattle.image_layout.specs.Image.{Image, kept_len, kept_offset}
 use Rattle.cap_store.specs.Changes.{patch_of, KeepsStored}
 use Rattle.cap_store.specs.Store.{AreRecords, IsRecord, IsTable, Store}
 use Rattle.cap_store.specs.Stored.{sector_of, caps_sector_bytes, kept_as, part_of, per_sector, record_at, record_bytes, records_in, stored_record, IsStored, IsStoredBut}
@@ -127,7 +127,7 @@ read_there version rs y is few are other less put =
     ∙ records_back version (records_in version rs part) zeros k r (part_are version rs part are) cut in
     held ∙ ap Some (sym stored)
 
-module _ (version : ℕ) (rs : List Record) (x : Image) (block sector : ℕ) (bytes : List ℕ) (is : IsVersion version) (few : length rs ≤ 16) (are : AreRecords version rs) (inside : block < 16) (place : sector ≡ sector_of version block) (bytes_are : bytes ≡ caps_sector_bytes version rs (part_of version block)) where
+module _ (version : ℕ) (rs : List Record) (x : Image) (block sector : ℕ) (bytes : List ℕ) (is : IsVersion version) (few : length rs ≤ 16) (are : AreRecords version rs) (inside : block < 16) (position : sector ≡ sector_of version block) (bytes_are : bytes ≡ caps_sector_bytes version rs (part_of version block)) where
   abbrev after : Image
   after = put_at sector bytes x
 
@@ -137,7 +137,7 @@ module _ (version : ℕ) (rs : List Record) (x : Image) (block sector : ℕ) (by
       let part : ℕ = part_of version other in
       let stands : sector_of version other ≡ 132 + part = place_is other version is (omega arith) in
       let patched : sector_of version block ≡ 132 + part_of version block = place_is block version is inside in
-      let parts : part_of version block ≡ part = omega (arith, stands, patched, place, same) in
+      let parts : part_of version block ≡ part = omega (arith, stands, patched, position, same) in
       let at : 132 + part ≡ sector = sym stands ∙ same in
       let put : after (132 + part) ≡ bytes = ap (λ t. cond t bytes (x (132 + part))) (tested (132 + part) sector at) in
       read_there version rs after is few are other less (put ∙ bytes_are ∙ ap (caps_sector_bytes version rs) parts)
@@ -159,8 +159,8 @@ module _ (version : ℕ) (rs : List Record) (x : Image) (block sector : ℕ) (by
 
       of_bytes : ℕ → List ℕ → Record
       of_bytes b bs = record {
-        read = kept_as version (take (kept_len version) (drop (kept_place version b).byte bs));
-        write = kept_as version (take (kept_len version) (drop ((kept_place version b).byte + kept_len version) bs));
+        read = kept_as version (take (kept_len version) (drop (kept_offset version b).byte bs));
+        write = kept_as version (take (kept_len version) (drop ((kept_offset version b).byte + kept_len version) bs));
       }
 
   pub stored_all : IsStoredBut (λ n. n == sector) version rs x → IsStored version rs after

@@ -7,7 +7,7 @@ use Rattle.std.proofs.lemmas.Option.{get_or_from_slice_get}
 use Rattle.tsd_model.specs.declared.records.Record.{Record}
 use Rattle.image_layout.specs.Areas.{caps_start, counts_start}
 use Rattle.image_layout.specs.Header.{IsVersion}
-use Rattle.image_layout.specs.Image.{Image, kept_len, kept_place}
+use Rattle.image_layout.specs.Image.{Image, kept_len, kept_offset}
 use Rattle.cap_store.specs.Stored.{sector_of, kept_as, part_of, stored_record, IsStored, IsStoredBut}
 use Rattle.cap_store.proofs.RecordLaws.{blank, for_version}
 use Rattle.cap_store.proofs.Sectors.{place_is}
@@ -22,8 +22,8 @@ same_record version x y block same = ap of_bytes same
   where
     of_bytes : List ℕ → Record
     of_bytes bytes = record {
-      read = kept_as version (take (kept_len version) (drop (kept_place version block).byte bytes));
-      write = kept_as version (take (kept_len version) (drop ((kept_place version block).byte + kept_len version) bytes));
+      read = kept_as version (take (kept_len version) (drop (kept_offset version block).byte bytes));
+      write = kept_as version (take (kept_len version) (drop ((kept_offset version block).byte + kept_len version) bytes));
     }
 
 part_below : (block version : ℕ) → IsVersion version → block < 16 → part_of version block < 2
@@ -33,9 +33,9 @@ part_below block = for_version (λ v. block < 16 → part_of v block < 2) (λ in
 pub same_sectors_but : (some : ℕ → Bool) (version : ℕ) (rs : List Record) (x y : Image) → IsVersion version → length rs ≤ 16
     → ((n : ℕ) → caps_start ≤ n → n < counts_start → some n ≡ false → y n ≡ x n) → IsStoredBut some version rs x → IsStoredBut some version rs y
 same_sectors_but some version rs x y is few same stored block inside out =
-    let place = place_is block version is (omega arith) in
+    let position = place_is block version is (omega arith) in
     let part = part_below block version is (omega arith) in
-    let there = same (sector_of version block) (omega (arith, place)) (omega (arith, place, part)) out in
+    let there = same (sector_of version block) (omega (arith, position)) (omega (arith, position, part)) out in
     stored block inside out ∙ ap Some (sym (same_record version x y block there))
 
 pub same_sectors : (version : ℕ) (rs : List Record) (x y : Image) → IsVersion version → length rs ≤ 16

@@ -8,16 +8,16 @@ use Rattle.tsd_model.specs.declared.caps.CapPair.{CapPair}
 
 -- the four bytes of a word of a stream, the lowest first; ChaCha20 has ten double rounds
 abbrev pub word_bytes : List ℕ → ℕ → ℕ → List ℕ
-word_bytes key stream place = to_le_bytes w32 (word_at 10 key stream place)
+word_bytes key stream position = to_le_bytes w32 (word_at 10 key stream position)
 
--- the capability of four words in a row, from a place on
+-- the capability of four words in a row, from an offset on
 abbrev pub cap_at : List ℕ → ℕ → ℕ → Cap
-cap_at key stream place = record {
+cap_at key stream position = record {
   bytes =
-      word_bytes key stream place
-      ++ word_bytes key stream (place + 1)
-      ++ word_bytes key stream (place + 2)
-      ++ word_bytes key stream (place + 3);
+      word_bytes key stream position
+      ++ word_bytes key stream (position + 1)
+      ++ word_bytes key stream (position + 2)
+      ++ word_bytes key stream (position + 3);
 }
 
 -- the pair of primary block b, from stream 0 of the seed: words 8 b to 8 b + 3 for reading, and the next four for

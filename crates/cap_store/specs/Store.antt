@@ -14,7 +14,7 @@ use Rattle.tsd_model.specs.Attained.{record_level}
 use Rattle.image_layout.specs.Header.{IsVersion}
 use Rattle.image_layout.specs.Image.{kept_len}
 
--- the version, the size of the disk, and at place b the record of primary block b
+-- the version, the size of the disk, and at index b the record of primary block b
 pub record Store : Type 0 where
   pub version : ℕ
   pub geometry : Geometry

@@ -7,7 +7,7 @@ use Rattle.tsd_model.specs.declared.records.KeptCap.{KeptCap}
 use Rattle.tsd_model.specs.declared.records.KeptCap.TheVariants.{Plain, Digested}
 use Rattle.tsd_model.specs.declared.records.Record.{Record}
 use Rattle.image_layout.specs.Areas.{caps_start}
-use Rattle.image_layout.specs.Image.{Image, kept_place, kept_len, kept_for_reading, kept_for_writing}
+use Rattle.image_layout.specs.Image.{Image, kept_offset, kept_len, kept_for_reading, kept_for_writing}
 
 -- ---- the bytes
 -- what stands on the image for what is kept of a capability
@@ -40,17 +40,17 @@ caps_sector_bytes version records part =
 -- ---- store and sectors
 -- the sector of an entry: that of a primary block's record
 abbrev pub sector_of : ℕ → ℕ → ℕ
-sector_of version block = (kept_place version block).sector
+sector_of version block = (kept_offset version block).sector
 
 -- what a version keeps with these bytes
 abbrev pub kept_as : ℕ → List ℕ → KeptCap
 kept_as version bytes = cond (version == 2) (Digested bytes) (Plain (record { bytes = bytes }))
 
--- the record at a place of a sector with these bytes, counted from 0
+-- the record at a position of a sector with these bytes, counted from 0
 abbrev pub record_at : ℕ → List ℕ → ℕ → Record
-record_at version bytes place = record {
-  read = kept_as version (take (kept_len version) (drop (2 * kept_len version * place) bytes));
-  write = kept_as version (take (kept_len version) (drop (2 * kept_len version * place + kept_len version) bytes));
+record_at version bytes position = record {
+  read = kept_as version (take (kept_len version) (drop (2 * kept_len version * position) bytes));
+  write = kept_as version (take (kept_len version) (drop (2 * kept_len version * position + kept_len version) bytes));
 }
 
 -- the record that an image has for a block

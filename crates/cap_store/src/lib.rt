@@ -2,7 +2,7 @@
 //! SHA-256 digests in version 2. And the capabilities that a seed gives.
 //!
 //! What it stands on: `tsd_model` for what a version keeps and which level a shown capability attains, `image_device`
-//! for the reads, `image_layout` for the places, `rand_chacha` and `rand_core` for the words of a seed, `sha2` for the
+//! for the reads, `image_layout` for the offsets, `rand_chacha` and `rand_core` for the words of a seed, `sha2` for the
 //! length of a digest.
 //!
 //! What it promises: after `load` the store is what the sectors say; `level_shown` is the level of the abstract disk;

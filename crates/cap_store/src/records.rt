@@ -9,7 +9,7 @@ use tsd_model::caps::CAP_BYTES;
 use tsd_model::records::{kept, upgraded_record};
 use tsd_model::{Cap, CapPair, KeptCap, Record};
 
-/// What a place has before it is read or written.
+/// What a position has before it is read or written.
 pub(crate) const BLANK: Record = Record {
     read: KeptCap::Plain(Cap {
         bytes: [0; CAP_BYTES],

@@ -62,15 +62,15 @@ fn kept_in(version: u32, bytes: &[u8; SECTOR_BYTES], at: usize) -> KeptCap
     }
 }
 
-/// The record at a place of a sector, counted from 0.
-pub(crate) fn record_in(version: u32, bytes: &[u8; SECTOR_BYTES], place: usize) -> Record
+/// The record at a position of a sector, counted from 0.
+pub(crate) fn record_in(version: u32, bytes: &[u8; SECTOR_BYTES], position: usize) -> Record
     requires version { IsVersion version }
-    requires inside { place < per_sector version }
-    ensures value { result ≡ record_at version bytes.now place }
+    requires inside { position < per_sector version }
+    ensures value { result ≡ record_at version bytes.now position }
     ensures kept { IsRecord version result }
 {
     let len = kept_len(version);
-    let at = 2 * len * place;
+    let at = 2 * len * position;
     Record {
         read: kept_in(version, bytes, at),
         write: kept_in(version, bytes, at + len),

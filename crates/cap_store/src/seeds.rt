@@ -16,7 +16,7 @@ use tsd_model::{Cap, CapList, CapPair};
 fn next_cap(words: &mut ChaCha20Rng) -> Cap
     requires { words.old.word_pos + 4 < 2 ^ 68 }
     ensures value { result ≡ cap_at words.old.key words.old.stream words.old.word_pos }
-    ensures place { words.new ≡ record words.old { word_pos = words.old.word_pos + 4 } }
+    ensures position { words.new ≡ record words.old { word_pos = words.old.word_pos + 4 } }
 {
     let mut bytes = [0; CAP_BYTES];
     fill_bytes_via_u32(words, &mut bytes);

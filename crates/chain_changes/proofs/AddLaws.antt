@@ -119,7 +119,7 @@ module _ (c : Client) (old : DiskView) (n : Name) (page : Page) (x : Putting c o
 
     added : FileAdded mid.world c.root x.chains x.before (page_link page) x.behind (filled (block_len mid.world.geometry) bytes) reads.cluster entered_file
     added = entry_is_added mid.world c.root x.chains x.before (page_link page) x.behind (filled (block_len mid.world.geometry) bytes) reads.cluster (entries_in page.cluster) entered [] entered_file
-        (under_now c old n page x blocks mid.world nf.making) (record { place = x.parts; within = within_now c old n page x blocks mid.world nf.making; read = reads.read }) reads.next_is
+        (under_now c old n page x blocks mid.world nf.making) (record { position = x.parts; within = within_now c old n page x blocks mid.world nf.making; read = reads.read }) reads.next_is
         (own_entries ∙ ap (λ es. Some es) (sym (append-nil (entries_in page.cluster)))) reads.entries_are is_new others few
 
     abbrev next : Chains
@@ -149,7 +149,7 @@ module _ (c : Client) (old : DiskView) (n : Name) (page : Page) (x : Putting c o
 
   -- ---- a name that stands for an old file
 
-  module _ (place first : ℕ) (at : IsEntry n (entries_in page.cluster) place first) where
+  module _ (position first : ℕ) (at : IsEntry n (entries_in page.cluster) position first) where
     abbrev front : List Entry
     front = at.front
 
@@ -191,7 +191,7 @@ module _ (c : Client) (old : DiskView) (n : Name) (page : Page) (x : Putting c o
 
     the_set : FileSet mid.world c.root x.chains x.before (page_link page) x.behind (filled (block_len mid.world.geometry) bytes_set) reads_set.cluster at.entry entered_file
     the_set = entry_is_set mid.world c.root x.chains x.before (page_link page) x.behind (filled (block_len mid.world.geometry) bytes_set) reads_set.cluster at.front at.entry entered at.back entered_file
-        (under_now c old n page x blocks mid.world nf.making) (record { place = x.parts; within = within_now c old n page x blocks mid.world nf.making; read = reads_set.read }) reads_set.next_is
+        (under_now c old n page x blocks mid.world nf.making) (record { position = x.parts; within = within_now c old n page x blocks mid.world nf.making; read = reads_set.read }) reads_set.next_is
         (own_entries ∙ ap (λ es. Some es) at.parts) reads_set.entries_are (sym at.name) is_new
 
     abbrev after : Chains

@@ -166,7 +166,7 @@ module _ (c : Client) (old : DiskView) (n : Name) (page : Page) (x : Putting c o
 
       grows : Becomes w c.root page.block (filled (block_len mid.world.geometry) entered) next (with_at (n ∷ []) (a_file (chain_bytes nf.links)) (chain_tree w c.root))
       grows = the_directory_grows w c.root x.chains x.before (page_link page) m (filled (block_len mid.world.geometry) entered) cl es e new_file making_one.valid.raw.sized
-          (under_now c old n page x blocks w making_one) (record { place = last_parts; within = within_now c old n page x blocks w making_one; read = reads_two.read }) reads_two.next_is
+          (under_now c old n page x blocks w making_one) (record { position = last_parts; within = within_now c old n page x blocks w making_one; read = reads_two.read }) reads_two.next_is
           (ap (λ g. entries_of (block_len g) (cluster_of (held.cluster_in page.cluster))) nf.making.geometry ∙ page_entries old.world c.root x.chains x.under x.valid.valid x.before page x.behind x.parts x.read)
           reads_two.entries_are is_new_cluster others few
 

@@ -263,7 +263,7 @@ module _ (c : Client) (first : DiskView) (path : Path) (x : List ℕ) (part : Pa
 
       lengthens : Lengthens mid.world last.chains last.front last.file last.back last.last.before (part_link part) (filled (block_len mid.world.geometry) bytes) cl tail.links
       lengthens = record {
-        place = last.among;
+        position = last.among;
         ends = last.last.parts;
         within = subst (λ n. d < n) (sym many_blocks) (live_below first.world.blocks d last_live);
         read = read;

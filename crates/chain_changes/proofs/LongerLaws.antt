@@ -58,7 +58,7 @@ apart_both xs ys one two apart = times_apart (xs ++ ys) (λ b. by_test b (has_nu
 
 -- ---- among the others
 
-module _ (c : Chains) (fs : List ChainFile) (f : ChainFile) (hs : List ChainFile) (place : c.files ≡ fs ++ (f ∷ hs)) (ks : List Link) (k : Link) (ends : f.chain ≡ ks ++ k ∷ []) (cl : Cluster) (more : List Link) where
+module _ (c : Chains) (fs : List ChainFile) (f : ChainFile) (hs : List ChainFile) (position : c.files ≡ fs ++ (f ∷ hs)) (ks : List Link) (k : Link) (ends : f.chain ≡ ks ++ k ∷ []) (cl : Cluster) (more : List Link) where
   abbrev longer : Chains
   longer = record { directory = c.directory; files = fs ++ (grown f ks k cl more ∷ hs) }
 
@@ -73,7 +73,7 @@ module _ (c : Chains) (fs : List ChainFile) (f : ChainFile) (hs : List ChainFile
   longer_times b =
       let one = times-append b (blocks_of c.directory) (file_blocks c.files) in
       let two = times-append b (blocks_of c.directory) (file_blocks longer.files) in
-      let was = ap (λ xs. times b (file_blocks xs)) place ∙ times_three b fs (f ∷ []) hs in
+      let was = ap (λ xs. times b (file_blocks xs)) position ∙ times_three b fs (f ∷ []) hs in
       let is = times_three b fs (grown f ks k cl more ∷ []) hs in
       let own = ap (times b) (append-nil (blocks_of f.chain) ∙ old_blocks) ∙ times-append b (blocks_of ks) (k.block ∷ []) in
       let now = ap (times b) (append-nil (blocks_of (ks ++ relinked k cl ∷ more)) ∙ new_blocks) ∙ times-append b (blocks_of ks) (k.block ∷ blocks_of more) in
@@ -107,7 +107,7 @@ module _ (c : Chains) (fs : List ChainFile) (f : ChainFile) (hs : List ChainFile
   pub old_pairs : (a b : ℕ) → holds (chain_pairs c) a b ≡ true → holds (chain_pairs longer) a b ≡ true
   old_pairs a b h = elim (held_append (links (blocks_of c.directory)) (file_pairs c.files) a b h) [
     | inl link ↦ held_left (links (blocks_of c.directory)) (file_pairs longer.files) a b link
-    | inr file ↦ elim (held_three fs (f ∷ []) hs a b (ap (λ xs. holds (file_pairs xs) a b) (sym place) ∙ file)) [
+    | inr file ↦ elim (held_three fs (f ∷ []) hs a b (ap (λ xs. holds (file_pairs xs) a b) (sym position) ∙ file)) [
       | inl first ↦ held_right (links (blocks_of c.directory)) (file_pairs longer.files) a b (first_held fs (grown f ks k cl more ∷ []) hs a b first)
       | inr rest ↦ elim rest [
         | inr last ↦ held_right (links (blocks_of c.directory)) (file_pairs longer.files) a b (last_held fs (grown f ks k cl more ∷ []) hs a b last)

@@ -12,41 +12,41 @@ use Rattle.chain_reading.specs.Chained.{PlacedEntry, AreEntries, AreOthers}
 use Rattle.chain_reading.proofs.ChangeLaws.{has_chains}
 use Rattle.chain_reading.proofs.FileLaws.{tree_lacks}
 use Rattle.chain_reading.specs.declared.walking.Page.{Page}
-use Rattle.chain_reading.specs.declared.finding.Place.{Place}
-use Rattle.chain_reading.specs.declared.finding.Place.TheVariants.{Taken, Free}
+use Rattle.chain_reading.specs.declared.finding.Lookup.{Lookup}
+use Rattle.chain_reading.specs.declared.finding.Lookup.TheVariants.{Taken, Free}
 use Rattle.chain_reading.specs.Ahead.{IsDirectoryAhead}
 use Rattle.chain_reading.specs.Asking.{MayAsk, tree_of}
 use Rattle.chain_reading.specs.Finding.{IsNameFound, no_way}
 use Rattle.chain_reading.proofs.KnownLaws.{IsKnown, is_known, tree_known, taken_name, free_name, names_of_files}
 use Rattle.chain_reading.proofs.ListLaws.{entries_unique}
-use Rattle.chain_changes.specs.Places.{StandsAtPlace}
+use Rattle.chain_changes.specs.Lookups.{IsLookupOf}
 
-module _ (told : Type 0) (c : Client) (old new : DiskView) (t : told) (may : MayAsk told c old) (sound : IsDiskSound old) (seen : Looked old new) (n : Name) (place : Place) (found : (ls : List Link) (ps : List PlacedEntry) → IsDirectoryAhead c old ls ps → IsNameFound c new n ls ps place) where
+module _ (told : Type 0) (c : Client) (old new : DiskView) (t : told) (may : MayAsk told c old) (sound : IsDiskSound old) (seen : Looked old new) (n : Name) (position : Lookup) (found : (ls : List Link) (ps : List PlacedEntry) → IsDirectoryAhead c old ls ps → IsNameFound c new n ls ps position) where
   known : IsKnown c old
   known = is_known told c old t may sound
 
-  pub is_at : StandsAtPlace c new n place
+  pub is_at : IsLookupOf c new n position
   is_at = record {
     chains = known.chains;
     under = ap (λ w. chains_under w c.root) seen.world ∙ known.under;
     found = λ ps are.
         let len = block_len old.world.geometry in
         let own : AreEntries len known.chains.directory ps = subst (λ w. AreEntries (block_len w.geometry) known.chains.directory ps) seen.world are in
-        subst (λ qs. IsNameFound c new n known.chains.directory qs place) (entries_unique len known.chains.directory known.has.listing.entries ps known.has.listing.in_order own)
+        subst (λ qs. IsNameFound c new n known.chains.directory qs position) (entries_unique len known.chains.directory known.has.listing.entries ps known.has.listing.in_order own)
         (found known.chains.directory known.has.listing.entries known.ahead);
   }
 
-  pub lost : (m : Name) (ns : Path) → lost_on_the_way (tree_of c old) (n ∷ m ∷ ns) ≡ Some (no_way place)
-  lost m ns = by_place place (found known.chains.directory known.has.listing.entries known.ahead)
+  pub lost : (m : Name) (ns : Path) → lost_on_the_way (tree_of c old) (n ∷ m ∷ ns) ≡ Some (no_way position)
+  lost m ns = by_place position (found known.chains.directory known.has.listing.entries known.ahead)
     where
-      by_place : (p : Place) → IsNameFound c new n known.chains.directory known.has.listing.entries p → lost_on_the_way (tree_of c old) (n ∷ m ∷ ns) ≡ Some (no_way p)
-      by_place (Taken page place first) taken =
-          ap (λ x. lost_on_the_way x (n ∷ m ∷ ns)) (tree_known c old known) ∙ ap (λ x. lost_on_the_way x (m ∷ ns)) (taken_name c old new known seen n page place first taken)
+      by_place : (p : Lookup) → IsNameFound c new n known.chains.directory known.has.listing.entries p → lost_on_the_way (tree_of c old) (n ∷ m ∷ ns) ≡ Some (no_way p)
+      by_place (Taken page position first) taken =
+          ap (λ x. lost_on_the_way x (n ∷ m ∷ ns)) (tree_known c old known) ∙ ap (λ x. lost_on_the_way x (m ∷ ns)) (taken_name c old new known seen n page position first taken)
       by_place (Free page count) free =
           ap (λ x. lost_on_the_way x (n ∷ m ∷ ns)) (tree_known c old known) ∙ ap (λ x. lost_on_the_way x (m ∷ ns)) (free_name c old new known seen n free.0)
 
 -- nothing stands at the path of a free name
-pub free_at : (c : Client) (first mid : DiskView) (path : Path) (n : Name) (page : Page) (count : ℕ) → mid.world ≡ first.world → path ≡ n ∷ [] → StandsAtPlace c mid n (Free page count) → at (tree_of c first) path ≡ nothing
+pub free_at : (c : Client) (first mid : DiskView) (path : Path) (n : Name) (page : Page) (count : ℕ) → mid.world ≡ first.world → path ≡ n ∷ [] → IsLookupOf c mid n (Free page count) → at (tree_of c first) path ≡ nothing
 free_at c first mid path n page count same path_is found =
     let has = has_chains mid.world c.root found.chains found.under in
     let free = found.found has.listing.entries has.listing.in_order in

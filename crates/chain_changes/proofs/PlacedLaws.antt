@@ -29,7 +29,7 @@ use Rattle.fs_port.specs.Files.{FilesView, need_on}
 use Rattle.fs_client.specs.declared.client.Client.{Client}
 use Rattle.fs_client.specs.May.{Looked}
 use Rattle.fs_client.specs.Steps.{no_room_in}
-use Rattle.fs_client.specs.Changing.{refused_on, no_place_found}
+use Rattle.fs_client.specs.Changing.{refused_on, lookup_refusal}
 use Rattle.chain_layout.specs.Block.{cluster_of, block_len_of}
 use Rattle.chain_layout.specs.Held.{cluster_in, entries_in}
 use Rattle.chain_layout.specs.Listed.{listed_at}
@@ -39,11 +39,11 @@ use Rattle.chain_reading.proofs.ChangeLaws.{HasChains, has_chains, right_is}
 use Rattle.chain_reading.proofs.FileLaws.{tree_lacks}
 use Rattle.chain_changes.specs.Filling.{first_block}
 use Rattle.chain_reading.specs.declared.walking.Page.{Page}
-use Rattle.chain_reading.specs.declared.finding.Place.TheVariants.{Taken, Free}
+use Rattle.chain_reading.specs.declared.finding.Lookup.TheVariants.{Taken, Free}
 use Rattle.chain_reading.specs.Asking.{tree_of, mounted_by}
-use Rattle.chain_reading.specs.Finding.{placed_names, page_link, is_roomy, IsEntry, IsPlaceTaken, IsRoomiest}
+use Rattle.chain_reading.specs.Finding.{placed_names, page_link, is_roomy, IsEntry, IsLookupTaken, IsRoomiest}
 use Rattle.chain_reading.proofs.KnownLaws.{IsKnown, names_of_files, entry_file, taken_name}
-use Rattle.chain_changes.specs.Places.{StandsAtPlace}
+use Rattle.chain_changes.specs.Lookups.{IsLookupOf}
 use Rattle.chain_changes.proofs.PutNeedLaws.{put_lost, put_over, put_new, need_over, need_new, names_counted}
 use Rattle.chain_changes.proofs.PuttingLaws.{Putting}
 
@@ -96,39 +96,39 @@ pub entries_used : (page : Page) → length (entries_in page.cluster) ≡ (clust
 entries_used page = length-entries (cluster_of (cluster_in page.cluster)).used (cluster_of (cluster_in page.cluster)).body
 
 -- the bytes with an entry in place of another, or behind all
-pub set_bytes : (next : Option ℕ) (n : Name) (b : ℕ) (es : List Entry) (place first : ℕ) (at : IsEntry n es place first) → directory_bytes next (listed_at place (record { name = n; block = b }) es) ≡ directory_bytes next (at.front ++ (record { name = n; block = b } ∷ at.back))
-set_bytes next n b es place first at =
+pub set_bytes : (next : Option ℕ) (n : Name) (b : ℕ) (es : List Entry) (position first : ℕ) (at : IsEntry n es position first) → directory_bytes next (listed_at position (record { name = n; block = b }) es) ≡ directory_bytes next (at.front ++ (record { name = n; block = b } ∷ at.back))
+set_bytes next n b es position first at =
     let new : Entry = record { name = n; block = b } in
-    ap (directory_bytes next) (ap (listed_at place new) at.parts ∙ (ap (λ k. listed_at k new (at.front ++ (at.entry ∷ at.back))) (sym at.count) ∙ listed_over at.front at.entry new at.back))
+    ap (directory_bytes next) (ap (listed_at position new) at.parts ∙ (ap (λ k. listed_at k new (at.front ++ (at.entry ∷ at.back))) (sym at.count) ∙ listed_over at.front at.entry new at.back))
 
-pub add_bytes : (next : Option ℕ) (n : Name) (b : ℕ) (es : List Entry) (place : ℕ) → place ≡ length es → directory_bytes next (listed_at place (record { name = n; block = b }) es) ≡ directory_bytes next (es ++ (record { name = n; block = b } ∷ []))
-add_bytes next n b es place at =
+pub add_bytes : (next : Option ℕ) (n : Name) (b : ℕ) (es : List Entry) (position : ℕ) → position ≡ length es → directory_bytes next (listed_at position (record { name = n; block = b }) es) ≡ directory_bytes next (es ++ (record { name = n; block = b } ∷ []))
+add_bytes next n b es position at =
     let new : Entry = record { name = n; block = b } in
     ap (directory_bytes next) (ap (λ k. listed_at k new es) at ∙ listed_behind es new)
 
 -- ---- what was found
 
 module _ (c : Client) (old : DiskView) (n : Name) (page : Page) (valid : IsValidNow old) (tree : is_there (tree_of c old) ≡ true) (primary : c.root < old.world.geometry.primaries) (named : is_name n ≡ true) where
-  pub the_taken : (place first : ℕ) (at : StandsAtPlace c old n (Taken page place first)) → IsPlaceTaken c old n at.chains.directory page place first
-  the_taken place first at = let has : HasChains old.world c.root at.chains = has_chains old.world c.root at.chains at.under in at.found has.listing.entries has.listing.in_order
+  pub the_taken : (position first : ℕ) (at : IsLookupOf c old n (Taken page position first)) → IsLookupTaken c old n at.chains.directory page position first
+  the_taken position first at = let has : HasChains old.world c.root at.chains = has_chains old.world c.root at.chains at.under in at.found has.listing.entries has.listing.in_order
 
-  abbrev pub putting_over : (place first : ℕ) → StandsAtPlace c old n (Taken page place first) → Putting c old n page
-  putting_over place first at =
-      record { valid = valid; tree = tree; primary = primary; named = named; chains = at.chains; under = at.under; before = (the_taken place first at).before; behind = (the_taken place first at).behind; parts = (the_taken place first at).parts; read = (the_taken place first at).read; may = (the_taken place first at).may }
+  abbrev pub putting_over : (position first : ℕ) → IsLookupOf c old n (Taken page position first) → Putting c old n page
+  putting_over position first at =
+      record { valid = valid; tree = tree; primary = primary; named = named; chains = at.chains; under = at.under; before = (the_taken position first at).before; behind = (the_taken position first at).behind; parts = (the_taken position first at).parts; read = (the_taken position first at).read; may = (the_taken position first at).may }
 
   -- the name stands for a file
-  pub over_entry : (known : IsKnown c old) (place first : ℕ) (at : StandsAtPlace c old n (Taken page place first)) → (y : List ℕ) × (entry n (tree_of_files at.chains.files) ≡ a_file y)
-  over_entry known place first at =
+  pub over_entry : (known : IsKnown c old) (position first : ℕ) (at : IsLookupOf c old n (Taken page position first)) → (y : List ℕ) × (entry n (tree_of_files at.chains.files) ≡ a_file y)
+  over_entry known position first at =
       let same : known.chains ≡ at.chains = some_same (sym known.under ∙ at.under) in
-      let taken = subst (λ cs. IsPlaceTaken c old n cs.directory page place first) (sym same) (the_taken place first at) in
+      let taken = subst (λ cs. IsLookupTaken c old n cs.directory page position first) (sym same) (the_taken position first at) in
       let seen : Looked old old = record { world = refl; valid = valid; ways = λ s a h. h; led = ([], refl) } in
-      (chain_bytes (entry_file c old old known seen n page place first taken).0.chain, ap (λ cs. entry n (tree_of_files cs.files)) (sym same) ∙ taken_name c old old known seen n page place first taken)
+      (chain_bytes (entry_file c old old known seen n page position first taken).0.chain, ap (λ cs. entry n (tree_of_files cs.files)) (sym same) ∙ taken_name c old old known seen n page position first taken)
     where
       some_same : {x y : Chains} → Some x ≡ Some y → x ≡ y
       some_same e = cc
 
   -- no file has the name
-  module _ (count : ℕ) (at : StandsAtPlace c old n (Free page count)) where
+  module _ (count : ℕ) (at : IsLookupOf c old n (Free page count)) where
     has : HasChains old.world c.root at.chains
     has = has_chains old.world c.root at.chains at.under
 
@@ -254,13 +254,13 @@ abbrev by_any : Client → DiskView → Path → List ℕ → Option Chains → 
 by_any c old path body o = refusal kind.Chain old.world.geometry (as_tree o) (free_count old.world) (length old.world.pairs)
     (chain_need old.world.geometry (as_tree o) (option_map_or (has_room old.world) o true) (ask.Put path body)) (ask.Put path body)
 
-pub refused_lost : (c : Client) (old : DiskView) → is_there (tree_of c old) ≡ true → (path : Path) (body : List ℕ) (e : FsRefusal) → no_place_found (tree_of c old) path no.IsDir ≡ Some e → refused_on (mounted_by c) old (ask.Put path body) ≡ Some e
+pub refused_lost : (c : Client) (old : DiskView) → is_there (tree_of c old) ≡ true → (path : Path) (body : List ℕ) (e : FsRefusal) → lookup_refusal (tree_of c old) path no.IsDir ≡ Some e → refused_on (mounted_by c) old (ask.Put path body) ≡ Some e
 refused_lost c old there path body e h =
     let f = found old.world c.root there in
     let cs = f.chains in
     ap (by_any c old path body) f.under
     ∙ put_lost old.world.geometry (tree_of_files cs.files) (free_count old.world) (length old.world.pairs) (chain_need old.world.geometry (as_tree (Some cs)) (has_room old.world cs) (ask.Put path body)) body path e
-    (ap (λ o. no_place_found (as_tree o) path no.IsDir) (sym f.under) ∙ h)
+    (ap (λ o. lookup_refusal (as_tree o) path no.IsDir) (sym f.under) ∙ h)
 
 -- what refuses an ask where nothing has changed since
 pub refused_since : (f : FilesView) (first mid : DiskView) (a : ShellAsk) → mid.world ≡ first.world → refused_on f mid a ≡ refused_on f first a

@@ -12,7 +12,7 @@ use Rattle.fs_trees.specs.declared.ask.ShellAsk.TheVariants as ask
 use Rattle.fs_trees.specs.declared.ask.ShellKind.TheVariants as kind
 use Rattle.fs_trees.specs.declared.refusal.FsRefusal.{FsRefusal}
 use Rattle.fs_trees.specs.declared.refusal.FsRefusal.TheVariants as no
-use Rattle.fs_client.specs.Changing.{no_place_found}
+use Rattle.fs_client.specs.Changing.{lookup_refusal}
 use Rattle.chain_layout.specs.Listed.{is_among}
 use Rattle.chain_reading.specs.Changed.{file_names}
 use Rattle.chain_reading.proofs.FileLaws.{others_tested, tree_lacks}
@@ -52,7 +52,7 @@ module _ (g : Geometry) (es : FileEntries) (free held : ℕ) (n : Need) (x : Lis
   abbrev t : Tree
   t = a_dir tt es
 
-  pub put_lost : (p : Path) (e : FsRefusal) → no_place_found (a_dir tt es) p no.IsDir ≡ Some e → refusal kind.Chain g (a_dir tt es) free held n (ask.Put p x) ≡ Some e
+  pub put_lost : (p : Path) (e : FsRefusal) → lookup_refusal (a_dir tt es) p no.IsDir ≡ Some e → refusal kind.Chain g (a_dir tt es) free held n (ask.Put p x) ≡ Some e
   put_lost [] e h = h
   put_lost (m ∷ ms) e h = ap (λ o. first_of (o ∷ no_file t (m ∷ ms) ∷ dir_full kind.Chain g t (m ∷ ms) ∷ too_big kind.Chain g (length x) ∷ no_room g free held n)) h
 

@@ -32,7 +32,7 @@ use Rattle.fs_client.specs.declared.client.Client.{Client}
 use Rattle.fs_client.specs.Client.{write_by}
 use Rattle.fs_client.specs.May.{MayWrite, Looked}
 use Rattle.fs_client.specs.Steps.{Leads, Went, written}
-use Rattle.fs_client.specs.Changing.{refused_on, no_place_found}
+use Rattle.fs_client.specs.Changing.{refused_on, lookup_refusal}
 use Rattle.fs_client.proofs.AskLaws.{rm_none}
 use Rattle.fs_client.proofs.RunLaws.{as_before, clash_free_live}
 use Rattle.fs_client.proofs.MayLaws.{may_after}
@@ -48,10 +48,10 @@ use Rattle.chain_reading.proofs.ChangeLaws.{HasChains, has_chains, IsRight, righ
 use Rattle.chain_reading.proofs.DecidedLaws.{entry_is_removed}
 use Rattle.chain_reading.proofs.FileLaws.{distinct_parts, tree_has}
 use Rattle.chain_reading.specs.declared.walking.Page.{Page}
-use Rattle.chain_reading.specs.declared.finding.Place.TheVariants.{Taken}
+use Rattle.chain_reading.specs.declared.finding.Lookup.TheVariants.{Taken}
 use Rattle.chain_reading.specs.Asking.{tree_of, mounted_by}
-use Rattle.chain_reading.specs.Finding.{page_link, IsPlaceTaken}
-use Rattle.chain_changes.specs.Places.{StandsAtPlace}
+use Rattle.chain_reading.specs.Finding.{page_link, IsLookupTaken}
+use Rattle.chain_changes.specs.Lookups.{IsLookupOf}
 use Rattle.chain_changes.proofs.EntryLaws.{ReadsAs, directory_read, directory_fits, from_first, named_parts, named_both, small_parts, small_both, page_live, page_within, page_named, page_entries, page_all_named, page_linked, page_sized, page_small}
 use Rattle.chain_changes.proofs.ExchangeLaws.{old_gone, named_before, still_named}
 use Rattle.chain_changes.proofs.AfterLaws.{LetsGo, This_loose, decided_either}
@@ -116,16 +116,16 @@ module _ (w : World) (root : ℕ) (c : Chains) (under : chains_under w root ≡ 
 
 -- ---- an entry that is to be taken out
 
-pub record Taking (c : Client) (first mid : DiskView) (path : Path) (n : Name) (page : Page) (place b : ℕ) : Type 0 where
+pub record Taking (c : Client) (first mid : DiskView) (path : Path) (n : Name) (page : Page) (position b : ℕ) : Type 0 where
   pub valid : IsValid first.world
   pub tree : is_there (tree_of c first) ≡ true
   pub primary : c.root < first.world.geometry.primaries
   pub seen : Looked first mid
   pub path_is : path ≡ n ∷ []
-  pub found : StandsAtPlace c mid n (Taken page place b)
-  pub way : ◌≡◌ {A = Option FsRefusal} (no_place_found (tree_of c first) path no.IsDir) None
+  pub found : IsLookupOf c mid n (Taken page position b)
+  pub way : ◌≡◌ {A = Option FsRefusal} (lookup_refusal (tree_of c first) path no.IsDir) None
 
-module _ (c : Client) (first mid : DiskView) (path : Path) (n : Name) (page : Page) (place b : ℕ) (x : Taking c first mid path n page place b) where
+module _ (c : Client) (first mid : DiskView) (path : Path) (n : Name) (page : Page) (position b : ℕ) (x : Taking c first mid path n page position b) where
   abbrev w : World
   w = mid.world
 
@@ -144,7 +144,7 @@ module _ (c : Client) (first mid : DiskView) (path : Path) (n : Name) (page : Pa
   pub has : HasChains mid.world c.root x.found.chains
   has = has_chains mid.world c.root x.found.chains x.found.under
 
-  pub taken : IsPlaceTaken c mid n x.found.chains.directory page place b
+  pub taken : IsLookupTaken c mid n x.found.chains.directory page position b
   taken = x.found.found has.listing.entries has.listing.in_order
 
   abbrev es : List Entry
@@ -157,10 +157,10 @@ module _ (c : Client) (first mid : DiskView) (path : Path) (n : Name) (page : Pa
   fs = taken.entry.back
 
   abbrev bytes : List ℕ
-  bytes = directory_bytes (cluster_of (cluster_in page.cluster)).next (unlisted_at place (entries_in page.cluster))
+  bytes = directory_bytes (cluster_of (cluster_in page.cluster)).next (unlisted_at position (entries_in page.cluster))
 
-  news : unlisted_at place (entries_in page.cluster) ≡ es ++ fs
-  news = ap (unlisted_at place) taken.entry.parts ∙ (ap (λ k. unlisted_at k (es ++ (e ∷ fs))) (sym taken.entry.count) ∙ unlisted es e fs)
+  news : unlisted_at position (entries_in page.cluster) ≡ es ++ fs
+  news = ap (unlisted_at position) taken.entry.parts ∙ (ap (λ k. unlisted_at k (es ++ (e ∷ fs))) (sym taken.entry.count) ∙ unlisted es e fs)
 
   own : (all_named (entries_in page.cluster) ≡ true) × (length (entries_in page.cluster) ≤ entries_room (block_len mid.world.geometry))
   own = page_all_named mid.world c.root x.found.chains x.found.under valid taken.before page taken.behind taken.parts taken.read
@@ -180,7 +180,7 @@ module _ (c : Client) (first mid : DiskView) (path : Path) (n : Name) (page : Pa
   sized : (16 ≤ block_len mid.world.geometry) × (block_len mid.world.geometry ≤ 4096)
   sized = page_sized mid.world c.root x.found.chains x.found.under valid taken.before page taken.behind taken.parts taken.read
 
-  pub fits : length (directory_bytes (cluster_of (cluster_in page.cluster)).next (unlisted_at place (entries_in page.cluster))) ≤ block_len mid.world.geometry
+  pub fits : length (directory_bytes (cluster_of (cluster_in page.cluster)).next (unlisted_at position (entries_in page.cluster))) ≤ block_len mid.world.geometry
   fits = subst (λ xs. length (directory_bytes (cluster_of (cluster_in page.cluster)).next xs) ≤ block_len mid.world.geometry) (sym news)
       (directory_fits (block_len mid.world.geometry) (cluster_of (cluster_in page.cluster)).next (es ++ fs) sized.0 news_named news_few)
 
@@ -206,7 +206,7 @@ module _ (c : Client) (first mid : DiskView) (path : Path) (n : Name) (page : Pa
 
   removed : FileRemoved mid.world c.root x.found.chains taken.before (page_link page) taken.behind (filled (block_len mid.world.geometry) bytes) cl e
   removed = entry_is_removed mid.world c.root x.found.chains taken.before (page_link page) taken.behind (filled (block_len mid.world.geometry) bytes) cl es e fs x.found.under
-      (record { place = taken.parts; within = page_within mid.world c.root x.found.chains x.found.under valid taken.before page taken.behind taken.parts taken.read; read = reads.read })
+      (record { position = taken.parts; within = page_within mid.world c.root x.found.chains x.found.under valid taken.before page taken.behind taken.parts taken.read; read = reads.read })
       reads.next_is
       (page_entries mid.world c.root x.found.chains x.found.under valid taken.before page taken.behind taken.parts taken.read ∙ ap (λ xs. Some xs) taken.entry.parts)
       reads.entries_are

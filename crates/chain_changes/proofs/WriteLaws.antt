@@ -149,18 +149,18 @@ no_bytes : (xs : List ℕ) → length xs ≤ 0 → xs ≡ []
 no_bytes [] h = refl
 no_bytes (x ∷ xs) h = absurd (omega arith)
 
--- the next block of a chain at a place can be named
-pub next_linked : (blocks : List ℕ) (place : ℕ) → AreLinkable blocks → link_field (first_block (drop (place + 1) blocks)) < 2 ^ 32
-next_linked blocks place linkable = first_linked (drop (place + 1) blocks) (λ b h. linkable b (in_drop blocks (place + 1) b h))
+-- the next block of a chain at a position can be named
+pub next_linked : (blocks : List ℕ) (position : ℕ) → AreLinkable blocks → link_field (first_block (drop (position + 1) blocks)) < 2 ^ 32
+next_linked blocks position linkable = first_linked (drop (position + 1) blocks) (λ b h. linkable b (in_drop blocks (position + 1) b h))
 
 -- what was written so far, and what is left of the bytes
-pub record Writing (told : Type 0) (c : Client) (first now : DiskView) (blocks bytes : List ℕ) (room place : ℕ) (rest : List ℕ) : Type 0 where
+pub record Writing (told : Type 0) (c : Client) (first now : DiskView) (blocks bytes : List ℕ) (room position : ℕ) (rest : List ℕ) : Type 0 where
   pub runs : Runs {X = Unit {0}} told first now (AsideWith c.root blocks first.world) (Ok tt)
   pub geometry : told → now.world.geometry ≡ first.world.geometry
   pub made : told → MadeWith c.root blocks first.world now.world
   pub may : told → (b : ℕ) → MayWrite c first b → MayWrite c now b
-  pub left : told → length rest ≤ room * (length blocks - place)
-  pub last : told → (new : World) → WroteIn c.root now.world new (drop place blocks) rest → WroteIn c.root first.world new blocks bytes
+  pub left : told → length rest ≤ room * (length blocks - position)
+  pub last : told → (new : World) → WroteIn c.root now.world new (drop position blocks) rest → WroteIn c.root first.world new blocks bytes
 
 pub writing_begins : (told : Type 0) (c : Client) (first : DiskView) (blocks bytes : List ℕ) (room : ℕ) → first.spent ≡ false → (told → IsDiskSound first) → (told → IsValidNow first) → (told → length bytes ≤ room * length blocks) → Writing told c first first blocks bytes room 0 bytes
 writing_begins told c first blocks bytes room unspent sound now enough = record {
@@ -175,19 +175,19 @@ writing_begins told c first blocks bytes room unspent sound now enough = record 
     whole : (n : ℕ) → n ≡ n - 0
     whole n = omega arith
 
-module _ (told : Type 0) (c : Client) (first now new : DiskView) (blocks bytes : List ℕ) (room place b : ℕ) (rest : List ℕ) (w : Writing told c first now blocks bytes room place rest)
-    (inside : place < length blocks) (is : b ≡ slice_index_or blocks place 0) where
+module _ (told : Type 0) (c : Client) (first now new : DiskView) (blocks bytes : List ℕ) (room position b : ℕ) (rest : List ℕ) (w : Writing told c first now blocks bytes room position rest)
+    (inside : position < length blocks) (is : b ≡ slice_index_or blocks position 0) where
   abbrev behind : List ℕ
-  behind = drop (place + 1) blocks
+  behind = drop (position + 1) blocks
 
   abbrev part : List ℕ
-  part = part_bytes (first_block (drop (place + 1) blocks)) (take room rest)
+  part = part_bytes (first_block (drop (position + 1) blocks)) (take room rest)
 
-  parted : drop place blocks ≡ b ∷ drop (place + 1) blocks
-  parted = drop_first blocks place b inside is
+  parted : drop position blocks ≡ b ∷ drop (position + 1) blocks
+  parted = drop_first blocks position b inside is
 
   pub among : has_number blocks b ≡ true
-  among = in_drop blocks place b (ap (λ xs. has_number xs b) parted ∙ or_left (b == b) _ (eq-eqb b b refl))
+  among = in_drop blocks position b (ap (λ xs. has_number xs b) parted ∙ or_left (b == b) _ (eq-eqb b b refl))
 
   pub valid_now : told → IsValidNow now
   valid_now t = (w.runs.valid t).0
@@ -203,14 +203,14 @@ module _ (told : Type 0) (c : Client) (first now new : DiskView) (blocks bytes :
 
   module _ (is_room : told → room ≡ bytes_room (block_len first.world.geometry)) (few : room < 2 ^ 32) (linkable : AreLinkable blocks) (apart : told → are_apart blocks ≡ true)
       (steps : Steps {X = Unit {0}} told c now new (write_by c b part) b (written now.world b part) (Ok tt)) (may : told → MayWrite c now b) where
-    off_behind : told → has_number (drop (place + 1) blocks) b ≡ false
-    off_behind t = not-true (has_number (drop (place + 1) blocks) b) (and_parts (not (has_number (drop (place + 1) blocks) b)) (are_apart (drop (place + 1) blocks)) (ap are_apart (sym parted) ∙ apart_drop blocks place (apart t))).0
+    off_behind : told → has_number (drop (position + 1) blocks) b ≡ false
+    off_behind t = not-true (has_number (drop (position + 1) blocks) b) (and_parts (not (has_number (drop (position + 1) blocks) b)) (are_apart (drop (position + 1) blocks)) (ap are_apart (sym parted) ∙ apart_drop blocks position (apart t))).0
 
     made_on : told → MadeWith c.root blocks first.world new.world
     made_on t f s all at m new_ones = subst (Making c.root f s all) (sym (steps.went t).world)
         (made_by_one c blocks b among now.world part (steps.went t).leads f s all at (w.made t f s all at m new_ones) new_ones)
 
-    pub writing_on : Writing told c first new blocks bytes room (place + 1) (drop room rest)
+    pub writing_on : Writing told c first new blocks bytes room (position + 1) (drop room rest)
     writing_on = record {
       runs = runs_on (Ok tt) steps;
       geometry = λ t. ap (λ v. v.geometry) (steps.went t).world ∙ w.geometry t;
@@ -218,19 +218,19 @@ module _ (told : Type 0) (c : Client) (first now new : DiskView) (blocks bytes :
       may = λ t k m. may_after c now new (write_by c b part) b (written now.world b part) (steps.went t) (valid_now t) refl refl (λ x y h. h) (λ j h. live-with_contents now.world b j (filled (block_len now.world.geometry) part) h) steps.stays.0 k (w.may t k m);
       left = λ t. shorter (length rest) (length (drop room rest)) (length blocks) (w.left t) (length-drop room rest);
       last = λ t fin h. w.last t fin (subst (λ xs. WroteIn c.root now.world fin xs rest) (sym parted)
-          (wrote_more c b (drop (place + 1) blocks) rest room now new (is_room t ∙ ap (λ g. bytes_room (block_len g)) (sym (w.geometry t))) few (λ k j. linkable k (in_drop blocks (place + 1) k j)) (may t).live (steps.went t) fin (off_behind t) h));
+          (wrote_more c b (drop (position + 1) blocks) rest room now new (is_room t ∙ ap (λ g. bytes_room (block_len g)) (sym (w.geometry t))) few (λ k j. linkable k (in_drop blocks (position + 1) k j)) (may t).live (steps.went t) fin (off_behind t) h));
     }
       where
-        shorter : (r s n : ℕ) → r ≤ room * (n - place) → s ≡ r - room → s ≤ room * (n - (place + 1))
-        shorter r s n h e = fewer (n - place) (n - (place + 1)) (omega arith) h
+        shorter : (r s n : ℕ) → r ≤ room * (n - position) → s ≡ r - room → s ≤ room * (n - (position + 1))
+        shorter r s n h e = fewer (n - position) (n - (position + 1)) (omega arith) h
           where
             fewer : (k j : ℕ) → j ≡ k - 1 → r ≤ room * k → s ≤ room * j
             fewer zero j q h = omega (arith, e, h)
             fewer (suc k) j q h = let same : j ≡ k = omega (arith, q) in subst (λ x. s ≤ room * x) (sym same) (omega (arith, e, h))
 
-pub writing_ends : (told : Type 0) (c : Client) (first now : DiskView) (blocks bytes : List ℕ) (room place : ℕ) (rest : List ℕ) → Writing told c first now blocks bytes room place rest → length blocks ≤ place → told → Wrote c first now blocks bytes
-writing_ends told c first now blocks bytes room place rest w ends t =
-    let none : length blocks - place ≡ 0 = omega (arith, ends) in
+pub writing_ends : (told : Type 0) (c : Client) (first now : DiskView) (blocks bytes : List ℕ) (room position : ℕ) (rest : List ℕ) → Writing told c first now blocks bytes room position rest → length blocks ≤ position → told → Wrote c first now blocks bytes
+writing_ends told c first now blocks bytes room position rest w ends t =
+    let none : length blocks - position ≡ 0 = omega (arith, ends) in
     let short : length rest ≤ room * 0 = subst (λ k. length rest ≤ room * k) none (w.left t) in
     let zeros : room * 0 ≡ 0 = omega arith in
-    record { here = w.last t now.world (subst (λ xs. WroteIn c.root now.world now.world xs rest) (sym (drop_all blocks place ends)) (wrote_none c.root now.world rest (no_bytes rest (omega (arith, short, zeros))))); may = w.may t }
+    record { here = w.last t now.world (subst (λ xs. WroteIn c.root now.world now.world xs rest) (sym (drop_all blocks position ends)) (wrote_none c.root now.world rest (no_bytes rest (omega (arith, short, zeros))))); may = w.may t }

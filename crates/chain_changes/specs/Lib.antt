@@ -1,4 +1,4 @@
-pub mod Places
+pub mod Lookups
 pub mod Growing
 pub mod Making
 pub mod Filling

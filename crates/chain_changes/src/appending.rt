@@ -42,7 +42,7 @@ fn last_part<K: Blocks>(client: &Client, disk: &mut K, first: u32) -> Result<Par
     ensures looks { OnlyLooks K.told (K.view disk.old) (K.view disk.new) result }
 {
     let mut block = first;
-    for place in 0..disk.geometry().blocks {
+    for position in 0..disk.geometry().blocks {
         let part = match read_part(client, disk, block) {
             Ok(part) => part,
             Err(refusal) => return Err(refusal),

@@ -31,12 +31,12 @@ fn bytes_behind(bytes: &[u8], room: usize) -> &[u8]
     &bytes[room.min(bytes.len())..]
 }
 
-/// The block behind the one at a place, where there is one.
-fn next_block(blocks: &[u32], place: usize) -> Option<u32>
-    requires { place < length blocks.now }
-    ensures { result ≡ first_block (drop (place + 1) blocks.now) }
+/// The block behind the one at a position, where there is one.
+fn next_block(blocks: &[u32], position: usize) -> Option<u32>
+    requires { position < length blocks.now }
+    ensures { result ≡ first_block (drop (position + 1) blocks.now) }
 {
-    match &blocks[place + 1..] {
+    match &blocks[position + 1..] {
         [] => None,
         [next, ..] => Some(*next),
     }
@@ -69,10 +69,10 @@ pub fn write_chain<K: Blocks>(
 {
     let room = bytes_room(len);
     let mut rest = bytes;
-    for place in 0..blocks.len() {
-        let next = next_block(blocks, place);
+    for position in 0..blocks.len() {
+        let next = next_block(blocks, position);
         let part = file_part(next, &[], first_bytes(rest, room));
-        match write_block(client, disk, blocks[place], part) {
+        match write_block(client, disk, blocks[position], part) {
             Ok(()) => {}
             Err(refusal) => return Err(refusal),
         }

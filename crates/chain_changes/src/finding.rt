@@ -3,42 +3,42 @@
 ghost use Rattle.std.specs.Prelude.{◌≡◌, ◌≢◌, [], ◌∷◌, None, Some, IfOk, IfErr, OnOk};
 ghost use Rattle.fs_trees.specs.declared.refusal.FsRefusal.TheVariants as no;
 ghost use Rattle.fs_client.specs.May.{OnlyLooks};
-ghost use Rattle.fs_client.specs.Changing.{no_place_found};
+ghost use Rattle.fs_client.specs.Changing.{lookup_refusal};
 ghost use Rattle.chain_reading.specs.Asking.{MayAsk, tree_of};
-ghost use Rattle.chain_reading.specs.Finding.{IsPlaceWithin};
-ghost use Rattle.chain_changes.specs.Places.{StandsAtPlace};
+ghost use Rattle.chain_reading.specs.Finding.{IsLookupWithin};
+ghost use Rattle.chain_changes.specs.Lookups.{IsLookupOf};
 
-use chain_reading::{Place, no_way, search};
+use chain_reading::{Lookup, no_way, search};
 use fs_client::Client;
 use fs_port::Blocks;
 use fs_trees::{FsRefusal, Name, Path};
 
 /// The entry of a path, and its name; `at_root` is answered of `/`, which is no entry.
-pub fn find_place<'a, K: Blocks>(
+pub fn look_up<'a, K: Blocks>(
     client: &Client,
     disk: &mut K,
     path: &'a Path,
     at_root: FsRefusal,
-) -> Result<(Place, &'a Name), FsRefusal>
+) -> Result<(Lookup, &'a Name), FsRefusal>
     requires may { MayAsk K.told client.now (K.view disk.old) }
     requires refusal { at_root ≢ no.Device }
-    ensures found { K.told → IfOk result (λ found. StandsAtPlace client.now (K.view disk.new) found.1.now found.0) }
+    ensures found { K.told → IfOk result (λ found. IsLookupOf client.now (K.view disk.new) found.1.now found.0) }
     ensures path { IfOk result (λ found. path.now ≡ found.1.now ∷ []) }
-    ensures within { IfOk result (λ found. IsPlaceWithin found.0) }
-    ensures none { K.told → OnOk result (no_place_found (tree_of client.now (K.view disk.old)) path.now at_root
+    ensures within { IfOk result (λ found. IsLookupWithin found.0) }
+    ensures none { K.told → OnOk result (lookup_refusal (tree_of client.now (K.view disk.old)) path.now at_root
         ≡ None) }
     ensures refused { K.told → IfErr result (λ e. e ≢ no.Device
-        → no_place_found (tree_of client.now (K.view disk.old)) path.now at_root ≡ Some e) }
+        → lookup_refusal (tree_of client.now (K.view disk.old)) path.now at_root ≡ Some e) }
     ensures looks { OnlyLooks K.told (K.view disk.old) (K.view disk.new) result }
 {
     match path.as_slice() {
         [] => Err(at_root),
         [name] => match search(client, disk, name) {
-            Ok(place) => Ok((place, name)),
+            Ok(position) => Ok((position, name)),
             Err(refusal) => Err(refusal),
         },
         [name, _, ..] => match search(client, disk, name) {
-            Ok(place) => Err(no_way(place)),
+            Ok(position) => Err(no_way(position)),
             Err(refusal) => Err(refusal),
         },
     }

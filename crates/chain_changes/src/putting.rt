@@ -11,13 +11,13 @@ ghost use Rattle.fs_port.specs.Runs.{Changes};
 ghost use Rattle.chain_layout.specs.Block.{block_len_of};
 ghost use Rattle.chain_layout.specs.Held.{cluster_in, entries_in};
 ghost use Rattle.chain_reading.specs.Asking.{MayAsk, mounted_by};
-ghost use Rattle.chain_reading.specs.declared.finding.Place.TheVariants.{Taken, Free};
-ghost use Rattle.chain_changes.specs.Places.{StandsAtPlace};
+ghost use Rattle.chain_reading.specs.declared.finding.Lookup.TheVariants.{Taken, Free};
+ghost use Rattle.chain_changes.specs.Lookups.{IsLookupOf};
 
 use crate::file::new_file;
-use crate::finding::find_place;
+use crate::finding::look_up;
 use chain_layout::{directory_linked, directory_of_one, directory_with};
-use chain_reading::{Page, Place};
+use chain_reading::{Lookup, Page};
 use fs_client::{Client, drop_pointer, write_block};
 use fs_port::Blocks;
 use fs_trees::{FsRefusal, Name, Path};
@@ -33,14 +33,14 @@ fn replace<K: Blocks>(
     client: &Client,
     disk: &mut K,
     page: &Page,
-    place: usize,
+    position: usize,
     first: u32,
     name: &Name,
     bytes: &Data,
 ) -> Result<(), FsRefusal>
     requires may { MayAsk K.told client.now (K.view disk.old) }
-    requires found { K.told → StandsAtPlace client.now (K.view disk.old) name.now (Taken page.now place first) }
-    requires within { place < length (entries_in page.now.cluster) }
+    requires found { K.told → IsLookupOf client.now (K.view disk.old) name.now (Taken page.now position first) }
+    requires within { position < length (entries_in page.now.cluster) }
     requires named { IsTrue (is_name name.now) }
     ensures answer { K.told → Answers (mounted_by client.now) (K.view disk.old) (K.view disk.new)
         (ask.Put (name.now ∷ []) bytes.now) result (λ _ answer. answer ≡ done) }
@@ -52,7 +52,12 @@ fn replace<K: Blocks>(
         Ok(blocks) => blocks,
         Err(refusal) => return Err(refusal),
     };
-    let entered = directory_with(&page.cluster, place, name.as_slice(), blocks.as_slice()[0]);
+    let entered = directory_with(
+        &page.cluster,
+        position,
+        name.as_slice(),
+        blocks.as_slice()[0],
+    );
     match write_block(client, disk, page.block, entered) {
         Ok(()) => {}
         Err(refusal) => return Err(refusal),
@@ -75,7 +80,7 @@ fn add<K: Blocks>(
     bytes: &Data,
 ) -> Result<(), FsRefusal>
     requires may { MayAsk K.told client.now (K.view disk.old) }
-    requires found { K.told → StandsAtPlace client.now (K.view disk.old) name.now (Free page.now count) }
+    requires found { K.told → IsLookupOf client.now (K.view disk.old) name.now (Free page.now count) }
     requires few { count < names_max }
     requires room { length (entries_in page.now.cluster) < entries_room (block_len_of (cluster_in page.now.cluster)) }
     requires named { IsTrue (is_name name.now) }
@@ -109,7 +114,7 @@ fn extend<K: Blocks>(
     bytes: &Data,
 ) -> Result<(), FsRefusal>
     requires may { MayAsk K.told client.now (K.view disk.old) }
-    requires found { K.told → StandsAtPlace client.now (K.view disk.old) name.now (Free page.now count) }
+    requires found { K.told → IsLookupOf client.now (K.view disk.old) name.now (Free page.now count) }
     requires few { count < names_max }
     requires full { entries_room (block_len_of (cluster_in page.now.cluster)) ≤ length (entries_in page.now.cluster) }
     requires named { IsTrue (is_name name.now) }
@@ -155,15 +160,17 @@ pub fn put<K: Blocks>(
     ensures changes { Changes K.told (mounted_by client.now) (K.view disk.old) (K.view disk.new)
         (ask.Put path.now bytes.now) result }
 {
-    let (place, name) = match find_place(client, disk, path, FsRefusal::IsDir) {
+    let (position, name) = match look_up(client, disk, path, FsRefusal::IsDir) {
         Ok(found) => found,
         Err(refusal) => return Err(refusal),
     };
-    match place {
-        Place::Taken { page, place, first } => {
-            replace(client, disk, &page, place, first, name, bytes)
-        }
-        Place::Free { page, count } => {
+    match position {
+        Lookup::Taken {
+            page,
+            position,
+            first,
+        } => { replace(client, disk, &page, position, first, name, bytes) }
+        Lookup::Free { page, count } => {
             if count >= NAMES_MAX {
                 return Err(FsRefusal::DirFull);
             }

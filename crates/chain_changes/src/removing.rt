@@ -7,9 +7,9 @@ ghost use Rattle.fs_port.specs.Files.{Answers};
 ghost use Rattle.fs_port.specs.Runs.{Changes};
 ghost use Rattle.chain_reading.specs.Asking.{MayAsk, mounted_by};
 
-use crate::finding::find_place;
+use crate::finding::look_up;
 use chain_layout::directory_without;
-use chain_reading::Place;
+use chain_reading::Lookup;
 use fs_client::{Client, drop_pointer, write_block};
 use fs_port::Blocks;
 use fs_trees::{FsRefusal, Path};
@@ -23,14 +23,18 @@ pub fn remove<K: Blocks>(client: &Client, disk: &mut K, path: &Path) -> Result<(
     ensures changes { Changes K.told (mounted_by client.now) (K.view disk.old) (K.view disk.new) (ask.Rm path.now)
         result }
 {
-    let (place, _name) = match find_place(client, disk, path, FsRefusal::IsDir) {
+    let (position, _name) = match look_up(client, disk, path, FsRefusal::IsDir) {
         Ok(found) => found,
         Err(refusal) => return Err(refusal),
     };
-    match place {
-        Place::Free { .. } => Err(FsRefusal::NoEntry),
-        Place::Taken { page, place, first } => {
-            let bytes = directory_without(&page.cluster, place);
+    match position {
+        Lookup::Free { .. } => Err(FsRefusal::NoEntry),
+        Lookup::Taken {
+            page,
+            position,
+            first,
+        } => {
+            let bytes = directory_without(&page.cluster, position);
             match write_block(client, disk, page.block, bytes) {
                 Ok(()) => {}
                 Err(refusal) => return Err(refusal),

@@ -86,7 +86,7 @@ module _ (c : Client) (k : Chains) (v : DiskView) (s : AreChainsUnder c k v) (pa
   pub own_clean : (w : World) → OnlyNamed w page.block (blocks_in page.cluster) → AreClean (named_of k) w (page.block ∷ [])
   own_clean w only = one_clean (named_of k) w page.block (λ b h. page_named b (only b h))
 
-  -- the file of the entry at a place
+  -- the file of the entry at a position
   pub file_here : (i : ℕ) → i < length (entries_in page.cluster) → (f : ChainFile) × IsFileHere c k v (entry_block page i) f
   file_here i h =
       let e = entry_at (entries_in page.cluster) i h in

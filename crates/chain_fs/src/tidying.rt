@@ -45,8 +45,8 @@ fn tidy_files<K: Blocks>(client: &Client, disk: &mut K, page: &Page) -> Result<(
     ensures trims { Trims K.told client.now (named_of kept) (K.view disk.old) (K.view disk.new) result }
     ensures clean { K.told → OnOk result (FilesAreClean kept (K.view disk.new).world page.now.block) }
 {
-    for place in 0..page.cluster.count() {
-        match tidy_file(client, disk, page.cluster.block(place)) {
+    for position in 0..page.cluster.count() {
+        match tidy_file(client, disk, page.cluster.block(position)) {
             Ok(()) => {}
             Err(refusal) => return Err(refusal),
         }

@@ -12,9 +12,9 @@ use Rattle.chain_layout.specs.Listed.{listed_at, unlisted_at}
 
 -- ---- parts of the list
 
-pub bytes_before : (place count : ℕ) (body : List ℕ) → AreBytes body → 32 * count ≤ length body → place ≤ count
-    → take (32 * place) body ≡ flat_map entry_bytes (take place (entries count body))
-bytes_before place count body bytes h within = sym (ap (λ es. flat_map entry_bytes es) (take-entries place count body within) ∙ entries_written place body bytes (omega arith))
+pub bytes_before : (position count : ℕ) (body : List ℕ) → AreBytes body → 32 * count ≤ length body → position ≤ count
+    → take (32 * position) body ≡ flat_map entry_bytes (take position (entries count body))
+bytes_before position count body bytes h within = sym (ap (λ es. flat_map entry_bytes es) (take-entries position count body within) ∙ entries_written position body bytes (omega arith))
 
 pub bytes_behind : (b count : ℕ) (body : List ℕ) → AreBytes body → 32 * count ≤ length body → b ≤ count
     → take (32 * count - 32 * b) (drop (32 * b) body) ≡ flat_map entry_bytes (drop b (entries count body))
@@ -48,28 +48,28 @@ linked_written next count es h0 h1 x a b is all =
     b ∙ (ap (λ y. y ++ x) a ∙ (ap (cluster_bytes next count) (is ∙ ap (λ fs. flat_map entry_bytes fs) (ap (λ k. take k es) all ∙ take-length es))
     ∙ ap (λ k. cluster_bytes next k (flat_map entry_bytes es)) all))
 
--- with an entry at a place
-pub with_written : (next : Option ℕ) (used place behind count : ℕ) (e : Entry) (es : List Entry) (h0 h1 h2 h3 front back : List ℕ)
-    → count ≡ length es → place ≤ count → behind ≡ min (place + 1) count → used ≡ place + 1 + (count - behind)
+-- with an entry at a position
+pub with_written : (next : Option ℕ) (used position behind count : ℕ) (e : Entry) (es : List Entry) (h0 h1 h2 h3 front back : List ℕ)
+    → count ≡ length es → position ≤ count → behind ≡ min (position + 1) count → used ≡ position + 1 + (count - behind)
     → h0 ≡ cluster_bytes next used [] → h1 ≡ h0 ++ front → h2 ≡ h1 ++ entry_bytes e → h3 ≡ h2 ++ back
-    → front ≡ flat_map entry_bytes (take place es) → back ≡ flat_map entry_bytes (drop behind es)
-    → h3 ≡ directory_bytes next (listed_at place e es)
-with_written next used place behind count e es h0 h1 h2 h3 front back counted within is_behind is_used a b c d first is_back =
-    let same : drop behind es ≡ drop (place + 1) es = behind_all (place + 1) count behind es (sym counted) is_behind in
-    let last : back ≡ flat_map entry_bytes (drop (place + 1) es) = is_back ∙ ap (λ fs. flat_map entry_bytes fs) same in
-    let list_now : flat_map entry_bytes (listed_at place e es) ≡ flat_map entry_bytes (take place es) ++ (entry_bytes e ++ flat_map entry_bytes (drop (place + 1) es)) = flat_map-append entry_bytes (take place es) (e ∷ drop (place + 1) es) in
-    let sum : used ≡ length (listed_at place e es) =
-    let one = length-append (take place es) (e ∷ drop (place + 1) es) in
-    let two = length-take-le place es (omega (arith, counted)) in
-    let three = length-drop (place + 1) es in
+    → front ≡ flat_map entry_bytes (take position es) → back ≡ flat_map entry_bytes (drop behind es)
+    → h3 ≡ directory_bytes next (listed_at position e es)
+with_written next used position behind count e es h0 h1 h2 h3 front back counted within is_behind is_used a b c d first is_back =
+    let same : drop behind es ≡ drop (position + 1) es = behind_all (position + 1) count behind es (sym counted) is_behind in
+    let last : back ≡ flat_map entry_bytes (drop (position + 1) es) = is_back ∙ ap (λ fs. flat_map entry_bytes fs) same in
+    let list_now : flat_map entry_bytes (listed_at position e es) ≡ flat_map entry_bytes (take position es) ++ (entry_bytes e ++ flat_map entry_bytes (drop (position + 1) es)) = flat_map-append entry_bytes (take position es) (e ∷ drop (position + 1) es) in
+    let sum : used ≡ length (listed_at position e es) =
+    let one = length-append (take position es) (e ∷ drop (position + 1) es) in
+    let two = length-take-le position es (omega (arith, counted)) in
+    let three = length-drop (position + 1) es in
     omega (arith, one, two, three, counted) in
     d ∙ (ap (λ x. x ++ back) (c ∙ ap (λ x. x ++ entry_bytes e) (b ∙ ap (λ x. x ++ front) a))
     ∙ (append_assoc (cluster_bytes next used [] ++ front) (entry_bytes e) back
     ∙ (append_assoc (cluster_bytes next used []) front (entry_bytes e ++ back)
     ∙ (ap (λ x. cluster_bytes next used [] ++ (x ++ (entry_bytes e ++ back))) first
-    ∙ (ap (λ x. cluster_bytes next used [] ++ (flat_map entry_bytes (take place es) ++ (entry_bytes e ++ x))) last
+    ∙ (ap (λ x. cluster_bytes next used [] ++ (flat_map entry_bytes (take position es) ++ (entry_bytes e ++ x))) last
     ∙ (ap (λ x. cluster_bytes next used [] ++ x) (sym list_now)
-    ∙ ap (λ k. cluster_bytes next k (flat_map entry_bytes (listed_at place e es))) sum))))))
+    ∙ ap (λ k. cluster_bytes next k (flat_map entry_bytes (listed_at position e es))) sum))))))
   where
     nat_below : (m n : ℕ) → (m ≤ n) ⊎ (n ≤ m)
     nat_below m n = elim (nat_le m n) as (λ t. nat_le m n ≡ t → (m ≤ n) ⊎ (n ≤ m)) [
@@ -83,22 +83,22 @@ with_written next used place behind count e es h0 h1 h2 h3 front back counted wi
       | inr le ↦ drop_all b es (omega arith) ∙ sym (drop_all p es (omega arith))
     ]
 
--- without the one at a place
-pub without_written : (next : Option ℕ) (used place count : ℕ) (es : List Entry) (h0 h1 h2 front back : List ℕ)
-    → count ≡ length es → place < count → used ≡ count - 1
+-- without the one at a position
+pub without_written : (next : Option ℕ) (used position count : ℕ) (es : List Entry) (h0 h1 h2 front back : List ℕ)
+    → count ≡ length es → position < count → used ≡ count - 1
     → h0 ≡ cluster_bytes next used [] → h1 ≡ h0 ++ front → h2 ≡ h1 ++ back
-    → front ≡ flat_map entry_bytes (take place es) → back ≡ flat_map entry_bytes (drop (place + 1) es)
-    → h2 ≡ directory_bytes next (unlisted_at place es)
-without_written next used place count es h0 h1 h2 front back counted within is_used a b c first last =
-    let list_now : flat_map entry_bytes (unlisted_at place es) ≡ flat_map entry_bytes (take place es) ++ flat_map entry_bytes (drop (place + 1) es) = flat_map-append entry_bytes (take place es) (drop (place + 1) es) in
-    let sum : used ≡ length (unlisted_at place es) =
-    let one = length-append (take place es) (drop (place + 1) es) in
-    let two = length-take-le place es (omega (arith, counted)) in
-    let three = length-drop (place + 1) es in
+    → front ≡ flat_map entry_bytes (take position es) → back ≡ flat_map entry_bytes (drop (position + 1) es)
+    → h2 ≡ directory_bytes next (unlisted_at position es)
+without_written next used position count es h0 h1 h2 front back counted within is_used a b c first last =
+    let list_now : flat_map entry_bytes (unlisted_at position es) ≡ flat_map entry_bytes (take position es) ++ flat_map entry_bytes (drop (position + 1) es) = flat_map-append entry_bytes (take position es) (drop (position + 1) es) in
+    let sum : used ≡ length (unlisted_at position es) =
+    let one = length-append (take position es) (drop (position + 1) es) in
+    let two = length-take-le position es (omega (arith, counted)) in
+    let three = length-drop (position + 1) es in
     omega (arith, one, two, three, counted) in
     c ∙ (ap (λ x. x ++ back) (b ∙ ap (λ x. x ++ front) a)
     ∙ (append_assoc (cluster_bytes next used []) front back
     ∙ (ap (λ x. cluster_bytes next used [] ++ (x ++ back)) first
-    ∙ (ap (λ x. cluster_bytes next used [] ++ (flat_map entry_bytes (take place es) ++ x)) last
+    ∙ (ap (λ x. cluster_bytes next used [] ++ (flat_map entry_bytes (take position es) ++ x)) last
     ∙ (ap (λ x. cluster_bytes next used [] ++ x) (sym list_now)
-    ∙ ap (λ k. cluster_bytes next k (flat_map entry_bytes (unlisted_at place es))) sum)))))
+    ∙ ap (λ k. cluster_bytes next k (flat_map entry_bytes (unlisted_at position es))) sum)))))

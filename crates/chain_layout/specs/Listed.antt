@@ -13,16 +13,16 @@ has_name n e = bytes_eq e.name n
 abbrev pub is_among : List Name → Name → Bool
 is_among ns n = list_any (bytes_eq n) ns
 
--- the name of the entry at a place of a list of bytes
+-- the name of the entry at a position of a list of bytes
 abbrev pub name_in : List ℕ → ℕ → Name
-name_in x place = (entry_in (drop (32 * place) x)).name
+name_in x position = (entry_in (drop (32 * position) x)).name
 
--- the entries with another at a place: in place of the one there, or behind all; and without the one there
+-- the entries with another at a lookup: in place of the one there, or behind all; and without the one there
 abbrev pub listed_at : ℕ → Entry → List Entry → List Entry
-listed_at place e es = take place es ++ e ∷ drop (place + 1) es
+listed_at position e es = take position es ++ e ∷ drop (position + 1) es
 
 abbrev pub unlisted_at : ℕ → List Entry → List Entry
-unlisted_at place es = take place es ++ drop (place + 1) es
+unlisted_at position es = take position es ++ drop (position + 1) es
 
 -- the lesser of two names that may be there
 abbrev pub lesser : Option Name → Option Name → Option Name

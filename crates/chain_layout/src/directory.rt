@@ -25,12 +25,12 @@ pub struct DirectoryCluster {
 }
 
 /// The name of one of so many entries.
-pub fn name_at(list: &[u8], place: usize) -> &[u8]
-    requires { 32 * place + 32 ≤ length list.now }
-    ensures value { result.now ≡ name_in list.now place }
+pub fn name_at(list: &[u8], position: usize) -> &[u8]
+    requires { 32 * position + 32 ≤ length list.now }
+    ensures value { result.now ≡ name_in list.now position }
     ensures fits { length result.now ≤ 28 }
 {
-    let entry = &list[32 * place..32 * place + 32];
+    let entry = &list[32 * position..32 * position + 32];
     trimmed(&entry[4..])
 }
 
@@ -39,22 +39,22 @@ fn are_named(list: &[u8], count: usize) -> bool
     requires { 32 * count ≤ length list.now }
     ensures { result ≡ all_named (entries count list.now) }
 {
-    for place in 0..count {
-        if !is_name(name_at(list, place)) {
+    for position in 0..count {
+        if !is_name(name_at(list, position)) {
             return false;
         }
     }
     true
 }
 
-/// The place of the first of so many entries that has this name.
-fn place_of(list: &[u8], count: usize, name: &[u8]) -> Option<usize>
+/// The position of the first of so many entries that has this name.
+fn position_of(list: &[u8], count: usize, name: &[u8]) -> Option<usize>
     requires { 32 * count ≤ length list.now }
     ensures { result ≡ position_from (has_name name.now) 0 (entries count list.now) }
 {
-    for place in 0..count {
-        if name_at(list, place) == name {
-            return Some(place);
+    for position in 0..count {
+        if name_at(list, position) == name {
+            return Some(position);
         }
     }
     None
@@ -66,8 +66,8 @@ fn least_of(list: &[u8], count: usize, after: &[u8]) -> Option<Name>
     ensures { result ≡ least_above after.now (entry_names (entries count list.now)) }
 {
     let mut least = None;
-    for place in 0..count {
-        let entry = &list[32 * place..32 * place + 32];
+    for position in 0..count {
+        let entry = &list[32 * position..32 * position + 32];
         least = lesser(least, next_name(entry, 1, after));
     }
     least
@@ -118,27 +118,27 @@ impl DirectoryCluster {
         self.count < entries_room(self.cluster.block_len())
     }
 
-    /// The place of the entry of a name, where there is one.
-    pub fn place(&self, name: &[u8]) -> Option<usize>
+    /// The position of the entry of a name, where there is one.
+    pub fn position(&self, name: &[u8]) -> Option<usize>
         ensures { result ≡ position_from (has_name name.now) 0 (entries_in self.now) }
     {
-        place_of(self.cluster.body(), self.count, name)
+        position_of(self.cluster.body(), self.count, name)
     }
 
-    /// The block that the entry at a place names.
-    pub fn block(&self, place: usize) -> u32
-        requires { place < length (entries_in self.now) }
-        ensures { result ≡ slice_index (entry_blocks (entries_in self.now)) place }
+    /// The block that the entry at a position names.
+    pub fn block(&self, position: usize) -> u32
+        requires { position < length (entries_in self.now) }
+        ensures { result ≡ slice_index (entry_blocks (entries_in self.now)) position }
     {
-        number_at(self.cluster.body(), ENTRY_BYTES * place)
+        number_at(self.cluster.body(), ENTRY_BYTES * position)
     }
 
-    /// The name of the entry at a place.
-    pub fn name(&self, place: usize) -> &[u8]
-        requires { place < length (entries_in self.now) }
-        ensures { slice_get (entry_names (entries_in self.now)) place ≡ Some (result.now) }
+    /// The name of the entry at a position.
+    pub fn name(&self, position: usize) -> &[u8]
+        requires { position < length (entries_in self.now) }
+        ensures { slice_get (entry_names (entries_in self.now)) position ≡ Some (result.now) }
     {
-        name_at(self.cluster.body(), place)
+        name_at(self.cluster.body(), position)
     }
 
     /// Whether each of its names stands once.
@@ -172,8 +172,8 @@ impl DirectoryCluster {
     fn enters(&self, block: u32) -> bool
         ensures { result ≡ has_number (entry_blocks (entries_in self.now)) block }
     {
-        for place in 0..self.count() {
-            if self.block(place) == block {
+        for position in 0..self.count() {
+            if self.block(position) == block {
                 return true;
             }
         }

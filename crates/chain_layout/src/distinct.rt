@@ -13,8 +13,8 @@ fn is_among(name: &[u8], list: &[u8], count: usize) -> bool
     requires { 32 * count ≤ length list.now }
     ensures { result ≡ is_among (entry_names (entries count list.now)) name.now }
 {
-    for place in 0..count {
-        if name == name_at(list, place) {
+    for position in 0..count {
+        if name == name_at(list, position) {
             return true;
         }
     }
@@ -26,9 +26,9 @@ pub fn are_distinct(list: &[u8], count: usize) -> bool
     requires { 32 * count ≤ length list.now }
     ensures { result ≡ are_distinct (entry_names (entries count list.now)) }
 {
-    for place in 0..count {
-        let rest = &list[32 * place + 32..];
-        if is_among(name_at(list, place), rest, count - place - 1) {
+    for position in 0..count {
+        let rest = &list[32 * position + 32..];
+        if is_among(name_at(list, position), rest, count - position - 1) {
             return false;
         }
     }
@@ -42,8 +42,8 @@ pub fn are_shared(list: &[u8], count: usize, others: &[u8], other_count: usize) 
     ensures { result ≡ list_any (is_among (entry_names (entries other_count others.now)))
         (entry_names (entries count list.now)) }
 {
-    for place in 0..count {
-        if is_among(name_at(list, place), others, other_count) {
+    for position in 0..count {
+        if is_among(name_at(list, position), others, other_count) {
             return true;
         }
     }

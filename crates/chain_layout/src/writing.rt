@@ -54,18 +54,18 @@ fn head(next: Option<u32>, used: u32) -> Data
     bytes
 }
 
-/// The bytes of the entries before one place, and of those from another on.
-fn parts(list: &[u8], count: usize, place: usize, behind: usize) -> (&[u8], &[u8])
+/// The bytes of the entries before one position, and of those from another on.
+fn parts(list: &[u8], count: usize, position: usize, behind: usize) -> (&[u8], &[u8])
     requires fits { 32 * count ≤ length list.now }
-    requires first { place ≤ count }
+    requires first { position ≤ count }
     requires last { behind ≤ count }
-    ensures before { result.0.now ≡ flat_map entry_bytes (take place (entries count list.now)) }
+    ensures before { result.0.now ≡ flat_map entry_bytes (take position (entries count list.now)) }
     ensures behind { result.1.now ≡ flat_map entry_bytes (drop behind (entries count list.now)) }
-    ensures sized_before { length result.0.now ≡ 32 * place }
+    ensures sized_before { length result.0.now ≡ 32 * position }
     ensures sized_behind { length result.1.now ≡ 32 * (count - behind) }
 {
     (
-        &list[..ENTRY_BYTES * place],
+        &list[..ENTRY_BYTES * position],
         &list[ENTRY_BYTES * behind..ENTRY_BYTES * count],
     )
 }
@@ -87,19 +87,19 @@ pub fn directory_of_one(name: &[u8], block: u32) -> Data
     bytes
 }
 
-/// The cluster of the directory with an entry at a place: in place of the one there, or behind all.
-pub fn directory_with(old: &DirectoryCluster, place: usize, name: &[u8], block: u32) -> Data
+/// The cluster of the directory with an entry at a lookup: in place of the one there, or behind all.
+pub fn directory_with(old: &DirectoryCluster, position: usize, name: &[u8], block: u32) -> Data
     requires named { length name.now ≤ 28 }
-    requires within { place ≤ length (entries_in old.now) }
-    requires fits { place < entries_room (block_len_of (cluster_in old.now)) }
+    requires within { position ≤ length (entries_in old.now) }
+    requires fits { position < entries_room (block_len_of (cluster_in old.now)) }
     ensures { result ≡ directory_bytes (cluster_of (cluster_in old.now)).next
-        (listed_at place (record { name = name.now; block = block }) (entries_in old.now)) }
+        (listed_at position (record { name = name.now; block = block }) (entries_in old.now)) }
 {
     let list = old.cluster().body();
     let count = old.count();
-    let next_place = (place + 1).min(count);
-    let (before, behind) = parts(list, count, place, next_place);
-    let used = place + 1 + (count - next_place);
+    let next_place = (position + 1).min(count);
+    let (before, behind) = parts(list, count, position, next_place);
+    let used = position + 1 + (count - next_place);
     let mut bytes = head(old.cluster().next(), used as u32);
     add(&mut bytes, before);
     add_entry(&mut bytes, name, block);
@@ -107,13 +107,13 @@ pub fn directory_with(old: &DirectoryCluster, place: usize, name: &[u8], block: 
     bytes
 }
 
-/// The cluster of the directory without the entry at a place.
-pub fn directory_without(old: &DirectoryCluster, place: usize) -> Data
-    requires { place < length (entries_in old.now) }
-    ensures { result ≡ directory_bytes (cluster_of (cluster_in old.now)).next (unlisted_at place (entries_in old.now)) }
+/// The cluster of the directory without the entry at a position.
+pub fn directory_without(old: &DirectoryCluster, position: usize) -> Data
+    requires { position < length (entries_in old.now) }
+    ensures { result ≡ directory_bytes (cluster_of (cluster_in old.now)).next (unlisted_at position (entries_in old.now)) }
 {
     let count = old.count();
-    let (before, behind) = parts(old.cluster().body(), count, place, place + 1);
+    let (before, behind) = parts(old.cluster().body(), count, position, position + 1);
     let mut bytes = head(old.cluster().next(), count as u32 - 1);
     add(&mut bytes, before);
     add(&mut bytes, behind);

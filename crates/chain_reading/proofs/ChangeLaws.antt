@@ -150,7 +150,7 @@ module _ (w : World) (root : ℕ) (c : Chains) (has : HasChains w root c) (ls : 
   counts =
       let d = l.block in
       let one : ◌≡◌ {A = ℕ} (cond (d == d) 1 0) 1 = ap (λ t. cond t 1 0) (eq-eqb d d refl) in
-      let parts : times d (blocks_of c.directory) ≡ times d (blocks_of ls) + (cond (d == d) 1 0 + times d (blocks_of ms)) = ap (λ xs. times d (blocks_of xs)) rewrites.place ∙ (ap (times d) (blocks-append ls (l ∷ ms)) ∙ times-append d (blocks_of ls) (d ∷ blocks_of ms)) in
+      let parts : times d (blocks_of c.directory) ≡ times d (blocks_of ls) + (cond (d == d) 1 0 + times d (blocks_of ms)) = ap (λ xs. times d (blocks_of xs)) rewrites.position ∙ (ap (times d) (blocks-append ls (l ∷ ms)) ∙ times-append d (blocks_of ls) (d ∷ blocks_of ms)) in
       let all = times-append d (blocks_of c.directory) (file_blocks c.files) in
       let most = whole.once d in
       omega (arith, one, parts, all, most)
@@ -171,7 +171,7 @@ module _ (w : World) (root : ℕ) (c : Chains) (has : HasChains w root c) (ls : 
   read_now = ap (option_and_then cluster_in) (contents-same w l.block bytes rewrites.within) ∙ rewrites.read
 
   pub tail_stays : cl.next ≡ l.cluster.next → IsFrom next cl.next ms
-  tail_stays same = subst (λ o. IsFrom next o ms) (sym same) (from_same w next l.cluster.next ms (stays (blocks_of ms) not_behind) (last_part (Some root) ls (subst (IsFrom w (Some root)) rewrites.place has.directory.links)))
+  tail_stays same = subst (λ o. IsFrom next o ms) (sym same) (from_same w next l.cluster.next ms (stays (blocks_of ms) not_behind) (last_part (Some root) ls (subst (IsFrom w (Some root)) rewrites.position has.directory.links)))
     where
       last_part : (o : Option ℕ) (ks : List Link) → IsFrom w o (ks ++ l ∷ ms) → IsFrom w l.cluster.next ms
       last_part o [] is = is.2
@@ -181,7 +181,7 @@ module _ (w : World) (root : ℕ) (c : Chains) (has : HasChains w root c) (ls : 
       → IsRight next (record { directory = ls ++ relinked l cl ∷ ks; files = fs }) → HasChains next root (record { directory = ls ++ relinked l cl ∷ ks; files = fs })
   directory_changed ks fs tail short listing right = record {
     directory = record {
-      links = from_changed w next (Some root) ls l ms cl ks (stays (blocks_of ls) not_before) read_now tail (subst (IsFrom w (Some root)) rewrites.place has.directory.links);
+      links = from_changed w next (Some root) ls l ms cl ks (stays (blocks_of ls) not_before) read_now tail (subst (IsFrom w (Some root)) rewrites.position has.directory.links);
       short = short;
     };
     listing = listing;
@@ -218,7 +218,7 @@ module _ (w : World) (root : ℕ) (c : Chains) (has : HasChains w root c) (ls : 
     -- the new block's files aren't written
     new_once : times l.block (file_blocks gs) ≡ 0
     new_once =
-        let here : times l.block (blocks_of c.directory) ≡ times l.block (blocks_of ls) + (cond (l.block == l.block) 1 0 + times l.block (blocks_of ms)) = ap (λ xs. times l.block (blocks_of xs)) rewrites.place ∙ (ap (times l.block) (blocks-append ls (l ∷ ms)) ∙ times-append l.block (blocks_of ls) (l.block ∷ blocks_of ms)) in
+        let here : times l.block (blocks_of c.directory) ≡ times l.block (blocks_of ls) + (cond (l.block == l.block) 1 0 + times l.block (blocks_of ms)) = ap (λ xs. times l.block (blocks_of xs)) rewrites.position ∙ (ap (times l.block) (blocks-append ls (l ∷ ms)) ∙ times-append l.block (blocks_of ls) (l.block ∷ blocks_of ms)) in
         let one : ◌≡◌ {A = ℕ} (cond (l.block == l.block) 1 0) 1 = ap (λ t. cond t 1 0) (eq-eqb l.block l.block refl) in
         omega (arith, all_once l.block, here, one)
 
@@ -249,7 +249,7 @@ module _ (w : World) (root : ℕ) (c : Chains) (has : HasChains w root c) (ls : 
         (files-append next (placed l.block news) (placed l.block fs ++ rest) gs behind
         (files_same w next (placed l.block news) gs refl (stays (file_blocks gs) new_once) are_new)
         (files_same w next (placed l.block fs ++ rest) behind refl (stays (file_blocks behind) none_behind) later.4)) in
-        let same_blocks : blocks_of (ls ++ relinked l cl ∷ ms) ≡ blocks_of c.directory = blocks-append ls (relinked l cl ∷ ms) ∙ (sym (blocks-append ls (l ∷ ms)) ∙ ap blocks_of (sym rewrites.place)) in
+        let same_blocks : blocks_of (ls ++ relinked l cl ∷ ms) ≡ blocks_of c.directory = blocks-append ls (relinked l cl ∷ ms) ∙ (sym (blocks-append ls (l ∷ ms)) ∙ ap blocks_of (sym rewrites.position)) in
         record {
           before = before;
           old = old;
@@ -257,7 +257,7 @@ module _ (w : World) (root : ℕ) (c : Chains) (has : HasChains w root c) (ls : 
           files = files;
           were = later.3;
           after = λ names few. directory_changed ms (before ++ (gs ++ behind)) (tail_stays same_next)
-              (subst (λ k. k ≤ w.geometry.blocks) (same_length rewrites.place) has.directory.short)
+              (subst (λ k. k ≤ w.geometry.blocks) (same_length rewrites.position) has.directory.short)
               (record { entries = (qs ++ placed l.block es) ++ (placed l.block news ++ (placed l.block fs ++ rest)); in_order = in_order; files = new_files })
               (record {
                 held = λ a b h. elim (held_append (links (blocks_of (ls ++ relinked l cl ∷ ms))) (file_pairs (before ++ (gs ++ behind))) a b h) [
@@ -288,5 +288,5 @@ module _ (w : World) (root : ℕ) (c : Chains) (has : HasChains w root c) (ls : 
 
     pub entries_change : EntriesChange olds news gs
     entries_change =
-        let split = entries_split (block_len w.geometry) ls (l ∷ ms) has.listing.entries (subst (λ xs. AreEntries (block_len w.geometry) xs has.listing.entries) rewrites.place has.listing.in_order) in
+        let split = entries_split (block_len w.geometry) ls (l ∷ ms) has.listing.entries (subst (λ xs. AreEntries (block_len w.geometry) xs has.listing.entries) rewrites.position has.listing.in_order) in
         by_parts split.0 split.1 split.4.1 split.4.0 split.2 split.3 split.4.2 split.4.3 split.4.4

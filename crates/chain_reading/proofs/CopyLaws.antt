@@ -1,4 +1,4 @@
--- Bytes of a file from a place on, part by part.
+-- Bytes of a file from an offset on, part by part.
 use Rattle.std.proofs.Common.{◌≡◌, ℕ, zero, suc, ◌+◌, ◌-◌, ◌*◌, ◌≤◌, List, [], ◌∷◌, ◌++◌, length, refl, sym, ◌∙◌, ap, arith, append-nil, append_assoc, Some, None, Ok}
 use Rattle.std.specs.Prelude.{take, drop}
 use Rattle.fs_trees.specs.Cluster.{Cluster}

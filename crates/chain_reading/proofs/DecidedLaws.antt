@@ -220,7 +220,7 @@ the_directory_grows w root c ls l m bytes cl es e f sized under rewrites links_o
     let right = right_is w c has.right in
     let fresh : are_apart (chain_blocks c ++ (m.block ∷ file_blocks (f ∷ []))) ≡ true = subst (λ xs. are_apart (chain_blocks c ++ (m.block ∷ xs)) ≡ true) (sym (append-nil (blocks_of f.chain))) new.fresh in
     let blocks : blocks_of (ls ++ relinked l cl ∷ m ∷ []) ≡ blocks_of c.directory ++ m.block ∷ [] =
-    blocks-append ls (relinked l cl ∷ m ∷ []) ∙ (sym (append_assoc (blocks_of ls) (l.block ∷ []) (m.block ∷ [])) ∙ ap (λ xs. xs ++ m.block ∷ []) (sym (blocks-append ls (l ∷ [])) ∙ ap blocks_of (sym rewrites.place))) in
+    blocks-append ls (relinked l cl ∷ m ∷ []) ∙ (sym (append_assoc (blocks_of ls) (l.block ∷ []) (m.block ∷ [])) ∙ ap (λ xs. xs ++ m.block ∷ []) (sym (blocks-append ls (l ∷ [])) ∙ ap blocks_of (sym rewrites.position))) in
     let once : (b : ℕ) → times b (blocks_of c.directory ++ m.block ∷ []) ≤ 1 = λ b.
     let one = times-append b (chain_blocks c) (m.block ∷ blocks_of f.chain) in
     let two = times-append b (blocks_of c.directory) (file_blocks c.files) in
@@ -259,24 +259,24 @@ the_file_grows w root c fs f hs ks k bytes cl more sized under lengthens =
     let once : (b : ℕ) → times b (blocks_of f.chain ++ blocks_of more) ≤ 1 = λ b.
     let one = times-append b (chain_blocks c) (blocks_of more) in
     let two = times-append b (blocks_of c.directory) (file_blocks c.files) in
-    let three = ap (λ xs. times b (file_blocks xs)) lengthens.place ∙ (ap (times b) (file_blocks-append fs (f ∷ hs)) ∙ times-append b (file_blocks fs) (file_blocks (f ∷ hs))) in
+    let three = ap (λ xs. times b (file_blocks xs)) lengthens.position ∙ (ap (times b) (file_blocks-append fs (f ∷ hs)) ∙ times-append b (file_blocks fs) (file_blocks (f ∷ hs))) in
     let four = times-append b (blocks_of f.chain) (file_blocks hs) in
     let five = times-append b (blocks_of f.chain) (blocks_of more) in
     omega (arith, one, two, three, four, five, apart_times (chain_blocks c ++ blocks_of more) lengthens.fresh b) in
-    let old = entries_of_files w has.listing.entries fs (f ∷ hs) (subst (AreFiles w has.listing.entries) lengthens.place has.listing.files) in
+    let old = entries_of_files w has.listing.entries fs (f ∷ hs) (subst (AreFiles w has.listing.entries) lengthens.position has.listing.files) in
     let below : (b : ℕ) → has_number (blocks_of f.chain ++ blocks_of more) b ≡ true → b < length w.blocks = λ b h. elim (in_append (blocks_of f.chain) (blocks_of more) b h) [
       | inl own ↦ of_file old.1 old.4 b own
       | inr this ↦ from_live w cl.next more b lengthens.tail this
     ] in
     let fits = apart_fits (blocks_of f.chain ++ blocks_of more) (length w.blocks) once below in
     let short : length chain ≤ w.geometry.blocks = let size = ap length (sym blocks) ∙ length-blocks chain in omega (arith, fits, size, sized.each_block) in
-    let has_now = file_grows w root c has fs f hs lengthens.place ks k lengthens.ends bytes lengthens.within cl lengthens.read more lengthens.tail lengthens.filled short lengthens.fresh lengthens.held in
+    let has_now = file_grows w root c has fs f hs lengthens.position ks k lengthens.ends bytes lengthens.within cl lengthens.read more lengthens.tail lengthens.filled short lengthens.fresh lengthens.held in
     let now_under = chains_are (with_contents w k.block bytes) root (record { directory = c.directory; files = fs ++ (grown f ks k cl more ∷ hs) }) has_now in
-    let parts = distinct_parts f.name (file_names fs) (file_names hs) (ap are_distinct (sym (names_between fs f hs) ∙ ap file_names (sym lengthens.place)) ∙ right.names) in
+    let parts = distinct_parts f.name (file_names fs) (file_names hs) (ap are_distinct (sym (names_between fs f hs) ∙ ap file_names (sym lengthens.position)) ∙ right.names) in
     record {
       under = now_under;
       tree = ap as_tree now_under ∙ (ap (a_dir tt) (tree_set fs f (grown f ks k cl more) hs refl parts.0)
-          ∙ set_in f.name (a_file (chain_bytes chain)) (tree_of_files (fs ++ (f ∷ hs))) (chain_tree w root) (ap as_tree under ∙ ap (λ gs. a_dir tt (tree_of_files gs)) lengthens.place));
+          ∙ set_in f.name (a_file (chain_bytes chain)) (tree_of_files (fs ++ (f ∷ hs))) (chain_tree w root) (ap as_tree under ∙ ap (λ gs. a_dir tt (tree_of_files gs)) lengthens.position));
     }
   where
     of_file : (ps : List PlacedEntry) → AreFiles w ps (f ∷ hs) → (b : ℕ) → has_number (blocks_of f.chain) b ≡ true → b < length w.blocks

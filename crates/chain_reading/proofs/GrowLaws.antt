@@ -56,7 +56,7 @@ module _ (w : World) (root : ℕ) (c : Chains) (has : HasChains w root c) (ls : 
   here : times l.block (blocks_of c.directory) ≡ times l.block (blocks_of ls) + (1 + 0)
   here =
       let one : ◌≡◌ {A = ℕ} (cond (l.block == l.block) 1 0) 1 = ap (λ t. cond t 1 0) (eq-eqb l.block l.block refl) in
-      let parts : times l.block (blocks_of c.directory) ≡ times l.block (blocks_of ls) + (cond (l.block == l.block) 1 0 + 0) = ap (λ xs. times l.block (blocks_of xs)) rewrites.place ∙ (ap (times l.block) (blocks-append ls (l ∷ [])) ∙ times-append l.block (blocks_of ls) (l.block ∷ [])) in
+      let parts : times l.block (blocks_of c.directory) ≡ times l.block (blocks_of ls) + (cond (l.block == l.block) 1 0 + 0) = ap (λ xs. times l.block (blocks_of xs)) rewrites.position ∙ (ap (times l.block) (blocks-append ls (l ∷ [])) ∙ times-append l.block (blocks_of ls) (l.block ∷ [])) in
       omega (arith, one, parts)
 
   not_new : times l.block (m.block ∷ file_blocks gs) ≡ 0
@@ -71,12 +71,12 @@ module _ (w : World) (root : ℕ) (c : Chains) (has : HasChains w root c) (ls : 
   all_blocks : blocks_of (ls ++ relinked l cl ∷ m ∷ []) ≡ blocks_of c.directory ++ m.block ∷ []
   all_blocks =
       blocks-append ls (relinked l cl ∷ m ∷ [])
-      ∙ (sym (append_assoc (blocks_of ls) (l.block ∷ []) (m.block ∷ [])) ∙ ap (λ xs. xs ++ m.block ∷ []) (sym (blocks-append ls (l ∷ [])) ∙ ap blocks_of (sym rewrites.place)))
+      ∙ (sym (append_assoc (blocks_of ls) (l.block ∷ []) (m.block ∷ [])) ∙ ap (λ xs. xs ++ m.block ∷ []) (sym (blocks-append ls (l ∷ [])) ∙ ap blocks_of (sym rewrites.position)))
 
   -- a link of the longer directory
   link_held : (a b : ℕ) → holds (links (blocks_of (ls ++ relinked l cl ∷ m ∷ []))) a b ≡ true → holds w.pairs a b ≡ true
   link_held a b h = elim (links_split (blocks_of ls) l.block (m.block ∷ []) a b (ap (λ xs. holds (links xs) a b) (sym (blocks-append ls (relinked l cl ∷ m ∷ []))) ∙ h)) [
-    | inl old ↦ (right_is w c has.right).held a b (held_left (links (blocks_of c.directory)) (file_pairs c.files) a b (ap (λ xs. holds (links xs) a b) (ap blocks_of rewrites.place ∙ blocks-append ls (l ∷ [])) ∙ old))
+    | inl old ↦ (right_is w c has.right).held a b (held_left (links (blocks_of c.directory)) (file_pairs c.files) a b (ap (λ xs. holds (links xs) a b) (ap blocks_of rewrites.position ∙ blocks-append ls (l ∷ [])) ∙ old))
     | inr new ↦ elim (or_cases (is_pair a b (l.block, m.block)) false new) [
       | inl this ↦ let parts = and_parts (l.block == a) (m.block == b) this in subst (λ y. holds w.pairs a y ≡ true) (eqb-true m.block b parts.1) (subst (λ x. holds w.pairs x m.block ≡ true) (eqb-true l.block a parts.0) led)
       | inr none ↦ absurd (cc)
@@ -85,7 +85,7 @@ module _ (w : World) (root : ℕ) (c : Chains) (has : HasChains w root c) (ls : 
 
   pub directory_grows : are_distinct (file_names (c.files ++ gs)) ≡ true → length (c.files ++ gs) ≤ names_max → HasChains grown root wider
   directory_grows names few =
-      let split = entries_split (block_len w.geometry) ls (l ∷ []) has.listing.entries (subst (λ xs. AreEntries (block_len w.geometry) xs has.listing.entries) rewrites.place has.listing.in_order) in
+      let split = entries_split (block_len w.geometry) ls (l ∷ []) has.listing.entries (subst (λ xs. AreEntries (block_len w.geometry) xs has.listing.entries) rewrites.position has.listing.in_order) in
       let len = block_len w.geometry in
       let own_es : split.4.0 ≡ es = same_some split.4.0 (entries_of len l.cluster) split.4.2 was in
       let entries : has.listing.entries ≡ split.0 ++ placed l.block es =
@@ -124,7 +124,7 @@ module _ (w : World) (root : ℕ) (c : Chains) (has : HasChains w root c) (ls : 
 
 -- ---- a file grows
 
-module _ (w : World) (root : ℕ) (c : Chains) (has : HasChains w root c) (fs : List ChainFile) (f : ChainFile) (hs : List ChainFile) (place : c.files ≡ fs ++ (f ∷ hs)) (ks : List Link) (k : Link) (ends : f.chain ≡ ks ++ k ∷ []) (bytes : List ℕ) (within : k.block < length w.blocks)
+module _ (w : World) (root : ℕ) (c : Chains) (has : HasChains w root c) (fs : List ChainFile) (f : ChainFile) (hs : List ChainFile) (position : c.files ≡ fs ++ (f ∷ hs)) (ks : List Link) (k : Link) (ends : f.chain ≡ ks ++ k ∷ []) (bytes : List ℕ) (within : k.block < length w.blocks)
     (cl : Cluster) (read : cluster_in bytes ≡ Some cl) (more : List Link) (tail : IsFrom w cl.next more) (filled : is_filled (bytes_room (block_len w.geometry)) (ks ++ relinked k cl ∷ more) ≡ true) (short : length (ks ++ relinked k cl ∷ more) ≤ w.geometry.blocks)
     (fresh : are_apart (chain_blocks c ++ blocks_of more) ≡ true) (held : (a b : ℕ) → holds (links (k.block ∷ blocks_of more)) a b ≡ true → holds w.pairs a b ≡ true) where
   abbrev longer_world : World
@@ -144,7 +144,7 @@ module _ (w : World) (root : ℕ) (c : Chains) (has : HasChains w root c) (fs : 
 
   counted : (b : ℕ) → times b (file_blocks c.files) ≡ times b (file_blocks fs) + (times b (blocks_of ks) + cond (k.block == b) 1 0 + times b (file_blocks hs))
   counted b =
-      let all = ap (λ xs. times b (file_blocks xs)) place ∙ times_three b fs (f ∷ []) hs in
+      let all = ap (λ xs. times b (file_blocks xs)) position ∙ times_three b fs (f ∷ []) hs in
       let one : times b (file_blocks (f ∷ [])) ≡ times b (blocks_of ks) + cond (k.block == b) 1 0 =
       ap (times b) (append-nil (blocks_of f.chain)) ∙ (ap (times b) old_blocks ∙ (times-append b (blocks_of ks) (k.block ∷ []) ∙ plus_none (times b (blocks_of ks)) (cond (k.block == b) 1 0))) in
       omega (arith, all, one)
@@ -203,38 +203,38 @@ module _ (w : World) (root : ℕ) (c : Chains) (has : HasChains w root c) (fs : 
   }
 
   listing_now : IsListing longer_world c.directory (fs ++ (longer ∷ hs))
-  listing_now = let split = entries_of_files w has.listing.entries fs (f ∷ hs) (subst (AreFiles w has.listing.entries) place has.listing.files) in by_files split.0 split.1 split.2 split.3 split.4
+  listing_now = let split = entries_of_files w has.listing.entries fs (f ∷ hs) (subst (AreFiles w has.listing.entries) position has.listing.files) in by_files split.0 split.1 split.2 split.3 split.4
 
   old_held : (a b : ℕ) → holds (file_pairs c.files) a b ≡ true → holds w.pairs a b ≡ true
   old_held a b h = (right_is w c has.right).held a b (held_right (links (blocks_of c.directory)) (file_pairs c.files) a b h)
 
   own_held : (a b : ℕ) → holds (links (f.from ∷ blocks_of f.chain)) a b ≡ true → holds w.pairs a b ≡ true
-  own_held a b h = old_held a b (ap (λ xs. holds (file_pairs xs) a b) place ∙ (ap (λ es. holds es a b) (file_pairs-append fs (f ∷ hs)) ∙ held_right (file_pairs fs) (file_pairs (f ∷ hs)) a b (held_left (links (f.from ∷ blocks_of f.chain)) (file_pairs hs) a b h)))
+  own_held a b h = old_held a b (ap (λ xs. holds (file_pairs xs) a b) position ∙ (ap (λ es. holds es a b) (file_pairs-append fs (f ∷ hs)) ∙ held_right (file_pairs fs) (file_pairs (f ∷ hs)) a b (held_left (links (f.from ∷ blocks_of f.chain)) (file_pairs hs) a b h)))
 
   pair_held : (a b : ℕ) → holds (chain_pairs fuller) a b ≡ true → holds w.pairs a b ≡ true
   pair_held a b h = elim (held_append (links (blocks_of c.directory)) (file_pairs (fs ++ (longer ∷ hs))) a b h) [
     | inl link ↦ (right_is w c has.right).held a b (held_left (links (blocks_of c.directory)) (file_pairs c.files) a b link)
     | inr file ↦ elim (held_three fs (longer ∷ []) hs a b file) [
-      | inl first ↦ old_held a b (ap (λ xs. holds (file_pairs xs) a b) place ∙ first_held fs (f ∷ []) hs a b first)
+      | inl first ↦ old_held a b (ap (λ xs. holds (file_pairs xs) a b) position ∙ first_held fs (f ∷ []) hs a b first)
       | inr rest ↦ elim rest [
         | inl new ↦ elim (links_split (f.from ∷ blocks_of ks) k.block (blocks_of more) a b (ap (λ xs. holds (links (f.from ∷ xs)) a b) (sym new_blocks) ∙ (ap (λ es. holds es a b) (sym (append-nil (links (f.from ∷ blocks_of longer.chain)))) ∙ new))) [
           | inl old ↦ own_held a b (ap (λ xs. holds (links (f.from ∷ xs)) a b) old_blocks ∙ old)
           | inr on ↦ held a b on
         ]
-        | inr last ↦ old_held a b (ap (λ xs. holds (file_pairs xs) a b) place ∙ last_held fs (f ∷ []) hs a b last)
+        | inr last ↦ old_held a b (ap (λ xs. holds (file_pairs xs) a b) position ∙ last_held fs (f ∷ []) hs a b last)
       ]
     ]
   ]
 
   same_names : file_names (fs ++ (longer ∷ hs)) ≡ file_names c.files
-  same_names = in_names fs ∙ ap file_names (sym place)
+  same_names = in_names fs ∙ ap file_names (sym position)
     where
       in_names : (gs : List ChainFile) → file_names (gs ++ (longer ∷ hs)) ≡ file_names (gs ++ (f ∷ hs))
       in_names [] = refl
       in_names (g ∷ gs) = ap (λ ns. g.name ∷ ns) (in_names gs)
 
   same_number : length (fs ++ (longer ∷ hs)) ≡ length c.files
-  same_number = length-append fs (longer ∷ hs) ∙ (sym (length-append fs (f ∷ hs)) ∙ ap length (sym place))
+  same_number = length-append fs (longer ∷ hs) ∙ (sym (length-append fs (f ∷ hs)) ∙ ap length (sym position))
 
   pub file_grows : HasChains longer_world root fuller
   file_grows = record {

@@ -3,8 +3,8 @@ use Rattle.std.proofs.Common.{◌≡◌, ℕ, ◌≤◌, ◌<◌, true, cond, �
 use Rattle.std.proofs.lemmas.Bool.{and_from, or_left, or_right, eq-eqb}
 use Rattle.std.proofs.Common.{get_or, not}
 use Rattle.fs_trees.specs.Refusals.{when, first_of, lost_on_the_way, missing, no_file, no_dir}
-use Rattle.chain_reading.specs.declared.finding.Place.{Place}
-use Rattle.chain_reading.specs.declared.finding.Place.TheVariants.{Taken, Free}
+use Rattle.chain_reading.specs.declared.finding.Lookup.{Lookup}
+use Rattle.chain_reading.specs.declared.finding.Lookup.TheVariants.{Taken, Free}
 use Rattle.std.specs.Prelude.{slice_get}
 use Rattle.tsd_model.specs.Geometry.{block_len}
 use Rattle.tsd_model.specs.World.{World}
@@ -40,7 +40,7 @@ use Rattle.chain_reading.proofs.FileLaws.{tree_has, tree_lacks, others-append}
 use Rattle.chain_reading.specs.declared.walking.Page.{Page}
 use Rattle.chain_reading.specs.Ahead.{IsFileAhead, IsDirectoryAhead, HasDirectory}
 use Rattle.chain_reading.specs.Asking.{MayAsk, tree_of}
-use Rattle.chain_reading.specs.Finding.{placed_names, no_way, IsPlaceTaken, IsNameFound, IsFileOf, no_file_found, no_directory_found}
+use Rattle.chain_reading.specs.Finding.{placed_names, no_way, IsLookupTaken, IsNameFound, IsFileOf, no_file_found, no_directory_found}
 use Rattle.chain_reading.proofs.WalkLaws.{link_of}
 use Rattle.chain_reading.proofs.ListLaws.{names_placed, names-append, own_entries, entries_unique}
 
@@ -131,7 +131,7 @@ module _ (c : Client) (old new : DiskView) (known : IsKnown c old) (seen : Looke
   pub free_name : AreOthers n (placed_names known.has.listing.entries) → entry n (tree_of_files known.chains.files) ≡ nothing
   free_name others = tree_lacks n known.chains.files (subst (AreOthers n) (sym (names_of_files old.world known.has.listing.entries known.chains.files known.has.listing.files)) others)
 
-  module _ (page : Page) (place first : ℕ) (taken : IsPlaceTaken c new n known.chains.directory page place first) where
+  module _ (page : Page) (position first : ℕ) (taken : IsLookupTaken c new n known.chains.directory page position first) where
     -- all entries, by the one that was found
     in_parts : (later : List PlacedEntry) → known.has.listing.entries ≡ taken.earlier ++ (placed page.block (entries_in page.cluster) ++ later)
         → known.has.listing.entries ≡ (taken.earlier ++ placed page.block taken.entry.front) ++ ((page.block, taken.entry.entry) ∷ (placed page.block taken.entry.back ++ later))
@@ -260,28 +260,28 @@ module _ (es : Entries (Unit {0}) (List ℕ)) (n : Name) where
 
 -- ---- what looking a name up found
 
-module _ (told : Type 0) (c : Client) (old new : DiskView) (t : told) (may : MayAsk told c old) (sound : IsDiskSound old) (seen : Looked old new) (stays : Stays old new) (n : Name) (place : Place) (found : (ls : List Link) (ps : List PlacedEntry) → IsDirectoryAhead c old ls ps → IsNameFound c new n ls ps place) where
+module _ (told : Type 0) (c : Client) (old new : DiskView) (t : told) (may : MayAsk told c old) (sound : IsDiskSound old) (seen : Looked old new) (stays : Stays old new) (n : Name) (position : Lookup) (found : (ls : List Link) (ps : List PlacedEntry) → IsDirectoryAhead c old ls ps → IsNameFound c new n ls ps position) where
   the_known : IsKnown c old
   the_known = is_known told c old t may sound
 
-  pub place_lost : (m : Name) (ns : Path) → no_file_found (tree_of c old) (n ∷ m ∷ ns) ≡ Some (no_way place)
-  place_lost m ns = by_place place (found the_known.chains.directory the_known.has.listing.entries the_known.ahead)
+  pub place_lost : (m : Name) (ns : Path) → no_file_found (tree_of c old) (n ∷ m ∷ ns) ≡ Some (no_way position)
+  place_lost m ns = by_place position (found the_known.chains.directory the_known.has.listing.entries the_known.ahead)
     where
-      by_place : (p : Place) → IsNameFound c new n the_known.chains.directory the_known.has.listing.entries p → no_file_found (tree_of c old) (n ∷ m ∷ ns) ≡ Some (no_way p)
-      by_place (Taken page place first) taken =
+      by_place : (p : Lookup) → IsNameFound c new n the_known.chains.directory the_known.has.listing.entries p → no_file_found (tree_of c old) (n ∷ m ∷ ns) ≡ Some (no_way p)
+      by_place (Taken page position first) taken =
           ap (λ x. no_file_found x (n ∷ m ∷ ns)) (tree_known c old the_known)
-          ∙ taken_lost (tree_of_files the_known.chains.files) n m ns (chain_bytes (entry_file c old new the_known seen n page place first taken).0.chain) (missing (a_dir tt (tree_of_files the_known.chains.files)) (n ∷ m ∷ ns) ∷ no_file (a_dir tt (tree_of_files the_known.chains.files)) (n ∷ m ∷ ns) ∷ []) (taken_name c old new the_known seen n page place first taken)
+          ∙ taken_lost (tree_of_files the_known.chains.files) n m ns (chain_bytes (entry_file c old new the_known seen n page position first taken).0.chain) (missing (a_dir tt (tree_of_files the_known.chains.files)) (n ∷ m ∷ ns) ∷ no_file (a_dir tt (tree_of_files the_known.chains.files)) (n ∷ m ∷ ns) ∷ []) (taken_name c old new the_known seen n page position first taken)
       by_place (Free page count) free =
           ap (λ x. no_file_found x (n ∷ m ∷ ns)) (tree_known c old the_known)
           ∙ free_lost (tree_of_files the_known.chains.files) n m ns (missing (a_dir tt (tree_of_files the_known.chains.files)) (n ∷ m ∷ ns) ∷ no_file (a_dir tt (tree_of_files the_known.chains.files)) (n ∷ m ∷ ns) ∷ []) (free_name c old new the_known seen n free.0)
 
-  pub place_no_dir : (ns : Path) → no_directory_found (tree_of c old) (n ∷ ns) ≡ Some (no_way place)
-  place_no_dir ns = by_place place (found the_known.chains.directory the_known.has.listing.entries the_known.ahead)
+  pub place_no_dir : (ns : Path) → no_directory_found (tree_of c old) (n ∷ ns) ≡ Some (no_way position)
+  place_no_dir ns = by_place position (found the_known.chains.directory the_known.has.listing.entries the_known.ahead)
     where
-      by_place : (p : Place) → IsNameFound c new n the_known.chains.directory the_known.has.listing.entries p → no_directory_found (tree_of c old) (n ∷ ns) ≡ Some (no_way p)
-      by_place (Taken page place first) taken =
+      by_place : (p : Lookup) → IsNameFound c new n the_known.chains.directory the_known.has.listing.entries p → no_directory_found (tree_of c old) (n ∷ ns) ≡ Some (no_way p)
+      by_place (Taken page position first) taken =
           ap (λ x. no_directory_found x (n ∷ ns)) (tree_known c old the_known)
-          ∙ taken_no_dir (tree_of_files the_known.chains.files) n ns (chain_bytes (entry_file c old new the_known seen n page place first taken).0.chain) (taken_name c old new the_known seen n page place first taken)
+          ∙ taken_no_dir (tree_of_files the_known.chains.files) n ns (chain_bytes (entry_file c old new the_known seen n page position first taken).0.chain) (taken_name c old new the_known seen n page position first taken)
       by_place (Free page count) free = ap (λ x. no_directory_found x (n ∷ ns)) (tree_known c old the_known) ∙ free_no_dir (tree_of_files the_known.chains.files) n ns (free_name c old new the_known seen n free.0)
 
 -- a name that was found, and one that wasn't
@@ -291,22 +291,22 @@ module _ (told : Type 0) (c : Client) (old new : DiskView) (t : told) (may : May
       let known = is_known told c old t may sound in
       ap (λ x. no_file_found x (n ∷ [])) (tree_known c old known) ∙ free_refused (tree_of_files known.chains.files) n (free_name c old new known seen n (found known.chains.directory known.has.listing.entries known.ahead).0)
 
-  module _ (page : Page) (place first : ℕ) (found : (ls : List Link) (ps : List PlacedEntry) → IsDirectoryAhead c old ls ps → IsNameFound c new n ls ps (Taken page place first)) where
+  module _ (page : Page) (position first : ℕ) (found : (ls : List Link) (ps : List PlacedEntry) → IsDirectoryAhead c old ls ps → IsNameFound c new n ls ps (Taken page position first)) where
     pub a_name : ◌≡◌ {A = Option FsRefusal} (no_file_found (tree_of c old) (n ∷ [])) None
     a_name =
         let known = is_known told c old t may sound in
         let taken = found known.chains.directory known.has.listing.entries known.ahead in
-        ap (λ x. no_file_found x (n ∷ [])) (tree_known c old known) ∙ taken_found (tree_of_files known.chains.files) n (chain_bytes (entry_file c old new known seen n page place first taken).0.chain) (taken_name c old new known seen n page place first taken)
+        ap (λ x. no_file_found x (n ∷ [])) (tree_known c old known) ∙ taken_found (tree_of_files known.chains.files) n (chain_bytes (entry_file c old new known seen n page position first taken).0.chain) (taken_name c old new known seen n page position first taken)
 
     pub a_file_there : IsFileOf c new (n ∷ []) first
     a_file_there =
         let known = is_known told c old t may sound in
         let taken = found known.chains.directory known.has.listing.entries known.ahead in
-        let here = entry_file c old new known seen n page place first taken in
+        let here = entry_file c old new known seen n page position first taken in
         record {
-          file = (entry_file c old new known seen n page place first taken).0;
-          ahead = file_ahead c old new known seen n page place first taken stays (root_may told c old t may sound);
-          there = ap (λ w. at (chain_tree w c.root) (n ∷ [])) seen.world ∙ (ap (λ x. at x (n ∷ [])) (tree_known c old known) ∙ taken_name c old new known seen n page place first taken);
+          file = (entry_file c old new known seen n page position first taken).0;
+          ahead = file_ahead c old new known seen n page position first taken stays (root_may told c old t may sound);
+          there = ap (λ w. at (chain_tree w c.root) (n ∷ [])) seen.world ∙ (ap (λ x. at x (n ∷ [])) (tree_known c old known) ∙ taken_name c old new known seen n page position first taken);
           chains = known.chains;
           under = ap (λ w. chains_under w c.root) seen.world ∙ known.under;
           front = here.1;

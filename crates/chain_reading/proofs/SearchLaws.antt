@@ -22,24 +22,24 @@ use Rattle.chain_reading.proofs.FileLaws.{others-append}
 use Rattle.chain_reading.specs.declared.walking.Page.{Page}
 use Rattle.chain_reading.specs.Standing.{IsPage}
 use Rattle.chain_reading.specs.Ahead.{IsDirectoryAhead}
-use Rattle.chain_reading.specs.Finding.{placed_names, page_link, IsEntry, IsPlaceTaken, is_roomy, IsRoomiest, better}
+use Rattle.chain_reading.specs.Finding.{placed_names, page_link, IsEntry, IsLookupTaken, is_roomy, IsRoomiest, better}
 use Rattle.chain_reading.proofs.WalkLaws.{link_of, first_link, walk_ends}
 use Rattle.chain_reading.proofs.ListLaws.{IsLooking, look_starts, look_on, look_ends, names_placed, names-append}
 
 -- ---- in one cluster
 
-entry_found : (n : Name) (es : List Entry) (i place : ℕ) → position_from (has_name n) i es ≡ Some place
-    → (front : List Entry) × (e : Entry) × (back : List Entry) × (es ≡ front ++ (e ∷ back)) × (length front + i ≡ place) × (e.name ≡ n) × AreOthers n (entry_names front)
-entry_found n [] i place h = absurd (cc)
-entry_found n (e ∷ es) i place h = by_test (bytes_eq e.name n) refl h (λ g. entry_found n es (i + 1) place g)
+entry_found : (n : Name) (es : List Entry) (i position : ℕ) → position_from (has_name n) i es ≡ Some position
+    → (front : List Entry) × (e : Entry) × (back : List Entry) × (es ≡ front ++ (e ∷ back)) × (length front + i ≡ position) × (e.name ≡ n) × AreOthers n (entry_names front)
+entry_found n [] i position h = absurd (cc)
+entry_found n (e ∷ es) i position h = by_test (bytes_eq e.name n) refl h (λ g. entry_found n es (i + 1) position g)
   where
-    by_test : (t : Bool) → bytes_eq e.name n ≡ t → cond t (Some i) (position_from (has_name n) (i + 1) es) ≡ Some place
-        → (position_from (has_name n) (i + 1) es ≡ Some place → (front : List Entry) × (d : Entry) × (back : List Entry) × (es ≡ front ++ (d ∷ back)) × (length front + (i + 1) ≡ place) × (d.name ≡ n) × AreOthers n (entry_names front))
-        → (front : List Entry) × (d : Entry) × (back : List Entry) × (e ∷ es ≡ front ++ (d ∷ back)) × (length front + i ≡ place) × (d.name ≡ n) × AreOthers n (entry_names front)
-    by_test true is h later = let same : i ≡ place = cc in ([], e, es, refl, omega (arith, same), (bytes_eq-Decides e.name n).0 is, tt)
+    by_test : (t : Bool) → bytes_eq e.name n ≡ t → cond t (Some i) (position_from (has_name n) (i + 1) es) ≡ Some position
+        → (position_from (has_name n) (i + 1) es ≡ Some position → (front : List Entry) × (d : Entry) × (back : List Entry) × (es ≡ front ++ (d ∷ back)) × (length front + (i + 1) ≡ position) × (d.name ≡ n) × AreOthers n (entry_names front))
+        → (front : List Entry) × (d : Entry) × (back : List Entry) × (e ∷ es ≡ front ++ (d ∷ back)) × (length front + i ≡ position) × (d.name ≡ n) × AreOthers n (entry_names front)
+    by_test true is h later = let same : i ≡ position = cc in ([], e, es, refl, omega (arith, same), (bytes_eq-Decides e.name n).0 is, tt)
     by_test false is h later =
         let rest = later h in
-        let count : suc (length rest.0) + i ≡ place = omega (arith, rest.4) in
+        let count : suc (length rest.0) + i ≡ position = omega (arith, rest.4) in
         (e ∷ rest.0, rest.1, rest.2, ap (λ xs. e ∷ xs) rest.3, count, rest.5, (λ g. not_both is ((bytes_eq-Decides e.name n).1 (sym g)), rest.6))
       where
         not_both : bytes_eq e.name n ≡ false → bytes_eq e.name n ≡ true → ⊥
@@ -60,10 +60,10 @@ block_there : (front : List Entry) (e : Entry) (back : List Entry) → slice_ind
 block_there [] e back = refl
 block_there (f ∷ front) e back = block_there front e back
 
-pub is_entry : (n : Name) (es : List Entry) (place first : ℕ) → position_from (has_name n) 0 es ≡ Some place → first ≡ slice_index (entry_blocks es) place → IsEntry n es place first
-is_entry n es place first at is =
-    let found = entry_found n es 0 place at in
-    let count : length found.0 ≡ place = omega (arith, found.4) in
+pub is_entry : (n : Name) (es : List Entry) (position first : ℕ) → position_from (has_name n) 0 es ≡ Some position → first ≡ slice_index (entry_blocks es) position → IsEntry n es position first
+is_entry n es position first at is =
+    let found = entry_found n es 0 position at in
+    let count : length found.0 ≡ position = omega (arith, found.4) in
     record {
       front = found.0;
       entry = found.1;
@@ -71,13 +71,13 @@ is_entry n es place first at is =
       parts = found.3;
       count = count;
       name = found.5;
-      block = sym (is ∙ (ap (λ xs. slice_index (entry_blocks xs) place) found.3 ∙ (ap (slice_index (entry_blocks (found.0 ++ (found.1 ∷ found.2)))) (sym count) ∙ block_there found.0 found.1 found.2)));
+      block = sym (is ∙ (ap (λ xs. slice_index (entry_blocks xs) position) found.3 ∙ (ap (slice_index (entry_blocks (found.0 ++ (found.1 ∷ found.2)))) (sym count) ∙ block_there found.0 found.1 found.2)));
       others = found.6;
     }
 
-pub place_within : (n : Name) (es : List Entry) (place : ℕ) → position_from (has_name n) 0 es ≡ Some place → place < length es
-place_within n es place at =
-    let found = entry_found n es 0 place at in
+pub place_within : (n : Name) (es : List Entry) (position : ℕ) → position_from (has_name n) 0 es ≡ Some position → position < length es
+place_within n es position at =
+    let found = entry_found n es 0 position at in
     let size = ap length found.3 in
     let sum = length-append found.0 (found.1 ∷ found.2) in
     omega (arith, found.4, size, sum)
@@ -194,10 +194,10 @@ module _ (c : Client) (now : DiskView) (len : ℕ) (ls : List Link) (ps : List P
         )
 
 -- it was found in this cluster
-pub search_finds : (c : Client) (first now new : DiskView) (ls : List Link) (ps : List PlacedEntry) (i b : ℕ) (n : Name) (count : ℕ) (best : Option Page) (page : Page) (place block : ℕ) → IsSearched c now (block_len first.world.geometry) ls ps i b n count best → Looked first now → Looked now new → Stays now new
-    → IsPage now.world b page → HoldsWrite (state_of new) c.session b → position_from (has_name n) 0 (entries_in page.cluster) ≡ Some place → block ≡ slice_index (entry_blocks (entries_in page.cluster)) place
-    → IsPlaceTaken c new n ls page place block
-search_finds c first now new ls ps i b n count best page place block searched before seen stays read held at is =
+pub search_finds : (c : Client) (first now new : DiskView) (ls : List Link) (ps : List PlacedEntry) (i b : ℕ) (n : Name) (count : ℕ) (best : Option Page) (page : Page) (position block : ℕ) → IsSearched c now (block_len first.world.geometry) ls ps i b n count best → Looked first now → Looked now new → Stays now new
+    → IsPage now.world b page → HoldsWrite (state_of new) c.session b → position_from (has_name n) 0 (entries_in page.cluster) ≡ Some position → block ≡ slice_index (entry_blocks (entries_in page.cluster)) position
+    → IsLookupTaken c new n ls page position block
+search_finds c first now new ls ps i b n count best page position block searched before seen stays read held at is =
     let cl = cluster_of (cluster_in page.cluster) in
     let walked = searched.looking.walked in
     let ahead = first_link now.world b walked.rest cl walked.ahead.rest read.read.says in
@@ -207,7 +207,7 @@ search_finds c first now new ls ps i b n count best page place block searched be
       behind = ahead.0;
       parts = walked.parts ∙ (ap (λ xs. searched.looking.before ++ xs) ahead.1 ∙ ap (λ k. searched.looking.before ++ link_of k cl ∷ ahead.0) (sym here));
       read = subst (λ k. IsPage new.world k page) (sym here) (subst (λ w. IsPage w b page) (sym seen.world) read);
-      entry = is_entry n (entries_in page.cluster) place block at is;
+      entry = is_entry n (entries_in page.cluster) position block at is;
       earlier = searched.qs;
       entries = subst (λ w. AreEntries (block_len w.geometry) searched.looking.before searched.qs) (sym (seen.world ∙ before.world)) searched.looking.entries;
       others = searched.others;

@@ -26,7 +26,7 @@ use Rattle.chain_reading.proofs.RefusalLaws.{cat_answered, cat_stays, ls_answere
 use Rattle.chain_reading.proofs.KnownLaws.{is_known, tree_known, root_is_listed, names_of_files}
 use Rattle.chain_reading.proofs.NextLaws.{next_name}
 
--- the bytes of a file from a place on
+-- the bytes of a file from an offset on
 pub part_told : (told : Type 0) (c : Client) (old mid new : DiskView) (p : Path) (first start : ℕ) (part : List ℕ) (result : Result (Unit {0}) FsRefusal) → told → is_there (tree_of c old) ≡ true → Looked old mid → ◌≡◌ {A = Option FsRefusal} (no_file_found (tree_of c old) p) None → IsFileOf c mid p first
     → ((ls : List Link) → IsFileAhead c mid first ls → OnOk result (part ≡ take 4096 (drop start (chain_bytes ls)))) → IfErr result (λ e. e ≡ no.Device) → OnlyLooks told mid new result → Answers (mounted_by c) old new (ask.Cat p) result (λ _. TellsPart start part)
 part_told told c old mid new p first start part (Err e) t there seen none file gives only looks = record { ok = tt; err = λ ne. absurd (ne only) }

@@ -22,6 +22,6 @@ relinked l cl = record { block = l.block; cluster = cl }
 -- A cluster of the directory is written anew: where it stands among the others, and what is then read from its block.
 pub record Rewrites (w : World) (c : Chains) (ls : List Link) (l : Link) (ms : List Link) (bytes : List ℕ)
     (cl : Cluster) : Type 0 where
-  pub place : c.directory ≡ ls ++ l ∷ ms
+  pub position : c.directory ≡ ls ++ l ∷ ms
   pub within : l.block < length w.blocks
   pub read : cluster_in bytes ≡ Some cl

@@ -148,7 +148,7 @@ grown f ks k cl more = record f { chain = ks ++ relinked k cl ∷ more }
 -- pointed to by the one before.
 pub record Lengthens (w : World) (c : Chains) (fs : List ChainFile) (f : ChainFile) (hs : List ChainFile)
     (ks : List Link) (k : Link) (bytes : List ℕ) (cl : Cluster) (more : List Link) : Type 0 where
-  pub place : c.files ≡ fs ++ (f ∷ hs)
+  pub position : c.files ≡ fs ++ (f ∷ hs)
   pub ends : f.chain ≡ ks ++ k ∷ []
   pub within : k.block < length w.blocks
   pub read : cluster_in bytes ≡ Some cl

@@ -22,8 +22,8 @@ use Rattle.chain_reading.specs.Standing.{IsPage}
 use Rattle.chain_reading.specs.Ahead.{IsFileAhead}
 use Rattle.chain_reading.specs.Asking.{tree_of}
 use Rattle.chain_reading.specs.declared.walking.Page.{Page}
-use Rattle.chain_reading.specs.declared.finding.Place.{Place}
-use Rattle.chain_reading.specs.declared.finding.Place.TheVariants.{Taken, Free}
+use Rattle.chain_reading.specs.declared.finding.Lookup.{Lookup}
+use Rattle.chain_reading.specs.declared.finding.Lookup.TheVariants.{Taken, Free}
 
 abbrev pub placed_names : List PlacedEntry → List Name
 placed_names ps = map (λ p. p.1.name) ps
@@ -32,25 +32,25 @@ placed_names ps = map (λ p. p.1.name) ps
 abbrev pub page_link : Page → Link
 page_link page = record { block = page.block; cluster = cluster_of (cluster_in page.cluster) }
 
--- the first entry of a name stands at this place, and names this block
-pub record IsEntry (n : Name) (es : List Entry) (place first : ℕ) : Type 0 where
+-- the first entry of a name stands at this position, and names this block
+pub record IsEntry (n : Name) (es : List Entry) (position first : ℕ) : Type 0 where
   pub front : List Entry
   pub entry : Entry
   pub back : List Entry
   pub parts : es ≡ front ++ (entry ∷ back)
-  pub count : length front ≡ place
+  pub count : length front ≡ position
   pub name : entry.name ≡ n
   pub block : entry.block ≡ first
   pub others : AreOthers n (entry_names front)
 
 -- it stands in a cluster of the directory, which the session may write, and in none before that
-pub record IsPlaceTaken (c : Client) (v : DiskView) (n : Name) (ls : List Link) (page : Page)
-    (place first : ℕ) : Type 0 where
+pub record IsLookupTaken (c : Client) (v : DiskView) (n : Name) (ls : List Link) (page : Page)
+    (position first : ℕ) : Type 0 where
   pub before : List Link
   pub behind : List Link
   pub parts : ls ≡ before ++ (page_link page ∷ behind)
   pub read : IsPage v.world page.block page
-  pub entry : IsEntry n (entries_in page.cluster) place first
+  pub entry : IsEntry n (entries_in page.cluster) position first
   pub earlier : List PlacedEntry
   pub entries : AreEntries (block_len v.world.geometry) before earlier
   pub others : AreOthers n (placed_names earlier)
@@ -78,18 +78,18 @@ abbrev pub better : Option Page → Page → Page
 better None other = other
 better (Some page) other = cond (is_roomy (block_len_of (cluster_in page.cluster)) (page_link page)) page other
 
-abbrev pub IsNameFound : Client → DiskView → Name → List Link → List PlacedEntry → Place → Type 0
-IsNameFound c v n ls ps (Taken page place first) = IsPlaceTaken c v n ls page place first
+abbrev pub IsNameFound : Client → DiskView → Name → List Link → List PlacedEntry → Lookup → Type 0
+IsNameFound c v n ls ps (Taken page position first) = IsLookupTaken c v n ls page position first
 IsNameFound c v n ls ps (Free page count) = AreOthers n (placed_names ps) × (count ≡ length ps) × IsRoomiest c v ls page
 
--- where it is taken, its place is that of an entry
-abbrev pub IsPlaceWithin : Place → Type 0
-IsPlaceWithin (Taken page place first) = place < length (entries_in page.cluster)
-IsPlaceWithin (Free page count) = Unit {0}
+-- where it is taken, its position is that of an entry
+abbrev pub IsLookupWithin : Lookup → Type 0
+IsLookupWithin (Taken page position first) = position < length (entries_in page.cluster)
+IsLookupWithin (Free page count) = Unit {0}
 
 -- why no way leads on from what stands at a name
-abbrev pub no_way : Place → FsRefusal
-no_way (Taken page place first) = no.NotDir
+abbrev pub no_way : Lookup → FsRefusal
+no_way (Taken page position first) = no.NotDir
 no_way (Free page count) = no.NoEntry
 
 -- ---- at a path

@@ -38,7 +38,7 @@ fn is_apart_from<K: Blocks>(
     ensures looks { OnlyLooks K.told (K.view disk.old) (K.view disk.new) result }
 {
     let mut block = first;
-    for place in 0..disk.geometry().blocks {
+    for position in 0..disk.geometry().blocks {
         let later = match read_page(client, disk, block) {
             Ok(later) => later,
             Err(refusal) => return Err(refusal),
@@ -95,7 +95,7 @@ pub fn are_names_distinct<K: Blocks>(client: &Client, disk: &mut K) -> Result<bo
     ensures looks { OnlyLooks K.told (K.view disk.old) (K.view disk.new) result }
 {
     let mut block = client.root;
-    for place in 0..disk.geometry().blocks {
+    for position in 0..disk.geometry().blocks {
         let page = match read_page(client, disk, block) {
             Ok(page) => page,
             Err(refusal) => return Err(refusal),

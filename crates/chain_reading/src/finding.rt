@@ -8,7 +8,7 @@ ghost use Rattle.fs_client.specs.May.{OnlyLooks};
 ghost use Rattle.chain_reading.specs.Chained.{PlacedEntry};
 ghost use Rattle.chain_reading.specs.Ahead.{IsDirectoryAhead, HasDirectory};
 ghost use Rattle.chain_reading.specs.Asking.{MayAsk, tree_of};
-ghost use Rattle.chain_reading.specs.Finding.{better, no_way, IsNameFound, IsPlaceWithin, IsFileOf, no_file_found};
+ghost use Rattle.chain_reading.specs.Finding.{better, no_way, IsNameFound, IsLookupWithin, IsFileOf, no_file_found};
 ghost use Rattle.chain_reading.specs.Finding.{no_directory_found};
 
 use crate::walking::{Page, read_page};
@@ -18,11 +18,11 @@ use fs_trees::{FsRefusal, Name, Path};
 
 /// The entry that a path speaks of.
 #[derive(Drop)]
-pub enum Place {
-    /// It is there: its cluster, its place in that, and the file's first block.
+pub enum Lookup {
+    /// It is there: its cluster, its position in that, and the file's first block.
     Taken {
         page: Page,
-        place: usize,
+        position: usize,
         first: u32,
     },
 
@@ -45,13 +45,13 @@ fn better(page: Option<Page>, other: Page) -> Page
 }
 
 /// Looks a name up in the directory, each cluster read once.
-pub fn search<K: Blocks>(client: &Client, disk: &mut K, name: &Name) -> Result<Place, FsRefusal>
+pub fn search<K: Blocks>(client: &Client, disk: &mut K, name: &Name) -> Result<Lookup, FsRefusal>
     requires unspent { (K.view disk.old).spent ≡ false }
     requires valid { K.told → IsValidNow (K.view disk.old) }
     requires directory { K.told → HasDirectory client.now (K.view disk.old) }
     ensures found { K.told → (ls : List Link) (ps : List PlacedEntry) → IsDirectoryAhead client.now (K.view disk.old) ls
         ps → IfOk result (IsNameFound client.now (K.view disk.new) name.now ls ps) }
-    ensures within { IfOk result IsPlaceWithin }
+    ensures within { IfOk result IsLookupWithin }
     ensures only { K.told → IfErr result (λ e. e ≡ no.Device) }
     ensures looks { OnlyLooks K.told (K.view disk.old) (K.view disk.new) result }
 {
@@ -63,9 +63,13 @@ pub fn search<K: Blocks>(client: &Client, disk: &mut K, name: &Name) -> Result<P
             Ok(page) => page,
             Err(refusal) => return Err(refusal),
         };
-        if let Some(place) = page.cluster.place(name.as_slice()) {
-            let first = page.cluster.block(place);
-            return Ok(Place::Taken { page, place, first });
+        if let Some(position) = page.cluster.position(name.as_slice()) {
+            let first = page.cluster.block(position);
+            return Ok(Lookup::Taken {
+                page,
+                position,
+                first,
+            });
         }
         count += page.cluster.count();
         let next = page.cluster.cluster().next();
@@ -75,19 +79,19 @@ pub fn search<K: Blocks>(client: &Client, disk: &mut K, name: &Name) -> Result<P
                 block = next;
                 best = Some(page);
             }
-            None => return Ok(Place::Free { page, count }),
+            None => return Ok(Lookup::Free { page, count }),
         }
     }
     Err(FsRefusal::NotThisFs)
 }
 
 /// Why no way leads on from what stands at a name.
-pub fn no_way(place: Place) -> FsRefusal
-    ensures { result ≡ no_way place }
+pub fn no_way(position: Lookup) -> FsRefusal
+    ensures { result ≡ no_way position }
 {
-    match place {
-        Place::Taken { .. } => FsRefusal::NotDir,
-        Place::Free { .. } => FsRefusal::NoEntry,
+    match position {
+        Lookup::Taken { .. } => FsRefusal::NotDir,
+        Lookup::Free { .. } => FsRefusal::NoEntry,
     }
 }
 
@@ -103,12 +107,12 @@ pub fn find_file<K: Blocks>(client: &Client, disk: &mut K, path: &Path) -> Resul
     match path.as_slice() {
         [] => Err(FsRefusal::IsDir),
         [name] => match search(client, disk, name) {
-            Ok(Place::Taken { first, .. }) => Ok(first),
-            Ok(Place::Free { .. }) => Err(FsRefusal::NoEntry),
+            Ok(Lookup::Taken { first, .. }) => Ok(first),
+            Ok(Lookup::Free { .. }) => Err(FsRefusal::NoEntry),
             Err(refusal) => Err(refusal),
         },
         [name, _, ..] => match search(client, disk, name) {
-            Ok(place) => Err(no_way(place)),
+            Ok(position) => Err(no_way(position)),
             Err(refusal) => Err(refusal),
         },
     }
@@ -130,7 +134,7 @@ pub fn find_directory<K: Blocks>(
     match path.as_slice() {
         [] => Ok(()),
         [name, ..] => match search(client, disk, name) {
-            Ok(place) => Err(no_way(place)),
+            Ok(position) => Err(no_way(position)),
             Err(refusal) => Err(refusal),
         },
     }

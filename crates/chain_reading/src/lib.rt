@@ -27,7 +27,7 @@ mod walking;
 pub use deciding::{
     a_file_grows, a_new_cluster_is_linked, entries_decide, files_stand_in_any_order,
 };
-pub use finding::{Place, find_file, no_way, search};
+pub use finding::{Lookup, find_file, no_way, search};
 pub use looking::is_tree;
 pub use reading::{name_after, read_file, size};
 pub use walking::{Page, Part, read_page, read_part};

@@ -102,11 +102,11 @@ fn is_file_right<K: Blocks>(
     ensures looks { OnlyLooks K.told (K.view disk.old) (K.view disk.new) result }
 {
     let mut block = first;
-    for place in 0..disk.geometry().blocks {
+    for position in 0..disk.geometry().blocks {
         if !seen.insert(block) {
             return Ok(false);
         }
-        let part = match look_at_part(client, disk, block, place == 0) {
+        let part = match look_at_part(client, disk, block, position == 0) {
             Ok(Some(part)) => part,
             Ok(None) => return Ok(false),
             Err(refusal) => return Err(refusal),
@@ -135,8 +135,8 @@ fn are_files_right<K: Blocks>(
     ensures only { K.told → IfErr result (λ e. e ≡ no.Device) }
     ensures looks { OnlyLooks K.told (K.view disk.old) (K.view disk.new) result }
 {
-    for place in 0..page.count() {
-        match is_file_right(client, disk, seen, page.block(place)) {
+    for position in 0..page.count() {
+        match is_file_right(client, disk, seen, page.block(position)) {
             Ok(true) => {}
             Ok(false) => return Ok(false),
             Err(refusal) => return Err(refusal),
@@ -202,7 +202,7 @@ fn is_directory_right<K: Blocks>(
 {
     let mut block = client.root;
     let mut count = 0;
-    for place in 0..disk.geometry().blocks {
+    for position in 0..disk.geometry().blocks {
         if !seen.insert(block) {
             return Ok(false);
         }

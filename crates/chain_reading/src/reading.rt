@@ -34,7 +34,7 @@ fn chain_size<K: Blocks>(client: &Client, disk: &mut K, first: u32) -> Result<u6
 {
     let mut size = 0;
     let mut block = first;
-    for place in 0..disk.geometry().blocks {
+    for position in 0..disk.geometry().blocks {
         let part = match read_part(client, disk, block) {
             Ok(part) => part,
             Err(refusal) => return Err(refusal),
@@ -61,7 +61,7 @@ pub fn size<K: Blocks>(client: &Client, disk: &mut K, path: &Path) -> Result<u64
     }
 }
 
-/// Adds the bytes from a place on, as far as there is room for them. So many stand before these.
+/// Adds the bytes from an offset on, as far as there is room for them. So many stand before these.
 fn add_part(into: &mut Data, bytes: &[u8], before: u64, start: u64)
     ensures { into.new ≡ into.old ++ take (4096 - length into.old) (drop (start - before) bytes.now) }
 {
@@ -71,7 +71,7 @@ fn add_part(into: &mut Data, bytes: &[u8], before: u64, start: u64)
     let _ = into.extend_from_slice(&rest[..count]);
 }
 
-/// The bytes of a chain from a place on: all that are left, or the first 4,096; none after an `Err`.
+/// The bytes of a chain from an offset on: all that are left, or the first 4,096; none after an `Err`.
 fn read_chain<K: Blocks>(
     client: &Client,
     disk: &mut K,
@@ -91,7 +91,7 @@ fn read_chain<K: Blocks>(
 {
     let mut before = 0;
     let mut block = first;
-    for place in 0..disk.geometry().blocks {
+    for position in 0..disk.geometry().blocks {
         let part = match read_part(client, disk, block) {
             Ok(part) => part,
             Err(refusal) => {
@@ -113,7 +113,7 @@ fn read_chain<K: Blocks>(
     Err(FsRefusal::NotThisFs)
 }
 
-/// The bytes of a file from a place on: all that are left, or the first 4,096; none after an `Err`.
+/// The bytes of a file from an offset on: all that are left, or the first 4,096; none after an `Err`.
 pub fn read_file<K: Blocks>(
     client: &Client,
     disk: &mut K,
@@ -150,7 +150,7 @@ fn least_above<K: Blocks>(
 {
     let mut least = None;
     let mut block = client.root;
-    for place in 0..disk.geometry().blocks {
+    for position in 0..disk.geometry().blocks {
         let page = match read_page(client, disk, block) {
             Ok(page) => page,
             Err(refusal) => return Err(refusal),

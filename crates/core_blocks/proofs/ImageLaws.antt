@@ -21,8 +21,8 @@ says_some x = elim (world_or_fault x) [ inl is ↦ (Some is.0, is.1) | inr why �
 abbrev pub IsImageOf : (World → Type 0) → List ℕ → Image → List ℕ → Type 0
 IsImageOf P sent x f = (u : World) × Stands x u × P u × (f ≡ sent)
 
-pub images_left : (l m : ℕ × ℕ) (kind place : PlaceKind) (c d : Core) (v w : DeviceView) (P : World → Type 0) → LeavesWorldsOnly (core_view l kind c v) (core_view m place d w) P → LeavesOnly v w (IsImageOf P v.sent)
-images_left l m kind place c d v w P leaves = record {
+pub images_left : (l m : ℕ × ℕ) (kind placement : PlaceKind) (c d : Core) (v w : DeviceView) (P : World → Type 0) → LeavesWorldsOnly (core_view l kind c v) (core_view m placement d w) P → LeavesOnly v w (IsImageOf P v.sent)
+images_left l m kind placement c d v w P leaves = record {
   later = leaves.later;
   each = λ x f left. let o = says_some x in image_of x o.0 f o.1 (leaves.each (record { image = x; world = o.0 }) f (record { was_left = left; says = o.1 }));
   before = λ t x f le left.

@@ -9,7 +9,7 @@
 #![tactic(auto)]
 
 mod blocks;
-mod places;
+mod placing;
 
 pub use blocks::CoreBlocks;
-pub use places::Places;
+pub use placing::Placing;

@@ -15,14 +15,14 @@ use std::alloc::Global;
 use std::marker::Model;
 use tsd_model::NoMemory;
 
-/// A mark on each block of a disk. Contracts see at each place whether the block is marked.
+/// A mark on each block of a disk. Contracts see at each index whether the block is marked.
 #[derive(Drop)]
 pub struct Marks {
     marked: BitArray,
     /// While blocks are being marked, the marked ones whose targets are still to be marked.
     waiting: Work,
     /// The block where the search for a step begins: a guess, so a wrong one costs time alone.
-    place: u32,
+    position: u32,
 }
 
 impl Model for Marks {
@@ -43,7 +43,7 @@ impl Marks {
         Ok(Marks {
             marked: BitArray::new(alloc, blocks)?,
             waiting: Work::new(alloc, blocks)?,
-            place: 0,
+            position: 0,
         })
     }
 
@@ -55,15 +55,15 @@ impl Marks {
     }
 
     /// The block where the last step was, or 0.
-    pub(crate) fn place(&self) -> u32 {
-        self.place
+    pub(crate) fn position(&self) -> u32 {
+        self.position
     }
 
     /// Remembers the block of a step.
-    pub(crate) fn set_place(&mut self, block: u32)
+    pub(crate) fn set_position(&mut self, block: u32)
         ensures { self.new ≡ self.old }
     {
-        self.place = block;
+        self.position = block;
     }
 }
 

@@ -50,7 +50,7 @@ pub fn next_sweep_step(
 {
     let step = step_around(pointers, counts, live, marks);
     if let Some(found) = &step {
-        marks.set_place(found.block);
+        marks.set_position(found.block);
     }
     step
 }
@@ -72,12 +72,12 @@ fn step_around(
         → is_marked marks.now b ≡ false → IsStuck (graph_of pointers.now live.now) b }
 {
     let blocks = live.geometry().blocks;
-    let place = marks.place().min(blocks);
-    let step = step_within(pointers, counts, live, marks, place, blocks);
+    let position = marks.position().min(blocks);
+    let step = step_within(pointers, counts, live, marks, position, blocks);
     if step.is_some() {
         return step;
     }
-    step_within(pointers, counts, live, marks, 0, place)
+    step_within(pointers, counts, live, marks, 0, position)
 }
 
 /// The step at the first live block from `start` on and below `end` that isn't marked and where one may be taken.

@@ -50,11 +50,11 @@ impl Ahead {
 
     /// Copies a sector, if it is held.
     pub fn copy(&self, sector: u32, into: &mut [u8; SECTOR]) -> bool {
-        let place = sector.wrapping_sub(self.first) as usize;
-        if place >= self.count || place >= MOST {
+        let position = sector.wrapping_sub(self.first) as usize;
+        if position >= self.count || position >= MOST {
             return false;
         }
-        match self.room.get(place * SECTOR..place * SECTOR + SECTOR) {
+        match self.room.get(position * SECTOR..position * SECTOR + SECTOR) {
             Some(held) => {
                 into.copy_from_slice(held);
                 true
@@ -65,11 +65,11 @@ impl Ahead {
 
     /// Notes that these bytes were written to a sector: where it is held, it has them.
     pub fn renew(&mut self, sector: u32, from: &[u8; SECTOR]) {
-        let place = sector.wrapping_sub(self.first) as usize;
-        if place >= self.count || place >= MOST {
+        let position = sector.wrapping_sub(self.first) as usize;
+        if position >= self.count || position >= MOST {
             return;
         }
-        let start = place * SECTOR;
+        let start = position * SECTOR;
         if start + SECTOR <= self.room.len() {
             self.room[start..start + SECTOR].copy_from_slice(from);
         }

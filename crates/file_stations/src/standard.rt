@@ -19,12 +19,12 @@ impl StandIns {
     /// gives one past the last standard stream, none of the three is.
     pub fn take(rt: &HostRuntime) -> io::Result<StandIns> {
         let mut held = [None, None, None];
-        for place in held.iter_mut() {
+        for position in held.iter_mut() {
             let end = silent_end(rt)?;
             if end.as_raw_fd() > LAST_STANDARD {
                 break;
             }
-            *place = Some(end);
+            *position = Some(end);
         }
         Ok(StandIns { _held: held })
     }

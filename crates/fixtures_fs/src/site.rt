@@ -168,7 +168,7 @@ impl<F: Files + Drop, A: Answering> Site<F, A> {
         self.files.size(&mut self.disk, &path.path)
     }
 
-    /// The bytes of a file from a place on.
+    /// The bytes of a file from an offset on.
     pub fn read_part(
         &mut self,
         path: &Named,

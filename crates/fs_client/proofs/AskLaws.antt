@@ -15,7 +15,7 @@ use Rattle.fs_trees.specs.declared.refusal.FsRefusal.{FsRefusal}
 use Rattle.fs_trees.specs.declared.refusal.FsRefusal.TheVariants as no
 use Rattle.fs_port.specs.View.{DiskView}
 use Rattle.fs_port.specs.Files.{FilesView, Answers, tree_on, tree_after, unless_refused}
-use Rattle.fs_client.specs.Changing.{refused_on, no_place_found}
+use Rattle.fs_client.specs.Changing.{refused_on, lookup_refusal}
 
 -- ---- any ask
 
@@ -48,7 +48,7 @@ is_mounted (a_dir d es) rest h = refl
 -- ---- rm
 
 module _ (kind : ShellKind) (g : Geometry) (t : Tree) (free held : ℕ) (need : Need) (there : is_there t ≡ true) where
-  pub rm_lost : (p : Path) (e : FsRefusal) → no_place_found t p no.IsDir ≡ Some e → refusal kind g t free held need (ask.Rm p) ≡ Some e
+  pub rm_lost : (p : Path) (e : FsRefusal) → lookup_refusal t p no.IsDir ≡ Some e → refusal kind g t free held need (ask.Rm p) ≡ Some e
   rm_lost [] e h =
       is_mounted t (lost_on_the_way t [] ∷ missing t [] ∷ is_root [] ∷ has_entries t [] ∷ []) there
       ∙ (ap (λ b. first_of (when (not b) no.NoEntry ∷ is_root [] ∷ has_entries t [] ∷ [])) there ∙ h)
@@ -56,7 +56,7 @@ module _ (kind : ShellKind) (g : Geometry) (t : Tree) (free held : ℕ) (need : 
       is_mounted t (lost_on_the_way t (n ∷ ns) ∷ missing t (n ∷ ns) ∷ is_root (n ∷ ns) ∷ has_entries t (n ∷ ns) ∷ []) there
       ∙ ap (λ o. first_of (o ∷ missing t (n ∷ ns) ∷ is_root (n ∷ ns) ∷ has_entries t (n ∷ ns) ∷ [])) h
 
-  rm_way : (p : Path) → ◌≡◌ {A = Option FsRefusal} (no_place_found t p no.IsDir) None → refusal kind g t free held need (ask.Rm p) ≡ first_of (missing t p ∷ has_entries t p ∷ [])
+  rm_way : (p : Path) → ◌≡◌ {A = Option FsRefusal} (lookup_refusal t p no.IsDir) None → refusal kind g t free held need (ask.Rm p) ≡ first_of (missing t p ∷ has_entries t p ∷ [])
   rm_way [] h = absurd (cc)
   rm_way (n ∷ ns) h =
       is_mounted t (lost_on_the_way t (n ∷ ns) ∷ missing t (n ∷ ns) ∷ is_root (n ∷ ns) ∷ has_entries t (n ∷ ns) ∷ []) there
@@ -67,11 +67,11 @@ module _ (kind : ShellKind) (g : Geometry) (t : Tree) (free held : ℕ) (need : 
       no_root None y = refl
       no_root (Some r) y = refl
 
-  pub rm_missing : (p : Path) → ◌≡◌ {A = Option FsRefusal} (no_place_found t p no.IsDir) None → is_there (at t p) ≡ false → refusal kind g t free held need (ask.Rm p) ≡ Some no.NoEntry
+  pub rm_missing : (p : Path) → ◌≡◌ {A = Option FsRefusal} (lookup_refusal t p no.IsDir) None → is_there (at t p) ≡ false → refusal kind g t free held need (ask.Rm p) ≡ Some no.NoEntry
   rm_missing p h k = rm_way p h ∙ ap (λ b. first_of (when (not b) no.NoEntry ∷ has_entries t p ∷ [])) k
 
-  pub rm_full : (p : Path) → ◌≡◌ {A = Option FsRefusal} (no_place_found t p no.IsDir) None → is_there (at t p) ≡ true → nat_lt 0 (length (names_in (at t p))) ≡ true → refusal kind g t free held need (ask.Rm p) ≡ Some no.NotEmpty
+  pub rm_full : (p : Path) → ◌≡◌ {A = Option FsRefusal} (lookup_refusal t p no.IsDir) None → is_there (at t p) ≡ true → nat_lt 0 (length (names_in (at t p))) ≡ true → refusal kind g t free held need (ask.Rm p) ≡ Some no.NotEmpty
   rm_full p h k full = rm_way p h ∙ (ap (λ b. first_of (when (not b) no.NoEntry ∷ has_entries t p ∷ [])) k ∙ ap (λ b. first_of (when b no.NotEmpty ∷ [])) full)
 
-  pub rm_none : (p : Path) → ◌≡◌ {A = Option FsRefusal} (no_place_found t p no.IsDir) None → is_there (at t p) ≡ true → nat_lt 0 (length (names_in (at t p))) ≡ false → ◌≡◌ {A = Option FsRefusal} (refusal kind g t free held need (ask.Rm p)) None
+  pub rm_none : (p : Path) → ◌≡◌ {A = Option FsRefusal} (lookup_refusal t p no.IsDir) None → is_there (at t p) ≡ true → nat_lt 0 (length (names_in (at t p))) ≡ false → ◌≡◌ {A = Option FsRefusal} (refusal kind g t free held need (ask.Rm p)) None
   rm_none p h k empty = rm_way p h ∙ (ap (λ b. first_of (when (not b) no.NoEntry ∷ has_entries t p ∷ [])) k ∙ ap (λ b. first_of (when b no.NotEmpty ∷ [])) empty)

@@ -45,6 +45,6 @@ refused_on f v a =
     (need_of f.kind v.world f.root (tree_on f v) a) a
 
 -- why a path leads to no entry: `/` is none
-abbrev pub no_place_found : Tree → Path → FsRefusal → Option FsRefusal
-no_place_found t [] at_root = Some at_root
-no_place_found t (n ∷ ns) at_root = lost_on_the_way t (n ∷ ns)
+abbrev pub lookup_refusal : Tree → Path → FsRefusal → Option FsRefusal
+lookup_refusal t [] at_root = Some at_root
+lookup_refusal t (n ∷ ns) at_root = lost_on_the_way t (n ∷ ns)

@@ -57,8 +57,8 @@ fn delete_page<K: Blocks, N: Names>(
     ensures gone { K.told → OnOk result (AreGone (K.view disk.new).world source targets.now (N.blocks namer.now)) }
 {
     let targets = targets.as_slice();
-    for place in 0..targets.len() {
-        match delete_unnamed(client, disk, source, targets[place], namer) {
+    for position in 0..targets.len() {
+        match delete_unnamed(client, disk, source, targets[position], namer) {
             Ok(()) => {}
             Err(refusal) => return Err(refusal),
         }

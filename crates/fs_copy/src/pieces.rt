@@ -36,7 +36,7 @@ fn put_piece<K: Blocks, A: Files, B: Files>(
     }
 }
 
-/// Appends the piece of a file that begins at a place.
+/// Appends the piece of a file that begins at a position.
 fn append_piece<K: Blocks, A: Files, B: Files>(
     disk: &mut K,
     from: &mut A,

@@ -116,7 +116,7 @@ behind_last n (e ∷ es) = elim (name_lt e.name n) as
     later : (a b : ℕ) → suc a + b ≡ suc (a + b)
     later a b = omega arith
 
--- the entry at a place isn't the name's, or is
+-- the entry at a position isn't the name's, or is
 pub skips_at : (n : Name) (xs : List ℕ) (amount i : ℕ) → i < amount → (m : Name) → m ≡ (entry_in (drop (32 * i) xs)).name → behind_in n i (entries amount xs) ≡ i + cond (name_lt n m) 0 1
 skips_at n xs amount i h m is =
     ap (λ es. i + skipped n es) (drop-entries i amount xs (omega arith) ∙ entries_from xs amount i h) ∙ ap (λ k. i + cond (name_lt n k) 0 1) (sym is)
@@ -129,15 +129,15 @@ skips_none n xs amount i h =
 
 -- ---- the bytes before a name, and those behind
 
-pub bytes_before : (n : Name) (xs : List ℕ) (amount place : ℕ) → AreBytes xs → 32 * amount ≤ length xs → place ≤ amount → place ≡ place_in n (entries amount xs)
-    → take (32 * place) xs ≡ flat_map entry_bytes (listed_before n (entries amount xs))
-bytes_before n xs amount place bytes h within is =
-    sym (ap (λ es. flat_map entry_bytes es) (sym (before_first n (entries amount xs)) ∙ (ap (λ k. take k (entries amount xs)) (sym is) ∙ take-entries place amount xs within))
-    ∙ entries_written place xs bytes (omega arith))
+pub bytes_before : (n : Name) (xs : List ℕ) (amount position : ℕ) → AreBytes xs → 32 * amount ≤ length xs → position ≤ amount → position ≡ place_in n (entries amount xs)
+    → take (32 * position) xs ≡ flat_map entry_bytes (listed_before n (entries amount xs))
+bytes_before n xs amount position bytes h within is =
+    sym (ap (λ es. flat_map entry_bytes es) (sym (before_first n (entries amount xs)) ∙ (ap (λ k. take k (entries amount xs)) (sym is) ∙ take-entries position amount xs within))
+    ∙ entries_written position xs bytes (omega arith))
 
-pub bytes_behind : (n : Name) (xs : List ℕ) (amount place next : ℕ) → AreBytes xs → 32 * amount ≤ length xs → next ≤ amount → place ≡ place_in n (entries amount xs) → next ≡ behind_in n place (entries amount xs)
+pub bytes_behind : (n : Name) (xs : List ℕ) (amount position next : ℕ) → AreBytes xs → 32 * amount ≤ length xs → next ≤ amount → position ≡ place_in n (entries amount xs) → next ≡ behind_in n position (entries amount xs)
     → take (32 * amount - 32 * next) (drop (32 * next) xs) ≡ flat_map entry_bytes (listed_behind n (entries amount xs))
-bytes_behind n xs amount place next bytes h within is is_next =
+bytes_behind n xs amount position next bytes h within is is_next =
     let es = entries amount xs in
     let at : next ≡ place_in n es + skipped n (drop (place_in n es) es) = is_next ∙ ap (λ k. k + skipped n (drop k es)) is in
     let fits : 32 * (amount - next) ≤ length (drop (32 * next) xs) = let e = length-drop (32 * next) xs in omega (arith, e) in
@@ -146,13 +146,13 @@ bytes_behind n xs amount place next bytes h within is is_next =
     ∙ (entries_written (amount - next) (drop (32 * next) xs) (dropped_bytes (32 * next) xs bytes) fits ∙ ap (λ k. take k (drop (32 * next) xs)) same))
 
 -- how many bytes they are
-pub sized_before : (n : Name) (xs : List ℕ) (amount place : ℕ) → 32 * amount ≤ length xs → place ≤ amount → place ≡ place_in n (entries amount xs)
-    → length (take (32 * place) xs) ≡ 32 * length (listed_before n (entries amount xs))
-sized_before n xs amount place h within is = length-take-le (32 * place) xs (omega arith) ∙ ap (λ k. 32 * k) is
+pub sized_before : (n : Name) (xs : List ℕ) (amount position : ℕ) → 32 * amount ≤ length xs → position ≤ amount → position ≡ place_in n (entries amount xs)
+    → length (take (32 * position) xs) ≡ 32 * length (listed_before n (entries amount xs))
+sized_before n xs amount position h within is = length-take-le (32 * position) xs (omega arith) ∙ ap (λ k. 32 * k) is
 
-pub sized_behind : (n : Name) (xs : List ℕ) (amount place next : ℕ) → 32 * amount ≤ length xs → next ≤ amount → place ≡ place_in n (entries amount xs) → next ≡ behind_in n place (entries amount xs)
+pub sized_behind : (n : Name) (xs : List ℕ) (amount position next : ℕ) → 32 * amount ≤ length xs → next ≤ amount → position ≡ place_in n (entries amount xs) → next ≡ behind_in n position (entries amount xs)
     → length (take (32 * amount - 32 * next) (drop (32 * next) xs)) ≡ 32 * length (listed_behind n (entries amount xs))
-sized_behind n xs amount place next h within is is_next =
+sized_behind n xs amount position next h within is is_next =
     let es = entries amount xs in
     let at : next ≡ place_in n es + skipped n (drop (place_in n es) es) = is_next ∙ ap (λ k. k + skipped n (drop k es)) is in
     let left : length (listed_behind n es) ≡ amount - next =

@@ -24,4 +24,4 @@ skipped n (f ∷ fs) = cond (name_lt n f.name) 0 1
 
 -- where those behind begin, where so many stand before the name
 abbrev pub behind_in : Name → ℕ → List Entry → ℕ
-behind_in n place es = place + skipped n (drop place es)
+behind_in n position es = position + skipped n (drop position es)

@@ -38,7 +38,7 @@ pub fn block_of(list: &[u8], amount: usize, name: &[u8]) -> Option<u32>
 }
 
 /// How many entries stand before a name.
-fn place_of(list: &[u8], amount: usize, name: &[u8]) -> usize
+fn position_of(list: &[u8], amount: usize, name: &[u8]) -> usize
     requires { 32 * amount ≤ length list.now }
     ensures value { result ≡ place_in name.now (entries amount list.now) }
     ensures fits { result ≤ amount }
@@ -55,21 +55,21 @@ fn place_of(list: &[u8], amount: usize, name: &[u8]) -> usize
 
 /// Where the entries behind a name begin, of which so many stand before it: behind that of the name itself, if it is
 /// there.
-fn behind(list: &[u8], amount: usize, place: usize, name: &[u8]) -> usize
+fn behind(list: &[u8], amount: usize, position: usize, name: &[u8]) -> usize
     requires fits { 32 * amount ≤ length list.now }
-    requires within { place ≤ amount }
-    ensures least { place ≤ result }
+    requires within { position ≤ amount }
+    ensures least { position ≤ result }
     ensures most { result ≤ amount }
-    ensures value { result ≡ behind_in name.now place (entries amount list.now) }
+    ensures value { result ≡ behind_in name.now position (entries amount list.now) }
 {
-    if place < amount {
-        let entry = &list[32 * place..32 * place + 32];
+    if position < amount {
+        let entry = &list[32 * position..32 * position + 32];
         let other = trimmed(&entry[4..]);
         if !is_below(name, other) {
-            return place + 1;
+            return position + 1;
         }
     }
-    place
+    position
 }
 
 /// The bytes of the entries before a name, and those of the entries behind it.
@@ -80,10 +80,10 @@ pub fn around<'a>(list: &'a [u8], amount: usize, name: &[u8]) -> (&'a [u8], &'a 
     ensures sized_before { length result.0.now ≡ 32 * length (listed_before name.now (entries amount list.now)) }
     ensures sized_behind { length result.1.now ≡ 32 * length (listed_behind name.now (entries amount list.now)) }
 {
-    let place = place_of(list, amount, name);
-    let next = behind(list, amount, place, name);
+    let position = position_of(list, amount, name);
+    let next = behind(list, amount, position, name);
     (
-        &list[..ENTRY_BYTES * place],
+        &list[..ENTRY_BYTES * position],
         &list[ENTRY_BYTES * next..ENTRY_BYTES * amount],
     )
 }

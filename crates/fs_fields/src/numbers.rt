@@ -15,12 +15,12 @@ pub const NUMBER_BYTES: usize = 4;
 
 const _: () = prove!(NUMBER_BYTES == 4);
 
-/// The number that stands at a place of a block.
-pub fn number_at(block: &[u8], place: usize) -> u32
-    requires { place + 4 ≤ length block.now }
-    ensures { result ≡ little_number 4 (drop place block.now) }
+/// The number that stands at a position of a block.
+pub fn number_at(block: &[u8], position: usize) -> u32
+    requires { position + 4 ≤ length block.now }
+    ensures { result ≡ little_number 4 (drop position block.now) }
 {
-    LittleEndian::read_u32(&block[place..])
+    LittleEndian::read_u32(&block[position..])
 }
 
 /// Whether a number is among so many in a row.

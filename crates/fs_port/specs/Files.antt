@@ -140,7 +140,7 @@ unmounted_now f = record f { mounted = false }
 abbrev pub TellsSize : ℕ → Answer → Type 0
 TellsSize n answer = (x : List ℕ) × (answer ≡ bytes x) × (n ≡ length x)
 
--- the bytes from a place on, at most 4,096
+-- the bytes from an offset on, at most 4,096
 abbrev pub TellsPart : ℕ → List ℕ → Answer → Type 0
 TellsPart start part answer = (x : List ℕ) × (answer ≡ bytes x) × (part ≡ take 4096 (drop start x))
 

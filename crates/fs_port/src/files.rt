@@ -124,7 +124,7 @@ pub trait Files {
         ensures looks { Looks K.told (K.view disk.old) (K.view disk.new) result }
         ensures same { view self.new ≡ view self.old };
 
-    /// The bytes of a file from a place on: all that are left, or the first 4,096; none after an `Err`.
+    /// The bytes of a file from an offset on: all that are left, or the first 4,096; none after an `Err`.
     fn read_part<K: Blocks>(
         &mut self,
         disk: &mut K,

@@ -14,14 +14,14 @@ pub refill_whole : {X : Type 0} (xs ws : List X) → length ws ≡ length xs →
 refill_whole xs ws same = search (arith, common_steps)
 
 -- one place changed
-IfSome-set : (n p : ℕ) (v : Sessions) (k : ℕ) (x : Option Held) → ((place : ℕ) → IfSome (slice_index_or v place None) (IsHeldAt n p)) → IfSome x (IsHeldAt n p) →
-    (place : ℕ) → IfSome (slice_index_or (slice_set v k x) place None) (IsHeldAt n p)
-IfSome-set n p v k x old here place = elim (cases_eq place k) [
+IfSome-set : (n p : ℕ) (v : Sessions) (k : ℕ) (x : Option Held) → ((position : ℕ) → IfSome (slice_index_or v position None) (IsHeldAt n p)) → IfSome x (IsHeldAt n p) →
+    (position : ℕ) → IfSome (slice_index_or (slice_set v k x) position None) (IsHeldAt n p)
+IfSome-set n p v k x old here position = elim (cases_eq position k) [
   | inl e ↦ elim (cases_lt k (length v)) [
     | inl h ↦ subst (λ y. IfSome y (IsHeldAt n p)) (sym (ap (λ j. slice_index_or (slice_set v k x) j None) e ∙ get_or-set_same v k x None h)) here
-    | inr h ↦ subst (λ w. IfSome (slice_index_or w place None) (IsHeldAt n p)) (sym (set_past v k x h)) (old place)
+    | inr h ↦ subst (λ w. IfSome (slice_index_or w position None) (IsHeldAt n p)) (sym (set_past v k x h)) (old position)
   ]
-  | inr ne ↦ subst (λ y. IfSome y (IsHeldAt n p)) (sym (get_or-set_other v k place x None ne)) (old place)
+  | inr ne ↦ subst (λ y. IfSome y (IsHeldAt n p)) (sym (get_or-set_other v k position x None ne)) (old position)
 ]
 
 pub table_set : (t : Table) (k : ℕ) (x : Option Held) → IsTable t → IfSome x (IsHeldAt t.blocks t.primaries) → IsTable (with_sessions t (slice_set t.sessions k x))
@@ -30,10 +30,10 @@ table_set t k x h here = record { few = h.few; count = length-set t.sessions k x
 pub table_none : (n p : ℕ) → p ≤ 16 → IsTable (record { blocks = n; primaries = p; sessions = no_sessions })
 table_none n p few = record { few = few; count = length-replicate {A = Option Held} 64 None; held = each }
   where
-    each : (place : ℕ) → IfSome (slice_index_or no_sessions place None) (IsHeldAt n p)
-    each place = elim (cases_lt place 64) [
-      | inl h ↦ subst (λ y. IfSome y (IsHeldAt n p)) (sym (get_or-replicate 64 place None None h)) tt
-      | inr h ↦ subst (λ y. IfSome y (IsHeldAt n p)) (sym (get_or_past no_sessions place None h)) tt
+    each : (position : ℕ) → IfSome (slice_index_or no_sessions position None) (IsHeldAt n p)
+    each position = elim (cases_lt position 64) [
+      | inl h ↦ subst (λ y. IfSome y (IsHeldAt n p)) (sym (get_or-replicate 64 position None None h)) tt
+      | inr h ↦ subst (λ y. IfSome y (IsHeldAt n p)) (sym (get_or_past no_sessions position None h)) tt
     ]
 
 pub held_nothing : (n p : ℕ) → IsHeldAt n p (replicate p (replicate n level.Bare))
@@ -50,10 +50,10 @@ IfSome-map n p f keeps (Some h) g = keeps h g
 pub table_map : (t : Table) (f : Held → Held) → ((h : Held) → IsHeldAt t.blocks t.primaries h → IsHeldAt t.blocks t.primaries (f h)) → IsTable t → IsTable (with_sessions t (map (option_map f) t.sessions))
 table_map t f keeps h = record { few = h.few; count = length-map t.sessions (option_map f) ∙ h.count; held = each }
   where
-    each : (place : ℕ) → IfSome (slice_index_or (map (option_map f) t.sessions) place None) (IsHeldAt t.blocks t.primaries)
-    each place = elim (cases_lt place (length t.sessions)) [
-      | inl g ↦ subst (λ y. IfSome y (IsHeldAt t.blocks t.primaries)) (sym (get_or-map (option_map f) t.sessions place None None g)) (IfSome-map t.blocks t.primaries f keeps (slice_index_or t.sessions place None) (h.held place))
-      | inr g ↦ subst (λ y. IfSome y (IsHeldAt t.blocks t.primaries)) (sym (get_or_past (map (option_map f) t.sessions) place None (let e = length-map t.sessions (option_map f) in omega (arith, e)))) tt
+    each : (position : ℕ) → IfSome (slice_index_or (map (option_map f) t.sessions) position None) (IsHeldAt t.blocks t.primaries)
+    each position = elim (cases_lt position (length t.sessions)) [
+      | inl g ↦ subst (λ y. IfSome y (IsHeldAt t.blocks t.primaries)) (sym (get_or-map (option_map f) t.sessions position None None g)) (IfSome-map t.blocks t.primaries f keeps (slice_index_or t.sessions position None) (h.held position))
+      | inr g ↦ subst (λ y. IfSome y (IsHeldAt t.blocks t.primaries)) (sym (get_or_past (map (option_map f) t.sessions) position None (let e = length-map t.sessions (option_map f) in omega (arith, e)))) tt
     ]
 
 pub held_raised : (n p b : ℕ) (f : ℕ → Level) (h : Held) → IsHeldAt n p h → IsHeldAt n p (raised_held b f h)

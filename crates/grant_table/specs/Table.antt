@@ -27,7 +27,7 @@ pub record IsHeldAt (n p : ℕ) (held : Held) : Type 0 where
 pub record IsTable (t : Table) : Type 0 where
   pub few : t.primaries ≤ 16
   pub count : length t.sessions ≡ sessions_max
-  pub held : (place : ℕ) → IfSome (slice_index_or t.sessions place None) (IsHeldAt t.blocks t.primaries)
+  pub held : (position : ℕ) → IfSome (slice_index_or t.sessions position None) (IsHeldAt t.blocks t.primaries)
 
 -- the table was made for a disk of this size
 pub record IsMadeFor (w : World) (t : Table) : Type 0 where

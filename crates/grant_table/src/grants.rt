@@ -69,7 +69,7 @@ impl Grants {
         ensures { result ≡ record { blocks = blocks; primaries = primaries; sessions = no_sessions } }
     {
         let mut held = ArrayVec::new();
-        for place in 0..SESSIONS {
+        for position in 0..SESSIONS {
             held.push(None);
         }
         Grants {
@@ -188,10 +188,10 @@ impl Grants {
         if session == 0 {
             return;
         }
-        let place = (session - 1) as usize;
+        let position = (session - 1) as usize;
         let held = self.held.as_mut_slice();
-        if place < held.len() {
-            raise_held(&mut held[place], block, origins);
+        if position < held.len() {
+            raise_held(&mut held[position], block, origins);
         }
     }
 
@@ -216,10 +216,10 @@ impl Grants {
         if session == 0 {
             return;
         }
-        let place = (session - 1) as usize;
+        let position = (session - 1) as usize;
         let held = self.held.as_mut_slice();
-        if place < held.len() {
-            held[place] = holding;
+        if position < held.len() {
+            held[position] = holding;
         }
     }
 }
@@ -256,8 +256,8 @@ fn drop_at_each(held: &mut [Option<Holding>], block: u32)
     ensures { held.new ≡ map (option_map (map (λ levels. slice_set levels block level.Bare))) held.old }
 {
     let count = held.len();
-    for place in 0..count {
-        drop_at(&mut held[place], block);
+    for position in 0..count {
+        drop_at(&mut held[position], block);
     }
 }
 
@@ -266,7 +266,7 @@ fn drop_from_each(held: &mut [Option<Holding>], origin: u32)
         level.Bare))) held.old }
 {
     let count = held.len();
-    for place in 0..count {
-        drop_from(&mut held[place], origin);
+    for position in 0..count {
+        drop_from(&mut held[position], origin);
     }
 }

@@ -109,9 +109,9 @@ impl Holding {
         ensures { self.new ≡ slice_set self.old origin (replicate (length (slice_index_or self.old origin []))
             level.Bare) }
     {
-        let place = origin as usize;
-        if place < self.tables.len() {
-            let table = &mut self.tables[place];
+        let position = origin as usize;
+        if position < self.tables.len() {
+            let table = &mut self.tables[position];
             table.clear();
         }
     }

@@ -1,7 +1,7 @@
 //! What sessions hold, and the verdict on a request.
 //!
 //! What it stands on: `tsd_model`, whose definitions say what sessions hold and which rule refuses a request;
-//! `bit_array` for levels, two bits each; `arrayvec` for the 64 places of sessions.
+//! `bit_array` for levels, two bits each; `arrayvec` for the 64 sessions.
 //!
 //! What it promises: `Grants` is the definition's sessions, two bits for each block and primary block of an open
 //! session and nothing for one that isn't. `attained` and `verdict` answer as the definitions say for any `DiskFacts`,

@@ -71,9 +71,9 @@ impl Origins {
             to) }
     {
         let raised = greater(self.at(primary), to);
-        let place = primary as usize;
-        if place < ORIGINS {
-            self.levels[place] = raised;
+        let position = primary as usize;
+        if position < ORIGINS {
+            self.levels[position] = raised;
         }
     }
 }

@@ -146,10 +146,10 @@ impl Grants {
 }
 
 /// The first or the second need of a request.
-fn need_at(request: &Request, place: usize) -> Option<Need>
-    ensures { result ≡ slice_get (needs request.now) place }
+fn need_at(request: &Request, position: usize) -> Option<Need>
+    ensures { result ≡ slice_get (needs request.now) position }
 {
-    needs(request).as_slice().get(place).copied()
+    needs(request).as_slice().get(position).copied()
 }
 
 fn has_bad_size<F: DiskFacts>(facts: &F, request: &Request) -> bool

@@ -44,7 +44,7 @@ module _ (g : Geometry) (live : List Bool) (pairs : List (ℕ × ℕ)) (bytes : 
       some_if true = refl
       some_if false = refl
 
-  -- where there is a place for each block, and no more, these are the live ones
+  -- where there is an entry for each block, and no more, these are the live ones
   pub live_as-world_with : length live ≤ g.blocks → (b : ℕ) → is_live told b ≡ slice_index_or live b false
   live_as-world_with long b = live-world_with b ∙ elim (cases_lt b g.blocks) [
     | inl h ↦ ap (λ t. t && slice_index_or live b false) (lt-ltb b g.blocks h)

@@ -4,7 +4,7 @@ use Rattle.tsd_model.specs.Geometry.{IsLawful}
 use Rattle.tsd_model.specs.Pairs.{holds, is_rising}
 use Rattle.tsd_model.specs.World.{World, is_live}
 
--- A place for each block, and pairs that ascend, none twice.
+-- An entry for each block, and pairs that ascend, none twice.
 pub record IsLaidOut (w : World) : Type 0 where
   pub each_block : length w.blocks ≡ w.geometry.blocks
   pub rising : IsTrue (is_rising w.pairs)

@@ -75,9 +75,9 @@ first_on (e ∷ es) a s x more rising is =
 
 -- ---- a page
 
-pub new_page : (es : List (ℕ × ℕ)) (t : Targets) → t.place ≡ 0 → t.page ≡ targets_from es t.source t.from → HasRest es t
+pub new_page : (es : List (ℕ × ℕ)) (t : Targets) → t.position ≡ 0 → t.page ≡ targets_from es t.source t.from → HasRest es t
 new_page es t first is = record {
-  page = record { many = 64; first = ap (λ n. drop n t.page) first ∙ is; place = omega (arith, first) };
+  page = record { many = 64; first = ap (λ n. drop n t.page) first ∙ is; position = omega (arith, first) };
   some = λ none. empty (targets_on es t.source t.from) (sym (ap (λ n. drop n t.page) first ∙ is) ∙ none);
 }
   where
@@ -86,13 +86,13 @@ new_page es t first is = record {
     empty (x ∷ xs) h = absurd (cc)
 
 -- what is left begins with the item at the place
-left_is : (t : Targets) → t.place < length t.page → left_in t ≡ slice_index_or t.page t.place 0 ∷ drop (suc t.place) t.page
-left_is t inside = drop-cons t.page t.place 0 inside
+left_is : (t : Targets) → t.position < length t.page → left_in t ≡ slice_index_or t.page t.position 0 ∷ drop (suc t.position) t.page
+left_is t inside = drop-cons t.page t.position 0 inside
 
-pub old_page : (es : List (ℕ × ℕ)) (t : Targets) → t.place < length t.page → IsPageOf es t → HasRest es t
+pub old_page : (es : List (ℕ × ℕ)) (t : Targets) → t.position < length t.page → IsPageOf es t → HasRest es t
 old_page es t inside page = record {
   page = page;
-  some = λ none. absurd (not_none (slice_index_or t.page t.place 0) (drop (suc t.place) t.page) (sym (left_is t inside) ∙ none));
+  some = λ none. absurd (not_none (slice_index_or t.page t.position 0) (drop (suc t.position) t.page) (sym (left_is t inside) ∙ none));
 }
   where
     not_none : (x : ℕ) (xs : List ℕ) → x ∷ xs ≡ [] → ⊥
@@ -113,27 +113,27 @@ module _ (es : List (ℕ × ℕ)) (rising : is_rising es ≡ true) where
         (next, (many, tail ∙ ap (take many) behind))
   ] refl h
 
-  module _ (t : Targets) (inside : t.place < length t.page) (page : IsPageOf es t) where
+  module _ (t : Targets) (inside : t.position < length t.page) (page : IsPageOf es t) where
     abbrev now : ℕ
-    now = slice_index_or t.page t.place 0
+    now = slice_index_or t.page t.position 0
 
-    both : IsNextTarget es t.source t.from (Some now) × ((left : ℕ) × (drop (suc t.place) t.page ≡ take left (targets_on es t.source (suc now))))
-    both = split t.source t.from now (drop (suc t.place) t.page) page.many (sym (left_is t inside) ∙ page.first)
+    both : IsNextTarget es t.source t.from (Some now) × ((left : ℕ) × (drop (suc t.position) t.page ≡ take left (targets_on es t.source (suc now))))
+    both = split t.source t.from now (drop (suc t.position) t.page) page.many (sym (left_is t inside) ∙ page.first)
 
     pub page_next : IsNextTarget es t.source t.from (Some now)
     page_next = both.0
 
-    pub page_on : IsPageOf es (record { source = t.source; from = now + 1; page = t.page; place = t.place + 1 })
+    pub page_on : IsPageOf es (record { source = t.source; from = now + 1; page = t.page; position = t.position + 1 })
     page_on =
         let rest = both.1 in
-        let up : t.place + 1 ≡ suc t.place = omega arith in
+        let up : t.position + 1 ≡ suc t.position = omega arith in
         let on : now + 1 ≡ suc now = omega arith in record {
           many = rest.0;
           first = ap (λ n. drop n t.page) up ∙ (rest.1 ∙ ap (λ n. take rest.0 (targets_on es t.source n)) (sym on));
-          place = omega (arith, inside);
+          position = omega (arith, inside);
         }
 
-pub page_ended : (es : List (ℕ × ℕ)) (t : Targets) → t.place ≡ length t.page → HasRest es t → IsNextTarget es t.source t.from None
+pub page_ended : (es : List (ℕ × ℕ)) (t : Targets) → t.position ≡ length t.page → HasRest es t → IsNextTarget es t.source t.from None
 page_ended es t end rest = none_on es t.source t.from (rest.some (ap (λ n. drop n t.page) end ∙ past t.page))
   where
     past : (xs : List ℕ) → drop (length xs) xs ≡ []
@@ -143,17 +143,17 @@ page_ended es t end rest = none_on es t.source t.from (rest.some (ap (λ n. drop
 -- what the item at the place is, seen from before the page was turned
 module _ (es : List (ℕ × ℕ)) (rising : is_rising es ≡ true) (t : Targets) (source from len : ℕ) (items : List ℕ)
     (s : t.source ≡ source) (f : t.from ≡ from) (l : len ≡ length t.page) (is : items ≡ t.page) (rest : HasRest es t) where
-  pub ended_at : t.place ≡ len → IsNextTarget es source from None
+  pub ended_at : t.position ≡ len → IsNextTarget es source from None
   ended_at e = subst (λ n. IsNextTarget es n from None) s (subst (λ n. IsNextTarget es t.source n None) f (page_ended es t (e ∙ l) rest))
 
-  within : (t.place ≡ len → ⊥) → t.place < length t.page
-  within other = let place = rest.page.place in omega (arith, place, other, l)
+  within : (t.position ≡ len → ⊥) → t.position < length t.page
+  within other = let position = rest.page.position in omega (arith, position, other, l)
 
-  pub next_at : (t.place ≡ len → ⊥) → IsNextTarget es source from (Some (slice_index_or items t.place 0))
-  next_at other = subst (λ xs. IsNextTarget es source from (Some (slice_index_or xs t.place 0))) (sym is)
-      (subst (λ n. IsNextTarget es n from (Some (slice_index_or t.page t.place 0))) s (subst (λ n. IsNextTarget es t.source n (Some (slice_index_or t.page t.place 0))) f
+  pub next_at : (t.position ≡ len → ⊥) → IsNextTarget es source from (Some (slice_index_or items t.position 0))
+  next_at other = subst (λ xs. IsNextTarget es source from (Some (slice_index_or xs t.position 0))) (sym is)
+      (subst (λ n. IsNextTarget es n from (Some (slice_index_or t.page t.position 0))) s (subst (λ n. IsNextTarget es t.source n (Some (slice_index_or t.page t.position 0))) f
       (page_next es rising t (within other) rest.page)))
 
-  pub page_at : (t.place ≡ len → ⊥) → IsPageOf es (record { source = t.source; from = slice_index_or items t.place 0 + 1; page = t.page; place = t.place + 1 })
-  page_at other = subst (λ xs. IsPageOf es (record { source = t.source; from = slice_index_or xs t.place 0 + 1; page = t.page; place = t.place + 1 })) (sym is)
+  pub page_at : (t.position ≡ len → ⊥) → IsPageOf es (record { source = t.source; from = slice_index_or items t.position 0 + 1; page = t.page; position = t.position + 1 })
+  page_at other = subst (λ xs. IsPageOf es (record { source = t.source; from = slice_index_or xs t.position 0 + 1; page = t.page; position = t.position + 1 })) (sym is)
       (page_on es rising t (within other) rest.page)

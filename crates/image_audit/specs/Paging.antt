@@ -8,13 +8,13 @@ targets_on es a from = map (λ e. e.1) (filter (λ e. (e.0 == a) && nat_le from 
 
 -- of what was read this wasn't handed out
 abbrev pub left_of : Targets → List ℕ
-left_of t = drop t.place t.page
+left_of t = drop t.position t.page
 
 -- it is the first ones of the targets that weren't handed out
 pub record IsPageOf (es : List (ℕ × ℕ)) (t : Targets) : Type 0 where
   pub many : ℕ
   pub first : left_of t ≡ take many (targets_on es t.source t.from)
-  pub place : t.place ≤ length t.page
+  pub position : t.position ≤ length t.page
 
 -- and there is one, unless all were handed out
 pub record HasRest (es : List (ℕ × ℕ)) (t : Targets) : Type 0 where

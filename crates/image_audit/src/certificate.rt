@@ -17,7 +17,7 @@ pub struct FormFault {
     pub line: u64,
 }
 
-/// What the lines of a certificate say. Contracts see at each place the entry of the block, if it is listed, and how
+/// What the lines of a certificate say. Contracts see at each index the entry of the block, if it is listed, and how
 /// many lines there were.
 #[derive(Drop)]
 pub struct Certificate {

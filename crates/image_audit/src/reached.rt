@@ -16,7 +16,7 @@ use std::marker::Model;
 use tsd_model::{BlockList, NoMemory};
 use volume::Volume;
 
-/// The blocks that some roots lead to, each with its depth and its parent. Contracts see at each place the entry of the
+/// The blocks that some roots lead to, each with its depth and its parent. Contracts see at each index the entry of the
 /// block, if it is reached.
 #[derive(Drop)]
 pub struct Reached {

@@ -18,7 +18,7 @@ pub(crate) struct Targets {
 
     /// The targets that were read last, and how many of them were handed out.
     page: BlockList,
-    place: usize,
+    position: usize,
 }
 
 impl Targets {
@@ -32,7 +32,7 @@ impl Targets {
             source,
             from: 0,
             page: BlockList::new(),
-            place: 0,
+            position: 0,
         }
     }
 
@@ -49,11 +49,11 @@ impl Targets {
     {
         let _size = volume.geometry();
         self.turn(volume);
-        if self.place == self.page.len() {
+        if self.position == self.page.len() {
             return None;
         }
-        let target = self.page.as_slice()[self.place];
-        self.place += 1;
+        let target = self.page.as_slice()[self.position];
+        self.position += 1;
         self.from = target + 1;
         Some(target)
     }
@@ -67,9 +67,9 @@ impl Targets {
         ensures from { self.new.from ≡ self.old.from }
         ensures rest { HasRest (told_by volume.now).pairs self.new }
     {
-        if self.place == self.page.len() {
+        if self.position == self.page.len() {
             self.page = volume.targets_from(self.source, self.from);
-            self.place = 0;
+            self.position = 0;
         }
     }
 }

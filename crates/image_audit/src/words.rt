@@ -91,14 +91,14 @@ impl<'a> Words<'a> {
 fn cut(line: &[u8]) -> (&[u8], Option<&[u8]>)
     ensures { pieces 32 line.now ≡ result.0.now ∷ words_left result.1 }
 {
-    match first_place(line, b' ') {
+    match first_position(line, b' ') {
         Some(i) => (&line[..i], Some(&line[i + 1..])),
         None => (line, None),
     }
 }
 
 /// Where a byte first stands.
-fn first_place(bytes: &[u8], at: u8) -> Option<usize>
+fn first_position(bytes: &[u8], at: u8) -> Option<usize>
     ensures { result ≡ position (λ b. b == at) bytes.now }
 {
     bytes.iter().position(|b| *b == at)

@@ -55,12 +55,12 @@ client_ready f l kind c v n few unspent asks begun attained =
 
 -- ---- mounted and copied on a disk that a core is
 
-module _ (told : Type 0) (f g : FilesView) (l m : ℕ × ℕ) (kind place : PlaceKind) (c0 c1 : Core) (v w : DeviceView) where
+module _ (told : Type 0) (f g : FilesView) (l m : ℕ × ℕ) (kind placement : PlaceKind) (c0 c1 : Core) (v w : DeviceView) where
   abbrev old : DiskView
   old = core_view l kind c0 v
 
   abbrev new : DiskView
-  new = core_view m place c1 w
+  new = core_view m placement c1 w
 
   on_unspent : {P : Type 0} (r : Result CopyEnd Status) → (c1.volume.is_spent ≡ false → P) → OnOk r (c1.volume.is_spent ≡ false) → OnOk r P
   on_unspent (Ok e) then unspent = then unspent
@@ -74,7 +74,7 @@ module _ (told : Type 0) (f g : FilesView) (l m : ℕ × ℕ) (kind place : Plac
     words = copies.words;
     sent = λ t. (copies.crash t).sent;
     any_moment = λ t. weakened v w (IsImageOf (IsUnderWay f g (world_of v.reads)) v.sent) (λ x s. ((u : World) × Stands x u × IsUnderWay f g (world_of v.reads) u) × (s ≡ v.sent))
-        (images_left l m kind place c0 c1 v w (IsUnderWay f g (world_of v.reads)) (copies.crash t)) (λ x s left. ((left.0, left.1, left.2), left.3));
+        (images_left l m kind placement c0 c1 v w (IsUnderWay f g (world_of v.reads)) (copies.crash t)) (λ x s left. ((left.0, left.1, left.2), left.3));
     clock = copies.counts.clock;
     put_faults = copies.counts.put_faults;
     stops = copies.stops;

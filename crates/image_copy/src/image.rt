@@ -15,7 +15,7 @@ use crate::ending::CopyEnd;
 use crate::lines::end_line;
 use crate::opened::copy_and_close;
 use crate::shared::first_shared;
-use core_blocks::Places;
+use core_blocks::Placing;
 use fs_port::Files;
 use image_device::{Device, Port, put_all};
 use image_runs::open_volume;
@@ -30,12 +30,12 @@ use volume::Volume;
 /// The status is Done, NotImage where the image stands for no world, RootDenied where a capability doesn't attain write
 /// at its root, the source's first, DeviceFault or PutFault where that count rose, or NoMemory where none was found
 /// before the first step.
-pub fn copy_over_image<A: Files, B: Files, L: Places, P: Port>(
+pub fn copy_over_image<A: Files, B: Files, L: Placing, P: Port>(
     alloc: Global,
     from: &mut A,
     into: &mut B,
     words: &CopyFs,
-    place: &L,
+    placement: &L,
     port: &mut P,
 ) -> Status
     requires source { A.view from.old ≡ source words.now }
@@ -63,7 +63,7 @@ pub fn copy_over_image<A: Files, B: Files, L: Places, P: Port>(
     ensures no_device_fault { result ≢ Status.DeviceFault → (P.view port.new).faults ≡ (P.view port.old).faults }
     ensures no_put_fault { result ≢ Status.PutFault → (P.view port.new).put_faults ≡ (P.view port.old).put_faults }
 {
-    match carry_out(alloc, from, into, words, place, port) {
+    match carry_out(alloc, from, into, words, placement, port) {
         Ok(end) => match put_all(port, end_line(&end).as_slice()) {
             Ok(()) => Status::Done,
             Err(_) => Status::PutFault,
@@ -73,12 +73,12 @@ pub fn copy_over_image<A: Files, B: Files, L: Places, P: Port>(
 }
 
 /// Opens an image and copies.
-fn carry_out<A: Files, B: Files, L: Places, D: Device>(
+fn carry_out<A: Files, B: Files, L: Placing, D: Device>(
     alloc: Global,
     from: &mut A,
     into: &mut B,
     words: &CopyFs,
-    place: &L,
+    placement: &L,
     dev: &mut D,
 ) -> Result<CopyEnd, Status>
     requires source { A.view from.old ≡ source words.now }
@@ -86,19 +86,19 @@ fn carry_out<A: Files, B: Files, L: Places, D: Device>(
     ensures { CarriesOut D.told words.now (D.view dev.old) (D.view dev.new) result }
 {
     match open_volume(alloc, dev) {
-        Ok(volume) => copy_opened(alloc, volume, from, into, words, place, dev),
+        Ok(volume) => copy_opened(alloc, volume, from, into, words, placement, dev),
         Err(why) => Err(why),
     }
 }
 
 /// Copies on a volume that was opened, where both capabilities attain write.
-fn copy_opened<A: Files, B: Files, L: Places, D: Device>(
+fn copy_opened<A: Files, B: Files, L: Placing, D: Device>(
     alloc: Global,
     volume: Volume,
     from: &mut A,
     into: &mut B,
     words: &CopyFs,
-    place: &L,
+    placement: &L,
     dev: &mut D,
 ) -> Result<CopyEnd, Status>
     requires source { A.view from.old ≡ source words.now }
@@ -113,18 +113,18 @@ fn copy_opened<A: Files, B: Files, L: Places, D: Device>(
             let_volume_go(volume);
             Err(Status::RootDenied(attained))
         }
-        None => copy_admitted(alloc, volume, from, into, words, place, dev),
+        None => copy_admitted(alloc, volume, from, into, words, placement, dev),
     }
 }
 
 /// Copies on a volume where no block is shared.
-fn copy_admitted<A: Files, B: Files, L: Places, D: Device>(
+fn copy_admitted<A: Files, B: Files, L: Placing, D: Device>(
     alloc: Global,
     volume: Volume,
     from: &mut A,
     into: &mut B,
     words: &CopyFs,
-    place: &L,
+    placement: &L,
     dev: &mut D,
 ) -> Result<CopyEnd, Status>
     requires source { A.view from.old ≡ source words.now }
@@ -139,7 +139,7 @@ fn copy_admitted<A: Files, B: Files, L: Places, D: Device>(
     match first_shared(alloc, &volume, words.from.root, words.into.root) {
         Ok(shared) => {
             let mut core = Core::new(alloc, volume);
-            let end = copy_and_close(shared, &mut core, from, into, place, dev);
+            let end = copy_and_close(shared, &mut core, from, into, placement, dev);
             let_core_go(core);
             end
         }

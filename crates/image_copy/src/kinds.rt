@@ -20,8 +20,13 @@ use std::alloc::Global;
 use tsd_words::{CopyFs, Status};
 
 /// Opens an image and copies the tree under one root to another, each in its layout, as `copy_over_image` does. Free
-/// blocks are taken by `place`.
-pub fn copy_image<P: Port>(alloc: Global, words: &CopyFs, place: &Placement, port: &mut P) -> Status
+/// blocks are taken by `placement`.
+pub fn copy_image<P: Port>(
+    alloc: Global,
+    words: &CopyFs,
+    placement: &Placement,
+    port: &mut P,
+) -> Status
     ensures ending { IsCopyEnding result }
     ensures read { P.told → IsCopyJudged words.now (P.view port.old).reads result }
     // How the copy ended, and what of its line was sent.
@@ -52,7 +57,7 @@ pub fn copy_image<P: Port>(alloc: Global, words: &CopyFs, place: &Placement, por
             &words.from.cap,
             SOURCE_SESSION,
         ) {
-            Ok(mut from) => copy_from(alloc, &mut from, words, place, port),
+            Ok(mut from) => copy_from(alloc, &mut from, words, placement, port),
             Err(_) => Status::NoMemory,
         },
         ShellKind::Chain => match ChainFs::new(
@@ -61,7 +66,7 @@ pub fn copy_image<P: Port>(alloc: Global, words: &CopyFs, place: &Placement, por
             &words.from.cap,
             SOURCE_SESSION,
         ) {
-            Ok(mut from) => copy_from(alloc, &mut from, words, place, port),
+            Ok(mut from) => copy_from(alloc, &mut from, words, placement, port),
             Err(_) => Status::NoMemory,
         },
     }
@@ -72,7 +77,7 @@ fn copy_from<A: Files, P: Port>(
     alloc: Global,
     from: &mut A,
     words: &CopyFs,
-    place: &Placement,
+    placement: &Placement,
     port: &mut P,
 ) -> Status
     requires source { A.view from.old ≡ source words.now }
@@ -106,7 +111,7 @@ fn copy_from<A: Files, P: Port>(
             &words.into.cap,
             TARGET_SESSION,
         ) {
-            Ok(mut into) => copy_over_image(alloc, from, &mut into, words, place, port),
+            Ok(mut into) => copy_over_image(alloc, from, &mut into, words, placement, port),
             Err(_) => Status::NoMemory,
         },
         ShellKind::Chain => match ChainFs::new(
@@ -115,7 +120,7 @@ fn copy_from<A: Files, P: Port>(
             &words.into.cap,
             TARGET_SESSION,
         ) {
-            Ok(mut into) => copy_over_image(alloc, from, &mut into, words, place, port),
+            Ok(mut into) => copy_over_image(alloc, from, &mut into, words, placement, port),
             Err(_) => Status::NoMemory,
         },
     }

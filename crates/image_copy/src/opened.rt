@@ -10,7 +10,7 @@ ghost use Rattle.image_copy.specs.Steps.{AreBothOpen, CopiesOn, IsSharing, IsSta
 use crate::between::copy_between;
 use crate::ending::CopyEnd;
 use crate::sessions::begin_both;
-use core_blocks::{CoreBlocks, Places};
+use core_blocks::{CoreBlocks, Placing};
 use fs_port::Files;
 use image_device::Device;
 use tsd_core::Core;
@@ -18,12 +18,12 @@ use tsd_words::Status;
 
 /// Copies where no block is shared, and then does what is left to be done on the disk and puts the records of its
 /// journal in place.
-pub(crate) fn copy_and_close<A: Files, B: Files, L: Places, D: Device>(
+pub(crate) fn copy_and_close<A: Files, B: Files, L: Placing, D: Device>(
     shared: Option<u32>,
     core: &mut Core,
     from: &mut A,
     into: &mut B,
-    place: &L,
+    placement: &L,
     dev: &mut D,
 ) -> Result<CopyEnd, Status>
     requires start { IsStartOf D.told (A.view from.old) (B.view into.old) core.old (D.view dev.old) }
@@ -34,7 +34,7 @@ pub(crate) fn copy_and_close<A: Files, B: Files, L: Places, D: Device>(
         result }
     ensures closed { D.told → OnOk result (IsQuiet (D.view dev.new).reads) }
 {
-    match copy_unless_shared(shared, core, from, into, place, dev) {
+    match copy_unless_shared(shared, core, from, into, placement, dev) {
         Ok(end) => match core.close(dev) {
             Ok(()) => Ok(end),
             Err(_) => Err(Status::DeviceFault),
@@ -44,12 +44,12 @@ pub(crate) fn copy_and_close<A: Files, B: Files, L: Places, D: Device>(
 }
 
 /// Copies where no block is shared.
-fn copy_unless_shared<A: Files, B: Files, L: Places, D: Device>(
+fn copy_unless_shared<A: Files, B: Files, L: Placing, D: Device>(
     shared: Option<u32>,
     core: &mut Core,
     from: &mut A,
     into: &mut B,
-    place: &L,
+    placement: &L,
     dev: &mut D,
 ) -> Result<CopyEnd, Status>
     requires start { IsStartOf D.told (A.view from.old) (B.view into.old) core.old (D.view dev.old) }
@@ -60,16 +60,16 @@ fn copy_unless_shared<A: Files, B: Files, L: Places, D: Device>(
 {
     match shared {
         Some(block) => Ok(CopyEnd::Shared { block }),
-        None => copy_apart(core, from, into, place, dev),
+        None => copy_apart(core, from, into, placement, dev),
     }
 }
 
 /// Opens the sessions, mounts the source and copies.
-fn copy_apart<A: Files, B: Files, L: Places, D: Device>(
+fn copy_apart<A: Files, B: Files, L: Placing, D: Device>(
     core: &mut Core,
     from: &mut A,
     into: &mut B,
-    place: &L,
+    placement: &L,
     dev: &mut D,
 ) -> Result<CopyEnd, Status>
     requires start { IsStartOf D.told (A.view from.old) (B.view into.old) core.old (D.view dev.old) }
@@ -77,18 +77,18 @@ fn copy_apart<A: Files, B: Files, L: Places, D: Device>(
     requires apart { D.told → AreApart (world_of (D.view dev.old).reads) (A.view from.old).root (B.view into.old).root }
     ensures { CopiesOn D.told (A.view from.old) (B.view into.old) core.new (D.view dev.old) (D.view dev.new) result }
 {
-    match begin_both(core, place, dev) {
-        Ok(()) => copy_on(core, from, into, place, dev),
+    match begin_both(core, placement, dev) {
+        Ok(()) => copy_on(core, from, into, placement, dev),
         Err(why) => Err(why),
     }
 }
 
 /// Mounts the source and copies, on a core with both sessions open.
-fn copy_on<A: Files, B: Files, L: Places, D: Device>(
+fn copy_on<A: Files, B: Files, L: Placing, D: Device>(
     core: &mut Core,
     from: &mut A,
     into: &mut B,
-    place: &L,
+    placement: &L,
     dev: &mut D,
 ) -> Result<CopyEnd, Status>
     requires start { IsStartOf D.told (A.view from.old) (B.view into.old) core.old (D.view dev.old) }
@@ -96,6 +96,6 @@ fn copy_on<A: Files, B: Files, L: Places, D: Device>(
     requires apart { D.told → AreApart (world_of (D.view dev.old).reads) (A.view from.old).root (B.view into.old).root }
     ensures { RunsOn D.told (A.view from.old) (B.view into.old) core.new (D.view dev.old) (D.view dev.new) result }
 {
-    let mut blocks = CoreBlocks::new(core, place, dev);
+    let mut blocks = CoreBlocks::new(core, placement, dev);
     copy_between(&mut blocks, from, into)
 }

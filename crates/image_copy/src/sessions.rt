@@ -7,7 +7,7 @@ ghost use Rattle.tsd_core.specs.Core.{IsCoreReady, sessions_of};
 ghost use Rattle.image_shell.specs.FromCore.{IsAtStart};
 ghost use Rattle.image_copy.specs.Steps.{AreBegun, AreBothOpen, IsOneMore};
 
-use core_blocks::Places;
+use core_blocks::Placing;
 use image_device::Device;
 use tsd_core::Core;
 use tsd_model::{Reply, Request};
@@ -20,9 +20,9 @@ pub(crate) const SOURCE_SESSION: u32 = 1;
 pub(crate) const TARGET_SESSION: u32 = 2;
 
 /// Opens both sessions.
-pub(crate) fn begin_both<D: Device, L: Places>(
+pub(crate) fn begin_both<D: Device, L: Placing>(
     core: &mut Core,
-    place: &L,
+    placement: &L,
     dev: &mut D,
 ) -> Result<(), Status>
     requires ready { IsCoreReady core.old }
@@ -30,16 +30,16 @@ pub(crate) fn begin_both<D: Device, L: Places>(
     requires at { D.told → IsAtStart (world_of (D.view dev.old).reads) core.old (D.view dev.old) }
     ensures { AreBegun D.told (AreBothOpen core.new) core.old core.new (D.view dev.old) (D.view dev.new) result }
 {
-    match begin(core, place, dev, SOURCE_SESSION) {
-        Ok(()) => begin(core, place, dev, TARGET_SESSION),
+    match begin(core, placement, dev, SOURCE_SESSION) {
+        Ok(()) => begin(core, placement, dev, TARGET_SESSION),
         Err(why) => Err(why),
     }
 }
 
 /// Opens a session.
-fn begin<D: Device, L: Places>(
+fn begin<D: Device, L: Placing>(
     core: &mut Core,
-    place: &L,
+    placement: &L,
     dev: &mut D,
     session: u32,
 ) -> Result<(), Status>
@@ -51,7 +51,7 @@ fn begin<D: Device, L: Places>(
     ensures { AreBegun D.told (IsOneMore session core.old core.new) core.old core.new (D.view dev.old)
         (D.view dev.new) result }
 {
-    match place.apply(core, dev, &Request::Begin { session }) {
+    match placement.apply(core, dev, &Request::Begin { session }) {
         Ok(Reply::Done) => Ok(()),
         Ok(_) => Err(Status::NoMemory),
         Err(_) => Err(Status::DeviceFault),

@@ -3,7 +3,7 @@ use Rattle.std.specs.Prelude.{ℕ, ◌+◌, ◌*◌}
 use Rattle.std.specs.Int.{div_ceil}
 use Rattle.tsd_model.specs.declared.geometry.Geometry.{Geometry}
 
--- ---- what stands at the same place on every image
+-- ---- what stands at the same offset on every image
 abbrev pub header_sector : ℕ
 header_sector = 0
 

@@ -1,5 +1,5 @@
 pub mod Areas
-pub mod Places
+pub mod Offsets
 pub mod Ring
 pub mod Image
 pub mod Header

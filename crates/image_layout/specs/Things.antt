@@ -1,11 +1,11 @@
 -- That the things of an image stand apart: no two of them share a bit, and all end where the image does or before.
 use Rattle.std.specs.Prelude.{ℕ, ◌+◌, ◌*◌, ◌<◌, ◌≤◌, ◌⊎◌, ⊤}
 use Rattle.tsd_model.specs.declared.geometry.Geometry.{Geometry}
-use Rattle.image_layout.specs.declared.place.Place.{Place}
+use Rattle.image_layout.specs.declared.offset.Offset.{Offset}
 use Rattle.image_layout.specs.Areas.{header_sector, format_gate, sweep_flag, total}
 use Rattle.image_layout.specs.Ring.{records, bodies, gate_sector, descriptor_sector, body_sector}
-use Rattle.image_layout.specs.Places.{count_place, bit_place, bit_of, slot_place, data_sector}
-use Rattle.image_layout.specs.Image.{kept_place, kept_len}
+use Rattle.image_layout.specs.Offsets.{count_offset, bit_offset, bit_of, slot_offset, data_sector}
+use Rattle.image_layout.specs.Image.{kept_offset, kept_len}
 
 -- what stands on an image: gates, descriptors and bodies of the journal by their index, then by its number what a
 -- primary block keeps, a block's count and bit, and a slot, then the sectors of a block's data
@@ -36,12 +36,12 @@ IsOn g (bit block) = block < g.blocks
 IsOn g (slot index) = index < g.slots
 IsOn g (part block index) = (block < g.blocks) × (index < g.sectors)
 
--- the bits of the image before a sector, and before a place
+-- the bits of the image before a sector, and before an offset
 abbrev pub before_sector : ℕ → ℕ
 before_sector sector = 4096 * sector
 
-abbrev pub before_place : Place → ℕ
-before_place at = 4096 * at.sector + 8 * at.byte
+abbrev pub before_offset : Offset → ℕ
+before_offset at = 4096 * at.sector + 8 * at.byte
 
 -- the bits of the image before a thing
 abbrev pub before : ℕ → Geometry → Thing → ℕ
@@ -51,10 +51,10 @@ before version g (gate index) = before_sector (gate_sector index)
 before version g (descriptor index) = before_sector (descriptor_sector index)
 before version g (body index) = before_sector (body_sector index)
 before version g the_sweep_flag = before_sector sweep_flag
-before version g (kept block) = before_place (kept_place version block)
-before version g (count block) = before_place (count_place g block)
-before version g (bit block) = before_place (bit_place g block) + bit_of block
-before version g (slot index) = before_place (slot_place g index)
+before version g (kept block) = before_offset (kept_offset version block)
+before version g (count block) = before_offset (count_offset g block)
+before version g (bit block) = before_offset (bit_offset g block) + bit_of block
+before version g (slot index) = before_offset (slot_offset g index)
 before version g (part block index) = before_sector (data_sector g block index)
 
 -- the bits of a thing: a number has 32

@@ -16,14 +16,14 @@ ghost use Rattle.std.specs.Prelude.{◌≡◌, ◌+◌, ◌/◌, ◌^◌, ◌<�
 ghost use Rattle.tsd_model.specs.Geometry.{IsLawful};
 ghost use Rattle.image_layout.specs.Areas.{bitmap_start, slots_start, data_start, total};
 ghost use Rattle.image_layout.specs.Lawful.{IsLawful-prop};
-ghost use Rattle.image_layout.specs.Places.{byte_in, count_place, bit_place, slot_place, cap_place, digest_place};
-ghost use Rattle.image_layout.specs.Places.{data_sector};
+ghost use Rattle.image_layout.specs.Offsets.{byte_in, count_offset, bit_offset, slot_offset, cap_offset, digest_offset};
+ghost use Rattle.image_layout.specs.Offsets.{data_sector};
 
-use crate::place::Place;
+use crate::offset::Offset;
 use crate::sectors::{CAPS_START, COUNTS_START, MOST_SECTORS, SECTOR_BYTES};
 use tsd_model::Geometry;
 
-/// The bytes of a sector, as places count them.
+/// The bytes of a sector, as offsets count them.
 const SECTOR_LEN: u32 = 512;
 
 /// The bits of a sector.
@@ -41,7 +41,7 @@ pub const CAP_PAIR_BYTES: u32 = 32;
 /// The bytes of a pair of digests.
 pub const DIGEST_PAIR_BYTES: u32 = 64;
 
-/// The places of an image of a lawful geometry.
+/// The offsets of an image of a lawful geometry.
 #[derive(Clone, Copy, Debug)]
 pub struct Layout {
     /// The size of the disk.
@@ -51,11 +51,11 @@ pub struct Layout {
 }
 
 /// So many bytes into the area that begins with a sector.
-fn byte_in(start: u32, bytes: u32) -> Place
+fn byte_in(start: u32, bytes: u32) -> Offset
     requires { start + bytes / 512 < 2 ^ 32 }
     ensures { result ≡ byte_in start bytes }
 {
-    Place {
+    Offset {
         sector: start + bytes / SECTOR_LEN,
         byte: bytes % SECTOR_LEN,
     }
@@ -101,20 +101,20 @@ impl Layout {
         self.data_start() + self.geometry.sectors * self.geometry.blocks
     }
 
-    /// The place of a block's count of pointers to it: a number of four bytes.
-    pub fn count_place(&self, block: u32) -> Place
+    /// The offset of a block's count of pointers to it: a number of four bytes.
+    pub fn count_offset(&self, block: u32) -> Offset
         requires { block < self.now.geometry.blocks }
-        ensures value { result ≡ count_place self.now.geometry block }
+        ensures value { result ≡ count_offset self.now.geometry block }
         ensures inside { (COUNTS_START ≤ result.sector) × (result.sector < bitmap_start self.now.geometry) }
         ensures whole { result.byte + COUNT_BYTES ≤ SECTOR_BYTES }
     {
         byte_in(COUNTS_START, COUNT_BYTES * block)
     }
 
-    /// The place of the bitmap's byte that has a block's bit. `bit_mask` tells which bit it is.
-    pub fn bit_place(&self, block: u32) -> Place
+    /// The offset of the bitmap's byte that has a block's bit. `bit_mask` tells which bit it is.
+    pub fn bit_offset(&self, block: u32) -> Offset
         requires { block < self.now.geometry.blocks }
-        ensures value { result ≡ bit_place self.now.geometry block }
+        ensures value { result ≡ bit_offset self.now.geometry block }
         ensures inside { (bitmap_start self.now.geometry ≤ result.sector)
             × (result.sector < slots_start self.now.geometry) }
         ensures whole { result.byte < SECTOR_BYTES }
@@ -122,10 +122,10 @@ impl Layout {
         byte_in(self.bitmap_start(), block / u8::BITS)
     }
 
-    /// The place of a pointer slot: two numbers of four bytes, one more than the source and the target.
-    pub fn slot_place(&self, slot: u32) -> Place
+    /// The offset of a pointer slot: two numbers of four bytes, one more than the source and the target.
+    pub fn slot_offset(&self, slot: u32) -> Offset
         requires { slot < self.now.geometry.slots }
-        ensures value { result ≡ slot_place self.now.geometry slot }
+        ensures value { result ≡ slot_offset self.now.geometry slot }
         ensures inside { (slots_start self.now.geometry ≤ result.sector)
             × (result.sector < data_start self.now.geometry) }
         ensures whole { result.byte + SLOT_BYTES ≤ SECTOR_BYTES }
@@ -133,20 +133,20 @@ impl Layout {
         byte_in(self.slots_start(), SLOT_BYTES * slot)
     }
 
-    /// The place of a primary block's capabilities in version 1: 16 bytes for reading, then 16 for writing.
-    pub fn cap_place(&self, block: u32) -> Place
+    /// The offset of a primary block's capabilities in version 1: 16 bytes for reading, then 16 for writing.
+    pub fn cap_offset(&self, block: u32) -> Offset
         requires { block < self.now.geometry.primaries }
-        ensures value { result ≡ cap_place block }
+        ensures value { result ≡ cap_offset block }
         ensures inside { result.sector ≡ CAPS_START }
         ensures whole { result.byte + CAP_PAIR_BYTES ≤ SECTOR_BYTES }
     {
         byte_in(CAPS_START, CAP_PAIR_BYTES * block)
     }
 
-    /// The place of a primary block's digests in version 2: 32 bytes for reading, then 32 for writing.
-    pub fn digest_place(&self, block: u32) -> Place
+    /// The offset of a primary block's digests in version 2: 32 bytes for reading, then 32 for writing.
+    pub fn digest_offset(&self, block: u32) -> Offset
         requires { block < self.now.geometry.primaries }
-        ensures value { result ≡ digest_place block }
+        ensures value { result ≡ digest_offset block }
         ensures inside { (CAPS_START ≤ result.sector) × (result.sector < COUNTS_START) }
         ensures whole { result.byte + DIGEST_PAIR_BYTES ≤ SECTOR_BYTES }
     {

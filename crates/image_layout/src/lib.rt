@@ -2,7 +2,7 @@
 //!
 //! What it stands on: `tsd_model` for the geometry, `byteorder` for numbers in bytes.
 //!
-//! What it promises: every place is the one of the format, as `specs/` has it; different things stand apart, all below
+//! What it promises: every offset is the one of the format, as `specs/` has it; different things stand apart, all below
 //! `Layout::total`; `read_header` accepts exactly the right headers and names the first thing that is wrong with
 //! another; what `write_header` makes of version 1 or 2 and a lawful geometry reads back, and is zero outside the
 //! fields.
@@ -14,7 +14,7 @@ pub mod fault;
 pub mod gate;
 pub mod header;
 pub mod layout;
-pub mod place;
+pub mod offset;
 pub mod ring;
 pub mod sectors;
 pub mod things;
@@ -23,4 +23,4 @@ pub use fault::{HeaderFault, ImageFault};
 pub use gate::{gate_bytes, is_open};
 pub use header::{Header, read_header, write_header};
 pub use layout::Layout;
-pub use place::{Patch, Place, bit_mask};
+pub use offset::{Offset, Patch, bit_mask};

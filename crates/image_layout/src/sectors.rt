@@ -1,4 +1,4 @@
-//! Sectors that stand at the same place on every image.
+//! Sectors that stand at the same offset on every image.
 
 ghost use Rattle.std.specs.Prelude.{◌≡◌};
 ghost use Rattle.image_layout.specs.Areas.{header_sector, format_gate, sweep_flag, caps_start, counts_start};

@@ -10,7 +10,7 @@ use Rattle.tsd_core.specs.Costs.{removed_by}
 use Rattle.image_runs.specs.Server.{disk_rules, disk_work}
 
 -- A run by the rules of the disk is a run of the abstract disk from that state: it has its replies, in order, and its
--- state then, for some places at which no memory was found for a begin.
+-- state then, for some requests at which no memory was found for a begin.
 abbrev pub RunsAreTheDisks : Type 0
 RunsAreTheDisks =
     (v : Voice) (s : Placed) (qs : List Request) (answers : List (List ℕ)) (t : Placed)

@@ -25,7 +25,7 @@ pub fn serve_fresh<S: Source, P: Port, R: Protocol<Request = Request> + Replies>
     alloc: Global,
     geometry: &Geometry,
     caps: &CapPair,
-    place: &Placement,
+    placement: &Placement,
     protocol: &mut R,
     source: &mut S,
     port: &mut P,
@@ -37,11 +37,11 @@ pub fn serve_fresh<S: Source, P: Port, R: Protocol<Request = Request> + Replies>
     requires fresh { R.was_fed [] protocol.old }
     // What came in and what was sent, by status; what a crash at any moment may have left; and what the disk is after
     // Done.
-    ensures ran { FreshRan result R.voice R.spelling place.now.kind (single_world geometry.now caps.now) limit
+    ensures ran { FreshRan result R.voice R.spelling placement.now.kind (single_world geometry.now caps.now) limit
         (taking S.told S.taken S.left_bytes S.ended source.old source.new) (moments P.told P.view port.old port.new) }
     // What is written before each reply has a bound, and what is written behind it; where the input was cut short,
     // nothing is done behind the last one but that.
-    ensures prompt { P.told → IsPromptFresh result R.voice place.now.kind (single_world geometry.now caps.now)
+    ensures prompt { P.told → IsPromptFresh result R.voice placement.now.kind (single_world geometry.now caps.now)
         (IsOfPort P.view) (P.view port.old) (P.view port.new) }
     ensures once { EndsOnce (S.ends source.old) (S.ends source.new) }
     // A count of faults rose only where the status is that fault's.
@@ -53,7 +53,7 @@ pub fn serve_fresh<S: Source, P: Port, R: Protocol<Request = Request> + Replies>
     ensures no_put_fault { result ≢ Status.PutFault → (P.view port.new).put_faults ≡ (P.view port.old).put_faults }
 {
     match format(port, geometry, &one_pair(caps)) {
-        Ok(()) => serve_image(alloc, place, protocol, source, port, limit),
+        Ok(()) => serve_image(alloc, placement, protocol, source, port, limit),
         Err(_) => Status::DeviceFault,
     }
 }

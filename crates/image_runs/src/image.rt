@@ -18,7 +18,7 @@ use tsd_model::Request;
 use tsd_words::Status;
 
 /// Opens an image and serves the requests of an input until it ends, with no session open at the start. Free blocks are
-/// taken by `place`, and at most `limit` bytes are served.
+/// taken by `placement`, and at most `limit` bytes are served.
 ///
 /// The status is NotImage where the image stands for no world, NoMemory where none was found to open it, DeviceFault
 /// where that count rose, or else how the loop ended: Done, SourceFault or PutFault where that count rose, TooLong, or
@@ -26,7 +26,7 @@ use tsd_words::Status;
 #[tactic(none)]
 pub fn serve_image<S: Source, P: Port, R: Protocol<Request = Request> + Replies>(
     alloc: Global,
-    place: &Placement,
+    placement: &Placement,
     protocol: &mut R,
     source: &mut S,
     port: &mut P,
@@ -37,11 +37,11 @@ pub fn serve_image<S: Source, P: Port, R: Protocol<Request = Request> + Replies>
     ensures read { P.told → IsJudged (P.view port.old).reads result }
     // What came in and what was sent, by status; what a crash at any moment may have left; and what the disk is after
     // Done.
-    ensures ran { ImageRan result R.voice R.spelling place.now.kind limit
+    ensures ran { ImageRan result R.voice R.spelling placement.now.kind limit
         (taking S.told S.taken S.left_bytes S.ended source.old source.new) (moments P.told P.view port.old port.new) }
     // What is written before each reply has a bound, and what is written behind it; where the input was cut short,
     // nothing is done behind the last one but that.
-    ensures prompt { P.told → IsPromptRun result R.voice place.now.kind (IsOfPort P.view) (P.view port.old)
+    ensures prompt { P.told → IsPromptRun result R.voice placement.now.kind (IsOfPort P.view) (P.view port.old)
         (P.view port.new) }
     // Where the image fails one of the tests that need no write, nothing is written, and the disk reads as before;
     // where it fails another, nothing is lost that a repair could use.
@@ -58,7 +58,7 @@ pub fn serve_image<S: Source, P: Port, R: Protocol<Request = Request> + Replies>
     ensures no_put_fault { result ≢ Status.PutFault → (P.view port.new).put_faults ≡ (P.view port.old).put_faults }
 {
     match open_core(alloc, port) {
-        Ok(mut core) => serve_core(&mut core, place, protocol, source, port, limit),
+        Ok(mut core) => serve_core(&mut core, placement, protocol, source, port, limit),
         Err(why) => why,
     }
 }

@@ -57,14 +57,19 @@ impl Tally {
 
 /// Opens an image, carries out the first COUNT requests of the seed, with no session open at the start, does what is
 /// left to be done, and puts one line: how many were granted and how many refused, and how many blocks are free and
-/// pointers held in the end. Free blocks are taken by `place`.
+/// pointers held in the end. Free blocks are taken by `placement`.
 ///
 /// The status is Done, NotImage where the image stands for no world, DeviceFault or PutFault where that count rose, or
 /// NoMemory where none was found to open the image or its session.
-pub fn load_image<P: Port>(alloc: Global, load: &Load, place: &Placement, port: &mut P) -> Status
+pub fn load_image<P: Port>(
+    alloc: Global,
+    load: &Load,
+    placement: &Placement,
+    port: &mut P,
+) -> Status
     requires few { load.now.count ≤ 200000 }
     ensures ending { IsEnding result }
-    ensures loaded { P.told → HasLoaded result place.now.kind load.now.seed load.now.count (P.view port.old)
+    ensures loaded { P.told → HasLoaded result placement.now.kind load.now.seed load.now.count (P.view port.old)
         (P.view port.new) }
     // Where the image fails one of the tests that need no write, nothing is written, and the disk reads as before;
     // where it fails another, nothing is lost that a repair could use.
@@ -73,7 +78,7 @@ pub fn load_image<P: Port>(alloc: Global, load: &Load, place: &Placement, port: 
     ensures spared { P.told → IsNotImage result → IsSpared (P.view port.old) (P.view port.new) }
     // A crash at any moment leaves a world of the run of the requests, and wherever a byte was sent the last one.
     ensures any_moment { P.told → IsFirm (P.view port.old) → LeavesOnly (P.view port.old) (P.view port.new)
-        (IsLeftOfLoad place.now.kind load.now.seed load.now.count (P.view port.old)) }
+        (IsLeftOfLoad placement.now.kind load.now.seed load.now.count (P.view port.old)) }
     // Without memory no request is carried out.
     ensures no_memory { P.told → result ≡ Status.NoMemory → IsFirm (P.view port.old)
         → LeavesOnly (P.view port.old) (P.view port.new) (λ x f. StandAlike (P.view port.old).reads x
@@ -84,7 +89,7 @@ pub fn load_image<P: Port>(alloc: Global, load: &Load, place: &Placement, port: 
     ensures no_device_fault { result ≢ Status.DeviceFault → (P.view port.new).faults ≡ (P.view port.old).faults }
     ensures no_put_fault { result ≢ Status.PutFault → (P.view port.new).put_faults ≡ (P.view port.old).put_faults }
 {
-    match carry_out(alloc, load, place, port) {
+    match carry_out(alloc, load, placement, port) {
         Ok(summary) => match put_all(port, load_line(&summary).as_slice()) {
             Ok(()) => Status::Done,
             Err(_) => Status::PutFault,
@@ -97,14 +102,14 @@ pub fn load_image<P: Port>(alloc: Global, load: &Load, place: &Placement, port: 
 fn carry_out<D: Device>(
     alloc: Global,
     load: &Load,
-    place: &Placement,
+    placement: &Placement,
     dev: &mut D,
 ) -> Result<Summary, Status>
     requires few { load.now.count ≤ 200000 }
-    ensures loaded { D.told → OnOk result (IsLoadDone place.now.kind load.now.seed (D.view dev.old).reads load.now.count
+    ensures loaded { D.told → OnOk result (IsLoadDone placement.now.kind load.now.seed (D.view dev.old).reads load.now.count
         (D.view dev.new)) }
     ensures summary { D.told
-        → IfOk result (λ s. IsSummary place.now.kind load.now.seed (world_of (D.view dev.old).reads) load.now.count
+        → IfOk result (λ s. IsSummary placement.now.kind load.now.seed (world_of (D.view dev.old).reads) load.now.count
         s) }
     ensures judged { D.told → IfErr result (IsJudged (D.view dev.old).reads) }
     ensures stops { IfErr result IsUnopened }
@@ -115,7 +120,7 @@ fn carry_out<D: Device>(
     ensures spared { D.told → IfErr result (λ why. IsNotImage why → IsSpared (D.view dev.old) (D.view dev.new)) }
     ensures any_moment { D.told → IsFirm (D.view dev.old) → LeavesOnly (D.view dev.old) (D.view dev.new)
         (λ x f. (StandAlike (D.view dev.old).reads x ⊎ ((n : ℕ) × (n ≤ load.now.count)
-        × IsLoadedBy place.now.kind load.now.seed (D.view dev.old).reads n x)) × (f ≡ (D.view dev.old).sent)) }
+        × IsLoadedBy placement.now.kind load.now.seed (D.view dev.old).reads n x)) × (f ≡ (D.view dev.old).sent)) }
     ensures no_memory { D.told → IfErr result (λ why. why ≡ Status.NoMemory → IsFirm (D.view dev.old)
         → LeavesOnly (D.view dev.old) (D.view dev.new) (λ x f. StandAlike (D.view dev.old).reads x
         × (f ≡ (D.view dev.old).sent))) }
@@ -126,7 +131,7 @@ fn carry_out<D: Device>(
         Ok(volume) => {
             let mut draws = LoadGen::new(&load.seed, &volume.geometry());
             let mut core = Core::new(alloc, volume);
-            run(&mut core, dev, place, &mut draws, load)
+            run(&mut core, dev, placement, &mut draws, load)
         }
         Err(why) => Err(why),
     }
@@ -136,7 +141,7 @@ fn carry_out<D: Device>(
 fn run<D: Device>(
     core: &mut Core,
     dev: &mut D,
-    place: &Placement,
+    placement: &Placement,
     draws: &mut LoadGen,
     load: &Load,
 ) -> Result<Summary, Status>
@@ -145,21 +150,21 @@ fn run<D: Device>(
     requires at { D.told → IsCoreAt core.old (D.view dev.old) }
     requires start { D.told → state_on core.old (D.view dev.old).reads ≡ at_rest (world_of (D.view dev.old).reads) }
     requires draws { draws.old ≡ load_of load.now.seed (told_world core.old).geometry 0 }
-    ensures loaded { D.told → OnOk result (IsLoadDone place.now.kind load.now.seed (D.view dev.old).reads load.now.count
+    ensures loaded { D.told → OnOk result (IsLoadDone placement.now.kind load.now.seed (D.view dev.old).reads load.now.count
         (D.view dev.new)) }
     ensures summary { D.told
-        → IfOk result (λ s. IsSummary place.now.kind load.now.seed (world_of (D.view dev.old).reads) load.now.count
+        → IfOk result (λ s. IsSummary placement.now.kind load.now.seed (world_of (D.view dev.old).reads) load.now.count
         s) }
     ensures stops { IfErr result IsStopped }
     ensures sent { D.told → (D.view dev.new).sent ≡ (D.view dev.old).sent }
-    ensures any_moment { D.told → LeavesRun place.now.kind load.now.seed load.now.count (D.view dev.old)
+    ensures any_moment { D.told → LeavesRun placement.now.kind load.now.seed load.now.count (D.view dev.old)
         (D.view dev.new) }
     ensures no_memory { D.told → IfErr result (λ why. why ≡ Status.NoMemory
-        → LeavesRun place.now.kind load.now.seed 0 (D.view dev.old) (D.view dev.new)) }
+        → LeavesRun placement.now.kind load.now.seed 0 (D.view dev.old) (D.view dev.new)) }
     ensures works { Works (D.view dev.old) (D.view dev.new) }
     ensures faults { CountsFaultOf Status.DeviceFault result (D.view dev.old).faults (D.view dev.new).faults }
 {
-    let tally = match apply_all(core, dev, place, draws, load) {
+    let tally = match apply_all(core, dev, placement, draws, load) {
         Ok(tally) => tally,
         Err(why) => return Err(why),
     };
@@ -179,7 +184,7 @@ fn run<D: Device>(
 fn apply_all<D: Device>(
     core: &mut Core,
     dev: &mut D,
-    place: &Placement,
+    placement: &Placement,
     draws: &mut LoadGen,
     load: &Load,
 ) -> Result<Tally, Status>
@@ -191,14 +196,14 @@ fn apply_all<D: Device>(
     ensures ready { OnOk result (IsCoreReady core.new) }
     ensures at { D.told → OnOk result (IsCoreAt core.new (D.view dev.new)) }
     ensures applied { D.told
-        → IfOk result (λ t. HasApplied place.now.kind load.now.seed (world_of (D.view dev.old).reads) load.now.count
+        → IfOk result (λ t. HasApplied placement.now.kind load.now.seed (world_of (D.view dev.old).reads) load.now.count
         (state_on core.new (D.view dev.new).reads) t.granted t.refused) }
     ensures stops { IfErr result IsStopped }
     ensures sent { D.told → (D.view dev.new).sent ≡ (D.view dev.old).sent }
-    ensures any_moment { D.told → LeavesRun place.now.kind load.now.seed load.now.count (D.view dev.old)
+    ensures any_moment { D.told → LeavesRun placement.now.kind load.now.seed load.now.count (D.view dev.old)
         (D.view dev.new) }
     ensures no_memory { D.told → IfErr result (λ why. why ≡ Status.NoMemory
-        → LeavesRun place.now.kind load.now.seed 0 (D.view dev.old) (D.view dev.new)) }
+        → LeavesRun placement.now.kind load.now.seed 0 (D.view dev.old) (D.view dev.new)) }
     ensures works { Works (D.view dev.old) (D.view dev.new) }
     ensures faults { CountsFaultOf Status.DeviceFault result (D.view dev.old).faults (D.view dev.new).faults }
 {
@@ -207,7 +212,7 @@ fn apply_all<D: Device>(
         refused: 0,
     };
     for number in 0..load.count {
-        apply_next(core, dev, place, &draws.next_request(), &mut tally)?;
+        apply_next(core, dev, placement, &draws.next_request(), &mut tally)?;
         dev.show_work_done(WorkDone::Requests {
             done: number + 1,
             of: load.count,
@@ -220,7 +225,7 @@ fn apply_all<D: Device>(
 fn apply_next<D: Device>(
     core: &mut Core,
     dev: &mut D,
-    place: &Placement,
+    placement: &Placement,
     request: &Request,
     tally: &mut Tally,
 ) -> Result<(), Status>
@@ -230,21 +235,21 @@ fn apply_next<D: Device>(
     ensures ready { OnOk result (IsCoreReady core.new) }
     ensures at { D.told → OnOk result (IsCoreAt core.new (D.view dev.new)) }
     ensures next { D.told
-        → OnOk result (IsRequestNext place.now.kind (state_on core.old (D.view dev.old).reads) request.now
+        → OnOk result (IsRequestNext placement.now.kind (state_on core.old (D.view dev.old).reads) request.now
         (state_on core.new (D.view dev.new).reads) tally.old.granted tally.old.refused tally.new.granted
         tally.new.refused) }
     ensures one { OnOk result (tally.new.granted + tally.new.refused ≡ tally.old.granted + tally.old.refused + 1) }
     ensures stops { IfErr result IsStopped }
     ensures starved { D.told → IfErr result (λ why. why ≡ Status.NoMemory
-        → IsAnswer place.now.kind (state_on core.old (D.view dev.old).reads) request.now replied.NoMemory
+        → IsAnswer placement.now.kind (state_on core.old (D.view dev.old).reads) request.now replied.NoMemory
         (state_on core.new (D.view dev.new).reads)) }
     ensures sent { D.told → (D.view dev.new).sent ≡ (D.view dev.old).sent }
-    ensures any_moment { D.told → LeavesEither (D.view dev.old) (D.view dev.new) (next_world place.now.kind
+    ensures any_moment { D.told → LeavesEither (D.view dev.old) (D.view dev.new) (next_world placement.now.kind
         (state_on core.old (D.view dev.old).reads) request.now) }
     ensures works { Works (D.view dev.old) (D.view dev.new) }
     ensures faults { CountsFaultOf Status.DeviceFault result (D.view dev.old).faults (D.view dev.new).faults }
 {
-    match core.apply(dev, place, request) {
+    match core.apply(dev, placement, request) {
         Ok(reply) => tally.count(&reply),
         Err(Failed) => Err(Status::DeviceFault),
     }

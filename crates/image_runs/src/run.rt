@@ -18,10 +18,10 @@ use tsd_core::Core;
 use tsd_model::Request;
 use tsd_words::Status;
 
-/// Serves the requests of an input by a core until it ends, as `serving::serve` does. Free blocks are taken by `place`.
+/// Serves the requests of an input by a core until it ends, as `serving::serve` does. Free blocks are taken by `placement`.
 pub fn serve_core<S: Source, P: Port, R: Protocol<Request = Request> + Replies>(
     core: &mut Core,
-    place: &Placement,
+    placement: &Placement,
     protocol: &mut R,
     source: &mut S,
     port: &mut P,
@@ -32,14 +32,14 @@ pub fn serve_core<S: Source, P: Port, R: Protocol<Request = Request> + Replies>(
     requires ready { IsCoreReady core.old }
     requires at { P.told → IsCoreAt core.old (P.view port.old) }
     ensures ran { Ran result (spoken disk_rules R.voice) disk_work R.spelling
-        (placed_on place.now.kind core.old (P.view port.old).reads)
-        (placed_on place.now.kind core.new (P.view port.new).reads) limit
+        (placed_on placement.now.kind core.old (P.view port.old).reads)
+        (placed_on placement.now.kind core.new (P.view port.new).reads) limit
         (taking S.told S.taken S.left_bytes S.ended source.old source.new) (due core.old.volume)
         (moments P.told P.view port.old port.new) }
     // Each request was answered promptly; where the input was cut short, nothing is done behind the last answer and
     // what is behind an answer.
     ensures prompt { P.told → Promptly result (spoken disk_rules R.voice) disk_work (IsOfPort P.view)
-        (placed_on place.now.kind core.old (P.view port.old).reads) (mark (P.view port.old)) (mark (P.view port.new)) }
+        (placed_on placement.now.kind core.old (P.view port.old).reads) (mark (P.view port.old)) (mark (P.view port.new)) }
     // Unless the device failed, the core may be used again; else it is spent.
     ensures ready { result ≢ Status.DeviceFault → IsCoreReady core.new }
     ensures at { result ≢ Status.DeviceFault → P.told → IsCoreAt core.new (P.view port.new) }
@@ -54,6 +54,6 @@ pub fn serve_core<S: Source, P: Port, R: Protocol<Request = Request> + Replies>(
     ensures no_device_fault { result ≢ Status.DeviceFault → (P.view port.new).faults ≡ (P.view port.old).faults }
     ensures no_put_fault { result ≢ Status.PutFault → (P.view port.new).put_faults ≡ (P.view port.old).put_faults }
 {
-    let mut server = CoreServer { core, place };
+    let mut server = CoreServer { core, placement };
     serve(&mut server, protocol, source, port, limit)
 }

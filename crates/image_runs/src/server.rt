@@ -20,7 +20,7 @@ pub struct CoreServer<'a> {
     pub core: &'a mut Core,
 
     /// In which order free blocks are taken.
-    pub place: &'a Placement,
+    pub placement: &'a Placement,
 }
 
 impl<'a> Handler for CoreServer<'a> {
@@ -34,7 +34,7 @@ impl<'a> Handler for CoreServer<'a> {
 
     ghost holds = { λ h x. FitsReads h.core.now x };
 
-    ghost state = { λ h x. placed_on h.place.now.kind h.core.now x };
+    ghost state = { λ h x. placed_on h.placement.now.kind h.core.now x };
 
     ghost due = { λ h x. due h.core.now.volume };
 
@@ -47,7 +47,7 @@ impl<'a> Handler for CoreServer<'a> {
     ghost given_form = { λ s q r t given. given.1 };
 
     fn apply<D: Device>(&mut self, dev: &mut D, request: &Request) -> Result<Reply, Failed> {
-        self.core.apply(dev, self.place, request)
+        self.core.apply(dev, self.placement, request)
     }
 
     fn settle_some<D: Device>(&mut self, dev: &mut D) -> Result<bool, Failed> {

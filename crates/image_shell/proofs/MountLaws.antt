@@ -28,12 +28,12 @@ use Rattle.shell_server.proofs.KeptLaws.{client_still}
 there_or_not : {b : Bool} → IsTrue b → b ≡ false → ⊥
 there_or_not is not = let both : true ≡ false = sym is ∙ not in cc
 
-module _ (start : World) (f g : FilesView) (l m : ℕ × ℕ) (kind place : PlaceKind) (c0 c1 : Core) (v w : DeviceView) where
+module _ (start : World) (f g : FilesView) (l m : ℕ × ℕ) (kind placement : PlaceKind) (c0 c1 : Core) (v w : DeviceView) where
   abbrev old : DiskView
   old = core_view l kind c0 v
 
   abbrev new : DiskView
-  new = core_view m place c1 w
+  new = core_view m placement c1 w
 
   -- the tree of the world before
   abbrev was : Tree
@@ -58,7 +58,7 @@ module _ (start : World) (f g : FilesView) (l m : ℕ × ℕ) (kind place : Plac
       first = λ t. subst (λ (u : World). OnAnswer result (IsFirstState f u (shell_state g w.reads))) (here t) (first_by result (finds t) (runs.valid t) mounted);
       sent = λ t. (runs.crash t).sent;
       any_moment = λ t. subst (λ (u : World). LeavesOnly v w (λ x h. IsLeftOf u (record { files = f; world = u }) x × (h ≡ v.sent))) (here t)
-          (weakened v w (IsImageOf (IsTreeAlone f old) v.sent) (λ x h. IsLeftOf (world_of v.reads) (record { files = f; world = world_of v.reads }) x × (h ≡ v.sent)) (images_left l m kind place c0 c1 v w (IsTreeAlone f old) (runs.crash t)) left_of);
+          (weakened v w (IsImageOf (IsTreeAlone f old) v.sent) (λ x h. IsLeftOf (world_of v.reads) (record { files = f; world = world_of v.reads }) x × (h ≡ v.sent)) (images_left l m kind placement c0 c1 v w (IsTreeAlone f old) (runs.crash t)) left_of);
       clock = runs.counts.clock;
       put_faults = runs.counts.put_faults;
       faultless = runs.faultless;
@@ -66,8 +66,8 @@ module _ (start : World) (f g : FilesView) (l m : ℕ × ℕ) (kind place : Plac
     }
       where
         ready_by : (r : Result X FsRefusal) → OnAnswer r (Stays old new) → OnAnswer r (new.spent ≡ false) → MatchResult r (λ x. g ≡ mounted_now f) (λ e. g ≡ unmounted_now f) → OnAnswer r (AreReady g c1)
-        ready_by (Ok x) s u on = (subst (λ (h : FilesView). AreReady h c1) (sym on) (record { core = core_ready u.0; client = client_so true (client_still f l m kind place c0 c1 v w s.0 runs.counts ready.client) }), tt)
-        ready_by (Err e) s u off = (tt, λ other. subst (λ (h : FilesView). AreReady h c1) (sym off) (record { core = core_ready (u.1 other); client = client_so false (client_still f l m kind place c0 c1 v w (s.1 other) runs.counts ready.client) }))
+        ready_by (Ok x) s u on = (subst (λ (h : FilesView). AreReady h c1) (sym on) (record { core = core_ready u.0; client = client_so true (client_still f l m kind placement c0 c1 v w s.0 runs.counts ready.client) }), tt)
+        ready_by (Err e) s u off = (tt, λ other. subst (λ (h : FilesView). AreReady h c1) (sym off) (record { core = core_ready (u.1 other); client = client_so false (client_still f l m kind placement c0 c1 v w (s.1 other) runs.counts ready.client) }))
 
         at_by : told → (r : Result X FsRefusal) → FindsTree f old new r → OnAnswer r (IsValidNow new) → MatchResult r (λ x. g ≡ mounted_now f) (λ e. g ≡ unmounted_now f) → OnAnswer r (new.spent ≡ false)
             → OnAnswer r (((n : ℕ) → w.loose n ≡ false) × FitsShell (world_of v.reads) g c1 w.reads)

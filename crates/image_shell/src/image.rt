@@ -10,7 +10,7 @@ ghost use Rattle.recovery.specs.Opening.{IsForeign, IsSpared, IsUntouched};
 ghost use Rattle.image_shell.specs.Served.{IsShellJudged, ShellRan};
 
 use crate::opened::serve_opened;
-use core_blocks::Places;
+use core_blocks::Placing;
 use fs_port::Files;
 use image_device::{Port, Source};
 use image_runs::open_core;
@@ -27,12 +27,12 @@ use tsd_words::Status;
 /// The status is NotImage where the image stands for no world, RootDenied where the capability doesn't attain write at
 /// the root, NoMemory where none was found, DeviceFault where that count rose, or else how the loop ended: Done,
 /// SourceFault or PutFault where that count rose, or TooLong.
-pub fn serve_shell_image<F: Files, L: Places, Y: Layout, S: Source, P: Port>(
+pub fn serve_shell_image<F: Files, L: Placing, Y: Layout, S: Source, P: Port>(
     alloc: Global,
     files: &mut F,
     root: u32,
     cap: &Cap,
-    place: &L,
+    placement: &L,
     source: &mut S,
     port: &mut P,
     limit: u64,
@@ -58,16 +58,16 @@ pub fn serve_shell_image<F: Files, L: Places, Y: Layout, S: Source, P: Port>(
     ensures no_device_fault { result ≢ Status.DeviceFault → (P.view port.new).faults ≡ (P.view port.old).faults }
     ensures no_put_fault { result ≢ Status.PutFault → (P.view port.new).put_faults ≡ (P.view port.old).put_faults }
 {
-    serve_from::<F, L, Brand, Y, S, P>(alloc, files, root, cap, place, source, port, limit)
+    serve_from::<F, L, Brand, Y, S, P>(alloc, files, root, cap, placement, source, port, limit)
 }
 
 /// The same, where the world at the start is named.
-fn serve_from<F: Files, L: Places, K: Started, Y: Layout, S: Source, P: Port>(
+fn serve_from<F: Files, L: Placing, K: Started, Y: Layout, S: Source, P: Port>(
     alloc: Global,
     files: &mut F,
     root: u32,
     cap: &Cap,
-    place: &L,
+    placement: &L,
     source: &mut S,
     port: &mut P,
     limit: u64,
@@ -97,7 +97,7 @@ fn serve_from<F: Files, L: Places, K: Started, Y: Layout, S: Source, P: Port>(
     match open_core(alloc, port) {
         Ok(mut core) => {
             serve_opened::<F, L, K, Y, S, P>(
-                files, root, cap, &mut core, place, source, port, limit,
+                files, root, cap, &mut core, placement, source, port, limit,
             )
         }
         Err(why) => why,

@@ -27,7 +27,7 @@ pub fn serve_inode_image<S: Source, P: Port>(
     alloc: Global,
     root: u32,
     cap: &Cap,
-    place: &Placement,
+    placement: &Placement,
     source: &mut S,
     port: &mut P,
     limit: u64,
@@ -52,7 +52,7 @@ pub fn serve_inode_image<S: Source, P: Port>(
     match InodeFs::new(alloc, root, cap, SESSION) {
         Ok(mut files) => {
             serve_shell_image::<InodeFs, Placement, InodeLayout, S, P>(
-                alloc, &mut files, root, cap, place, source, port, limit,
+                alloc, &mut files, root, cap, placement, source, port, limit,
             )
         }
         Err(_) => Status::NoMemory,
@@ -64,7 +64,7 @@ pub fn serve_chain_image<S: Source, P: Port>(
     alloc: Global,
     root: u32,
     cap: &Cap,
-    place: &Placement,
+    placement: &Placement,
     source: &mut S,
     port: &mut P,
     limit: u64,
@@ -89,7 +89,7 @@ pub fn serve_chain_image<S: Source, P: Port>(
     match ChainFs::new(alloc, root, cap, SESSION) {
         Ok(mut files) => {
             serve_shell_image::<ChainFs, Placement, ChainLayout, S, P>(
-                alloc, &mut files, root, cap, place, source, port, limit,
+                alloc, &mut files, root, cap, placement, source, port, limit,
             )
         }
         Err(_) => Status::NoMemory,

@@ -29,7 +29,7 @@ use tsd_words::Status;
 /// The status is Done, SourceFault, DeviceFault or PutFault where that count rose, or TooLong.
 pub fn serve_inode<S: Source, P: Port>(
     core: &mut Core,
-    place: &Placement,
+    placement: &Placement,
     files: &mut InodeFs,
     source: &mut S,
     port: &mut P,
@@ -51,7 +51,7 @@ pub fn serve_inode<S: Source, P: Port>(
         (P.view port.new) }
 {
     serve_shell::<InodeFs, Placement, Brand, InodeLayout, S, P>(
-        files, core, place, source, port, limit,
+        files, core, placement, source, port, limit,
     )
 }
 
@@ -62,7 +62,7 @@ pub fn serve_inode<S: Source, P: Port>(
 /// The status is Done, SourceFault, DeviceFault or PutFault where that count rose, or TooLong.
 pub fn serve_chain<S: Source, P: Port>(
     core: &mut Core,
-    place: &Placement,
+    placement: &Placement,
     files: &mut ChainFs,
     source: &mut S,
     port: &mut P,
@@ -84,6 +84,6 @@ pub fn serve_chain<S: Source, P: Port>(
         (P.view port.new) }
 {
     serve_shell::<ChainFs, Placement, Brand, ChainLayout, S, P>(
-        files, core, place, source, port, limit,
+        files, core, placement, source, port, limit,
     )
 }

@@ -11,7 +11,7 @@ ghost use Rattle.image_shell.specs.Served.{level_at};
 ghost use Rattle.image_shell.specs.FromCore.{IsAdmitted, IsAtStart, IsLetIn, IsMounted, IsSessionBegun, RanFrom};
 ghost use Rattle.image_shell.specs.FromCore.{TellsFaults, is_below_write, is_device};
 
-use core_blocks::{CoreBlocks, Places};
+use core_blocks::{CoreBlocks, Placing};
 use fs_port::{Files, FsRefusal};
 use image_device::{Device, Port, Source};
 use serving::INPUT_MAX;
@@ -21,12 +21,12 @@ use tsd_model::{Cap, Level, Reply, Request, Shown};
 use tsd_words::Status;
 
 /// Tests the level at the root, opens a session, mounts the tree, and serves.
-pub fn serve_opened<F: Files, L: Places, K: Started, Y: Layout, S: Source, P: Port>(
+pub fn serve_opened<F: Files, L: Placing, K: Started, Y: Layout, S: Source, P: Port>(
     files: &mut F,
     root: u32,
     cap: &Cap,
     core: &mut Core,
-    place: &L,
+    placement: &L,
     source: &mut S,
     port: &mut P,
     limit: u64,
@@ -48,8 +48,8 @@ pub fn serve_opened<F: Files, L: Places, K: Started, Y: Layout, S: Source, P: Po
     if is_below_write(&attained) {
         return Status::RootDenied(attained);
     }
-    match begin_on::<P, L, K>(core, place, port) {
-        Ok(()) => serve_begun::<F, L, K, Y, S, P>(files, core, place, source, port, limit),
+    match begin_on::<P, L, K>(core, placement, port) {
+        Ok(()) => serve_begun::<F, L, K, Y, S, P>(files, core, placement, source, port, limit),
         Err(why) => why,
     }
 }
@@ -66,9 +66,9 @@ pub fn root_level(core: &Core, root: u32, cap: &Cap) -> Level
 }
 
 /// Opens session 1.
-pub fn begin_on<D: Device, L: Places, K: Started>(
+pub fn begin_on<D: Device, L: Placing, K: Started>(
     core: &mut Core,
-    place: &L,
+    placement: &L,
     dev: &mut D,
 ) -> Result<(), Status>
     requires ready { IsCoreReady core.old }
@@ -76,7 +76,7 @@ pub fn begin_on<D: Device, L: Places, K: Started>(
     requires at { D.told → IsAtStart K.start core.old (D.view dev.old) }
     ensures { IsSessionBegun D.told K.start core.old core.new (D.view dev.old) (D.view dev.new) result }
 {
-    match place.apply(core, dev, &Request::Begin { session: 1 }) {
+    match placement.apply(core, dev, &Request::Begin { session: 1 }) {
         Ok(Reply::Done) => Ok(()),
         Ok(_) => Err(Status::NoMemory),
         Err(_) => Err(Status::DeviceFault),
@@ -84,10 +84,10 @@ pub fn begin_on<D: Device, L: Places, K: Started>(
 }
 
 /// Mounts the tree under the root, where one is there.
-pub fn mount_on<F: Files, D: Device, L: Places, K: Started>(
+pub fn mount_on<F: Files, D: Device, L: Placing, K: Started>(
     files: &mut F,
     core: &mut Core,
-    place: &L,
+    placement: &L,
     dev: &mut D,
 ) -> Result<(), FsRefusal>
     requires ready { AreReady (F.view files.old) core.old }
@@ -95,15 +95,15 @@ pub fn mount_on<F: Files, D: Device, L: Places, K: Started>(
     ensures { IsMounted D.told K.start (F.view files.old) (F.view files.new) core.old core.new (D.view dev.old)
         (D.view dev.new) result }
 {
-    let mut blocks = CoreBlocks::new(core, place, dev);
+    let mut blocks = CoreBlocks::new(core, placement, dev);
     files.mount(&mut blocks)
 }
 
 /// Mounts the tree and serves.
-pub fn serve_begun<F: Files, L: Places, K: Started, Y: Layout, S: Source, P: Port>(
+pub fn serve_begun<F: Files, L: Placing, K: Started, Y: Layout, S: Source, P: Port>(
     files: &mut F,
     core: &mut Core,
-    place: &L,
+    placement: &L,
     source: &mut S,
     port: &mut P,
     limit: u64,
@@ -119,13 +119,13 @@ pub fn serve_begun<F: Files, L: Places, K: Started, Y: Layout, S: Source, P: Por
     ensures faults { TellsFaults result (S.faults source.old) (S.faults source.new) (P.view port.old)
         (P.view port.new) }
 {
-    match mount_on::<F, P, L, K>(files, core, place, port) {
-        Ok(()) => serve_shell::<F, L, K, Y, S, P>(files, core, place, source, port, limit),
+    match mount_on::<F, P, L, K>(files, core, placement, port) {
+        Ok(()) => serve_shell::<F, L, K, Y, S, P>(files, core, placement, source, port, limit),
         Err(why) => {
             if is_device(&why) {
                 return Status::DeviceFault;
             }
-            serve_shell::<F, L, K, Y, S, P>(files, core, place, source, port, limit)
+            serve_shell::<F, L, K, Y, S, P>(files, core, placement, source, port, limit)
         }
     }
 }

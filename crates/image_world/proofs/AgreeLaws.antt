@@ -9,7 +9,7 @@ use Rattle.image_device.specs.View.{View}
 use Rattle.image_device.specs.Runs.{IsFirm}
 use Rattle.image_layout.specs.Areas.{header_sector, format_gate, data_start}
 use Rattle.image_layout.specs.Header.{header_of}
-use Rattle.image_layout.specs.Places.{data_sector}
+use Rattle.image_layout.specs.Offsets.{data_sector}
 use Rattle.image_layout.specs.Image.{Image, is_open, is_marked}
 use Rattle.intent_journal.specs.Crash.{IsBefore, IsTheSame}
 use Rattle.intent_journal.specs.Home.{home, is_journal, AgreeBut}

@@ -18,13 +18,13 @@ same_not_below e = grind (arith, nat_tests)
 -- such a pair stands before this slot, or in it
 split : (slots : List (Option (ℕ × ℕ))) (live : List Bool) (k : ℕ) (f : ℕ × ℕ) → IsLooseBefore slots live (k + 1) f
     → IsLooseBefore slots live k f ⊎ ((slot_at slots k ≡ Some f) × (are_live live f ≡ false))
-split slots live k f b = elim (cases_lt b.place k) [
-  | inl less ↦ inl (record { place = b.place; before = less; held = b.held; loose = b.loose })
-  | inr from ↦ inr (ap (slot_at slots) (let before = b.before in let here : k ≡ b.place = omega arith in here) ∙ b.held, b.loose)
+split slots live k f b = elim (cases_lt b.position k) [
+  | inl less ↦ inl (record { position = b.position; before = less; held = b.held; loose = b.loose })
+  | inr from ↦ inr (ap (slot_at slots) (let before = b.before in let here : k ≡ b.position = omega arith in here) ∙ b.held, b.loose)
 ]
 
 later : (slots : List (Option (ℕ × ℕ))) (live : List Bool) (k : ℕ) (f : ℕ × ℕ) → IsLooseBefore slots live k f → IsLooseBefore slots live (k + 1) f
-later slots live k f b = record { place = b.place; before = omega (arith, b.before); held = b.held; loose = b.loose }
+later slots live k f b = record { position = b.position; before = omega (arith, b.before); held = b.held; loose = b.loose }
 
 pub loose_none : (slots : List (Option (ℕ × ℕ))) (live : List Bool) → IsLeastLoose slots live 0 None
 loose_none slots live f b = omega (arith, b.before)
@@ -48,7 +48,7 @@ none_more slots live k (Some e) fine so_far = (
 some_more : (slots : List (Option (ℕ × ℕ))) (live : List Bool) (k : ℕ) (g : ℕ × ℕ) (least : Option (ℕ × ℕ)) → slot_at slots k ≡ Some g → are_live live g ≡ false
     → IsLeastLoose slots live k least → IsLeastLoose slots live (k + 1) (lesser_pair least (Some g))
 some_more slots live k g None held loose so_far = (
-  record { place = k; before = omega arith; held = held; loose = loose },
+  record { position = k; before = omega arith; held = held; loose = loose },
   λ f b. elim (split slots live k f b) [
     | inl before ↦ absurd (so_far f before)
     | inr here ↦ let same : Some f ≡ Some g = sym here.0 ∙ held in let one : f ≡ g = cc in ap (λ x. pair_lt x g) one ∙ same_not_below g
@@ -57,7 +57,7 @@ some_more slots live k g None held loose so_far = (
 some_more slots live k g (Some e) held loose so_far =
     elim (pair_lt g e) as (λ t. pair_lt g e ≡ t → IsLeastLoose slots live (k + 1) (cond t (Some g) (Some e))) [
       | true ↦ λ lower. (
-        record { place = k; before = omega arith; held = held; loose = loose },
+        record { position = k; before = omega arith; held = held; loose = loose },
         λ f b. elim (split slots live k f b) [
           | inl before ↦ not_below f e g (so_far.1 f before) lower
           | inr here ↦ let same : Some f ≡ Some g = sym here.0 ∙ held in let one : f ≡ g = cc in ap (λ x. pair_lt x g) one ∙ same_not_below g

@@ -18,7 +18,7 @@ use Rattle.tsd_model.specs.Reach.{blocks_that, restricted}
 use Rattle.tsd_model.specs.Doomed.{is_led_only_from, hangs_on, doomed_round, doomed_rounds, settle}
 use Rattle.image_device.specs.Image.{zeros}
 use Rattle.image_layout.specs.Image.{Image, is_open, sector_bytes, data_bytes}
-use Rattle.image_layout.specs.Places.{data_sector}
+use Rattle.image_layout.specs.Offsets.{data_sector}
 use Rattle.intent_journal.specs.Home.{home}
 use Rattle.intent_journal.specs.Records.{open_records}
 use Rattle.intent_journal.proofs.Opened.{opened_none, home_of_empty}

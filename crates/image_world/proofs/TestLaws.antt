@@ -25,7 +25,7 @@ ends_live p m table none a b held =
     let inside = k.1 in
     elim (cases_Bool (are_live m.live (a, b))) [
       | inl live ↦ live
-      | inr loose ↦ absurd (none (a, b) (record { place = k.0; before = omega (arith, table.count); held = k.2; loose = loose }))
+      | inr loose ↦ absurd (none (a, b) (record { position = k.0; before = omega (arith, table.count); held = k.2; loose = loose }))
     ]
 
 -- ---- on the image
@@ -52,12 +52,12 @@ ends_on p m c x table read live e h =
 
 pub least_end : (p : Pointers) (m : LiveMap) (c : Counts) (x : Image) (a b : ℕ) → IsTable p → AreRead p m c x → IsLeastLoose p.slots m.live p.geometry.slots (Some (a, b)) → IsLeastEnd x p.geometry (a, b)
 least_end p m c x a b table read least = record {
-  held = sym (ap (λ es. holds es a b) (pairs_on p m c x read)) ∙ holds_from_slot p.slots least.0.place a b least.0.held;
-  free = marked_as_live p m c x table read least.0.place (a, b) least.0.held ∙ least.0.loose;
+  held = sym (ap (λ es. holds es a b) (pairs_on p m c x read)) ∙ holds_from_slot p.slots least.0.position a b least.0.held;
+  free = marked_as_live p m c x table read least.0.position (a, b) least.0.held ∙ least.0.loose;
   least = λ f h free.
       let k = slot_from_holds p.slots f.0 f.1 (held_in p m c x read f.0 f.1 h) in
       let inside = k.1 in
-      least.1 f (record { place = k.0; before = omega (arith, table.count); held = k.2; loose = sym (marked_as_live p m c x table read k.0 f k.2) ∙ free });
+      least.1 f (record { position = k.0; before = omega (arith, table.count); held = k.2; loose = sym (marked_as_live p m c x table read k.0 f k.2) ∙ free });
 }
 
 -- a count on the image is that in memory, and so is what is found

@@ -11,7 +11,7 @@ use Rattle.tsd_model.specs.Geometry.{block_len}
 use Rattle.tsd_model.specs.World.{World, contents, is_live}
 use Rattle.tsd_model.specs.Step.{with_contents}
 use Rattle.image_layout.specs.Areas.{header_sector, data_start}
-use Rattle.image_layout.specs.Places.{data_sector}
+use Rattle.image_layout.specs.Offsets.{data_sector}
 use Rattle.image_layout.proofs.ThingLaws.{parts_apart}
 use Rattle.image_layout.specs.Image.{Image, sector_bytes, data_bytes}
 use Rattle.block_alloc.specs.LiveMap.{is_live as is_marked_in}

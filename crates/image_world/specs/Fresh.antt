@@ -5,7 +5,7 @@ use Rattle.tsd_model.specs.declared.caps.CapPair.{CapPair}
 use Rattle.tsd_model.specs.Geometry.{IsLawful}
 use Rattle.tsd_model.specs.Run.{fresh_world}
 use Rattle.image_device.specs.Image.{zeros}
-use Rattle.image_layout.specs.Places.{data_sector}
+use Rattle.image_layout.specs.Offsets.{data_sector}
 use Rattle.image_layout.specs.Ring.{records}
 use Rattle.image_layout.specs.Areas.{header_sector, format_gate, sweep_flag, counts_start, bitmap_start, slots_start}
 use Rattle.image_layout.specs.Areas.{data_start}

@@ -14,13 +14,13 @@ use Rattle.cap_store.specs.Stored.{stored_record}
 pub record Tables : Type 0 where
   pub version : ℕ
   pub geometry : Geometry
-  -- at place b whether the bit of block b is 1
+  -- at index b whether the bit of block b is 1
   pub live : List Bool
-  -- the slots in their places, each a pair or empty
+  -- the slots in order, each a pair or empty
   pub slots : List (Option (ℕ × ℕ))
-  -- at place b the count of block b
+  -- at index b the count of block b
   pub counts : List ℕ
-  -- at place b the record of primary block b
+  -- at index b the record of primary block b
   pub records : List Record
   -- a sweep has begun and not ended
   pub is_sweeping : Bool

@@ -26,9 +26,9 @@ loose_in live (Some e) = if are_live live e then None else Some e
 
 -- a slot before this one holds this pair, and an end of it isn't live
 pub record IsLooseBefore (slots : List (Option (ℕ × ℕ))) (live : List Bool) (end : ℕ) (e : ℕ × ℕ) : Type 0 where
-  pub place : ℕ
-  pub before : place < end
-  pub held : slot_at slots place ≡ Some e
+  pub position : ℕ
+  pub before : position < end
+  pub held : slot_at slots position ≡ Some e
   pub loose : are_live live e ≡ false
 
 -- the least such pair; None says that there is none
@@ -54,7 +54,7 @@ AreFound found p = (b : ℕ) → b < p.geometry.blocks → slice_index found b �
 abbrev pub AreSame : List ℕ → List ℕ → ℕ → Type 0
 AreSame counts found len = (b : ℕ) → b < len → slice_index counts b ≡ slice_index found b
 
--- this is the least place at which they aren't
+-- this is the least slot at which they aren't
 pub record IsLeastWrong (counts found : List ℕ) (len b : ℕ) : Type 0 where
   pub inside : b < len
   pub wrong : slice_index counts b ≢ slice_index found b

@@ -12,7 +12,7 @@ use Rattle.fs_trees.specs.declared.ask.ShellKind.TheVariants as kind
 use Rattle.fs_trees.specs.declared.refusal.FsRefusal.{FsRefusal}
 use Rattle.fs_trees.specs.declared.refusal.FsRefusal.TheVariants as no
 use Rattle.fs_client.proofs.AskLaws.{is_mounted}
-use Rattle.fs_client.specs.Changing.{no_place_found}
+use Rattle.fs_client.specs.Changing.{lookup_refusal}
 
 -- what stands there is no directory, where it is a file
 pub file_only : (x : Tree) → is_file x ≡ true → (is_there x ≡ true) × (is_dir x ≡ false)
@@ -33,18 +33,18 @@ module _ (g : Geometry) (t : Tree) (free held : ℕ) (n : Need) (root : is_dir t
   abbrev behind : Path → List (Option FsRefusal)
   behind p = missing t p ∷ no_file t p ∷ too_big kind.Inode g (length (bytes_in (at t p)) + length x) ∷ no_room g free held n
 
-  pub append_lost : (p : Path) (e : FsRefusal) → no_place_found t p no.IsDir ≡ Some e → refusal kind.Inode g t free held n (ask.Append p x) ≡ Some e
+  pub append_lost : (p : Path) (e : FsRefusal) → lookup_refusal t p no.IsDir ≡ Some e → refusal kind.Inode g t free held n (ask.Append p x) ≡ Some e
   append_lost [] e h =
       is_mounted t (lost_on_the_way t [] ∷ behind []) (dir_only t root)
       ∙ (ap (λ b. first_of (when (not b) no.NoEntry ∷ no_file t [] ∷ too_big kind.Inode g (size []) ∷ no_room g free held n)) (dir_only t root)
       ∙ (ap (λ b. first_of (when b no.IsDir ∷ too_big kind.Inode g (size []) ∷ no_room g free held n)) root ∙ h))
   append_lost (m ∷ ms) e h = is_mounted t (lost_on_the_way t (m ∷ ms) ∷ behind (m ∷ ms)) (dir_only t root) ∙ ap (λ o. first_of (o ∷ behind (m ∷ ms))) h
 
-  append_way : (p : Path) → ◌≡◌ {A = Option FsRefusal} (no_place_found t p no.IsDir) None → refusal kind.Inode g t free held n (ask.Append p x) ≡ first_of (behind p)
+  append_way : (p : Path) → ◌≡◌ {A = Option FsRefusal} (lookup_refusal t p no.IsDir) None → refusal kind.Inode g t free held n (ask.Append p x) ≡ first_of (behind p)
   append_way [] h = absurd (cc)
   append_way (m ∷ ms) h = is_mounted t (lost_on_the_way t (m ∷ ms) ∷ behind (m ∷ ms)) (dir_only t root) ∙ ap (λ o. first_of (o ∷ behind (m ∷ ms))) h
 
-  module _ (p : Path) (h : ◌≡◌ {A = Option FsRefusal} (no_place_found t p no.IsDir) None) where
+  module _ (p : Path) (h : ◌≡◌ {A = Option FsRefusal} (lookup_refusal t p no.IsDir) None) where
     pub append_missing : is_there (at t p) ≡ false → refusal kind.Inode g t free held n (ask.Append p x) ≡ Some no.NoEntry
     append_missing k = append_way p h ∙ ap (λ b. first_of (when (not b) no.NoEntry ∷ no_file t p ∷ too_big kind.Inode g (size p) ∷ no_room g free held n)) k
 

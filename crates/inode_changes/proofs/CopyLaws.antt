@@ -28,15 +28,15 @@ use Rattle.fs_port.specs.Calls.{IsValidNow, Stays}
 use Rattle.fs_client.specs.declared.client.Client.{Client}
 use Rattle.fs_client.specs.May.{Looked, OnlyLooks}
 use Rattle.fs_client.specs.Steps.{no_room_in}
-use Rattle.fs_client.specs.Changing.{refused_on, no_place_found}
+use Rattle.fs_client.specs.Changing.{refused_on, lookup_refusal}
 use Rattle.fs_client.proofs.AskLaws.{is_mounted}
 use Rattle.inode_layout.specs.declared.inode.Inode as layout
 use Rattle.inode_layout.specs.Block.{inode_of, block_len_of, body_of}
 use Rattle.inode_layout.specs.Said.{is_directory, amount_said, blocks_said}
 use Rattle.inode_walks.specs.declared.finding.Found.{Found}
-use Rattle.inode_walks.specs.declared.finding.Place.{Place}
+use Rattle.inode_walks.specs.declared.finding.Lookup.{Lookup}
 use Rattle.inode_walks.specs.Asking.{tree_of, MayAsk, mounted_by}
-use Rattle.inode_walks.specs.Finding.{StandsAtPath, IsPlace, not_found, no_file_found}
+use Rattle.inode_walks.specs.Finding.{StandsAtPath, IsLookup, not_found, no_file_found}
 use Rattle.inode_walks.specs.Reading.{bytes_at, bytes_said}
 use Rattle.inode_walks.proofs.RefusalLaws.{refused_by, passes_by}
 use Rattle.inode_walks.proofs.FileLaws.{file_said, file_count, named_held, may_look, said_is_row, row_is_long, found_long, node_is, file_is, tree_there, stands_still}
@@ -96,10 +96,10 @@ module _ (c : Client) (v : DiskView) (path new : Path) (there : is_there (tree_o
     as_dir : refused_on (mounted_by c) v (ask.Copy path new) ≡ refusal kind.Inode v.world.geometry (tree_of c v) (free_count v.world) (length v.world.pairs) wanted (ask.MakeDir new)
     as_dir = copy_way v.world.geometry (tree_of c v) (free_count v.world) (length v.world.pairs) wanted there path new way
 
-    pub place_refuses : (e : FsRefusal) → no_place_found (tree_of c v) new no.Exists ≡ Some e → refused_on (mounted_by c) v (ask.Copy path new) ≡ Some e
+    pub place_refuses : (e : FsRefusal) → lookup_refusal (tree_of c v) new no.Exists ≡ Some e → refused_on (mounted_by c) v (ask.Copy path new) ≡ Some e
     place_refuses e h = as_dir ∙ dir_lost v.world.geometry (tree_of c v) (free_count v.world) (length v.world.pairs) wanted there new e h
 
-    pub taken_refuses : ◌≡◌ {A = Option FsRefusal} (no_place_found (tree_of c v) new no.Exists) None → is_there (at (tree_of c v) new) ≡ true → refused_on (mounted_by c) v (ask.Copy path new) ≡ Some no.Exists
+    pub taken_refuses : ◌≡◌ {A = Option FsRefusal} (lookup_refusal (tree_of c v) new no.Exists) None → is_there (at (tree_of c v) new) ≡ true → refused_on (mounted_by c) v (ask.Copy path new) ≡ Some no.Exists
     taken_refuses h k = as_dir ∙ dir_taken v.world.geometry (tree_of c v) (free_count v.world) (length v.world.pairs) wanted there new h k
 
 -- ---- after looks
@@ -127,10 +127,10 @@ at_still c old new path file seen stays now x = record {
 }
 
 -- the file was found first, and then the place
-pub copies_now : (c : Client) (first mid v : DiskView) (path : Path) (file : Found) (new : Path) (place : Place) → is_there (tree_of c first) ≡ true → c.root < first.world.geometry.primaries → is_path new ≡ true
+pub copies_now : (c : Client) (first mid v : DiskView) (path : Path) (file : Found) (new : Path) (lookup : Lookup) → is_there (tree_of c first) ≡ true → c.root < first.world.geometry.primaries → is_path new ≡ true
     → Looked first mid → StandsAtPath c mid path file → ◌≡◌ {A = Option FsRefusal} (no_file_found (tree_of c first) path) None
-    → Looked mid v → Stays mid v → IsPlace c v new place → place.old ≡ None → ◌≡◌ {A = Option FsRefusal} (no_place_found (tree_of c mid) new no.Exists) None → Copies c v path file new place
-copies_now c first mid v path file new place there primary new_is seen found way seen_on stays place_is vacant new_way =
+    → Looked mid v → Stays mid v → IsLookup c v new lookup → lookup.old ≡ None → ◌≡◌ {A = Option FsRefusal} (lookup_refusal (tree_of c mid) new no.Exists) None → Copies c v path file new lookup
+copies_now c first mid v path file new lookup there primary new_is seen found way seen_on stays place_is vacant new_way =
     let same : v.world ≡ first.world = seen_on.world ∙ seen.world in
     record {
       there = ap (λ w. is_there (inode_tree w c.root)) same ∙ there;
@@ -140,29 +140,29 @@ copies_now c first mid v path file new place there primary new_is seen found way
       new_is = new_is;
       new_place = place_is;
       vacant = vacant;
-      new_way = ap (λ w. no_place_found (inode_tree w c.root) new no.Exists) seen_on.world ∙ new_way;
+      new_way = ap (λ w. lookup_refusal (inode_tree w c.root) new no.Exists) seen_on.world ∙ new_way;
     }
 
 -- ---- at the place of the copy
 
-module _ (c : Client) (v : DiskView) (path : Path) (file : Found) (new : Path) (place : Place) (x : Copies c v path file new place) (dir : is_directory (inode_of place.directory.inode) ≡ true) (now : IsValidNow v) where
+module _ (c : Client) (v : DiskView) (path : Path) (file : Found) (new : Path) (lookup : Lookup) (x : Copies c v path file new lookup) (dir : is_directory (inode_of lookup.directory.inode) ≡ true) (now : IsValidNow v) where
   abbrev t : Tree
   t = tree_of c v
 
   abbrev g : Geometry
   g = v.world.geometry
 
-  vacant : IsVacant c v new place
+  vacant : IsVacant c v new lookup
   vacant = record { primary = x.primary; there = x.there; path_is = x.new_is; found = x.new_place; vacant = x.vacant; way = x.new_way }
 
-  pub grounds : entering.DirectoryHasRoom place.directory.inode place.name.now → Grounds c.root v.world new place
-  grounds = making.grounds c v new place vacant dir now
+  pub grounds : entering.DirectoryHasRoom lookup.directory.inode lookup.name.now → Grounds c.root v.world new lookup
+  grounds = making.grounds c v new lookup vacant dir now
 
-  pub full_refuses : nat_le (entries_room (block_len_of place.directory.inode)) (length (blocks_said (inode_of place.directory.inode))) ≡ true → refused_on (mounted_by c) v (ask.Copy path new) ≡ Some no.DirFull
-  full_refuses full = as_dir c v path new x.there x.way ∙ making.full_asks c v new place vacant dir (need_of kind.Inode v.world c.root t (ask.Copy path new)) full
+  pub full_refuses : nat_le (entries_room (block_len_of lookup.directory.inode)) (length (blocks_said (inode_of lookup.directory.inode))) ≡ true → refused_on (mounted_by c) v (ask.Copy path new) ≡ Some no.DirFull
+  full_refuses full = as_dir c v path new x.there x.way ∙ making.full_asks c v new lookup vacant dir (need_of kind.Inode v.world c.root t (ask.Copy path new)) full
 
-  pub roomy_asks : entering.DirectoryHasRoom place.directory.inode place.name.now → refused_on (mounted_by c) v (ask.Copy path new) ≡ first_of (no_room g (free_count v.world) (length v.world.pairs) (need_of kind.Inode v.world c.root t (ask.Copy path new)))
-  roomy_asks room = as_dir c v path new x.there x.way ∙ making.roomy_asks c v new place vacant dir (need_of kind.Inode v.world c.root t (ask.Copy path new)) room
+  pub roomy_asks : entering.DirectoryHasRoom lookup.directory.inode lookup.name.now → refused_on (mounted_by c) v (ask.Copy path new) ≡ first_of (no_room g (free_count v.world) (length v.world.pairs) (need_of kind.Inode v.world c.root t (ask.Copy path new)))
+  roomy_asks room = as_dir c v path new x.there x.way ∙ making.roomy_asks c v new lookup vacant dir (need_of kind.Inode v.world c.root t (ask.Copy path new)) room
 
 -- ---- what the new file is made of
 
@@ -213,7 +213,7 @@ module _ (inode : layout.Inode) (no_dir : is_directory (inode_of inode) ≡ fals
       }
 
 -- where it tells
-module _ (c : Client) (v : DiskView) (path : Path) (file : Found) (new : Path) (place : Place) (x : Copies c v path file new place) (no_dir : is_directory (inode_of file.inode) ≡ false) (dir : is_directory (inode_of place.directory.inode) ≡ true) (now : IsValidNow v)
+module _ (c : Client) (v : DiskView) (path : Path) (file : Found) (new : Path) (lookup : Lookup) (x : Copies c v path file new lookup) (no_dir : is_directory (inode_of file.inode) ≡ false) (dir : is_directory (inode_of lookup.directory.inode) ≡ true) (now : IsValidNow v)
     (content : Content) (k : IsCopied file.inode content) where
   abbrev blocks : List ℕ
   blocks = blocks_said (inode_of file.inode)
@@ -285,7 +285,7 @@ module _ (c : Client) (v : DiskView) (path : Path) (file : Found) (new : Path) (
       one_more = let some = no_new file.inode no_dir whole content k in omega (arith, some)
 
   -- what is refused for want of room
-  pub room_refuses : entering.DirectoryHasRoom place.directory.inode place.name.now → refused_on (mounted_by c) v (ask.Copy path new) ≡ no_room_in v.world (1 + new_count content) (1 + all_count content)
+  pub room_refuses : entering.DirectoryHasRoom lookup.directory.inode lookup.name.now → refused_on (mounted_by c) v (ask.Copy path new) ≡ no_room_in v.world (1 + new_count content) (1 + all_count content)
   room_refuses room =
-      roomy_asks c v path file new place x dir now room
+      roomy_asks c v path file new lookup x dir now room
       ∙ ap (λ n. first_of (no_room v.world.geometry (free_count v.world) (length v.world.pairs) n)) need_is

@@ -1,4 +1,4 @@
--- The place of a path, as laws on deciding writes take it.
+-- The lookup of a path, as laws on deciding writes take it.
 use Rattle.std.proofs.Common.{◌≡◌, ℕ, zero, suc, ◌+◌, ◌<◌, ◌≤◌, true, false, nat_le, List, [], ◌∷◌, ◌++◌, length, refl, sym, ◌∙◌, ap, subst, arith, Option, Some, None, cond, length-append}
 use Rattle.std.proofs.lemmas.Bool.{and_parts}
 use Rattle.std.proofs.lemmas.Bool.Decides.{nat_tests}
@@ -19,8 +19,8 @@ use Rattle.fs_client.specs.declared.client.Client.{Client}
 use Rattle.inode_layout.specs.declared.inode.Inode as layout
 use Rattle.inode_layout.specs.Block.{inode_of, block_len_of}
 use Rattle.inode_layout.specs.Said.{is_directory, entries_said}
-use Rattle.inode_walks.specs.declared.finding.Place.{Place}
-use Rattle.inode_walks.specs.Finding.{IsPlace}
+use Rattle.inode_walks.specs.declared.finding.Lookup.{Lookup}
+use Rattle.inode_walks.specs.Finding.{IsLookup}
 use Rattle.inode_walks.proofs.WalkLaws.{dir_node}
 use Rattle.inode_walks.proofs.FoundLaws.{dir_said}
 use Rattle.inode_changes.proofs.SpotLaws.{Spot, deeper_is, dir_fits}
@@ -31,8 +31,8 @@ use Rattle.inode_changes.specs.Entering.{IsEntryRead, DirectoryHasRoom, Grounds,
 
 -- ---- as it was found
 
-pub entry_of : (c : Client) (v : DiskView) (path : Path) (place : Place) → is_directory (inode_of place.directory.inode) ≡ true → IsPlace c v path place → IsEntryRead c.root v.world path place
-entry_of c v path place is_dir i = record {
+pub entry_of : (c : Client) (v : DiskView) (path : Path) (lookup : Lookup) → is_directory (inode_of lookup.directory.inode) ≡ true → IsLookup c v path lookup → IsEntryRead c.root v.world path lookup
+entry_of c v path lookup is_dir i = record {
   more = i.above.more;
   levels = i.above.levels;
   node = i.above.node;
@@ -112,14 +112,14 @@ last_named : (ps : Path) (n : Name) → list_all is_name (ps ++ n ∷ []) ≡ tr
 last_named [] n h = (and_parts (is_name n) true h).0
 last_named (m ∷ ms) n h = last_named ms n (and_parts (is_name m) (list_all is_name (ms ++ n ∷ [])) h).1
 
-module _ (root : ℕ) (first : World) (path : Path) (place : Place) (g : Grounds root first path place) where
+module _ (root : ℕ) (first : World) (path : Path) (lookup : Lookup) (g : Grounds root first path lookup) where
   abbrev es : List Entry
-  es = entries_said (inode_of place.directory.inode)
+  es = entries_said (inode_of lookup.directory.inode)
 
-  pub spot : Spot first root (directory_of path) place.directory.block (entries_said (inode_of place.directory.inode))
+  pub spot : Spot first root (directory_of path) lookup.directory.block (entries_said (inode_of lookup.directory.inode))
   spot =
-      let says : inode_at first place.directory.block ≡ Some (directory es) = g.entry.says ∙ ap (λ x. Some x) (dir_said (inode_of place.directory.inode) g.entry.dir) in
-      let inside = dir_node first g.entry.more place.directory.block g.entry.there es says in
+      let says : inode_at first lookup.directory.block ≡ Some (directory es) = g.entry.says ∙ ap (λ x. Some x) (dir_said (inode_of lookup.directory.inode) g.entry.dir) in
+      let inside = dir_node first g.entry.more lookup.directory.block g.entry.there es says in
       let all = found first root g.there in
       record {
         more = g.entry.more;
@@ -130,21 +130,21 @@ module _ (root : ℕ) (first : World) (path : Path) (place : Place) (g : Grounds
         stands = ap (λ x. at x (directory_of path)) (sym (under_is first root all.0 all.1)) ∙ (g.entry.node ∙ inside.2);
         listed = inside.1;
         says = says;
-        room = subst (λ n. length es ≤ entries_room n) g.entry.whole (dir_fits place.directory.inode g.entry.dir);
+        room = subst (λ n. length es ≤ entries_room n) g.entry.whole (dir_fits lookup.directory.inode g.entry.dir);
       }
 
   parts : (nat_le (length path) path_max ≡ true) × (list_all is_name path ≡ true)
   parts = and_parts (nat_le (length path) path_max) (list_all is_name path) g.path_is
 
-  pub name_is : is_name place.name.now ≡ true
-  name_is = last_named (directory_of path) place.name.now (ap (list_all is_name) (sym g.entry.name) ∙ parts.1)
+  pub name_is : is_name lookup.name.now ≡ true
+  name_is = last_named (directory_of path) lookup.name.now (ap (list_all is_name) (sym g.entry.name) ∙ parts.1)
 
   -- one name more is allowed below the directory
   pub deep : (less : ℕ) × (spot.more ≡ suc less)
   unfolding spot
   deep =
       let so_many = g.entry.levels in
-      let long : length path ≡ length (directory_of path) + 1 = ap length g.entry.name ∙ length-append (directory_of path) (place.name.now ∷ []) in
+      let long : length path ≡ length (directory_of path) + 1 = ap length g.entry.name ∙ length-append (directory_of path) (lookup.name.now ∷ []) in
       let few : length path ≤ 16 = let t = parts.0 in grind (arith, nat_tests) in
       some_level g.entry.more (omega (arith, so_many, long, few))
     where
@@ -152,21 +152,21 @@ module _ (root : ℕ) (first : World) (path : Path) (place : Place) (g : Grounds
       some_level zero h = absurd (omega arith)
       some_level (suc m) h = (m, refl)
 
-  pub fits : (i : ℕ) → length (with_listed (record { name = place.name.now; block = i }) (entries_said (inode_of place.directory.inode))) ≤ entries_room (block_len first.geometry)
-  fits i = subst (λ k. length (with_listed (record { name = place.name.now; block = i }) es) ≤ entries_room k) g.entry.whole (list_fits place.directory.inode place.name.now i g.entry.dir g.room)
+  pub fits : (i : ℕ) → length (with_listed (record { name = lookup.name.now; block = i }) (entries_said (inode_of lookup.directory.inode))) ≤ entries_room (block_len first.geometry)
+  fits i = subst (λ k. length (with_listed (record { name = lookup.name.now; block = i }) es) ≤ entries_room k) g.entry.whole (list_fits lookup.directory.inode lookup.name.now i g.entry.dir g.room)
 
   pub of_files : (shared : List ℕ) → ((b : ℕ) → has_number shared b ≡ true → IsOfFile root first b) → (b : ℕ) → has_number shared b ≡ true → has_number (data_blocks spot.old) b ≡ true
   unfolding spot
   of_files shared of b h = file_data root first (found first root g.there).0 (under_is first root (found first root g.there).0 (found first root g.there).1) b (of b h)
 
   -- the root reaches the directory
-  pub stage_of : Stage root first place.directory.block
+  pub stage_of : Stage root first lookup.directory.block
   stage_of =
-      let named = block_at (directory_of path) (a_dir root spot.old) place.directory.block spot.xs spot.stands in
+      let named = block_at (directory_of path) (a_dir root spot.old) lookup.directory.block spot.xs spot.stands in
       record {
         valid = g.valid;
         primary = g.primary;
         there = g.there;
-        dir = named_under first root g.valid g.primary g.there place.directory.block (ap (λ k. has_number k.blocks place.directory.block) (named_of first root spot.old spot.has)
-            ∙ number_left (root ∷ inode_blocks spot.old) (data_blocks spot.old) place.directory.block named);
+        dir = named_under first root g.valid g.primary g.there lookup.directory.block (ap (λ k. has_number k.blocks lookup.directory.block) (named_of first root spot.old spot.has)
+            ∙ number_left (root ∷ inode_blocks spot.old) (data_blocks spot.old) lookup.directory.block named);
       }

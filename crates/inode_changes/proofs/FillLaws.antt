@@ -182,13 +182,13 @@ no_bytes [] h = refl
 no_bytes (x ∷ xs) h = absurd (omega arith)
 
 -- what was written so far, and what is left of the bytes
-pub record Writing (told : Type 0) (c : Client) (first now : DiskView) (blocks bytes : List ℕ) (len place : ℕ) (rest : List ℕ) : Type 0 where
+pub record Writing (told : Type 0) (c : Client) (first now : DiskView) (blocks bytes : List ℕ) (len lookup : ℕ) (rest : List ℕ) : Type 0 where
   pub runs : Runs {X = Unit {0}} told first now (AsideWith c.root blocks first.world) (Ok tt)
   pub geometry : told → now.world.geometry ≡ first.world.geometry
   pub made : told → MadeWith c.root blocks first.world now.world
   pub may : told → (b : ℕ) → MayWrite c first b → MayWrite c now b
-  pub left : told → length rest ≤ len * (length blocks - place)
-  pub last : told → (new : World) → WroteIn c.root now.world new (drop place blocks) rest → WroteIn c.root first.world new blocks bytes
+  pub left : told → length rest ≤ len * (length blocks - lookup)
+  pub last : told → (new : World) → WroteIn c.root now.world new (drop lookup blocks) rest → WroteIn c.root first.world new blocks bytes
 
 pub writing_begins : (told : Type 0) (c : Client) (first : DiskView) (blocks bytes : List ℕ) (len : ℕ) → first.spent ≡ false → (told → IsDiskSound first) → (told → IsValidNow first) → (told → length bytes ≤ len * length blocks) → Writing told c first first blocks bytes len 0 bytes
 writing_begins told c first blocks bytes len unspent sound now enough = record {
@@ -203,13 +203,13 @@ writing_begins told c first blocks bytes len unspent sound now enough = record {
     whole : (n : ℕ) → n ≡ n - 0
     whole n = omega arith
 
-module _ (told : Type 0) (c : Client) (first now new : DiskView) (blocks bytes : List ℕ) (len place b : ℕ) (rest : List ℕ) (w : Writing told c first now blocks bytes len place rest)
-    (inside : place < length blocks) (is : b ≡ slice_index_or blocks place 0) (is_len : told → len ≡ block_len first.world.geometry) (apart : told → are_apart blocks ≡ true) where
-  parted : drop place blocks ≡ b ∷ drop (place + 1) blocks
-  parted = drop_first blocks place b inside is
+module _ (told : Type 0) (c : Client) (first now new : DiskView) (blocks bytes : List ℕ) (len lookup b : ℕ) (rest : List ℕ) (w : Writing told c first now blocks bytes len lookup rest)
+    (inside : lookup < length blocks) (is : b ≡ slice_index_or blocks lookup 0) (is_len : told → len ≡ block_len first.world.geometry) (apart : told → are_apart blocks ≡ true) where
+  parted : drop lookup blocks ≡ b ∷ drop (lookup + 1) blocks
+  parted = drop_first blocks lookup b inside is
 
   pub among : has_number blocks b ≡ true
-  among = in_drop blocks place b (ap (λ xs. has_number xs b) parted ∙ or_left (b == b) _ (eq-eqb b b refl))
+  among = in_drop blocks lookup b (ap (λ xs. has_number xs b) parted ∙ or_left (b == b) _ (eq-eqb b b refl))
 
   pub len_now : told → len ≡ block_len now.world.geometry
   len_now t = is_len t ∙ ap block_len (sym (w.geometry t))
@@ -227,32 +227,32 @@ module _ (told : Type 0) (c : Client) (first now new : DiskView) (blocks bytes :
       (λ t v h. aside_later c.root blocks first.world now.world v (w.made t) (stop_at_one c blocks b among now.world (take len rest) v h)) steps)
 
   module _ (steps : Steps {X = Unit {0}} told c now new (write_by c b (take len rest)) b (written now.world b (take len rest)) (Ok tt)) (may : told → MayWrite c now b) where
-    pub writes_on : Writing told c first new blocks bytes len (place + 1) (drop len rest)
+    pub writes_on : Writing told c first new blocks bytes len (lookup + 1) (drop len rest)
     writes_on = record {
       runs = goes_on (Ok tt) steps;
       geometry = λ t. ap (λ v. v.geometry) (steps.went t).world ∙ w.geometry t;
       made = λ t. made_on t (steps.went t).world;
-      may = λ t k m. may_mid c b (drop (place + 1) blocks) rest now new len (len_now t) (valid_now t) (may t).live (steps.went t) steps.stays.0 k (w.may t k m);
+      may = λ t k m. may_mid c b (drop (lookup + 1) blocks) rest now new len (len_now t) (valid_now t) (may t).live (steps.went t) steps.stays.0 k (w.may t k m);
       left = λ t. shorter (length rest) (length (drop len rest)) (length blocks) (w.left t) (length-drop len rest);
       last = λ t fin h. w.last t fin (subst (λ xs. WroteIn c.root now.world fin xs rest) (sym parted)
-          (wrote_more c b (drop (place + 1) blocks) rest now new len (len_now t) (valid_now t) (may t).live (steps.went t) steps.stays.0 fin
-          (not-true (has_number (drop (place + 1) blocks) b) (and_parts (not (has_number (drop (place + 1) blocks) b)) (are_apart (drop (place + 1) blocks)) (ap are_apart (sym parted) ∙ apart_drop blocks place (apart t))).0) h));
+          (wrote_more c b (drop (lookup + 1) blocks) rest now new len (len_now t) (valid_now t) (may t).live (steps.went t) steps.stays.0 fin
+          (not-true (has_number (drop (lookup + 1) blocks) b) (and_parts (not (has_number (drop (lookup + 1) blocks) b)) (are_apart (drop (lookup + 1) blocks)) (ap are_apart (sym parted) ∙ apart_drop blocks lookup (apart t))).0) h));
     }
       where
         made_on : told → new.world ≡ written now.world b (take len rest) → MadeWith c.root blocks first.world new.world
         made_on t e f d i shared fresh at m new_ones = subst (Making c.root f d i shared fresh) (sym e)
             (made_by_one c blocks b among now.world (take len rest) (steps.went t).leads f d i shared fresh at (w.made t f d i shared fresh at m new_ones) new_ones)
 
-        shorter : (r s n : ℕ) → r ≤ len * (n - place) → s ≡ r - len → s ≤ len * (n - (place + 1))
-        shorter r s n h e = fewer (n - place) (n - (place + 1)) (omega arith) h
+        shorter : (r s n : ℕ) → r ≤ len * (n - lookup) → s ≡ r - len → s ≤ len * (n - (lookup + 1))
+        shorter r s n h e = fewer (n - lookup) (n - (lookup + 1)) (omega arith) h
           where
             fewer : (k j : ℕ) → j ≡ k - 1 → r ≤ len * k → s ≤ len * j
             fewer zero j q h = omega (arith, e, h)
             fewer (suc k) j q h = let same : j ≡ k = omega (arith, q) in subst (λ x. s ≤ len * x) (sym same) (omega (arith, e, h))
 
-pub writing_ends : (told : Type 0) (c : Client) (first now : DiskView) (blocks bytes : List ℕ) (len place : ℕ) (rest : List ℕ) → Writing told c first now blocks bytes len place rest → length blocks ≤ place → told → Wrote c first now blocks bytes
-writing_ends told c first now blocks bytes len place rest w ends t =
-    let none : length blocks - place ≡ 0 = omega (arith, ends) in
+pub writing_ends : (told : Type 0) (c : Client) (first now : DiskView) (blocks bytes : List ℕ) (len lookup : ℕ) (rest : List ℕ) → Writing told c first now blocks bytes len lookup rest → length blocks ≤ lookup → told → Wrote c first now blocks bytes
+writing_ends told c first now blocks bytes len lookup rest w ends t =
+    let none : length blocks - lookup ≡ 0 = omega (arith, ends) in
     let short : length rest ≤ len * 0 = subst (λ k. length rest ≤ len * k) none (w.left t) in
     let zeros : len * 0 ≡ 0 = omega arith in
-    record { here = w.last t now.world (subst (λ xs. WroteIn c.root now.world now.world xs rest) (sym (drop_all blocks place ends)) (wrote_none c.root now.world rest (no_bytes rest (omega (arith, short, zeros))))); may = w.may t }
+    record { here = w.last t now.world (subst (λ xs. WroteIn c.root now.world now.world xs rest) (sym (drop_all blocks lookup ends)) (wrote_none c.root now.world rest (no_bytes rest (omega (arith, short, zeros))))); may = w.may t }

@@ -34,7 +34,7 @@ use Rattle.inode_layout.specs.Kinds.{item_bytes, items_for}
 use Rattle.inode_layout.specs.Block.{said, inode_of, bytes_of, block_len_of, body_of}
 use Rattle.inode_layout.specs.Said.{is_directory, amount_said, blocks_said}
 use Rattle.inode_walks.specs.declared.finding.Found.{Found}
-use Rattle.inode_walks.specs.declared.finding.Place.{Place}
+use Rattle.inode_walks.specs.declared.finding.Lookup.{Lookup}
 use Rattle.inode_walks.specs.Asking.{tree_of, mounted_by}
 use Rattle.inode_walks.specs.Reading.{part, bytes_at, bytes_said}
 use Rattle.inode_walks.proofs.FileLaws.{file_said, file_count, named_held, named_full, may_look, said_is_row, row_is_long, found_long, node_is}
@@ -142,7 +142,7 @@ module _ (inode : layout.Inode) (no_dir : is_directory (inode_of inode) ≡ fals
       sum_fits : (s k n m all room : ℕ) → s ≡ k → n ≤ m → all ≡ k + m → all ≤ room → s + n ≤ room
       sum_fits s k n m all room e h f r = omega (arith, e, h, f, r)
 
-module _ (c : Client) (v : DiskView) (path : Path) (place : Place) (file : Found) (x : Grows c v path place file) (no_dir : is_directory (inode_of file.inode) ≡ false) (now : IsValidNow v) where
+module _ (c : Client) (v : DiskView) (path : Path) (lookup : Lookup) (file : Found) (x : Grows c v path lookup file) (no_dir : is_directory (inode_of file.inode) ≡ false) (now : IsValidNow v) where
   abbrev size : ℕ
   size = amount_said (inode_of file.inode)
 

@@ -37,15 +37,15 @@ last_part c v more file stands is_file now len bytes e whole below there =
     let blocks = blocks_said (inode_of file.inode) in
     let all = bytes_said v.world (inode_of file.inode) in
     let some : 0 < len = omega (arith, whole) in
-    let place = len * (size / len) in
+    let lookup = len * (size / len) in
     let at : (len * (size / len)) / len ≡ size / len = mul-div_cancel_left (size / len) some in
     let first : (len * (size / len)) % len ≡ 0 = mul-mod_right len (size / len) in
     let parts = div-add-mod size len in
     let less : size % len < len = mod-lt size some in
-    let end : place + (size % len - place % len) ≡ size = omega (arith, parts, first) in
+    let end : lookup + (size % len - lookup % len) ≡ size = omega (arith, parts, first) in
     ap (λ n. part bytes n (size % len)) (sym first)
-    ∙ (block_part c v more file stands is_file now len place (size % len) bytes e
+    ∙ (block_part c v more file stands is_file now len lookup (size % len) bytes e
     (subst (λ n. n < length blocks) (sym at) below)
     (ap (λ n. contents v.world (slice_index blocks n)) at ∙ there)
     (omega (arith, first)) (omega (arith, less))
-    ∙ ap (part all place) end)
+    ∙ ap (part all lookup) end)

@@ -1,4 +1,4 @@
--- What stands at the place of a path.
+-- What stands at the lookup of a path.
 use Rattle.std.proofs.Common.{◌≡◌, ℕ, suc, true, false, ◌&&◌, nat_lt, List, [], ◌∷◌, ◌++◌, length, refl, sym, ◌∙◌, ap, Some, None, Ok}
 use Rattle.std.specs.Prelude.{map}
 use Rattle.fs_trees.specs.Names.{Name, Path}
@@ -14,9 +14,9 @@ use Rattle.fs_port.specs.View.{DiskView}
 use Rattle.fs_client.specs.declared.client.Client.{Client}
 use Rattle.inode_layout.specs.Block.{inode_of}
 use Rattle.inode_layout.specs.Said.{is_directory, blocks_said, entries_said}
-use Rattle.inode_walks.specs.declared.finding.Place.{Place}
+use Rattle.inode_walks.specs.declared.finding.Lookup.{Lookup}
 use Rattle.inode_walks.specs.Asking.{tree_of}
-use Rattle.inode_walks.specs.Finding.{IsPlace, named_block, block_said}
+use Rattle.inode_walks.specs.Finding.{IsLookup, named_block, block_said}
 use Rattle.inode_walks.proofs.WalkLaws.{file_node, dir_node, child_node}
 use Rattle.inode_walks.proofs.FurtherLaws.{a_level}
 use Rattle.inode_walks.proofs.FoundLaws.{dir_said, first_names, tree_names}
@@ -25,25 +25,25 @@ at_last : (p : Path) (n : Name) (x : InodeNode) → at x (p ++ n ∷ []) ≡ chi
 at_last [] n x = refl
 at_last (m ∷ ms) n x = at_last ms n (child m x)
 
-module _ (c : Client) (v : DiskView) (path : Path) (place : Place) (is_dir : is_directory (inode_of place.directory.inode) ≡ true) (i : IsPlace c v path place) where
+module _ (c : Client) (v : DiskView) (path : Path) (lookup : Lookup) (is_dir : is_directory (inode_of lookup.directory.inode) ≡ true) (i : IsLookup c v path lookup) where
   abbrev es : List Entry
-  es = entries_said (inode_of place.directory.inode)
+  es = entries_said (inode_of lookup.directory.inode)
 
-  pub says : inode_at v.world place.directory.block ≡ Some (directory (entries_said (inode_of place.directory.inode)))
-  says = i.above.stands.says ∙ ap (λ x. Some x) (dir_said (inode_of place.directory.inode) is_dir)
+  pub says : inode_at v.world lookup.directory.block ≡ Some (directory (entries_said (inode_of lookup.directory.inode)))
+  says = i.above.stands.says ∙ ap (λ x. Some x) (dir_said (inode_of lookup.directory.inode) is_dir)
 
-  pub place_at : at (tree_of c v) path ≡ inodes.tree_of v.world (read_named (λ k. node_at v.world i.above.more k) place.old)
+  pub place_at : at (tree_of c v) path ≡ inodes.tree_of v.world (read_named (λ k. node_at v.world i.above.more k) lookup.old)
   place_at =
       sym (tree-at v.world path (inodes_under v.world c.root))
-      ∙ ap (inodes.tree_of v.world) (ap (at (inodes_under v.world c.root)) i.name ∙ (at_last (directory_of path) place.name.now (inodes_under v.world c.root)
-      ∙ (ap (child place.name.now) i.above.node ∙ (child_node v.world i.above.more place.directory.block i.above.stands.there place.name.now es says ∙ ap (read_named (λ k. node_at v.world i.above.more k)) (sym i.old)))))
+      ∙ ap (inodes.tree_of v.world) (ap (at (inodes_under v.world c.root)) i.name ∙ (at_last (directory_of path) lookup.name.now (inodes_under v.world c.root)
+      ∙ (ap (child lookup.name.now) i.above.node ∙ (child_node v.world i.above.more lookup.directory.block i.above.stands.there lookup.name.now es says ∙ ap (read_named (λ k. node_at v.world i.above.more k)) (sym i.old)))))
 
-  pub none_at : place.old ≡ None → is_there (at (tree_of c v) path) ≡ false
+  pub none_at : lookup.old ≡ None → is_there (at (tree_of c v) path) ≡ false
   none_at none_old = ap is_there (place_at ∙ ap (λ o. inodes.tree_of v.world (read_named (λ k. node_at v.world i.above.more k) o)) none_old)
 
-  module _ (b : ℕ) (some : place.old ≡ Some b) where
-    pub said_place : block_said place.name.now (inode_of place.directory.inode) ≡ Ok b
-    said_place = ap (block_said place.name.now) (dir_said (inode_of place.directory.inode) is_dir) ∙ ap named_block (sym i.old ∙ some)
+  module _ (b : ℕ) (some : lookup.old ≡ Some b) where
+    pub said_place : block_said lookup.name.now (inode_of lookup.directory.inode) ≡ Ok b
+    said_place = ap (block_said lookup.name.now) (dir_said (inode_of lookup.directory.inode) is_dir) ∙ ap named_block (sym i.old ∙ some)
 
     pub old_at : at (tree_of c v) path ≡ inodes.tree_of v.world (node_at v.world i.above.more b)
     old_at = place_at ∙ ap (λ o. inodes.tree_of v.world (read_named (λ k. node_at v.world i.above.more k) o)) some

@@ -24,14 +24,14 @@ use Rattle.fs_port.specs.Calls.{IsValidNow, Stays}
 use Rattle.fs_client.specs.declared.client.Client.{Client}
 use Rattle.fs_client.specs.May.{Looked}
 use Rattle.fs_client.specs.Steps.{no_room_in}
-use Rattle.fs_client.specs.Changing.{refused_on, no_place_found}
+use Rattle.fs_client.specs.Changing.{refused_on, lookup_refusal}
 use Rattle.fs_client.proofs.AskLaws.{is_mounted}
 use Rattle.inode_changes.proofs.PlaceLaws.{none_at, old_at, there_at, said_place}
 use Rattle.inode_layout.specs.Block.{inode_of, block_len_of}
 use Rattle.inode_layout.specs.Said.{is_directory, entries_said, blocks_said, entry_said}
-use Rattle.inode_walks.specs.declared.finding.Place.{Place}
+use Rattle.inode_walks.specs.declared.finding.Lookup.{Lookup}
 use Rattle.inode_walks.specs.Asking.{tree_of, mounted_by}
-use Rattle.inode_walks.specs.Finding.{IsPlace}
+use Rattle.inode_walks.specs.Finding.{IsLookup}
 use Rattle.inode_walks.proofs.FoundLaws.{dir_said, names_there, entry_by}
 use Rattle.inode_walks.proofs.FileLaws.{stands_still}
 use Rattle.inode_walks.proofs.FurtherLaws.{a_level, child_there}
@@ -57,17 +57,17 @@ module _ (g : Geometry) (t : Tree) (free held : ℕ) (n : Need) (root : is_dir t
   abbrev full : Path → Bool
   full p = not (is_there (at t p)) && nat_le (entries_room (block_len g)) (length (names_in (at t (directory_of p))))
 
-  pub put_lost : (p : Path) (e : FsRefusal) → no_place_found t p no.IsDir ≡ Some e → refusal kind.Inode g t free held n (ask.Put p x) ≡ Some e
+  pub put_lost : (p : Path) (e : FsRefusal) → lookup_refusal t p no.IsDir ≡ Some e → refusal kind.Inode g t free held n (ask.Put p x) ≡ Some e
   put_lost [] e h =
       is_mounted t (lost_on_the_way t [] ∷ behind []) (dir_only t root)
       ∙ (ap (λ b. first_of (when b no.IsDir ∷ dir_full kind.Inode g t [] ∷ too_big kind.Inode g (length x) ∷ no_room g free held n)) root ∙ h)
   put_lost (m ∷ ms) e h = is_mounted t (lost_on_the_way t (m ∷ ms) ∷ behind (m ∷ ms)) (dir_only t root) ∙ ap (λ o. first_of (o ∷ behind (m ∷ ms))) h
 
-  put_way : (p : Path) → ◌≡◌ {A = Option FsRefusal} (no_place_found t p no.IsDir) None → refusal kind.Inode g t free held n (ask.Put p x) ≡ first_of (behind p)
+  put_way : (p : Path) → ◌≡◌ {A = Option FsRefusal} (lookup_refusal t p no.IsDir) None → refusal kind.Inode g t free held n (ask.Put p x) ≡ first_of (behind p)
   put_way [] h = absurd (cc)
   put_way (m ∷ ms) h = is_mounted t (lost_on_the_way t (m ∷ ms) ∷ behind (m ∷ ms)) (dir_only t root) ∙ ap (λ o. first_of (o ∷ behind (m ∷ ms))) h
 
-  module _ (p : Path) (h : ◌≡◌ {A = Option FsRefusal} (no_place_found t p no.IsDir) None) where
+  module _ (p : Path) (h : ◌≡◌ {A = Option FsRefusal} (lookup_refusal t p no.IsDir) None) where
     pub put_dir : is_dir (at t p) ≡ true → refusal kind.Inode g t free held n (ask.Put p x) ≡ Some no.IsDir
     put_dir k = put_way p h ∙ ap (λ b. first_of (when b no.IsDir ∷ dir_full kind.Inode g t p ∷ too_big kind.Inode g (length x) ∷ no_room g free held n)) k
 
@@ -94,7 +94,7 @@ entry_count : (es : List Entry) → length (map (λ e. e.block) es) ≡ length (
 entry_count [] = refl
 entry_count (e ∷ es) = let rest = entry_count es in omega (arith, rest)
 
-module _ (c : Client) (v : DiskView) (path : Path) (place : Place) (dir : is_directory (inode_of place.directory.inode) ≡ true) (now : IsValidNow v) (s : PutsFile c v path place) (x : List ℕ) where
+module _ (c : Client) (v : DiskView) (path : Path) (lookup : Lookup) (dir : is_directory (inode_of lookup.directory.inode) ≡ true) (now : IsValidNow v) (s : PutsFile c v path lookup) (x : List ℕ) where
   abbrev t : Tree
   t = tree_of c v
 
@@ -104,57 +104,57 @@ module _ (c : Client) (v : DiskView) (path : Path) (place : Place) (dir : is_dir
   root : is_dir (tree_of c v) ≡ true
   root = root_is_dir v.world c.root s.there
 
-  pub grounds : entering.DirectoryHasRoom place.directory.inode place.name.now → Grounds c.root v.world path place
-  grounds room = record { valid = now.valid; primary = s.primary; there = s.there; path_is = s.path_is; entry = entry_of c v path place dir s.found; room = room }
+  pub grounds : entering.DirectoryHasRoom lookup.directory.inode lookup.name.now → Grounds c.root v.world path lookup
+  grounds room = record { valid = now.valid; primary = s.primary; there = s.there; path_is = s.path_is; entry = entry_of c v path lookup dir s.found; room = room }
 
-  names_are : length (names_in (at t (directory_of path))) ≡ length (entry_names (entries_said (inode_of place.directory.inode)))
-  names_are = ap length (names_there c v (directory_of path) place.directory s.found.above dir)
+  names_are : length (names_in (at t (directory_of path))) ≡ length (entry_names (entries_said (inode_of lookup.directory.inode)))
+  names_are = ap length (names_there c v (directory_of path) lookup.directory s.found.above dir)
 
-  blocks_are : length (blocks_said (inode_of place.directory.inode)) ≡ length (entry_names (entries_said (inode_of place.directory.inode)))
-  blocks_are = ap (λ i. length (blocks_said i)) (dir_said (inode_of place.directory.inode) dir) ∙ entry_count (entries_said (inode_of place.directory.inode))
+  blocks_are : length (blocks_said (inode_of lookup.directory.inode)) ≡ length (entry_names (entries_said (inode_of lookup.directory.inode)))
+  blocks_are = ap (λ i. length (blocks_said i)) (dir_said (inode_of lookup.directory.inode) dir) ∙ entry_count (entries_said (inode_of lookup.directory.inode))
 
-  full_is : nat_le (entries_room (block_len_of place.directory.inode)) (length (blocks_said (inode_of place.directory.inode))) ≡ nat_le (entries_room (block_len g)) (length (names_in (at t (directory_of path))))
-  full_is = ap (λ k. nat_le (entries_room k) (length (blocks_said (inode_of place.directory.inode)))) s.found.above.stands.whole ∙ ap (nat_le (entries_room (block_len g))) (blocks_are ∙ sym names_are)
+  full_is : nat_le (entries_room (block_len_of lookup.directory.inode)) (length (blocks_said (inode_of lookup.directory.inode))) ≡ nat_le (entries_room (block_len g)) (length (names_in (at t (directory_of path))))
+  full_is = ap (λ k. nat_le (entries_room k) (length (blocks_said (inode_of lookup.directory.inode)))) s.found.above.stands.whole ∙ ap (nat_le (entries_room (block_len g))) (blocks_are ∙ sym names_are)
 
-  pub full_refuses : ◌≡◌ {A = Option ℕ} (entry_said place.name.now (inode_of place.directory.inode)) None → nat_le (entries_room (block_len_of place.directory.inode)) (length (blocks_said (inode_of place.directory.inode))) ≡ true → refused_on (mounted_by c) v (ask.Put path x) ≡ Some no.DirFull
+  pub full_refuses : ◌≡◌ {A = Option ℕ} (entry_said lookup.name.now (inode_of lookup.directory.inode)) None → nat_le (entries_room (block_len_of lookup.directory.inode)) (length (blocks_said (inode_of lookup.directory.inode))) ≡ true → refused_on (mounted_by c) v (ask.Put path x) ≡ Some no.DirFull
   full_refuses none full =
-      let absent = none_at c v path place dir s.found (s.found.old ∙ (sym (entry_by place.name.now (inode_of place.directory.inode)) ∙ none)) in
+      let absent = none_at c v path lookup dir s.found (s.found.old ∙ (sym (entry_by lookup.name.now (inode_of lookup.directory.inode)) ∙ none)) in
       put_full g t (free_count v.world) (length v.world.pairs) (need (1 + div_ceil (length x) (block_len g)) (1 + div_ceil (length x) (block_len g))) root x path s.way s.no_dir
       (ap (λ b. not b && nat_le (entries_room (block_len g)) (length (names_in (at t (directory_of path))))) absent ∙ (sym full_is ∙ full))
 
   -- an entry has room there
-  roomy : entering.DirectoryHasRoom place.directory.inode place.name.now → (not (is_there (at t path)) && nat_le (entries_room (block_len g)) (length (names_in (at t (directory_of path))))) ≡ false
-  roomy room = by_old place.old refl
+  roomy : entering.DirectoryHasRoom lookup.directory.inode lookup.name.now → (not (is_there (at t path)) && nat_le (entries_room (block_len g)) (length (names_in (at t (directory_of path))))) ≡ false
+  roomy room = by_old lookup.old refl
     where
-      by_old : (o : Option ℕ) → place.old ≡ o → (not (is_there (at t path)) && nat_le (entries_room (block_len g)) (length (names_in (at t (directory_of path))))) ≡ false
+      by_old : (o : Option ℕ) → lookup.old ≡ o → (not (is_there (at t path)) && nat_le (entries_room (block_len g)) (length (names_in (at t (directory_of path))))) ≡ false
       by_old None e =
-          let absent = none_at c v path place dir s.found e in
+          let absent = none_at c v path lookup dir s.found e in
           let less = room (sym s.found.old ∙ e) in
           let len = s.found.above.stands.whole in
           ap (λ b. not b && nat_le (entries_room (block_len g)) (length (names_in (at t (directory_of path))))) absent
-          ∙ (ap (nat_le (entries_room (block_len g))) names_are ∙ fewer (entries_room (block_len g)) (subst (λ k. length (entries_said (inode_of place.directory.inode)) < entries_room k) len less))
+          ∙ (ap (nat_le (entries_room (block_len g))) names_are ∙ fewer (entries_room (block_len g)) (subst (λ k. length (entries_said (inode_of lookup.directory.inode)) < entries_room k) len less))
         where
           names_count : (es : List Entry) → length (entry_names es) ≡ length es
           names_count [] = refl
           names_count (e ∷ es) = let rest = names_count es in omega (arith, rest)
 
-          fewer : (k : ℕ) → length (entries_said (inode_of place.directory.inode)) < k → nat_le k (length (entry_names (entries_said (inode_of place.directory.inode)))) ≡ false
-          fewer k h = let count = names_count (entries_said (inode_of place.directory.inode)) in above k (length (entries_said (inode_of place.directory.inode))) (length (entry_names (entries_said (inode_of place.directory.inode)))) h count
+          fewer : (k : ℕ) → length (entries_said (inode_of lookup.directory.inode)) < k → nat_le k (length (entry_names (entries_said (inode_of lookup.directory.inode)))) ≡ false
+          fewer k h = let count = names_count (entries_said (inode_of lookup.directory.inode)) in above k (length (entries_said (inode_of lookup.directory.inode))) (length (entry_names (entries_said (inode_of lookup.directory.inode)))) h count
             where
               above : (k n m : ℕ) → n < k → m ≡ n → nat_le k m ≡ false
               above k n m h e = let less : m < k = omega (arith, h, e) in grind (arith, nat_tests)
       by_old (Some b) e = ap (λ r. not r && nat_le (entries_room (block_len g)) (length (names_in (at t (directory_of path)))))
-          (there_at c v path place dir s.found b e (child_there c v s.found.above.more place.directory s.found.above.stands place.name.now b (said_place c v path place dir s.found b e)))
+          (there_at c v path lookup dir s.found b e (child_there c v s.found.above.more lookup.directory s.found.above.stands lookup.name.now b (said_place c v path lookup dir s.found b e)))
 
-  module _ (room : entering.DirectoryHasRoom place.directory.inode place.name.now) where
-    big_is : nat_lt (data_room (block_len_of place.directory.inode)) (div_ceil (length x) (block_len_of place.directory.inode)) ≡ nat_lt (data_room (block_len g)) (div_ceil (length x) (block_len g))
+  module _ (room : entering.DirectoryHasRoom lookup.directory.inode lookup.name.now) where
+    big_is : nat_lt (data_room (block_len_of lookup.directory.inode)) (div_ceil (length x) (block_len_of lookup.directory.inode)) ≡ nat_lt (data_room (block_len g)) (div_ceil (length x) (block_len g))
     big_is = ap (λ n. nat_lt (data_room n) (div_ceil (length x) n)) s.found.above.stands.whole
 
-    pub big_refuses : nat_lt (data_room (block_len_of place.directory.inode)) (div_ceil (length x) (block_len_of place.directory.inode)) ≡ true → refused_on (mounted_by c) v (ask.Put path x) ≡ Some no.TooBig
+    pub big_refuses : nat_lt (data_room (block_len_of lookup.directory.inode)) (div_ceil (length x) (block_len_of lookup.directory.inode)) ≡ true → refused_on (mounted_by c) v (ask.Put path x) ≡ Some no.TooBig
     big_refuses big = put_big g t (free_count v.world) (length v.world.pairs) (need (1 + div_ceil (length x) (block_len g)) (1 + div_ceil (length x) (block_len g))) root x path s.way s.no_dir (roomy room) (sym big_is ∙ big)
 
-    pub room_refuses : nat_lt (data_room (block_len_of place.directory.inode)) (div_ceil (length x) (block_len_of place.directory.inode)) ≡ false
-        → refused_on (mounted_by c) v (ask.Put path x) ≡ no_room_in v.world (1 + div_ceil (length x) (block_len_of place.directory.inode)) (1 + div_ceil (length x) (block_len_of place.directory.inode))
+    pub room_refuses : nat_lt (data_room (block_len_of lookup.directory.inode)) (div_ceil (length x) (block_len_of lookup.directory.inode)) ≡ false
+        → refused_on (mounted_by c) v (ask.Put path x) ≡ no_room_in v.world (1 + div_ceil (length x) (block_len_of lookup.directory.inode)) (1 + div_ceil (length x) (block_len_of lookup.directory.inode))
     room_refuses small = put_room g t (free_count v.world) (length v.world.pairs) (need (1 + div_ceil (length x) (block_len g)) (1 + div_ceil (length x) (block_len g))) root x path s.way s.no_dir (roomy room) (sym big_is ∙ small)
         ∙ ap (λ n. no_room_in v.world (1 + div_ceil (length x) n) (1 + div_ceil (length x) n)) (sym s.found.above.stands.whole)
 
@@ -219,15 +219,15 @@ nothing_no_dir nothing h = refl
 nothing_no_dir (a_file x) h = refl
 nothing_no_dir (a_dir d es) h = absurd (cc)
 
-module _ (c : Client) (v : DiskView) (path : Path) (place : Place) (dir : is_directory (inode_of place.directory.inode) ≡ true) (i : IsPlace c v path place) (b : ℕ) (some : place.old ≡ Some b) where
+module _ (c : Client) (v : DiskView) (path : Path) (lookup : Lookup) (dir : is_directory (inode_of lookup.directory.inode) ≡ true) (i : IsLookup c v path lookup) (b : ℕ) (some : lookup.old ≡ Some b) where
   old_is_there : is_there (node_at v.world i.above.more b) ≡ true
-  old_is_there = child_there c v i.above.more place.directory i.above.stands place.name.now b (said_place c v path place dir i b some)
+  old_is_there = child_there c v i.above.more lookup.directory i.above.stands lookup.name.now b (said_place c v path lookup dir i b some)
 
   -- its inode tells whether it is a directory
   pub kind_at : (k : Inode) → inode_at v.world b ≡ Some k → is_dir (at (tree_of c v) path) ≡ is_directory k
   kind_at k is =
       let level = a_level v.world i.above.more b old_is_there in
-      ap is_dir (old_at c v path place dir i b some ∙ ap (λ m. inodes.tree_of v.world (node_at v.world m b)) level.1)
+      ap is_dir (old_at c v path lookup dir i b some ∙ ap (λ m. inodes.tree_of v.world (node_at v.world m b)) level.1)
       ∙ by_kind k (ap (λ m. is_there (node_at v.world m b)) (sym level.1) ∙ old_is_there) is
     where
       by_kind : (k : Inode) → is_there (node_at v.world (suc (a_level v.world i.above.more b old_is_there).0) b) ≡ true → inode_at v.world b ≡ Some k
@@ -236,28 +236,28 @@ module _ (c : Client) (v : DiskView) (path : Path) (place : Place) (dir : is_dir
       by_kind (regular size blocks) h e = ap (λ x. is_dir (inodes.tree_of v.world x)) (file_node v.world (a_level v.world i.above.more b old_is_there).0 b h size blocks e)
 
 -- what was found stands there after a look
-pub place_still : (c : Client) (old new : DiskView) (path : Path) (place : Place) → Looked old new → Stays old new → IsValidNow old → IsPlace c old path place → IsPlace c new path place
-place_still c old new path place seen stays now i = record {
+pub place_still : (c : Client) (old new : DiskView) (path : Path) (lookup : Lookup) → Looked old new → Stays old new → IsValidNow old → IsLookup c old path lookup → IsLookup c new path lookup
+place_still c old new path lookup seen stays now i = record {
   above = record {
     more = i.above.more;
     levels = i.above.levels;
-    stands = stands_still c old new i.above.more place.directory seen stays now i.above.stands;
-    node = subst (λ w. at (inodes_under w c.root) (directory_of path) ≡ node_at w (suc i.above.more) place.directory.block) (sym seen.world) i.above.node;
+    stands = stands_still c old new i.above.more lookup.directory seen stays now i.above.stands;
+    node = subst (λ w. at (inodes_under w c.root) (directory_of path) ≡ node_at w (suc i.above.more) lookup.directory.block) (sym seen.world) i.above.node;
   };
   name = i.name;
   old = i.old;
 }
 
 -- nothing is changed yet, and no directory stands there
-pub puts_now : (c : Client) (first mid now : DiskView) (path : Path) (place : Place) → c.root < first.world.geometry.primaries → is_there (tree_of c first) ≡ true → is_path path ≡ true
-    → ◌≡◌ {A = Option FsRefusal} (no_place_found (tree_of c first) path no.IsDir) None → Looked first mid → IsPlace c mid path place → Looked mid now → Stays mid now → is_dir (at (tree_of c mid) path) ≡ false → PutsFile c now path place
-puts_now c first mid now path place primary there path_is way one found two stays no_dir =
+pub puts_now : (c : Client) (first mid now : DiskView) (path : Path) (lookup : Lookup) → c.root < first.world.geometry.primaries → is_there (tree_of c first) ≡ true → is_path path ≡ true
+    → ◌≡◌ {A = Option FsRefusal} (lookup_refusal (tree_of c first) path no.IsDir) None → Looked first mid → IsLookup c mid path lookup → Looked mid now → Stays mid now → is_dir (at (tree_of c mid) path) ≡ false → PutsFile c now path lookup
+puts_now c first mid now path lookup primary there path_is way one found two stays no_dir =
     let same : now.world ≡ first.world = two.world ∙ one.world in
     record {
       primary = subst (λ w. c.root < w.geometry.primaries) (sym same) primary;
       there = ap (λ w. is_there (inode_tree w c.root)) same ∙ there;
       path_is = path_is;
-      found = place_still c mid now path place two stays one.valid found;
-      way = ap (λ w. no_place_found (inode_tree w c.root) path no.IsDir) same ∙ way;
+      found = place_still c mid now path lookup two stays one.valid found;
+      way = ap (λ w. lookup_refusal (inode_tree w c.root) path no.IsDir) same ∙ way;
       no_dir = ap (λ w. is_dir (at (inode_tree w c.root) path)) two.world ∙ no_dir;
     }

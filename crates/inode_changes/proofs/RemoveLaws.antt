@@ -37,10 +37,10 @@ use Rattle.fs_client.specs.Steps.{Leads, Went, written, dropped}
 use Rattle.inode_layout.specs.Block.{inode_of}
 use Rattle.inode_layout.specs.Said.{is_directory, entries_said, blocks_said}
 use Rattle.inode_layout.proofs.ListedLaws.{entry_length}
-use Rattle.inode_walks.specs.declared.finding.Place.{Place}
+use Rattle.inode_walks.specs.declared.finding.Lookup.{Lookup}
 use Rattle.inode_walks.specs.Asking.{tree_of, mounted_by}
-use Rattle.inode_walks.specs.Finding.{IsPlace}
-use Rattle.fs_client.specs.Changing.{no_place_found, refused_on}
+use Rattle.inode_walks.specs.Finding.{IsLookup}
+use Rattle.fs_client.specs.Changing.{lookup_refusal, refused_on}
 use Rattle.inode_changes.proofs.SpotLaws.{Spot, spot_of, live, order}
 use Rattle.inode_changes.proofs.ListingLaws.{named_without, length_without}
 use Rattle.inode_changes.proofs.RemovalLaws as removal
@@ -75,27 +75,27 @@ directory_length es h = let list = listed_length es h in omega (arith, list)
 -- ---- an entry that is to be taken out
 
 -- it was found, and what it names was read
-pub record Taking (c : Client) (first mid rd : DiskView) (path : Path) (place : Place) (b : ℕ) : Type 0 where
+pub record Taking (c : Client) (first mid rd : DiskView) (path : Path) (lookup : Lookup) (b : ℕ) : Type 0 where
   pub valid : IsValid first.world
   pub tree : is_there (tree_of c first) ≡ true
   pub primary : c.root < first.world.geometry.primaries
   pub seen : Looked first mid
-  pub is_dir : is_directory (inode_of place.directory.inode) ≡ true
-  pub place_is : IsPlace c mid path place
-  pub some : place.old ≡ Some b
-  pub found : ◌≡◌ {A = Option FsRefusal} (no_place_found (tree_of c first) path no.IsDir) None
+  pub is_dir : is_directory (inode_of lookup.directory.inode) ≡ true
+  pub place_is : IsLookup c mid path lookup
+  pub some : lookup.old ≡ Some b
+  pub found : ◌≡◌ {A = Option FsRefusal} (lookup_refusal (tree_of c first) path no.IsDir) None
   pub read : Looked mid rd
   pub stays : Stays mid rd
 
-module _ (c : Client) (first mid rd : DiskView) (path : Path) (place : Place) (b : ℕ) (x : Taking c first mid rd path place b) where
+module _ (c : Client) (first mid rd : DiskView) (path : Path) (lookup : Lookup) (b : ℕ) (x : Taking c first mid rd path lookup b) where
   abbrev es : List Entry
-  es = entries_said (inode_of place.directory.inode)
+  es = entries_said (inode_of lookup.directory.inode)
 
   abbrev n : Name
-  n = place.name.now
+  n = lookup.name.now
 
   abbrev d : ℕ
-  d = place.directory.block
+  d = lookup.directory.block
 
   abbrev p : Path
   p = directory_of path
@@ -104,7 +104,7 @@ module _ (c : Client) (first mid rd : DiskView) (path : Path) (place : Place) (b
   same = x.read.world ∙ x.seen.world
 
   spot : Spot rd.world c.root p d es
-  spot = subst (λ w. Spot w c.root p d es) (sym x.read.world) (spot_of c mid path place (ap (λ w. is_there (inode_tree w c.root)) x.seen.world ∙ x.tree) x.is_dir x.place_is)
+  spot = subst (λ w. Spot w c.root p d es) (sym x.read.world) (spot_of c mid path lookup (ap (λ w. is_there (inode_tree w c.root)) x.seen.world ∙ x.tree) x.is_dir x.place_is)
 
   listed : block_named n es ≡ Some b
   listed = sym x.place_is.old ∙ x.some
@@ -121,7 +121,7 @@ module _ (c : Client) (first mid rd : DiskView) (path : Path) (place : Place) (b
   abbrev bytes : List ℕ
   bytes = inode_bytes (directory (without_listed n es))
 
-  pub fits : length (inode_bytes (directory (without_listed place.name.now (entries_said (inode_of place.directory.inode))))) ≤ block_len rd.world.geometry
+  pub fits : length (inode_bytes (directory (without_listed lookup.name.now (entries_said (inode_of lookup.directory.inode))))) ≤ block_len rd.world.geometry
   fits =
       let long = directory_length (without_listed n es) (named_without n es (order rd.world c.root p d es spot valid_rd).0) in
       let less = length_without n es in
@@ -145,8 +145,8 @@ module _ (c : Client) (first mid rd : DiskView) (path : Path) (place : Place) (b
     -- nothing refuses it
     pub none_refuses : ◌≡◌ {A = Option FsRefusal} (refused_on (mounted_by c) first (ask.Rm path)) None
     none_refuses = rm_none kind.Inode first.world.geometry (tree_of c first) (free_count first.world) (length first.world.pairs) (need_of kind.Inode first.world c.root (tree_of c first) (ask.Rm path)) x.tree path x.found
-        (ap (λ w. is_there (at (inode_tree w c.root) path)) (sym x.seen.world) ∙ old_there c mid path place x.is_dir x.place_is b x.some there k is)
-        (ap (λ w. nat_lt 0 (length (names_in (at (inode_tree w c.root) path)))) (sym x.seen.world) ∙ (entries_at c mid path place x.is_dir x.place_is b x.some there k is ∙ empty))
+        (ap (λ w. is_there (at (inode_tree w c.root) path)) (sym x.seen.world) ∙ old_there c mid path lookup x.is_dir x.place_is b x.some there k is)
+        (ap (λ w. nat_lt 0 (length (names_in (at (inode_tree w c.root) path)))) (sym x.seen.world) ∙ (entries_at c mid path lookup x.is_dir x.place_is b x.some there k is ∙ empty))
 
     after : (w : World) → inode_tree w c.root ≡ with_at path nothing (tree_of c first) → IsValid w → w.geometry ≡ rd.world.geometry → OthersStay c.root rd.world w → IsEitherTree (mounted_by c) first (ask.Rm path) w
     after w tree valid size others = (

@@ -120,15 +120,15 @@ runs_before told old new P e n h = record {
 -- ---- so far
 
 -- the inode points to the first of the blocks
-pub record Sharing (told : Type 0) (c : Client) (first now : DiskView) (i : ℕ) (all : List ℕ) (place : ℕ) : Type 0 where
+pub record Sharing (told : Type 0) (c : Client) (first now : DiskView) (i : ℕ) (all : List ℕ) (lookup : ℕ) : Type 0 where
   pub runs : Runs {X = Unit {0}} told first now (AsideOf c.root i all first.world) (Ok tt)
   pub geometry : told → now.world.geometry ≡ first.world.geometry
   pub same : told → now.world.blocks ≡ first.world.blocks
-  pub pairs : told → length now.world.pairs ≡ length first.world.pairs + place
-  pub held : told → (b : ℕ) → holds now.world.pairs i b ≡ has_number (take place all) b
-  pub making : told → (w : World) (d : ℕ) → Stage c.root w d → Making c.root w d i [] [] first.world → RootReaches c.root w all → Making c.root w d i (take place all) [] now.world
+  pub pairs : told → length now.world.pairs ≡ length first.world.pairs + lookup
+  pub held : told → (b : ℕ) → holds now.world.pairs i b ≡ has_number (take lookup all) b
+  pub making : told → (w : World) (d : ℕ) → Stage c.root w d → Making c.root w d i [] [] first.world → RootReaches c.root w all → Making c.root w d i (take lookup all) [] now.world
   pub may : told → (b : ℕ) → MayWrite c first b → MayWrite c now b
-  pub room : told → length first.world.pairs + place ≤ first.world.geometry.slots
+  pub room : told → length first.world.pairs + lookup ≤ first.world.geometry.slots
 
 aside_of_same : (root i : ℕ) (all : List ℕ) (w v : World) → v ≡ w → AsideOf root i all w v
 aside_of_same root i all w v e first d at m reached = subst (IsAside root first) (sym e) (aside_now root first d i [] [] w at m)
@@ -145,54 +145,54 @@ sharing_begins told c first i all unspent sound now bare = record {
   room = λ t. let most = (now t).valid.raw.sized.room in omega (arith, most);
 }
 
-module _ (told : Type 0) (c : Client) (first now new : DiskView) (i : ℕ) (all : List ℕ) (place : ℕ) (s : Sharing told c first now i all place) (inside : place < length all) where
+module _ (told : Type 0) (c : Client) (first now new : DiskView) (i : ℕ) (all : List ℕ) (lookup : ℕ) (s : Sharing told c first now i all lookup) (inside : lookup < length all) where
   abbrev b : ℕ
-  b = slice_index all place
+  b = slice_index all lookup
 
   pub valid_now : told → IsValidNow now
   valid_now t = (s.runs.valid t).0
 
-  pub not_yet : told → are_apart all ≡ true → holds now.world.pairs i (slice_index all place) ≡ false
-  not_yet t apart = s.held t (slice_index all place) ∙ not_before all place apart inside
+  pub not_yet : told → are_apart all ≡ true → holds now.world.pairs i (slice_index all lookup) ≡ false
+  not_yet t apart = s.held t (slice_index all lookup) ∙ not_before all lookup apart inside
 
-  made_more : told → Leads now.world (link_by c i (slice_index all place)) (pointed now.world i (slice_index all place)) → (w : World) (d : ℕ) → Stage c.root w d → Making c.root w d i [] [] first.world → RootReaches c.root w all
-      → Making c.root w d i (take (place + 1) all) [] (pointed now.world i (slice_index all place))
+  made_more : told → Leads now.world (link_by c i (slice_index all lookup)) (pointed now.world i (slice_index all lookup)) → (w : World) (d : ℕ) → Stage c.root w d → Making c.root w d i [] [] first.world → RootReaches c.root w all
+      → Making c.root w d i (take (lookup + 1) all) [] (pointed now.world i (slice_index all lookup))
   made_more t leads w d at m reached =
-      let under : is_under w c.root (slice_index all place) ≡ true = reached (slice_index all place) (is_among all place inside) in
-      let was : is_live w (slice_index all place) ≡ true = each_under w c.root (λ k. is_live w k ≡ true) (at.valid.raw.primaries c.root at.primary) (λ x y pair k. at.valid.raw.targets x y pair) (slice_index all place) under in
-      subst (λ xs. Making c.root w d i xs [] (pointed now.world i (slice_index all place))) (sym (take_next all place inside))
-      (making_shared c.root w at.valid at.primary at.there d at.dir c i (take place all) now.world (s.making t w d at m reached) (slice_index all place) was under leads)
+      let under : is_under w c.root (slice_index all lookup) ≡ true = reached (slice_index all lookup) (is_among all lookup inside) in
+      let was : is_live w (slice_index all lookup) ≡ true = each_under w c.root (λ k. is_live w k ≡ true) (at.valid.raw.primaries c.root at.primary) (λ x y pair k. at.valid.raw.targets x y pair) (slice_index all lookup) under in
+      subst (λ xs. Making c.root w d i xs [] (pointed now.world i (slice_index all lookup))) (sym (take_next all lookup inside))
+      (making_shared c.root w at.valid at.primary at.there d at.dir c i (take lookup all) now.world (s.making t w d at m reached) (slice_index all lookup) was under leads)
 
-  stop_at_link : told → (v : World) → (v ≡ now.world) ⊎ ((v ≡ pointed now.world i (slice_index all place)) × Leads now.world (link_by c i (slice_index all place)) (pointed now.world i (slice_index all place))) → AsideOf c.root i all first.world v
+  stop_at_link : told → (v : World) → (v ≡ now.world) ⊎ ((v ≡ pointed now.world i (slice_index all lookup)) × Leads now.world (link_by c i (slice_index all lookup)) (pointed now.world i (slice_index all lookup))) → AsideOf c.root i all first.world v
   stop_at_link t v h w d at m reached = elim h [
-    | inl before ↦ subst (IsAside c.root w) (sym before) (aside_now c.root w d i (take place all) [] now.world at (s.making t w d at m reached))
-    | inr e ↦ subst (IsAside c.root w) (sym e.0) (aside_now c.root w d i (take (place + 1) all) [] (pointed now.world i (slice_index all place)) at (made_more t e.1 w d at m reached))
+    | inl before ↦ subst (IsAside c.root w) (sym before) (aside_now c.root w d i (take lookup all) [] now.world at (s.making t w d at m reached))
+    | inr e ↦ subst (IsAside c.root w) (sym e.0) (aside_now c.root w d i (take (lookup + 1) all) [] (pointed now.world i (slice_index all lookup)) at (made_more t e.1 w d at m reached))
   ]
 
   -- the next pointer, whatever comes of it
-  pub shares_on : {X : Type 0} (result : Result X FsRefusal) → Steps told c now new (link_by c i (slice_index all place)) i (pointed now.world i (slice_index all place)) result → Runs told first new (AsideOf c.root i all first.world) result
+  pub shares_on : {X : Type 0} (result : Result X FsRefusal) → Steps told c now new (link_by c i (slice_index all lookup)) i (pointed now.world i (slice_index all lookup)) result → Runs told first new (AsideOf c.root i all first.world) result
   shares_on result steps = then_runs told first now new (AsideOf c.root i all first.world) tt result s.runs
-      (runs_step told c now new (link_by c i (slice_index all place)) i (pointed now.world i (slice_index all place)) (AsideOf c.root i all first.world) result valid_now stop_at_link steps)
+      (runs_step told c now new (link_by c i (slice_index all lookup)) i (pointed now.world i (slice_index all lookup)) (AsideOf c.root i all first.world) result valid_now stop_at_link steps)
 
-  module _ (steps : Steps {X = Unit {0}} told c now new (link_by c i (slice_index all place)) i (pointed now.world i (slice_index all place)) (Ok tt)) (apart : told → are_apart all ≡ true)
+  module _ (steps : Steps {X = Unit {0}} told c now new (link_by c i (slice_index all lookup)) i (pointed now.world i (slice_index all lookup)) (Ok tt)) (apart : told → are_apart all ≡ true)
       (room : told → ◌≡◌ {A = Option FsRefusal} (no_room_in now.world 0 1) None) where
-    pub shared_next : Sharing told c first new i all (place + 1)
+    pub shared_next : Sharing told c first new i all (lookup + 1)
     shared_next = record {
       runs = shares_on (Ok tt) steps;
       geometry = λ t. ap (λ w. w.geometry) (steps.went t).world ∙ s.geometry t;
       same = λ t. ap (λ w. w.blocks) (steps.went t).world ∙ s.same t;
       pairs = λ t.
-          let more = length-with_new_pair (i, slice_index all place) now.world.pairs (not_yet t (apart t)) in
+          let more = length-with_new_pair (i, slice_index all lookup) now.world.pairs (not_yet t (apart t)) in
           let is = ap (λ w. length w.pairs) (steps.went t).world in
           let so_far = s.pairs t in
           omega (arith, more, is, so_far);
-      held = λ t k. ap (λ w. holds w.pairs i k) (steps.went t).world ∙ (holds-with_pair (i, slice_index all place) now.world.pairs i k
-          ∙ (ap (λ x. is_pair i k (i, slice_index all place) || x) (s.held t k)
-          ∙ (turned (has_number (take place all) k) (i == i) (slice_index all place == k) (eq-eqb i i refl)
-          ∙ (sym (any-append (λ x. x == k) (take place all) (slice_index all place ∷ [])) ∙ ap (λ xs. has_number xs k) (sym (take_next all place inside))))));
-      making = λ t w d at m reached. subst (Making c.root w d i (take (place + 1) all) []) (sym (steps.went t).world) (made_more t (steps.went t).leads w d at m reached);
-      may = λ t k h. may_after c now new (link_by c i (slice_index all place)) i (pointed now.world i (slice_index all place)) (steps.went t) (valid_now t) refl refl
-          (λ x y p. holds-with_pair (i, slice_index all place) now.world.pairs x y ∙ or_right (is_pair x y (i, slice_index all place)) _ p)
+      held = λ t k. ap (λ w. holds w.pairs i k) (steps.went t).world ∙ (holds-with_pair (i, slice_index all lookup) now.world.pairs i k
+          ∙ (ap (λ x. is_pair i k (i, slice_index all lookup) || x) (s.held t k)
+          ∙ (turned (has_number (take lookup all) k) (i == i) (slice_index all lookup == k) (eq-eqb i i refl)
+          ∙ (sym (any-append (λ x. x == k) (take lookup all) (slice_index all lookup ∷ [])) ∙ ap (λ xs. has_number xs k) (sym (take_next all lookup inside))))));
+      making = λ t w d at m reached. subst (Making c.root w d i (take (lookup + 1) all) []) (sym (steps.went t).world) (made_more t (steps.went t).leads w d at m reached);
+      may = λ t k h. may_after c now new (link_by c i (slice_index all lookup)) i (pointed now.world i (slice_index all lookup)) (steps.went t) (valid_now t) refl refl
+          (λ x y p. holds-with_pair (i, slice_index all lookup) now.world.pairs x y ∙ or_right (is_pair x y (i, slice_index all lookup)) _ p)
           (λ x l. l) steps.stays.0 k (s.may t k h);
       room = λ t.
           let free = (there_is_room now.world 0 1 (room t)).1 in
@@ -210,37 +210,37 @@ module _ (told : Type 0) (c : Client) (first now new : DiskView) (i : ℕ) (all 
 
   -- there is no room for the next
   module _ (e : FsRefusal) (full : told → no_room_in now.world 0 1 ≡ Some e) (same : told → state_of new ≡ state_of now) where
-    pub full_before : told → (n : ℕ) → place < n → no_room_in first.world 0 n ≡ Some (refusal_before e place)
+    pub full_before : told → (n : ℕ) → lookup < n → no_room_in first.world 0 n ≡ Some (refusal_before e lookup)
     full_before t n more =
         let want = wanted_pairs now.world 0 1 e (omega arith) (full t) in
         let low = want.0 in
         let so_far = s.pairs t in
         let slots : now.world.geometry.slots ≡ first.world.geometry.slots = ap (λ g. g.slots) (s.geometry t) in
-        let held : length first.world.pairs ≡ length now.world.pairs - place = omega (arith, so_far) in
+        let held : length first.world.pairs ≡ length now.world.pairs - lookup = omega (arith, so_far) in
         pairs_want first.world 0 n (omega arith) (omega (arith, low, so_far, slots, more))
         ∙ (ap (λ k. Some (no.PointersFull k first.world.geometry.slots)) held
-        ∙ (ap (λ k. Some (no.PointersFull (length now.world.pairs - place) k)) (sym slots) ∙ ap (λ r. Some (refusal_before r place)) want.1))
+        ∙ (ap (λ k. Some (no.PointersFull (length now.world.pairs - lookup) k)) (sym slots) ∙ ap (λ r. Some (refusal_before r lookup)) want.1))
 
     pub stopped_here : told → Stopped c first new i all
     stopped_here t =
         let world : new.world ≡ now.world = ap (λ x. x.world) (same t) in
         record {
           geometry = ap (λ w. w.geometry) world ∙ s.geometry t;
-          making = λ w d at m reached. (take place all, subst (Making c.root w d i (take place all) []) (sym world) (s.making t w d at m reached));
+          making = λ w d at m reached. (take lookup all, subst (Making c.root w d i (take lookup all) []) (sym world) (s.making t w d at m reached));
           may = λ k h. may_same c now new (same t) k (s.may t k h);
         }
 
-pub all_shared : (told : Type 0) (c : Client) (first now : DiskView) (i : ℕ) (all : List ℕ) (place : ℕ) → Sharing told c first now i all place → place ≡ length all → told → Shared c first now i all
-all_shared told c first now i all place s ends t = record {
+pub all_shared : (told : Type 0) (c : Client) (first now : DiskView) (i : ℕ) (all : List ℕ) (lookup : ℕ) → Sharing told c first now i all lookup → lookup ≡ length all → told → Shared c first now i all
+all_shared told c first now i all lookup s ends t = record {
   geometry = s.geometry t;
   same = s.same t;
   pairs = s.pairs t ∙ ap (λ k. length first.world.pairs + k) ends;
-  making = λ w d at m reached. subst (λ xs. Making c.root w d i xs [] now.world) (take_whole all place (omega (arith, ends))) (s.making t w d at m reached);
+  making = λ w d at m reached. subst (λ xs. Making c.root w d i xs [] now.world) (take_whole all lookup (omega (arith, ends))) (s.making t w d at m reached);
   may = s.may t;
 }
 
-pub room_for_shared : (told : Type 0) (c : Client) (first now : DiskView) (i : ℕ) (all : List ℕ) (place n : ℕ) → Sharing told c first now i all place → n ≤ place → told → ◌≡◌ {A = Option FsRefusal} (no_room_in first.world 0 n) None
-room_for_shared told c first now i all place n s ends t = let room = s.room t in room_there first.world 0 n (omega arith) (omega (arith, room, ends))
+pub room_for_shared : (told : Type 0) (c : Client) (first now : DiskView) (i : ℕ) (all : List ℕ) (lookup n : ℕ) → Sharing told c first now i all lookup → n ≤ lookup → told → ◌≡◌ {A = Option FsRefusal} (no_room_in first.world 0 n) None
+room_for_shared told c first now i all lookup n s ends t = let room = s.room t in room_there first.world 0 n (omega arith) (omega (arith, room, ends))
 
 -- all are shared, and then something else was refused
 pub stopped_after : (c : Client) (first now new : DiskView) (i : ℕ) (all : List ℕ) → Shared c first now i all → state_of new ≡ state_of now → Stopped c first new i all

@@ -30,9 +30,9 @@ use Rattle.inode_layout.specs.Block.{said, inode_of, block_len_of, body_of}
 use Rattle.inode_layout.specs.Said.{said_in, is_directory, is_in_order, in_order, are_small, entries_said}
 use Rattle.inode_layout.proofs.SaidLaws.{in_two_steps}
 use Rattle.inode_layout.proofs.BackLaws.{reads_back}
-use Rattle.inode_walks.specs.declared.finding.Place.{Place}
+use Rattle.inode_walks.specs.declared.finding.Lookup.{Lookup}
 use Rattle.inode_walks.specs.Asking.{tree_of}
-use Rattle.inode_walks.specs.Finding.{IsPlace, node_pairs}
+use Rattle.inode_walks.specs.Finding.{IsLookup, node_pairs}
 use Rattle.inode_walks.proofs.WalkLaws.{entry_pairs, node_block, dir_node}
 use Rattle.inode_walks.proofs.FoundLaws.{dir_said}
 use Rattle.inode_changes.proofs.ListingLaws.{small_listed}
@@ -104,12 +104,12 @@ below_named p root old d xs e a b h = below p (a_dir root old) d xs e a b h
     below (n ∷ ns) (a_file f) d xs e a b h = absurd (nowhere ns d xs e)
     below (n ∷ ns) (a_dir c es) d xs e a b h = entry_pairs c n es a b (below ns (entry n es) d xs e a b h)
 
-pub spot_of : (c : Client) (v : DiskView) (path : Path) (place : Place) → is_there (tree_of c v) ≡ true → is_directory (inode_of place.directory.inode) ≡ true → IsPlace c v path place
-    → Spot v.world c.root (directory_of path) place.directory.block (entries_said (inode_of place.directory.inode))
-spot_of c v path place there is_dir i =
-    let es = entries_said (inode_of place.directory.inode) in
-    let says : inode_at v.world place.directory.block ≡ Some (directory es) = i.above.stands.says ∙ ap (λ x. Some x) (dir_said (inode_of place.directory.inode) is_dir) in
-    let dir = dir_node v.world i.above.more place.directory.block i.above.stands.there es says in
+pub spot_of : (c : Client) (v : DiskView) (path : Path) (lookup : Lookup) → is_there (tree_of c v) ≡ true → is_directory (inode_of lookup.directory.inode) ≡ true → IsLookup c v path lookup
+    → Spot v.world c.root (directory_of path) lookup.directory.block (entries_said (inode_of lookup.directory.inode))
+spot_of c v path lookup there is_dir i =
+    let es = entries_said (inode_of lookup.directory.inode) in
+    let says : inode_at v.world lookup.directory.block ≡ Some (directory es) = i.above.stands.says ∙ ap (λ x. Some x) (dir_said (inode_of lookup.directory.inode) is_dir) in
+    let dir = dir_node v.world i.above.more lookup.directory.block i.above.stands.there es says in
     let root = found v.world c.root there in
     record {
       more = i.above.more;
@@ -120,7 +120,7 @@ spot_of c v path place there is_dir i =
       stands = ap (λ x. at x (directory_of path)) (sym (under_is v.world c.root root.0 root.1)) ∙ (i.above.node ∙ dir.2);
       listed = dir.1;
       says = says;
-      room = subst (λ n. length es ≤ entries_room n) i.above.stands.whole (dir_fits place.directory.inode is_dir);
+      room = subst (λ n. length es ≤ entries_room n) i.above.stands.whole (dir_fits lookup.directory.inode is_dir);
     }
 
 -- ---- what is written in its place

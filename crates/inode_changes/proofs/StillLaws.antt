@@ -11,17 +11,17 @@ use Rattle.fs_client.specs.declared.client.Client.{Client}
 use Rattle.fs_client.specs.May.{Looked}
 use Rattle.fs_client.proofs.LookLaws.{may_again}
 use Rattle.inode_walks.specs.declared.finding.Found.{Found}
-use Rattle.inode_walks.specs.declared.finding.Place.{Place}
-use Rattle.fs_client.specs.Changing.{no_place_found}
+use Rattle.inode_walks.specs.declared.finding.Lookup.{Lookup}
+use Rattle.fs_client.specs.Changing.{lookup_refusal}
 use Rattle.inode_walks.proofs.FileLaws.{stands_still}
 use Rattle.inode_changes.specs.Entering.{Grounds}
 use Rattle.inode_changes.specs.Growing.{Grows}
 
 -- what was read stands there still
-pub grows_still : (c : Client) (old new : DiskView) (path : Path) (place : Place) (file : Found) → Looked old new → Stays old new → IsValidNow old → Grows c old path place file → Grows c new path place file
-grows_still c old new path place file seen stays now x = record {
-  grounds = subst (λ w. Grounds c.root w path place) (sym seen.world) x.grounds;
-  may = may_again c old new place.directory.block seen stays now x.may;
+pub grows_still : (c : Client) (old new : DiskView) (path : Path) (lookup : Lookup) (file : Found) → Looked old new → Stays old new → IsValidNow old → Grows c old path lookup file → Grows c new path lookup file
+grows_still c old new path lookup file seen stays now x = record {
+  grounds = subst (λ w. Grounds c.root w path lookup) (sym seen.world) x.grounds;
+  may = may_again c old new lookup.directory.block seen stays now x.may;
   found = record {
     more = x.found.more;
     levels = x.found.levels;
@@ -29,5 +29,5 @@ grows_still c old new path place file seen stays now x = record {
     node = subst (λ w. at (inodes_under w c.root) path ≡ node_at w (suc x.found.more) file.block) (sym seen.world) x.found.node;
   };
   old = x.old;
-  way = subst (λ w. ◌≡◌ {A = Option FsRefusal} (no_place_found (inode_tree w c.root) path no.IsDir) None) (sym seen.world) x.way;
+  way = subst (λ w. ◌≡◌ {A = Option FsRefusal} (lookup_refusal (inode_tree w c.root) path no.IsDir) None) (sym seen.world) x.way;
 }

@@ -1,4 +1,4 @@
--- What was made, a file or an empty directory, is entered at the place of a path.
+-- What was made, a file or an empty directory, is entered at the lookup of a path.
 use Rattle.std.specs.Prelude.{◌≡◌, ℕ, suc, ◌+◌, ◌<◌, ◌⊎◌, List, [], ◌∷◌, ◌++◌, length, Some, None, IsTrue}
 use Rattle.tsd_model.specs.Geometry.{block_len}
 use Rattle.tsd_model.specs.World.{World, is_live, is_free, has_number}
@@ -14,37 +14,37 @@ use Rattle.fs_trees.specs.declared.ask.ShellKind.TheVariants as kind
 use Rattle.inode_layout.specs.declared.inode.Inode as layout
 use Rattle.inode_layout.specs.Block.{inode_of, block_len_of}
 use Rattle.inode_layout.specs.Said.{is_directory, blocks_said, entries_said}
-use Rattle.inode_walks.specs.declared.finding.Place.{Place}
+use Rattle.inode_walks.specs.declared.finding.Lookup.{Lookup}
 use Rattle.inode_changes.specs.Making.{Making}
 
 -- ---- where it is entered
 
--- The place of a path, as it was read from the blocks of a world: its directory, its name, and what stands there.
-pub record IsEntryRead (root : ℕ) (w : World) (path : Path) (place : Place) : Type 0 where
+-- The lookup of a path, as it was read from the blocks of a world: its directory, its name, and what stands there.
+pub record IsEntryRead (root : ℕ) (w : World) (path : Path) (lookup : Lookup) : Type 0 where
   -- so many names may follow those of the directory
   pub more : ℕ
   pub levels : more + length (directory_of path) ≡ path_max
-  pub node : at (inodes_under w root) (directory_of path) ≡ node_at w (suc more) place.directory.block
-  pub there : IsTrue (is_there (node_at w (suc more) place.directory.block))
-  pub says : inode_at w place.directory.block ≡ Some (inode_of place.directory.inode)
-  pub whole : block_len_of place.directory.inode ≡ block_len w.geometry
-  pub dir : IsTrue (is_directory (inode_of place.directory.inode))
-  pub name : path ≡ directory_of path ++ place.name.now ∷ []
-  pub old : place.old ≡ block_named place.name.now (entries_said (inode_of place.directory.inode))
+  pub node : at (inodes_under w root) (directory_of path) ≡ node_at w (suc more) lookup.directory.block
+  pub there : IsTrue (is_there (node_at w (suc more) lookup.directory.block))
+  pub says : inode_at w lookup.directory.block ≡ Some (inode_of lookup.directory.inode)
+  pub whole : block_len_of lookup.directory.inode ≡ block_len w.geometry
+  pub dir : IsTrue (is_directory (inode_of lookup.directory.inode))
+  pub name : path ≡ directory_of path ++ lookup.name.now ∷ []
+  pub old : lookup.old ≡ block_named lookup.name.now (entries_said (inode_of lookup.directory.inode))
 
 -- a directory has room for an entry of this name, if it is a new one
 abbrev pub DirectoryHasRoom : layout.Inode → Name → Type 0
 DirectoryHasRoom inode n = block_named n (entries_said (inode_of inode)) ≡ None
     → length (entries_said (inode_of inode)) < entries_room (block_len_of inode)
 
--- the place of a path in a valid world that has a tree under the root, with room for an entry
-pub record Grounds (root : ℕ) (first : World) (path : Path) (place : Place) : Type 0 where
+-- the lookup of a path in a valid world that has a tree under the root, with room for an entry
+pub record Grounds (root : ℕ) (first : World) (path : Path) (lookup : Lookup) : Type 0 where
   pub valid : IsValid first
   pub primary : root < first.geometry.primaries
   pub there : IsTrue (is_there (inode_tree first root))
   pub path_is : IsTrue (is_path path)
-  pub entry : IsEntryRead root first path place
-  pub room : DirectoryHasRoom place.directory.inode place.name.now
+  pub entry : IsEntryRead root first path lookup
+  pub room : DirectoryHasRoom lookup.directory.inode lookup.name.now
 
 -- ---- what is entered
 
@@ -74,10 +74,10 @@ pub record IsMadeInode (root : ℕ) (first : World) (d i : ℕ) (made : Tree) (w
   pub is : tree_of w (node_of i inode) ≡ made
   pub of_files : AreOfFiles root first shared
 
--- it may be entered at the place, whatever has gone before
-abbrev pub MayEnter : ℕ → Place → ℕ → World → Type 0
-MayEnter root place i w = (first : World) × (path : Path) × (made : Tree) × Grounds root first path place
-    × IsMadeInode root first place.directory.block i made w
+-- it may be entered at the lookup, whatever has gone before
+abbrev pub MayEnter : ℕ → Lookup → ℕ → World → Type 0
+MayEnter root lookup i w = (first : World) × (path : Path) × (made : Tree) × Grounds root first path lookup
+    × IsMadeInode root first lookup.directory.block i made w
 
 -- ---- what that leaves
 
@@ -98,12 +98,12 @@ pub record HasEither (root : ℕ) (first : World) (path : Path) (made : Tree) (w
   pub others : OthersStay root first w
 
 -- whatever has gone before it stood made in the world `begun`
-abbrev pub Enters : ℕ → Place → ℕ → World → World → Type 0
-Enters root place i begun w =
-    (first : World) (path : Path) (made : Tree) → Grounds root first path place
-    → IsMadeInode root first place.directory.block i made begun → HasMade root first path made w
+abbrev pub Enters : ℕ → Lookup → ℕ → World → World → Type 0
+Enters root lookup i begun w =
+    (first : World) (path : Path) (made : Tree) → Grounds root first path lookup
+    → IsMadeInode root first lookup.directory.block i made begun → HasMade root first path made w
 
-abbrev pub EntersOrNot : ℕ → Place → ℕ → World → World → Type 0
-EntersOrNot root place i begun w =
-    (first : World) (path : Path) (made : Tree) → Grounds root first path place
-    → IsMadeInode root first place.directory.block i made begun → HasEither root first path made w
+abbrev pub EntersOrNot : ℕ → Lookup → ℕ → World → World → Type 0
+EntersOrNot root lookup i begun w =
+    (first : World) (path : Path) (made : Tree) → Grounds root first path lookup
+    → IsMadeInode root first lookup.directory.block i made begun → HasEither root first path made w

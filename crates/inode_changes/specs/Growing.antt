@@ -10,20 +10,20 @@ use Rattle.inode_layout.specs.declared.inode.Inode.{Inode}
 use Rattle.inode_layout.specs.Block.{inode_of, block_len_of, body_of}
 use Rattle.inode_layout.specs.Said.{amount_said}
 use Rattle.inode_walks.specs.declared.finding.Found.{Found}
-use Rattle.inode_walks.specs.declared.finding.Place.{Place}
+use Rattle.inode_walks.specs.declared.finding.Lookup.{Lookup}
 use Rattle.inode_walks.specs.Asking.{tree_of}
 use Rattle.inode_walks.specs.Finding.{StandsAtPath}
-use Rattle.fs_client.specs.Changing.{no_place_found}
+use Rattle.fs_client.specs.Changing.{lookup_refusal}
 use Rattle.inode_changes.specs.declared.content.Content.{Content}
 use Rattle.inode_changes.specs.Entering.{Grounds}
 
 -- What stands at a path and the entry that names it, as they were read: nothing on the way refuses an ask there.
-pub record Grows (c : Client) (v : DiskView) (path : Path) (place : Place) (file : Found) : Type 0 where
-  pub grounds : Grounds c.root v.world path place
-  pub may : MayWrite c v place.directory.block
+pub record Grows (c : Client) (v : DiskView) (path : Path) (lookup : Lookup) (file : Found) : Type 0 where
+  pub grounds : Grounds c.root v.world path lookup
+  pub may : MayWrite c v lookup.directory.block
   pub found : StandsAtPath c v path file
-  pub old : place.old ≡ Some file.block
-  pub way : ◌≡◌ {A = Option FsRefusal} (no_place_found (tree_of c v) path no.IsDir) None
+  pub old : lookup.old ≡ Some file.block
+  pub way : ◌≡◌ {A = Option FsRefusal} (lookup_refusal (tree_of c v) path no.IsDir) None
 
 -- The new file shares the blocks of the old one that are full: their numbers are the first of those behind the old
 -- one's head. The bytes of the old one that are behind them stand in front of those that are added.

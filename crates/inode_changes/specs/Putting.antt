@@ -6,19 +6,19 @@ use Rattle.fs_trees.specs.declared.refusal.FsRefusal.{FsRefusal}
 use Rattle.fs_trees.specs.declared.refusal.FsRefusal.TheVariants as no
 use Rattle.fs_port.specs.View.{DiskView}
 use Rattle.fs_client.specs.declared.client.Client.{Client}
-use Rattle.inode_walks.specs.declared.finding.Place.{Place}
+use Rattle.inode_walks.specs.declared.finding.Lookup.{Lookup}
 use Rattle.inode_walks.specs.Asking.{tree_of}
-use Rattle.inode_walks.specs.Finding.{IsPlace}
-use Rattle.fs_client.specs.Changing.{no_place_found}
+use Rattle.inode_walks.specs.Finding.{IsLookup}
+use Rattle.fs_client.specs.Changing.{lookup_refusal}
 use Rattle.inode_changes.specs.declared.content.Content.{Content}
 
 -- The entry of a path as it was found: nothing on the way refuses an ask there, and no directory stands there.
-pub record PutsFile (c : Client) (v : DiskView) (path : Path) (place : Place) : Type 0 where
+pub record PutsFile (c : Client) (v : DiskView) (path : Path) (lookup : Lookup) : Type 0 where
   pub primary : c.root < v.world.geometry.primaries
   pub there : IsTrue (is_there (tree_of c v))
   pub path_is : IsTrue (is_path path)
-  pub found : IsPlace c v path place
-  pub way : ◌≡◌ {A = Option FsRefusal} (no_place_found (tree_of c v) path no.IsDir) None
+  pub found : IsLookup c v path lookup
+  pub way : ◌≡◌ {A = Option FsRefusal} (lookup_refusal (tree_of c v) path no.IsDir) None
   pub no_dir : is_dir (at (tree_of c v) path) ≡ false
 
 -- a content of these bytes alone, in blocks of this length

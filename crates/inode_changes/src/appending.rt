@@ -27,7 +27,7 @@ use fs_fields::NUMBER_BYTES;
 use fs_port::Blocks;
 use fs_trees::{FsRefusal, Path};
 use inode_layout::Inode;
-use inode_walks::{Found, Place, find_place, read_inode};
+use inode_walks::{Found, Lookup, look_up, read_inode};
 use tsd_model::Data;
 
 /// The first of these bytes, so many at most.
@@ -93,22 +93,22 @@ fn grown<'a>(inode: &'a Inode, front: &'a Data, bytes: &'a Data) -> Content<'a>
 fn grow<K: Blocks>(
     client: &Client,
     disk: &mut K,
-    place: &Place<'_>,
+    lookup: &Lookup<'_>,
     file: &Found,
     bytes: &Data,
 ) -> Result<(), FsRefusal>
     requires unspent { (K.view disk.old).spent ≡ false }
     requires valid { K.told → IsValidNow (K.view disk.old) }
-    requires dir { IsTrue (is_directory (inode_of place.now.directory.inode)) }
-    requires short { length place.now.name.now ≤ name_max }
-    requires room { DirectoryHasRoom place.now.directory.inode place.now.name.now }
+    requires dir { IsTrue (is_directory (inode_of lookup.now.directory.inode)) }
+    requires short { length lookup.now.name.now ≤ name_max }
+    requires room { DirectoryHasRoom lookup.now.directory.inode lookup.now.name.now }
     requires is_file { is_directory (inode_of file.now.inode) ≡ false }
     requires some { 1 ≤ length bytes.now }
-    requires grows { K.told → (path : Path) × Grows client.now (K.view disk.old) path place.now file.now }
-    ensures answer { K.told → (path : Path) → Grows client.now (K.view disk.old) path place.now file.now
+    requires grows { K.told → (path : Path) × Grows client.now (K.view disk.old) path lookup.now file.now }
+    ensures answer { K.told → (path : Path) → Grows client.now (K.view disk.old) path lookup.now file.now
         → Answers (mounted_by client.now) (K.view disk.old) (K.view disk.new) (ask.Append path bytes.now) result
         (λ _ answer. answer ≡ done) }
-    ensures changes { (path : Path) → (K.told → Grows client.now (K.view disk.old) path place.now file.now)
+    ensures changes { (path : Path) → (K.told → Grows client.now (K.view disk.old) path lookup.now file.now)
         → Changes K.told (mounted_by client.now) (K.view disk.old) (K.view disk.new) (ask.Append path bytes.now)
         result }
 {
@@ -122,11 +122,11 @@ fn grow<K: Blocks>(
         Err(refusal) => return Err(refusal),
     };
     let content = grown(inode, &front, bytes);
-    let new = match make_file(client, disk, place.directory.block, &content) {
+    let new = match make_file(client, disk, lookup.directory.block, &content) {
         Ok(new) => new,
         Err(refusal) => return Err(refusal),
     };
-    match enter(client, disk, place, new) {
+    match enter(client, disk, lookup, new) {
         Ok(()) => Ok(()),
         Err(refusal) => Err(refusal),
     }
@@ -148,11 +148,11 @@ pub fn append<K: Blocks>(
         (ask.Append path.now bytes.now) result }
     ensures idle { bytes.now ≡ [] → OnlyLooks K.told (K.view disk.old) (K.view disk.new) result }
 {
-    let place = match find_place(client, disk, path, FsRefusal::IsDir) {
-        Ok(place) => place,
+    let lookup = match look_up(client, disk, path, FsRefusal::IsDir) {
+        Ok(lookup) => lookup,
         Err(refusal) => return Err(refusal),
     };
-    let block = match place.directory.inode.entry(place.name) {
+    let block = match lookup.directory.inode.entry(lookup.name) {
         Some(block) => block,
         None => return Err(FsRefusal::NoEntry),
     };
@@ -166,5 +166,5 @@ pub fn append<K: Blocks>(
     if bytes.is_empty() {
         return Ok(());
     }
-    grow(client, disk, &place, &file, bytes)
+    grow(client, disk, &lookup, &file, bytes)
 }

@@ -46,12 +46,12 @@ impl<'a> Content<'a> {
         blocks_for((self.front.len() + self.bytes.len()) as u64, self.block_len) as u32
     }
 
-    /// The block that it shares at a place.
-    pub fn shared_block(&self, place: u32) -> u32
-        requires { place < length (shared_of self.now) }
-        ensures { result ≡ slice_index (shared_of self.now) place }
+    /// The block that it shares at a position.
+    pub fn shared_block(&self, position: u32) -> u32
+        requires { position < length (shared_of self.now) }
+        ensures { result ≡ slice_index (shared_of self.now) position }
     {
-        number_at(self.shared, NUMBER_BYTES * place as usize)
+        number_at(self.shared, NUMBER_BYTES * position as usize)
     }
 
     /// The bytes of its inode, where these are the new blocks.

@@ -21,7 +21,7 @@ use fs_fields::NUMBER_BYTES;
 use fs_port::Blocks;
 use fs_trees::{FsRefusal, Path};
 use inode_layout::Inode;
-use inode_walks::{Found, Place, find_file, find_place};
+use inode_walks::{Found, Lookup, find_file, look_up};
 
 /// What a copy of a file is made of: all its blocks, which it shares.
 fn shared_whole(inode: &Inode) -> Content<'_>
@@ -38,34 +38,34 @@ fn shared_whole(inode: &Inode) -> Content<'_>
     }
 }
 
-/// Makes a new file at a place: its inode shares the blocks of another.
+/// Makes a new file at a lookup: its inode shares the blocks of another.
 #[tactic(none)]
 fn copy_to<K: Blocks>(
     client: &Client,
     disk: &mut K,
     file: &Found,
-    place: &Place<'_>,
+    lookup: &Lookup<'_>,
 ) -> Result<(), FsRefusal>
     requires unspent { (K.view disk.old).spent ≡ false }
     requires valid { K.told → IsValidNow (K.view disk.old) }
     requires is_file { is_directory (inode_of file.now.inode) ≡ false }
-    requires dir { IsTrue (is_directory (inode_of place.now.directory.inode)) }
-    requires short { length place.now.name.now ≤ name_max }
-    requires room { DirectoryHasRoom place.now.directory.inode place.now.name.now }
+    requires dir { IsTrue (is_directory (inode_of lookup.now.directory.inode)) }
+    requires short { length lookup.now.name.now ≤ name_max }
+    requires room { DirectoryHasRoom lookup.now.directory.inode lookup.now.name.now }
     requires copies { K.told → (path : Path) × (new : Path) × Copies client.now (K.view disk.old) path file.now new
-        place.now }
-    ensures answer { K.told → (path new : Path) → Copies client.now (K.view disk.old) path file.now new place.now
+        lookup.now }
+    ensures answer { K.told → (path new : Path) → Copies client.now (K.view disk.old) path file.now new lookup.now
         → Answers (mounted_by client.now) (K.view disk.old) (K.view disk.new) (ask.Copy path new) result
         (λ _ answer. answer ≡ done) }
-    ensures changes { (path new : Path) → (K.told → Copies client.now (K.view disk.old) path file.now new place.now)
+    ensures changes { (path new : Path) → (K.told → Copies client.now (K.view disk.old) path file.now new lookup.now)
         → Changes K.told (mounted_by client.now) (K.view disk.old) (K.view disk.new) (ask.Copy path new) result }
 {
     let content = shared_whole(&file.inode);
-    let new = match make_file(client, disk, place.directory.block, &content) {
+    let new = match make_file(client, disk, lookup.directory.block, &content) {
         Ok(new) => new,
         Err(refusal) => return Err(refusal),
     };
-    match enter(client, disk, place, new) {
+    match enter(client, disk, lookup, new) {
         Ok(()) => Ok(()),
         Err(refusal) => Err(refusal),
     }
@@ -91,17 +91,17 @@ pub fn copy<K: Blocks>(
         Ok(file) => file,
         Err(refusal) => return Err(refusal),
     };
-    let place = match find_place(client, disk, new, FsRefusal::Exists) {
-        Ok(place) => place,
+    let lookup = match look_up(client, disk, new, FsRefusal::Exists) {
+        Ok(lookup) => lookup,
         Err(refusal) => return Err(refusal),
     };
-    match place.old {
+    match lookup.old {
         Some(_taken) => return Err(FsRefusal::Exists),
         None => {}
     }
-    match check_entry(&place.directory.inode, place.name) {
+    match check_entry(&lookup.directory.inode, lookup.name) {
         Ok(()) => {}
         Err(refusal) => return Err(refusal),
     }
-    copy_to(client, disk, &file, &place)
+    copy_to(client, disk, &file, &lookup)
 }

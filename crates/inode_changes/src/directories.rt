@@ -25,7 +25,7 @@ use fs_client::{Client, write_block};
 use fs_port::Blocks;
 use fs_trees::{FsRefusal, Path};
 use inode_layout::empty_directory;
-use inode_walks::{Place, find_place};
+use inode_walks::{Lookup, look_up};
 
 /// Makes a directory without entries in a new inode of another, which doesn't name it yet. Want of room refuses it.
 #[tactic(none)]
@@ -56,26 +56,26 @@ fn new_directory<K: Blocks>(client: &Client, disk: &mut K, directory: u32) -> Re
     }
 }
 
-/// Makes a directory without entries, and enters it at a place where nothing stands.
+/// Makes a directory without entries, and enters it where a lookup found nothing.
 #[tactic(none)]
 fn add_directory<K: Blocks>(
     client: &Client,
     disk: &mut K,
-    place: &Place<'_>,
+    lookup: &Lookup<'_>,
 ) -> Result<(), FsRefusal>
     requires unspent { (K.view disk.old).spent ≡ false }
     requires valid { K.told → IsValidNow (K.view disk.old) }
-    requires dir { IsTrue (is_directory (inode_of place.now.directory.inode)) }
-    requires short { length place.now.name.now ≤ name_max }
-    requires vacant { K.told → (path : Path) × IsVacant client.now (K.view disk.old) path place.now }
-    ensures answer { K.told → (path : Path) → IsVacant client.now (K.view disk.old) path place.now
+    requires dir { IsTrue (is_directory (inode_of lookup.now.directory.inode)) }
+    requires short { length lookup.now.name.now ≤ name_max }
+    requires vacant { K.told → (path : Path) × IsVacant client.now (K.view disk.old) path lookup.now }
+    ensures answer { K.told → (path : Path) → IsVacant client.now (K.view disk.old) path lookup.now
         → Answers (mounted_by client.now) (K.view disk.old) (K.view disk.new) (ask.MakeDir path) result
         (λ _ answer. answer ≡ done) }
-    ensures changes { (path : Path) → (K.told → IsVacant client.now (K.view disk.old) path place.now)
+    ensures changes { (path : Path) → (K.told → IsVacant client.now (K.view disk.old) path lookup.now)
         → Changes K.told (mounted_by client.now) (K.view disk.old) (K.view disk.new) (ask.MakeDir path) result }
 {
-    let directory = &place.directory;
-    match check_entry(&directory.inode, place.name) {
+    let directory = &lookup.directory;
+    match check_entry(&directory.inode, lookup.name) {
         Ok(()) => {}
         Err(refusal) => return Err(refusal),
     }
@@ -83,7 +83,7 @@ fn add_directory<K: Blocks>(
         Ok(inode) => inode,
         Err(refusal) => return Err(refusal),
     };
-    match enter(client, disk, place, inode) {
+    match enter(client, disk, lookup, inode) {
         Ok(()) => Ok(()),
         Err(refusal) => Err(refusal),
     }
@@ -99,15 +99,15 @@ pub fn make_dir<K: Blocks>(client: &Client, disk: &mut K, path: &Path) -> Result
     ensures changes { Changes K.told (mounted_by client.now) (K.view disk.old) (K.view disk.new) (ask.MakeDir path.now)
         result }
 {
-    let place = match find_place(client, disk, path, FsRefusal::Exists) {
-        Ok(place) => place,
+    let lookup = match look_up(client, disk, path, FsRefusal::Exists) {
+        Ok(lookup) => lookup,
         Err(refusal) => return Err(refusal),
     };
-    match place.old {
+    match lookup.old {
         Some(_taken) => return Err(FsRefusal::Exists),
         None => {}
     }
-    match add_directory(client, disk, &place) {
+    match add_directory(client, disk, &lookup) {
         Ok(()) => Ok(()),
         Err(refusal) => Err(refusal),
     }

@@ -17,7 +17,7 @@ use fs_client::{Client, drop_pointer, write_block};
 use fs_port::Blocks;
 use fs_trees::FsRefusal;
 use inode_layout::{Inode, directory_with, entries_room};
-use inode_walks::Place;
+use inode_walks::Lookup;
 
 /// Refuses a new entry of a directory that has as many as it can.
 pub fn check_entry(directory: &Inode, name: &[u8]) -> Result<(), FsRefusal>
@@ -40,30 +40,30 @@ pub fn check_entry(directory: &Inode, name: &[u8]) -> Result<(), FsRefusal>
 pub fn enter<K: Blocks>(
     client: &Client,
     disk: &mut K,
-    place: &Place<'_>,
+    lookup: &Lookup<'_>,
     inode: u32,
 ) -> Result<(), FsRefusal>
     requires unspent { (K.view disk.old).spent ≡ false }
     requires valid { K.told → IsValidNow (K.view disk.old) }
-    requires dir { IsTrue (is_directory (inode_of place.now.directory.inode)) }
-    requires short { length place.now.name.now ≤ name_max }
-    requires room { DirectoryHasRoom place.now.directory.inode place.now.name.now }
-    requires may { K.told → MayWrite client.now (K.view disk.old) place.now.directory.block }
-    requires made { K.told → MayEnter client.now.root place.now inode (K.view disk.old).world }
-    ensures entered { K.told → OnOk result (Enters client.now.root place.now inode (K.view disk.old).world
+    requires dir { IsTrue (is_directory (inode_of lookup.now.directory.inode)) }
+    requires short { length lookup.now.name.now ≤ name_max }
+    requires room { DirectoryHasRoom lookup.now.directory.inode lookup.now.name.now }
+    requires may { K.told → MayWrite client.now (K.view disk.old) lookup.now.directory.block }
+    requires made { K.told → MayEnter client.now.root lookup.now inode (K.view disk.old).world }
+    ensures entered { K.told → OnOk result (Enters client.now.root lookup.now inode (K.view disk.old).world
         (K.view disk.new).world) }
     ensures keeps { K.told → OnOk result (KeepsRoom (need 0 0) (K.view disk.old).world (K.view disk.new).world) }
     ensures only { K.told → IfErr result (λ e. e ≡ no.Device) }
-    ensures runs { Runs K.told (K.view disk.old) (K.view disk.new) (EntersOrNot client.now.root place.now inode
+    ensures runs { Runs K.told (K.view disk.old) (K.view disk.new) (EntersOrNot client.now.root lookup.now inode
         (K.view disk.old).world) result }
 {
-    let directory = &place.directory;
-    let bytes = directory_with(&directory.inode, place.name, inode);
+    let directory = &lookup.directory;
+    let bytes = directory_with(&directory.inode, lookup.name, inode);
     match write_block(client, disk, directory.block, bytes) {
         Ok(()) => {}
         Err(refusal) => return Err(refusal),
     }
-    let old = match place.old {
+    let old = match lookup.old {
         Some(old) => old,
         None => return Ok(()),
     };

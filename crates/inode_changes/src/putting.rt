@@ -13,7 +13,7 @@ ghost use Rattle.fs_port.specs.Runs.{Changes};
 ghost use Rattle.inode_layout.specs.Block.{inode_of};
 ghost use Rattle.inode_layout.specs.Said.{is_directory};
 ghost use Rattle.inode_walks.specs.Asking.{MayAsk, mounted_by, tree_of};
-ghost use Rattle.inode_walks.specs.Finding.{IsPlace};
+ghost use Rattle.inode_walks.specs.Finding.{IsLookup};
 ghost use Rattle.inode_changes.specs.Putting.{PutsFile, IsOf};
 
 use crate::content::Content;
@@ -23,25 +23,25 @@ use crate::sizes::is_too_big;
 use fs_client::Client;
 use fs_port::Blocks;
 use fs_trees::{FsRefusal, Path};
-use inode_walks::{Place, find_place, read_inode};
+use inode_walks::{Lookup, look_up, read_inode};
 use tsd_model::Data;
 
 /// Refuses a directory that stands where a file is to be put.
 #[tactic(none)]
-fn check_old<K: Blocks>(client: &Client, disk: &mut K, place: &Place<'_>) -> Result<(), FsRefusal>
+fn check_old<K: Blocks>(client: &Client, disk: &mut K, lookup: &Lookup<'_>) -> Result<(), FsRefusal>
     requires unspent { (K.view disk.old).spent ≡ false }
     requires valid { K.told → IsValidNow (K.view disk.old) }
-    requires dir { IsTrue (is_directory (inode_of place.now.directory.inode)) }
-    requires found { K.told → (path : Path) × IsPlace client.now (K.view disk.old) path place.now }
-    ensures no_dir { K.told → OnOk result ((path : Path) → IsPlace client.now (K.view disk.old) path place.now
+    requires dir { IsTrue (is_directory (inode_of lookup.now.directory.inode)) }
+    requires found { K.told → (path : Path) × IsLookup client.now (K.view disk.old) path lookup.now }
+    ensures no_dir { K.told → OnOk result ((path : Path) → IsLookup client.now (K.view disk.old) path lookup.now
         → is_dir (at (tree_of client.now (K.view disk.old)) path) ≡ false) }
     ensures only { K.told → IfErr result (λ e. e ≢ no.Device → e ≡ no.IsDir) }
     ensures is_dir { K.told → IfErr result (λ e. e ≢ no.Device → (path : Path)
-        → IsPlace client.now (K.view disk.old) path place.now
+        → IsLookup client.now (K.view disk.old) path lookup.now
         → IsTrue (is_dir (at (tree_of client.now (K.view disk.old)) path))) }
     ensures looks { OnlyLooks K.told (K.view disk.old) (K.view disk.new) result }
 {
-    let block = match place.old {
+    let block = match lookup.old {
         Some(block) => block,
         None => return Ok(()),
     };
@@ -68,27 +68,27 @@ fn whole(bytes: &Data, block_len: usize) -> Content<'_>
     }
 }
 
-/// Makes a file of these bytes and enters it at a place where no directory stands.
+/// Makes a file of these bytes and enters it where a lookup found no directory.
 #[tactic(none)]
 fn store<K: Blocks>(
     client: &Client,
     disk: &mut K,
-    place: &Place<'_>,
+    lookup: &Lookup<'_>,
     bytes: &Data,
 ) -> Result<(), FsRefusal>
     requires unspent { (K.view disk.old).spent ≡ false }
     requires valid { K.told → IsValidNow (K.view disk.old) }
-    requires dir { IsTrue (is_directory (inode_of place.now.directory.inode)) }
-    requires short { length place.now.name.now ≤ name_max }
-    requires puts { K.told → (path : Path) × PutsFile client.now (K.view disk.old) path place.now }
-    ensures answer { K.told → (path : Path) → PutsFile client.now (K.view disk.old) path place.now
+    requires dir { IsTrue (is_directory (inode_of lookup.now.directory.inode)) }
+    requires short { length lookup.now.name.now ≤ name_max }
+    requires puts { K.told → (path : Path) × PutsFile client.now (K.view disk.old) path lookup.now }
+    ensures answer { K.told → (path : Path) → PutsFile client.now (K.view disk.old) path lookup.now
         → Answers (mounted_by client.now) (K.view disk.old) (K.view disk.new) (ask.Put path bytes.now) result
         (λ _ answer. answer ≡ done) }
-    ensures changes { (path : Path) → (K.told → PutsFile client.now (K.view disk.old) path place.now)
+    ensures changes { (path : Path) → (K.told → PutsFile client.now (K.view disk.old) path lookup.now)
         → Changes K.told (mounted_by client.now) (K.view disk.old) (K.view disk.new) (ask.Put path bytes.now) result }
 {
-    let directory = &place.directory;
-    match check_entry(&directory.inode, place.name) {
+    let directory = &lookup.directory;
+    match check_entry(&directory.inode, lookup.name) {
         Ok(()) => {}
         Err(refusal) => return Err(refusal),
     }
@@ -101,7 +101,7 @@ fn store<K: Blocks>(
         Ok(inode) => inode,
         Err(refusal) => return Err(refusal),
     };
-    match enter(client, disk, place, inode) {
+    match enter(client, disk, lookup, inode) {
         Ok(()) => Ok(()),
         Err(refusal) => Err(refusal),
     }
@@ -122,15 +122,15 @@ pub fn put<K: Blocks>(
     ensures changes { Changes K.told (mounted_by client.now) (K.view disk.old) (K.view disk.new)
         (ask.Put path.now bytes.now) result }
 {
-    let place = match find_place(client, disk, path, FsRefusal::IsDir) {
-        Ok(place) => place,
+    let lookup = match look_up(client, disk, path, FsRefusal::IsDir) {
+        Ok(lookup) => lookup,
         Err(refusal) => return Err(refusal),
     };
-    match check_old(client, disk, &place) {
+    match check_old(client, disk, &lookup) {
         Ok(()) => {}
         Err(refusal) => return Err(refusal),
     }
-    match store(client, disk, &place, bytes) {
+    match store(client, disk, &lookup, bytes) {
         Ok(()) => Ok(()),
         Err(refusal) => Err(refusal),
     }

@@ -14,7 +14,7 @@ use fs_client::{Client, drop_pointer, write_block};
 use fs_port::Blocks;
 use fs_trees::{FsRefusal, Path};
 use inode_layout::{Inode, directory_without};
-use inode_walks::{find_place, read_inode};
+use inode_walks::{look_up, read_inode};
 
 /// Whether it is a directory with entries.
 fn has_entries(inode: &Inode) -> bool
@@ -34,11 +34,11 @@ pub fn remove<K: Blocks>(client: &Client, disk: &mut K, path: &Path) -> Result<(
     ensures changes { Changes K.told (mounted_by client.now) (K.view disk.old) (K.view disk.new) (ask.Rm path.now)
         result }
 {
-    let place = match find_place(client, disk, path, FsRefusal::IsDir) {
-        Ok(place) => place,
+    let lookup = match look_up(client, disk, path, FsRefusal::IsDir) {
+        Ok(lookup) => lookup,
         Err(refusal) => return Err(refusal),
     };
-    let block = match place.old {
+    let block = match lookup.old {
         Some(block) => block,
         None => return Err(FsRefusal::NoEntry),
     };
@@ -49,8 +49,8 @@ pub fn remove<K: Blocks>(client: &Client, disk: &mut K, path: &Path) -> Result<(
     if has_entries(&old.inode) {
         return Err(FsRefusal::NotEmpty);
     }
-    let directory = &place.directory;
-    let bytes = directory_without(&directory.inode, place.name);
+    let directory = &lookup.directory;
+    let bytes = directory_without(&directory.inode, lookup.name);
     match write_block(client, disk, directory.block, bytes) {
         Ok(()) => {}
         Err(refusal) => return Err(refusal),

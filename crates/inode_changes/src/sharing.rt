@@ -41,10 +41,10 @@ pub fn share<K: Blocks>(
     ensures runs { Runs K.told (K.view disk.old) (K.view disk.new) (AsideOf client.now.root inode
         (shared_of content.now) (K.view disk.old).world) result }
 {
-    for place in 0..content.shared_count() {
-        match add_pointer(client, disk, inode, content.shared_block(place)) {
+    for position in 0..content.shared_count() {
+        match add_pointer(client, disk, inode, content.shared_block(position)) {
             Ok(()) => {}
-            Err(refusal) => return Err(held_before(refusal, place)),
+            Err(refusal) => return Err(held_before(refusal, position)),
         }
     }
     Ok(())

@@ -130,8 +130,8 @@ fn is_file_right<K: Blocks>(
     ensures only { K.told → IfErr result (λ e. e ≡ no.Device) }
     ensures looks { OnlyLooks K.told (K.view disk.old) (K.view disk.new) result }
 {
-    for place in 0..file.inode.count() {
-        let block = file.inode.named(place);
+    for position in 0..file.inode.count() {
+        let block = file.inode.named(position);
         if marks.is_inode(block) {
             return Ok(false);
         }
@@ -177,12 +177,12 @@ fn is_right<K: Blocks>(
         }
         return is_file_right(client, disk, marks, &seen.found);
     }
-    for place in 0..seen.found.inode.count() {
+    for position in 0..seen.found.inode.count() {
         match is_right(
             client,
             disk,
             marks,
-            seen.found.inode.named(place),
+            seen.found.inode.named(position),
             levels - 1,
             true,
         ) {

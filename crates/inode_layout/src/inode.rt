@@ -129,20 +129,20 @@ impl Inode {
         &self.bytes.as_slice()[HEAD_BYTES..]
     }
 
-    /// The block that it names at a place.
-    pub fn named(&self, place: usize) -> u32
-        requires { place < length (blocks_said (inode_of self.now)) }
-        ensures { result ≡ slice_index (blocks_said (inode_of self.now)) place }
+    /// The block that it names at a position.
+    pub fn named(&self, position: usize) -> u32
+        requires { position < length (blocks_said (inode_of self.now)) }
+        ensures { result ≡ slice_index (blocks_said (inode_of self.now)) position }
     {
-        number_at(self.body(), item_bytes(self.kind) * place)
+        number_at(self.body(), item_bytes(self.kind) * position)
     }
 
     /// Whether it names a block.
     pub fn names(&self, block: u32) -> bool
         ensures { result ≡ has_number (blocks_said (inode_of self.now)) block }
     {
-        for place in 0..self.count() {
-            if self.named(place) == block {
+        for position in 0..self.count() {
+            if self.named(position) == block {
                 return true;
             }
         }

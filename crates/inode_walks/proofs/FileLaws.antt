@@ -54,14 +54,14 @@ file_count i h = by_kind i.kind i.amount i.count (body_of i) (block_len_of i) i.
     by_kind Regular a count body len e h = numbers_length count body ∙ e
 
 -- a place in it is in one of its blocks
-pub place_named : (i : Inode) (place : ℕ) → is_directory (inode_of i) ≡ false → 16 ≤ block_len_of i → place < amount_said (inode_of i) → place / block_len_of i < length (blocks_said (inode_of i))
-place_named i place h whole below =
+pub place_named : (i : Inode) (lookup : ℕ) → is_directory (inode_of i) ≡ false → 16 ≤ block_len_of i → lookup < amount_said (inode_of i) → lookup / block_len_of i < length (blocks_said (inode_of i))
+place_named i lookup h whole below =
     let len = block_len_of i in
     let size = amount_said (inode_of i) in
     let some : 0 < len = omega arith in
     let most = (div_ceil_times size len some).0 in
-    let in_row : place < div_ceil size len * len = omega arith in
-    subst (λ n. place / len < n) (sym (file_count i h)) ((div-lt_iff_lt-mul some).1 in_row)
+    let in_row : lookup < div_ceil size len * len = omega arith in
+    subst (λ n. lookup / len < n) (sym (file_count i h)) ((div-lt_iff_lt-mul some).1 in_row)
 
 fan_held : (d : ℕ) (cs : List ℕ) (b : ℕ) → has_number cs b ≡ true → holds (map (λ c. (d, c)) cs) d b ≡ true
 fan_held d [] b h = absurd (cc)
@@ -153,20 +153,20 @@ pub record Reading (told : Type 0) (c : Client) (first now : DiskView) (file : F
   pub came : told → into ≡ part (bytes_said first.world (inode_of file.inode)) start at
 
 -- what stands in the block of a place, from there on
-pub block_part : (c : Client) (v : DiskView) (more : ℕ) (file : Found) → StandsAsRead c v more file → is_directory (inode_of file.inode) ≡ false → IsValidNow v → (len place last : ℕ) (bytes : List ℕ) → len ≡ block_len_of file.inode
-    → place / len < length (blocks_said (inode_of file.inode)) → contents v.world (slice_index (blocks_said (inode_of file.inode)) (place / len)) ≡ Some bytes
-    → place % len ≤ last → last ≤ len
-    → part bytes (place % len) last ≡ part (bytes_said v.world (inode_of file.inode)) place (place + (last - place % len))
-block_part c v more file stands is_file now len place last bytes e below is first room =
-    let i = place / len in
+pub block_part : (c : Client) (v : DiskView) (more : ℕ) (file : Found) → StandsAsRead c v more file → is_directory (inode_of file.inode) ≡ false → IsValidNow v → (len lookup last : ℕ) (bytes : List ℕ) → len ≡ block_len_of file.inode
+    → lookup / len < length (blocks_said (inode_of file.inode)) → contents v.world (slice_index (blocks_said (inode_of file.inode)) (lookup / len)) ≡ Some bytes
+    → lookup % len ≤ last → last ≤ len
+    → part bytes (lookup % len) last ≡ part (bytes_said v.world (inode_of file.inode)) lookup (lookup + (last - lookup % len))
+block_part c v more file stands is_file now len lookup last bytes e below is first room =
+    let i = lookup / len in
     let all = bytes_said v.world (inode_of file.inode) in
     let here : bytes ≡ take len (drop (len * i) all) = ap (λ o. unwrap_or o []) (sym is) ∙ (block_in_row c v more file stands is_file now i below ∙ ap (λ n. take n (drop (n * i) all)) (sym e)) in
-    let whole : len * i + place % len ≡ place = div-add-mod place len in
-    let end : len * i + last ≡ place + (last - place % len) = omega (arith, whole, first) in
-    ap (λ x. part x (place % len) last) here
-    ∙ (part_of_part all (len * i) len (place % len) last first room
-    ∙ (ap (λ n. part all n (len * i + last)) whole ∙ ap (part all place) end))
+    let whole : len * i + lookup % len ≡ lookup = div-add-mod lookup len in
+    let end : len * i + last ≡ lookup + (last - lookup % len) = omega (arith, whole, first) in
+    ap (λ x. part x (lookup % len) last) here
+    ∙ (part_of_part all (len * i) len (lookup % len) last first room
+    ∙ (ap (λ n. part all n (len * i + last)) whole ∙ ap (part all lookup) end))
 
-pub place_named_by : (i : Inode) (len place end : ℕ) → is_directory (inode_of i) ≡ false → len ≡ block_len_of i → 16 ≤ len → place < end → end ≤ amount_said (inode_of i) → place / len < length (blocks_said (inode_of i))
-place_named_by i len place end h e whole order there =
-    subst (λ n. place / n < length (blocks_said (inode_of i))) (sym e) (place_named i place h (omega (arith, e, whole)) (omega (arith, order, there)))
+pub place_named_by : (i : Inode) (len lookup end : ℕ) → is_directory (inode_of i) ≡ false → len ≡ block_len_of i → 16 ≤ len → lookup < end → end ≤ amount_said (inode_of i) → lookup / len < length (blocks_said (inode_of i))
+place_named_by i len lookup end h e whole order there =
+    subst (λ n. lookup / n < length (blocks_said (inode_of i))) (sym e) (place_named i lookup h (omega (arith, e, whole)) (omega (arith, order, there)))

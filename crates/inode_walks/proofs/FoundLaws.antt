@@ -16,10 +16,10 @@ use Rattle.fs_client.specs.declared.client.Client.{Client}
 use Rattle.inode_layout.specs.Block.{inode_of}
 use Rattle.inode_layout.specs.Said.{blocks_said, is_directory, amount_said, entries_said, entry_said}
 use Rattle.inode_walks.specs.declared.finding.Found.{Found}
-use Rattle.inode_walks.specs.declared.finding.Place.{Place}
+use Rattle.inode_walks.specs.declared.finding.Lookup.{Lookup}
 use Rattle.inode_walks.specs.Asking.{tree_of}
-use Rattle.inode_walks.specs.Finding.{StandsAtPath, IsPlace, not_found, no_file_found, no_directory_found}
-use Rattle.fs_client.specs.Changing.{no_place_found}
+use Rattle.inode_walks.specs.Finding.{StandsAtPath, IsLookup, not_found, no_file_found, no_directory_found}
+use Rattle.fs_client.specs.Changing.{lookup_refusal}
 use Rattle.inode_walks.proofs.WalkLaws.{file_node, dir_node}
 use Rattle.inode_walks.proofs.FileLaws.{file_said, tree_there}
 
@@ -129,14 +129,14 @@ last_of (y ∷ z ∷ zs) x h e =
     ap (λ ys. y ∷ ys) (last_of (z ∷ zs) x (omega arith) here ∙ ap (λ n. take n (z ∷ zs) ++ x ∷ []) shorter)
     ∙ ap (λ n. take n (y ∷ z ∷ zs) ++ x ∷ []) (sym before)
 
-pub no_name : (t : Tree) (p : Path) (r : FsRefusal) → length p < 1 → no_place_found t p r ≡ Some r
+pub no_name : (t : Tree) (p : Path) (r : FsRefusal) → length p < 1 → lookup_refusal t p r ≡ Some r
 no_name t [] r h = refl
 no_name t (n ∷ ns) r h = absurd (omega arith)
 
-pub place_lost : (t : Tree) (p way : Path) (n : Name) (r : FsRefusal) → p ≡ way ++ n ∷ [] → no_place_found t p r ≡ no_directory_found t way
-place_lost t p way n r e = ap (λ q. no_place_found t q r) e ∙ (some_name way ∙ lost_above t way n)
+pub place_lost : (t : Tree) (p way : Path) (n : Name) (r : FsRefusal) → p ≡ way ++ n ∷ [] → lookup_refusal t p r ≡ no_directory_found t way
+place_lost t p way n r e = ap (λ q. lookup_refusal t q r) e ∙ (some_name way ∙ lost_above t way n)
   where
-    some_name : (way : Path) → no_place_found t (way ++ n ∷ []) r ≡ lost_on_the_way t (way ++ n ∷ [])
+    some_name : (way : Path) → lookup_refusal t (way ++ n ∷ []) r ≡ lost_on_the_way t (way ++ n ∷ [])
     some_name [] = refl
     some_name (m ∷ ms) = refl
 
@@ -144,9 +144,9 @@ pub entry_by : (n : Name) (i : tree.Inode) → entry_said n i ≡ block_named n 
 entry_by n (tree.directory es) = refl
 entry_by n (tree.regular size blocks) = refl
 
-pub place_is : (c : Client) (v : DiskView) (p way : Path) (n : Name) (place : Place) → p ≡ way ++ n ∷ [] → place.name.now ≡ n → StandsAtPath c v way place.directory → place.old ≡ entry_said place.name.now (inode_of place.directory.inode) → IsPlace c v p place
-place_is c v p way n place e named above old = record {
-  above = subst (λ q. StandsAtPath c v q place.directory) (sym (ap directory_of e ∙ above_is way n)) above;
+pub place_is : (c : Client) (v : DiskView) (p way : Path) (n : Name) (lookup : Lookup) → p ≡ way ++ n ∷ [] → lookup.name.now ≡ n → StandsAtPath c v way lookup.directory → lookup.old ≡ entry_said lookup.name.now (inode_of lookup.directory.inode) → IsLookup c v p lookup
+place_is c v p way n lookup e named above old = record {
+  above = subst (λ q. StandsAtPath c v q lookup.directory) (sym (ap directory_of e ∙ above_is way n)) above;
   name = e ∙ (ap (λ q. q ++ n ∷ []) (sym (ap directory_of e ∙ above_is way n)) ∙ ap (λ m. directory_of p ++ m ∷ []) (sym named));
-  old = old ∙ entry_by place.name.now (inode_of place.directory.inode);
+  old = old ∙ entry_by lookup.name.now (inode_of lookup.directory.inode);
 }

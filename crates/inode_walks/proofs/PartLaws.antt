@@ -36,7 +36,7 @@ part_of_part xs o len first last low high =
     ∙ (take_take (last - first) (len - first) (drop first (drop o xs)) (omega arith)
     ∙ (ap (take (last - first)) (drop-drop first o xs) ∙ ap (λ n. take n (drop (o + first) xs)) same)))
 
--- of lists of one length in a row, the one at a place
+-- of lists of one length in a row, the one at a position
 pub one_of_row : (f : ℕ → List ℕ) (len : ℕ) (bs : List ℕ) → ((b : ℕ) → has_number bs b ≡ true → length (f b) ≡ len) → (i : ℕ) → i < length bs → f (slice_index bs i) ≡ take len (drop (len * i) (flat_map f bs))
 one_of_row f len [] full i h = absurd (omega arith)
 one_of_row f len (b ∷ bs) full zero h =
@@ -56,7 +56,7 @@ row_length f len (b ∷ bs) full =
     let later = row_length f len bs (λ c m. full c (or_right (b == c) (has_number bs c) m)) in
     length-append (f b) (flat_map f bs) ∙ grind (arith, mul-suc len (length bs), here, later)
 
--- the front of a list, from a place on
+-- the front of a list, from an offset on
 pub front_from : (xs : List ℕ) (size start most : ℕ) → start ≤ size → take most (drop start (take size xs)) ≡ part xs start (min size (start + most))
 front_from xs size start most h =
     let room : start + (size - start) ≡ size = omega arith in

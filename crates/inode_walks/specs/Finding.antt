@@ -18,7 +18,7 @@ use Rattle.fs_port.specs.View.{DiskView, state_of}
 use Rattle.fs_client.specs.declared.client.Client.{Client}
 use Rattle.fs_client.specs.May.{MayWrite}
 use Rattle.inode_walks.specs.declared.finding.Found.{Found}
-use Rattle.inode_walks.specs.declared.finding.Place.{Place}
+use Rattle.inode_walks.specs.declared.finding.Lookup.{Lookup}
 
 -- the pairs from a node's block to what it names, and those below
 abbrev pub node_pairs : InodeNode → List (ℕ × ℕ)
@@ -98,7 +98,7 @@ abbrev pub no_directory_found : Tree → Path → Option FsRefusal
 no_directory_found t path = first_of (not_found t path ∷ no_dir t path ∷ [])
 
 -- the entry that a path speaks of
-pub record IsPlace (c : Client) (v : DiskView) (path : Path) (place : Place) : Type 0 where
-  pub above : StandsAtPath c v (directory_of path) place.directory
-  pub name : path ≡ directory_of path ++ place.name.now ∷ []
-  pub old : place.old ≡ block_named place.name.now (entries_said (inode_of place.directory.inode))
+pub record IsLookup (c : Client) (v : DiskView) (path : Path) (lookup : Lookup) : Type 0 where
+  pub above : StandsAtPath c v (directory_of path) lookup.directory
+  pub name : path ≡ directory_of path ++ lookup.name.now ∷ []
+  pub old : lookup.old ≡ block_named lookup.name.now (entries_said (inode_of lookup.directory.inode))

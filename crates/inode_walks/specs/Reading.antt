@@ -3,7 +3,7 @@ use Rattle.std.specs.Prelude.{ℕ, ◌-◌, List, [], take, drop, flat_map, unwr
 use Rattle.tsd_model.specs.World.{World, contents}
 use Rattle.fs_trees.specs.Inode.{Inode, directory, regular}
 
--- of a list what stands from one place to another
+-- of a list what stands from one offset to another
 abbrev pub part : List ℕ → ℕ → ℕ → List ℕ
 part xs start end = take (end - start) (drop start xs)
 

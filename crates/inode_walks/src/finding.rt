@@ -13,9 +13,9 @@ ghost use Rattle.fs_client.specs.May.{MayWrite, OnlyLooks};
 ghost use Rattle.inode_layout.specs.Block.{inode_of, block_len_of};
 ghost use Rattle.inode_layout.specs.Said.{blocks_said, is_directory, said_in};
 ghost use Rattle.inode_walks.specs.Asking.{MayAsk, tree_of};
-ghost use Rattle.inode_walks.specs.Finding.{StandsAsRead, IsStanding, IsFurther, IsOpenNow, StandsAtPath, IsPlace};
+ghost use Rattle.inode_walks.specs.Finding.{StandsAsRead, IsStanding, IsFurther, IsOpenNow, StandsAtPath, IsLookup};
 ghost use Rattle.inode_walks.specs.Finding.{block_said, node_tree, not_found, no_file_found, no_directory_found};
-ghost use Rattle.fs_client.specs.Changing.{no_place_found};
+ghost use Rattle.fs_client.specs.Changing.{lookup_refusal};
 
 use fs_client::{Client, Names};
 use fs_port::Blocks;
@@ -43,7 +43,7 @@ impl Names for Found {
 
 /// The entry that a path speaks of: its directory, its name, and what stands there now.
 #[derive(Drop)]
-pub struct Place<'a> {
+pub struct Lookup<'a> {
     /// The directory.
     pub directory: Found,
 
@@ -201,21 +201,21 @@ pub fn find_directory<K: Blocks>(
 }
 
 /// The entry of a path; `at_root` is answered of `/`, which is no entry.
-pub fn find_place<'a, K: Blocks>(
+pub fn look_up<'a, K: Blocks>(
     client: &Client,
     disk: &mut K,
     path: &'a Path,
     at_root: FsRefusal,
-) -> Result<Place<'a>, FsRefusal>
+) -> Result<Lookup<'a>, FsRefusal>
     requires may { MayAsk K.told client.now (K.view disk.old) }
     requires refusal { at_root ≢ no.Device }
-    ensures dir { IfOk result (λ place. IsTrue (is_directory (inode_of place.directory.inode))) }
-    ensures short { IfOk result (λ place. length place.name.now ≤ name_max) }
-    ensures found { K.told → IfOk result (λ place. IsPlace client.now (K.view disk.new) path.now place) }
-    ensures none { K.told → OnOk result (no_place_found (tree_of client.now (K.view disk.old)) path.now at_root
+    ensures dir { IfOk result (λ lookup. IsTrue (is_directory (inode_of lookup.directory.inode))) }
+    ensures short { IfOk result (λ lookup. length lookup.name.now ≤ name_max) }
+    ensures found { K.told → IfOk result (λ lookup. IsLookup client.now (K.view disk.new) path.now lookup) }
+    ensures none { K.told → OnOk result (lookup_refusal (tree_of client.now (K.view disk.old)) path.now at_root
         ≡ None) }
     ensures refused { K.told → IfErr result (λ e. e ≢ no.Device
-        → no_place_found (tree_of client.now (K.view disk.old)) path.now at_root ≡ Some e) }
+        → lookup_refusal (tree_of client.now (K.view disk.old)) path.now at_root ≡ Some e) }
     ensures looks { OnlyLooks K.told (K.view disk.old) (K.view disk.new) result }
 {
     match path.as_slice() {
@@ -227,7 +227,7 @@ pub fn find_place<'a, K: Blocks>(
             };
             let name = last.as_slice();
             let old = directory.inode.entry(name);
-            Ok(Place {
+            Ok(Lookup {
                 directory,
                 name,
                 old,

@@ -13,5 +13,5 @@
 mod finding;
 mod reading;
 
-pub use finding::{Found, Place, find_directory, find_file, find_place, read_inode, walk};
+pub use finding::{Found, Lookup, find_directory, find_file, look_up, read_inode, walk};
 pub use reading::{name_after, read_part, size};

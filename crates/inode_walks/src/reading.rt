@@ -35,7 +35,7 @@ pub fn size<K: Blocks>(client: &Client, disk: &mut K, path: &Path) -> Result<u64
     }
 }
 
-/// Adds what stands in a block from one place to another, as far as it has it, and where there is room for it.
+/// Adds what stands in a block from one offset to another, as far as it has it, and where there is room for it.
 fn add_part(into: &mut Data, bytes: &Data, first: usize, last: usize)
     ensures { first ≤ last → last ≤ length bytes.now → length into.old + last ≤ 4096 + first
         → into.new ≡ into.old ++ part bytes.now first last }
@@ -45,7 +45,7 @@ fn add_part(into: &mut Data, bytes: &Data, first: usize, last: usize)
     let _ = into.extend_from_slice(&bytes.as_slice()[start..end]);
 }
 
-/// Reads what stands in the block of a file in which a place is, from there on, but not past another place.
+/// Reads what stands in the block of a file in which an offset lies, from there on, but not past another.
 fn read_block<K: Blocks>(
     client: &Client,
     disk: &mut K,
@@ -81,7 +81,7 @@ fn read_block<K: Blocks>(
     }
 }
 
-/// Reads the bytes of a file from one place to another, block by block; none are left after an `Err`.
+/// Reads the bytes of a file from one offset to another, block by block; none are left after an `Err`.
 fn read_bytes<K: Blocks>(
     client: &Client,
     disk: &mut K,
@@ -118,7 +118,7 @@ fn read_bytes<K: Blocks>(
     Ok(())
 }
 
-/// The bytes of a file from a place on: all that are left, or the first 4,096; none after an `Err`.
+/// The bytes of a file from an offset on: all that are left, or the first 4,096; none after an `Err`.
 pub fn read_part<K: Blocks>(
     client: &Client,
     disk: &mut K,

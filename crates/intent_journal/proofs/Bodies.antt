@@ -9,7 +9,7 @@ use Rattle.image_device.specs.Calls.{Touches}
 use Rattle.image_device.specs.Image.{Image}
 use Rattle.image_device.specs.View.{View}
 use Rattle.image_layout.specs.Ring.{body_sector, descriptor_sector}
-use Rattle.image_layout.specs.declared.place.Patch.{Patch}
+use Rattle.image_layout.specs.declared.offset.Patch.{Patch}
 use Rattle.intent_journal.specs.Descriptor.{count_in, home_in, homes_in, is_valid}
 use Rattle.intent_journal.specs.Records.{descriptor_of, record_at}
 use Rattle.tsd_model.proofs.RangeLaws.{map_range_alike}

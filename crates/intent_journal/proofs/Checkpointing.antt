@@ -13,7 +13,7 @@ use Rattle.image_device.proofs.Moments.{joined, weakened}
 use Rattle.image_device.proofs.Sets.{or_false, or_false_left, or_false_right}
 use Rattle.image_layout.specs.Image.{is_open, gate_bytes}
 use Rattle.image_layout.specs.Ring.{records, gate_sector, descriptor_sector, body_sector}
-use Rattle.image_layout.specs.declared.place.Patch.{Patch}
+use Rattle.image_layout.specs.declared.offset.Patch.{Patch}
 use Rattle.intent_journal.specs.Batch.{has_home, homes_of}
 use Rattle.intent_journal.specs.Closing.{IsListed, is_listed_open}
 use Rattle.intent_journal.specs.Crash.{IsBefore}

@@ -1,7 +1,7 @@
 -- How many homes a batch adds to a ring, and what its commit costs.
 use Rattle.std.proofs.Common.{◌≡◌, ℕ, suc, ◌+◌, ◌*◌, ◌≤◌, ◌==◌, ◌||◌, true, false, cond, inl, inr, List, [], ◌∷◌, ◌++◌, length, length-append, refl, ap, subst, arith}
 use Rattle.std.proofs.lemmas.Bool.{cases_Bool}
-use Rattle.image_layout.specs.declared.place.Patch.{Patch}
+use Rattle.image_layout.specs.declared.offset.Patch.{Patch}
 use Rattle.intent_journal.specs.Batch.{has_home}
 use Rattle.intent_journal.specs.Records.{Record, patches_of}
 use Rattle.intent_journal.specs.Ring.{last_patches, distinct_homes, is_full_for, committed, checkpoint_writes, commit_writes}

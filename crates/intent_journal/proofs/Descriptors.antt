@@ -9,7 +9,7 @@ use Rattle.std.proofs.lemmas.Grind.{flat_map-append}
 use Rattle.std.proofs.lemmas.Option.{slice_get-map}
 use Rattle.byteorder.specs.Endian.{little_from, little_bytes}
 use Rattle.byteorder.specs.Numbers.{little_from-cons, little_number-reads_back}
-use Rattle.image_layout.specs.declared.place.Patch.{Patch}
+use Rattle.image_layout.specs.declared.offset.Patch.{Patch}
 use Rattle.image_layout.specs.Ring.{bodies}
 use Rattle.intent_journal.specs.Homes.{is_lawful_home, is_distinct}
 use Rattle.intent_journal.specs.Batch.{homes_of, IsBatch}

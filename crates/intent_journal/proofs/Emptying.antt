@@ -4,7 +4,7 @@ use Rattle.std.proofs.lemmas.Bool.{cases_lt, cond-false, lt-ltb, le-ltb}
 use Rattle.image_device.specs.Image.{Image}
 use Rattle.image_device.specs.View.{View}
 use Rattle.image_layout.specs.Ring.{records, gate_sector}
-use Rattle.image_layout.specs.declared.place.Patch.{Patch}
+use Rattle.image_layout.specs.declared.offset.Patch.{Patch}
 use Rattle.intent_journal.specs.Closing.{IsListed, is_listed_open, one_if, later_open, closing_writes}
 use Rattle.intent_journal.specs.Records.{Record, patches_of, open_from, open_records, is_open_gate}
 use Rattle.intent_journal.specs.Ring.{IsRing, IsRingAt, last_patches, checkpoint_writes}

@@ -1,6 +1,6 @@
 -- The homes of patches.
 use Rattle.std.proofs.Common.{◌≡◌, suc, List, [], ◌∷◌, ◌++◌, length, refl, ap}
-use Rattle.image_layout.specs.declared.place.Patch.{Patch}
+use Rattle.image_layout.specs.declared.offset.Patch.{Patch}
 use Rattle.intent_journal.specs.Batch.{homes_of}
 
 pub homes_append : (ps qs : List Patch) → homes_of (ps ++ qs) ≡ homes_of ps ++ homes_of qs

@@ -8,7 +8,7 @@ use Rattle.std.proofs.lemmas.List.{drop_more, drop_all, take_more, take-append-d
 use Rattle.image_device.specs.Image.{Image, put_at}
 use Rattle.image_device.specs.View.{View}
 use Rattle.std.specs.Option.{MatchOption}
-use Rattle.image_layout.specs.declared.place.Patch.{Patch}
+use Rattle.image_layout.specs.declared.offset.Patch.{Patch}
 use Rattle.intent_journal.specs.Batch.{has_home}
 use Rattle.intent_journal.specs.Home.{overlaid, home}
 use Rattle.intent_journal.specs.Records.{Record, patches_of}

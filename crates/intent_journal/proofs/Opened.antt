@@ -7,7 +7,7 @@ use Rattle.std.proofs.lemmas.List.FromFn.{length-map-range_with_len}
 use Rattle.tsd_model.proofs.RangeLaws.{map_range_alike}
 use Rattle.image_device.specs.Image.{Image}
 use Rattle.image_layout.specs.Ring.{records, bodies, body_sector}
-use Rattle.image_layout.specs.declared.place.Patch.{Patch}
+use Rattle.image_layout.specs.declared.offset.Patch.{Patch}
 use Rattle.intent_journal.specs.Homes.{is_lawful_home, is_distinct}
 use Rattle.intent_journal.specs.Batch.{homes_of, IsBatch}
 use Rattle.intent_journal.specs.Descriptor.{count_in, home_in, homes_in, is_valid, descriptor_bytes}

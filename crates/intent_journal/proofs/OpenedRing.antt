@@ -3,7 +3,7 @@ use Rattle.std.proofs.Common.{◌≡◌, ◌≢◌, ℕ, zero, suc, ◌+◌, ◌
 use Rattle.std.specs.List.{list_all, slice_get, range_with_len}
 use Rattle.image_device.specs.Image.{Image, IsSector}
 use Rattle.image_layout.specs.Ring.{records, body_sector}
-use Rattle.image_layout.specs.declared.place.Patch.{Patch}
+use Rattle.image_layout.specs.declared.offset.Patch.{Patch}
 use Rattle.intent_journal.specs.Homes.{is_lawful_home, is_distinct}
 use Rattle.intent_journal.specs.Batch.{IsBatch}
 use Rattle.intent_journal.specs.Descriptor.{count_in, home_in, is_valid}

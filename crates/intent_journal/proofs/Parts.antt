@@ -4,7 +4,7 @@ use Rattle.std.proofs.lemmas.List.{nil_from_length, take-append-drop, take_all, 
 use Rattle.std.proofs.lemmas.List.Elements.{Contains-push_cases}
 use Rattle.std.proofs.lemmas.Grind.{flat_map-append}
 use Rattle.image_layout.specs.Ring.{records, bodies}
-use Rattle.image_layout.specs.declared.place.Patch.{Patch}
+use Rattle.image_layout.specs.declared.offset.Patch.{Patch}
 use Rattle.intent_journal.specs.Batch.{IsBatch}
 use Rattle.intent_journal.specs.Parts.{total, parted, ArePatchesOfRing}
 use Rattle.intent_journal.specs.Records.{Record, patches_of}

@@ -4,7 +4,7 @@ use Rattle.std.proofs.lemmas.Bool.{cond-true, cond-false, and_from, and_left}
 use Rattle.std.proofs.lemmas.List.{append-nil}
 use Rattle.std.proofs.lemmas.List.FromFn.{length-map-range_with_len}
 use Rattle.image_device.specs.Image.{Image}
-use Rattle.image_layout.specs.declared.place.Patch.{Patch}
+use Rattle.image_layout.specs.declared.offset.Patch.{Patch}
 use Rattle.intent_journal.specs.Descriptor.{count_in, is_valid}
 use Rattle.intent_journal.specs.Records.{Record, patches_of, descriptor_of, is_open_gate, record_at, open_from, open_records, are_valid_from, has_valid_records}
 

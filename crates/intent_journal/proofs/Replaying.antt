@@ -7,7 +7,7 @@ use Rattle.image_device.specs.Runs.{IsFirm, LeavesOnly}
 use Rattle.image_device.specs.View.{View, IsLeftNow, IsSound}
 use Rattle.image_device.proofs.Moments.{joined, rested, firm_image}
 use Rattle.image_layout.specs.Ring.{records, bodies}
-use Rattle.image_layout.specs.declared.place.Patch.{Patch}
+use Rattle.image_layout.specs.declared.offset.Patch.{Patch}
 use Rattle.intent_journal.specs.Batch.{has_home}
 use Rattle.intent_journal.specs.Closing.{IsListed, is_listed_open, one_if, closing_writes}
 use Rattle.intent_journal.specs.Crash.{IsBefore, IsTheSame}

@@ -7,7 +7,7 @@ use Rattle.image_device.specs.Image.{Image}
 use Rattle.image_device.specs.Runs.{LeavesOnly}
 use Rattle.image_device.specs.View.{View}
 use Rattle.image_device.proofs.Moments.{joined, weakened}
-use Rattle.image_layout.specs.declared.place.Patch.{Patch}
+use Rattle.image_layout.specs.declared.offset.Patch.{Patch}
 use Rattle.intent_journal.specs.Crash.{IsBefore, IsBeforeOrAfter}
 use Rattle.intent_journal.specs.Home.{home, overlaid, is_journal, AgreeBut}
 use Rattle.intent_journal.specs.Records.{Record}

@@ -8,7 +8,7 @@ use Rattle.image_device.specs.Calls.{Rests}
 use Rattle.image_device.specs.View.{View}
 use Rattle.image_layout.specs.Image.{is_open}
 use Rattle.image_layout.specs.Ring.{records, bodies, gate_sector, descriptor_sector, body_sector}
-use Rattle.image_layout.specs.declared.place.Patch.{Patch}
+use Rattle.image_layout.specs.declared.offset.Patch.{Patch}
 use Rattle.intent_journal.specs.Homes.{is_lawful_home, is_distinct}
 use Rattle.intent_journal.specs.Batch.{homes_of, has_home, with_patch}
 use Rattle.intent_journal.specs.Home.{overlaid, home, is_journal}

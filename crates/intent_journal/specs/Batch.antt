@@ -2,7 +2,7 @@
 use Rattle.std.specs.Prelude.{ℕ, ◌≡◌, ◌≤◌, ◌==◌, Bool, cond, List, [], ◌∷◌, length, map, slice_get, Some, IsTrue}
 use Rattle.std.specs.List.{list_all}
 use Rattle.image_device.specs.Image.{IsSector}
-use Rattle.image_layout.specs.declared.place.Patch.{Patch}
+use Rattle.image_layout.specs.declared.offset.Patch.{Patch}
 use Rattle.image_layout.specs.Ring.{bodies}
 use Rattle.intent_journal.specs.Homes.{is_lawful_home, is_distinct, has_number}
 

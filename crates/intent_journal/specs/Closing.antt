@@ -3,7 +3,7 @@ use Rattle.std.specs.Prelude.{ℕ, suc, zero, ◌+◌, ◌<◌, ◌≡◌, ◌==
 use Rattle.std.specs.Prelude.{cond, List, length, slice_index_or}
 use Rattle.image_device.specs.Image.{Image}
 use Rattle.image_device.specs.View.{View}
-use Rattle.image_layout.specs.declared.place.Patch.{Patch}
+use Rattle.image_layout.specs.declared.offset.Patch.{Patch}
 use Rattle.image_layout.specs.Image.{gate_bytes}
 use Rattle.image_layout.specs.Ring.{records, gate_sector, descriptor_sector, body_sector}
 use Rattle.intent_journal.specs.Batch.{has_home}

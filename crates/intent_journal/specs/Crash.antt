@@ -2,7 +2,7 @@
 use Rattle.std.specs.Prelude.{◌≡◌, ◌||◌, ◌⊎◌, true, List}
 use Rattle.image_device.specs.Image.{Image}
 use Rattle.image_device.specs.View.{View}
-use Rattle.image_layout.specs.declared.place.Patch.{Patch}
+use Rattle.image_layout.specs.declared.offset.Patch.{Patch}
 use Rattle.intent_journal.specs.Home.{overlaid, home, is_journal, AgreeBut}
 use Rattle.intent_journal.specs.Records.{has_valid_records}
 

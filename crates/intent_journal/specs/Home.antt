@@ -1,7 +1,7 @@
 -- What an image stands for: the sectors as they are once its records are in place.
 use Rattle.std.specs.Prelude.{ℕ, ◌≡◌, ◌&&◌, nat_le, Bool, false, List, [], ◌∷◌}
 use Rattle.image_device.specs.Image.{Image, put_at}
-use Rattle.image_layout.specs.declared.place.Patch.{Patch}
+use Rattle.image_layout.specs.declared.offset.Patch.{Patch}
 use Rattle.intent_journal.specs.Records.{patches_of, open_records}
 
 -- an image with these patches put into place, one after another

@@ -4,7 +4,7 @@ use Rattle.std.specs.Prelude.{◌++◌, length, count_by, Contains}
 use Rattle.std.specs.List.{range_with_len}
 use Rattle.image_device.specs.Image.{Image}
 use Rattle.image_device.specs.View.{View}
-use Rattle.image_layout.specs.declared.place.Patch.{Patch}
+use Rattle.image_layout.specs.declared.offset.Patch.{Patch}
 use Rattle.image_layout.specs.Ring.{records, bodies}
 use Rattle.intent_journal.specs.Batch.{IsBatch, has_home}
 use Rattle.intent_journal.specs.Home.{is_journal}

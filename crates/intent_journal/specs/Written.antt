@@ -3,7 +3,7 @@ use Rattle.std.specs.Prelude.{ℕ, ◌<◌, ◌≡◌, true, false, cond, List}
 use Rattle.image_device.specs.Image.{Image}
 use Rattle.image_layout.specs.Image.{gate_bytes}
 use Rattle.image_layout.specs.Ring.{records, gate_sector, descriptor_sector}
-use Rattle.image_layout.specs.declared.place.Patch.{Patch}
+use Rattle.image_layout.specs.declared.offset.Patch.{Patch}
 use Rattle.intent_journal.specs.Batch.{homes_of}
 use Rattle.intent_journal.specs.Descriptor.{descriptor_bytes}
 use Rattle.intent_journal.specs.Records.{is_open_gate}

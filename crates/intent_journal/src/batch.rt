@@ -24,7 +24,7 @@ pub struct Batch {
 
 impl Model for Batch {
     ghost use Rattle.std.specs.Prelude.{List};
-    ghost use Rattle.image_layout.specs.declared.place.Patch.{Patch};
+    ghost use Rattle.image_layout.specs.declared.offset.Patch.{Patch};
     ghost use Rattle.intent_journal.specs.Batch.{IsBatch};
 
     ghost Value = { List Patch };

@@ -7,7 +7,7 @@ ghost use Rattle.image_device.specs.Calls.{Uses};
 ghost use Rattle.image_device.specs.Counts.{CountsFault};
 ghost use Rattle.image_device.specs.Runs.{IsConfined, IsFirm, LeavesOnly};
 ghost use Rattle.image_layout.specs.Ring.{records, bodies, gate_sector, descriptor_sector, body_sector};
-ghost use Rattle.image_layout.specs.declared.place.Patch.{Patch};
+ghost use Rattle.image_layout.specs.declared.offset.Patch.{Patch};
 ghost use Rattle.intent_journal.specs.Batch.{IsBatch, homes_of};
 ghost use Rattle.intent_journal.specs.Descriptor.{descriptor_bytes};
 ghost use Rattle.intent_journal.specs.Home.{home, overlaid, is_journal, AgreeBut};

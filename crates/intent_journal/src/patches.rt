@@ -18,7 +18,7 @@ pub struct PatchList {
 impl Model for PatchList {
     ghost use Rattle.std.specs.Prelude.{List, ◌≤◌};
     ghost use Rattle.std.specs.Vec.{vec_capacity};
-    ghost use Rattle.image_layout.specs.declared.place.Patch.{Patch};
+    ghost use Rattle.image_layout.specs.declared.offset.Patch.{Patch};
     ghost use Rattle.image_layout.specs.Ring.{bodies};
     ghost use Rattle.intent_journal.specs.Batch.{ArePatches};
 

@@ -69,7 +69,7 @@ pub struct Ring {
 
 impl Model for Ring {
     ghost use Rattle.std.specs.Prelude.{List, ◌≡◌, length};
-    ghost use Rattle.image_layout.specs.declared.place.Patch.{Patch};
+    ghost use Rattle.image_layout.specs.declared.offset.Patch.{Patch};
     ghost use Rattle.intent_journal.specs.Parts.{parted, ArePatchesOfRing};
 
     ghost Value = { List (List Patch) };

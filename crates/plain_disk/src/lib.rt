@@ -1,7 +1,7 @@
 //! The abstract disk as a plain program: a world and the sessions as values, and one step from them to the next.
 //!
 //! What it stands on: `tsd_model`, whose definitions it computes; `disk_laws` for what reclamation keeps; `arrayvec`
-//! for the 64 places of sessions.
+//! for the 64 sessions.
 //!
 //! What it promises: `plain_reach`, `plain_doomed`, `plain_cut` and `plain_step` answer exactly what the definitions
 //! say, want of memory aside; and what `plain_step` answers keeps what is reached, and reclaims exactly what lost its

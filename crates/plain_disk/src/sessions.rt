@@ -64,10 +64,10 @@ impl LevelTable {
         ensures { IfOk result (λ t. t ≡ raised_level block attained self.now) }
     {
         let mut table = self.copy(alloc)?;
-        let place = block as usize;
+        let index = block as usize;
         let raised = greater(self.level(block), attained);
-        if place < table.levels.len() {
-            table.levels[place] = raised;
+        if index < table.levels.len() {
+            table.levels[index] = raised;
         }
         Ok(table)
     }
@@ -163,10 +163,10 @@ impl Holding {
         ensures { IfOk result (λ h. h ≡ slice_set self.now origin (replicate blocks level.Bare)) }
     {
         let mut holding = self.copy(alloc)?;
-        let place = origin as usize;
+        let index = origin as usize;
         let bare = LevelTable::bare(alloc, blocks)?;
-        if place < holding.tables.len() {
-            holding.tables[place] = bare;
+        if index < holding.tables.len() {
+            holding.tables[index] = bare;
         }
         Ok(holding)
     }
@@ -206,7 +206,7 @@ impl Sessions {
         ensures { result ≡ no_sessions }
     {
         let mut held = ArrayVec::new();
-        for place in 0..SESSIONS {
+        for index in 0..SESSIONS {
             held.push(None);
         }
         Sessions { held }
@@ -217,8 +217,8 @@ impl Sessions {
         ensures { MatchOption result (held_by self.now session ≡ None) (λ held. held_by self.now session
             ≡ Some held.now) }
     {
-        let place = session.checked_sub(1)?;
-        match self.held.as_slice().get(place as usize) {
+        let index = session.checked_sub(1)?;
+        match self.held.as_slice().get(index as usize) {
             Some(Some(holding)) => Some(holding),
             _ => None,
         }
@@ -260,17 +260,17 @@ impl Sessions {
         }
     }
 
-    /// With this at a session's place.
+    /// With this at a session's index.
     fn with(mut self, session: u32, holding: Option<Holding>) -> Sessions
         ensures { result ≡ with_held self session holding }
     {
         if session == 0 {
             return self;
         }
-        let place = (session - 1) as usize;
+        let index = (session - 1) as usize;
         let held = self.held.as_mut_slice();
-        if place < held.len() {
-            held[place] = holding;
+        if index < held.len() {
+            held[index] = holding;
         }
         self
     }

@@ -103,7 +103,7 @@ impl Model for World {
 
 impl World {
     /// The world of a disk that was just formatted, in version 1: the primary blocks are live and contain zeros, there
-    /// are no pointers, and primary block b has the capabilities at place b.
+    /// are no pointers, and primary block b has the capabilities at index b.
     pub fn fresh(alloc: Global, geometry: &Geometry, caps: &CapList) -> Result<World, NoMemory>
         requires lawful { IsLawful geometry.now }
         requires each { length caps.now ≡ geometry.now.primaries }
@@ -247,9 +247,9 @@ impl World {
         requires { length bytes ≡ block_len self.old.geometry }
         ensures { self.new ≡ with_contents self.old block bytes }
     {
-        let place = block as usize;
-        if place < self.blocks.len() {
-            self.blocks[place] = Some(bytes);
+        let index = block as usize;
+        if index < self.blocks.len() {
+            self.blocks[index] = Some(bytes);
         }
     }
 
@@ -266,9 +266,9 @@ impl World {
     pub(crate) fn set_record(&mut self, block: u32, kept: Record)
         ensures { self.new ≡ with_caps self.old block kept }
     {
-        let place = block as usize;
-        if place < self.records.len() {
-            self.records[place] = kept;
+        let index = block as usize;
+        if index < self.records.len() {
+            self.records[index] = kept;
         }
     }
 

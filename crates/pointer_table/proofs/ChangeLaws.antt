@@ -5,7 +5,7 @@ use Rattle.std.specs.Prelude.{is_some}
 use Rattle.std.proofs.lemmas.Bool.{both_ways}
 use Rattle.tsd_model.specs.declared.geometry.Geometry.{Geometry}
 use Rattle.image_device.specs.Image.{Image, put_at}
-use Rattle.image_layout.specs.declared.place.Patch.{Patch}
+use Rattle.image_layout.specs.declared.position.Patch.{Patch}
 use Rattle.pointer_table.specs.Changes.{IsChange}
 use Rattle.pointer_table.specs.Sectors.{sector_of, slot_sector_bytes, IsStored}
 use Rattle.pointer_table.proofs.SectorLaws.{stored_kept}
@@ -28,18 +28,18 @@ use Rattle.pointer_table.proofs.TableLaws.{with_slot, set_in, fits, added, remov
 
 -- ---- one slot
 
-pub slot_filled : (slots : List (Option (ℕ × ℕ))) (place : ℕ) (e : ℕ × ℕ) → place < length slots → slot_at slots place ≡ None → IsWith (slot_at slots) place e (slot_at (set slots place (Some e)))
-slot_filled slots place e inside empty = record {
+pub slot_filled : (slots : List (Option (ℕ × ℕ))) (position : ℕ) (e : ℕ × ℕ) → position < length slots → slot_at slots position ≡ None → IsWith (slot_at slots) position e (slot_at (set slots position (Some e)))
+slot_filled slots position e inside empty = record {
   empty = empty;
-  filled = set_same slots place (Some e) inside;
-  others = λ k off. set_other slots place k (Some e) off;
+  filled = set_same slots position (Some e) inside;
+  others = λ k off. set_other slots position k (Some e) off;
 }
 
-pub slot_emptied : (slots : List (Option (ℕ × ℕ))) (place : ℕ) (e : ℕ × ℕ) → slot_at slots place ≡ Some e → IsWith (slot_at (set slots place None)) place e (slot_at slots)
-slot_emptied slots place e held = record {
-  empty = set_same slots place None (some_inside slots place e held);
+pub slot_emptied : (slots : List (Option (ℕ × ℕ))) (position : ℕ) (e : ℕ × ℕ) → slot_at slots position ≡ Some e → IsWith (slot_at (set slots position None)) position e (slot_at slots)
+slot_emptied slots position e held = record {
+  empty = set_same slots position None (some_inside slots position e held);
   filled = held;
-  others = λ k off. sym (set_other slots place k None off);
+  others = λ k off. sym (set_other slots position k None off);
 }
 
 -- ---- what a table in memory keeps
@@ -67,68 +67,68 @@ pub next_empty : (t : Table) (g : Geometry) (items : List RawSlot) (held : ℕ) 
 next_empty t g items held x is kept room = first_empty (slots_in items) held x.empty x.by_bucket.next kept.2 (few_held t g items held x is kept room)
 
 -- it is filled
-pub filled : (t : Table) (g : Geometry) (items : List RawSlot) (held : ℕ) (x now : Index) (place a b : ℕ) (raw : RawSlot) → ◌≡◌ {A = Table} (record { geometry = g; slots = slots_in items }) t
-    → Kept g items held x → length (pairs t) < t.geometry.slots → holds (pairs t) a b ≡ false → MayBeHeld t.geometry (a, b) → place ≡ x.empty → slot_in raw ≡ Some (a, b)
-    → ((next : ℕ → Option (ℕ × ℕ)) → IsWith (slot_at (slots_in items)) place (a, b) next → IsIndex next now)
-    → ((blocks places : ℕ) → HasLinksAndHeads blocks places x → HasLinksAndHeads blocks places now)
+pub filled : (t : Table) (g : Geometry) (items : List RawSlot) (held : ℕ) (x now : Index) (position a b : ℕ) (raw : RawSlot) → ◌≡◌ {A = Table} (record { geometry = g; slots = slots_in items }) t
+    → Kept g items held x → length (pairs t) < t.geometry.slots → holds (pairs t) a b ≡ false → MayBeHeld t.geometry (a, b) → position ≡ x.empty → slot_in raw ≡ Some (a, b)
+    → ((next : ℕ → Option (ℕ × ℕ)) → IsWith (slot_at (slots_in items)) position (a, b) next → IsIndex next now)
+    → ((blocks positions : ℕ) → HasLinksAndHeads blocks positions x → HasLinksAndHeads blocks positions now)
     → now.empty ≡ get_or x.by_bucket.next x.empty 0
-    → ((k : ℕ) → slot_at (slots_in items) k ≡ None → (k ≡ place → ⊥) → get_or now.by_bucket.next k 0 ≡ get_or x.by_bucket.next k 0)
-    → Kept g (set items place raw) (held + 1) now
-filled t g items held x now place a b raw is kept room absent within place_is raw_is index rooms first stays = (table, many, empties_now, index_now, rooms g.blocks g.slots kept.4)
+    → ((k : ℕ) → slot_at (slots_in items) k ≡ None → (k ≡ position → ⊥) → get_or now.by_bucket.next k 0 ≡ get_or x.by_bucket.next k 0)
+    → Kept g (set items position raw) (held + 1) now
+filled t g items held x now position a b raw is kept room absent within place_is raw_is index rooms first stays = (table, many, empties_now, index_now, rooms g.blocks g.slots kept.4)
   where
     u : Table
     u = record { geometry = g; slots = slots_in items }
 
-    empty : slot_at (slots_in items) place ≡ None
+    empty : slot_at (slots_in items) position ≡ None
     empty = ap (slot_at (slots_in items)) place_is ∙ (next_empty t g items held x is kept room).1
 
-    inside : place < length (slots_in items)
+    inside : position < length (slots_in items)
     inside = let at = (next_empty t g items held x is kept room).0 in let same = place_is in omega arith
 
     not_held : holds (pairs u) a b ≡ false
     not_held = ap (λ (v : Table). holds (pairs v) a b) is ∙ absent
 
-    slots_are : set (slots_in items) place (Some (a, b)) ≡ slots_in (set items place raw)
-    slots_are = ap (set (slots_in items) place) (sym raw_is) ∙ sym (slots_in-set items place raw)
+    slots_are : set (slots_in items) position (Some (a, b)) ≡ slots_in (set items position raw)
+    slots_are = ap (set (slots_in items) position) (sym raw_is) ∙ sym (slots_in-set items position raw)
 
-    table : IsTable (record { geometry = g; slots = slots_in (set items place raw) })
+    table : IsTable (record { geometry = g; slots = slots_in (set items position raw) })
     table = subst (λ (slots : List (Option (ℕ × ℕ))). IsTable (record { geometry = g; slots = slots })) slots_are
-        (added u place a b kept.0 (let here = inside in let all = kept.0.count in omega arith) not_held (subst (λ (v : Table). MayBeHeld v.geometry (a, b)) (sym is) within))
+        (added u position a b kept.0 (let here = inside in let all = kept.0.count in omega arith) not_held (subst (λ (v : Table). MayBeHeld v.geometry (a, b)) (sym is) within))
 
-    many : held + 1 ≡ length (pairs (record { geometry = g; slots = slots_in (set items place raw) }))
-    many = ap (λ (n : ℕ). n + 1) kept.1 ∙ (sym (held_added u place a b kept.0 (let here = inside in let all = kept.0.count in omega arith) empty not_held)
+    many : held + 1 ≡ length (pairs (record { geometry = g; slots = slots_in (set items position raw) }))
+    many = ap (λ (n : ℕ). n + 1) kept.1 ∙ (sym (held_added u position a b kept.0 (let here = inside in let all = kept.0.count in omega arith) empty not_held)
         ∙ ap (λ (slots : List (Option (ℕ × ℕ))). length (pairs_in slots)) slots_are)
 
     taken : AreEmpties (set (slots_in items) x.empty (Some (a, b))) (held + 1) (get_or x.by_bucket.next x.empty 0) now.by_bucket.next
     taken = empties_taken (slots_in items) held x.empty x.by_bucket.next now.by_bucket.next (a, b) kept.2 (few_held t g items held x is kept room)
         (λ k none off. stays k none (λ same. off (same ∙ place_is)))
 
-    empties_now : AreEmpties (slots_in (set items place raw)) (held + 1) now.empty now.by_bucket.next
-    empties_now = subst (λ (link : ℕ). AreEmpties (slots_in (set items place raw)) (held + 1) link now.by_bucket.next) (sym first)
+    empties_now : AreEmpties (slots_in (set items position raw)) (held + 1) now.empty now.by_bucket.next
+    empties_now = subst (λ (link : ℕ). AreEmpties (slots_in (set items position raw)) (held + 1) link now.by_bucket.next) (sym first)
         (subst (λ (slots : List (Option (ℕ × ℕ))). AreEmpties slots (held + 1) (get_or x.by_bucket.next x.empty 0) now.by_bucket.next)
         (ap (λ (p : ℕ). set (slots_in items) p (Some (a, b))) (sym place_is) ∙ slots_are) taken)
 
-    index_now : IsIndex (slot_at (slots_in (set items place raw))) now
+    index_now : IsIndex (slot_at (slots_in (set items position raw))) now
     index_now = subst (λ (slots : List (Option (ℕ × ℕ))). IsIndex (slot_at slots) now) slots_are
-        (index (slot_at (set (slots_in items) place (Some (a, b)))) (slot_filled (slots_in items) place (a, b) inside empty))
+        (index (slot_at (set (slots_in items) position (Some (a, b)))) (slot_filled (slots_in items) position (a, b) inside empty))
 
 -- the same in the steps of the code: the slot is taken off the list, and then the pair is threaded
-pub put_kept : (t : Table) (g : Geometry) (items : List RawSlot) (held : ℕ) (x taken now : Index) (place a b : ℕ) (raw : RawSlot) → ◌≡◌ {A = Table} (record { geometry = g; slots = slots_in items }) t
-    → Kept g items held x → length (pairs t) < t.geometry.slots → holds (pairs t) a b ≡ false → MayBeHeld t.geometry (a, b) → place ≡ x.empty
+pub put_kept : (t : Table) (g : Geometry) (items : List RawSlot) (held : ℕ) (x taken now : Index) (position a b : ℕ) (raw : RawSlot) → ◌≡◌ {A = Table} (record { geometry = g; slots = slots_in items }) t
+    → Kept g items held x → length (pairs t) < t.geometry.slots → holds (pairs t) a b ≡ false → MayBeHeld t.geometry (a, b) → position ≡ x.empty
     → taken ≡ record x { empty = get_or x.by_bucket.next x.empty 0 } → slot_in raw ≡ Some (a, b)
-    → ((next : ℕ → Option (ℕ × ℕ)) → IsWith (slot_at (slots_in items)) place (a, b) next → IsIndex next now)
-    → ((blocks places : ℕ) → HasLinksAndHeads blocks places taken → HasLinksAndHeads blocks places now)
+    → ((next : ℕ → Option (ℕ × ℕ)) → IsWith (slot_at (slots_in items)) position (a, b) next → IsIndex next now)
+    → ((blocks positions : ℕ) → HasLinksAndHeads blocks positions taken → HasLinksAndHeads blocks positions now)
     → now.empty ≡ taken.empty
-    → ((k : ℕ) → slot_at (slots_in items) k ≡ None → (k ≡ place → ⊥) → get_or now.by_bucket.next k 0 ≡ get_or taken.by_bucket.next k 0)
-    → Kept g (set items place raw) (held + 1) now
-put_kept t g items held x taken now place a b raw is kept room absent within place_is taken_is raw_is index rooms first stays =
-    filled t g items held x now place a b raw is kept room absent within place_is raw_is index
-    (λ blocks places old. rooms blocks places (subst (HasLinksAndHeads blocks places) (sym taken_is) (same_room blocks places old)))
+    → ((k : ℕ) → slot_at (slots_in items) k ≡ None → (k ≡ position → ⊥) → get_or now.by_bucket.next k 0 ≡ get_or taken.by_bucket.next k 0)
+    → Kept g (set items position raw) (held + 1) now
+put_kept t g items held x taken now position a b raw is kept room absent within place_is taken_is raw_is index rooms first stays =
+    filled t g items held x now position a b raw is kept room absent within place_is raw_is index
+    (λ blocks positions old. rooms blocks positions (subst (HasLinksAndHeads blocks positions) (sym taken_is) (same_room blocks positions old)))
     (first ∙ ap (λ (y : Index). y.empty) taken_is)
     (λ k none off. stays k none off ∙ ap (λ (y : Index). get_or y.by_bucket.next k 0) taken_is)
   where
-    same_room : (blocks places : ℕ) → HasLinksAndHeads blocks places x → HasLinksAndHeads blocks places (record x { empty = get_or x.by_bucket.next x.empty 0 })
-    same_room blocks places old = record {
+    same_room : (blocks positions : ℕ) → HasLinksAndHeads blocks positions x → HasLinksAndHeads blocks positions (record x { empty = get_or x.by_bucket.next x.empty 0 })
+    same_room blocks positions old = record {
       sources = old.sources;
       targets = old.targets;
       by_source = old.by_source;
@@ -137,54 +137,54 @@ put_kept t g items held x taken now place a b raw is kept room absent within pla
     }
 
 -- where a slot holds a pair, one is held
-pub some_held : (t : Table) (g : Geometry) (items : List RawSlot) (held : ℕ) (x : Index) (place a b : ℕ) → ◌≡◌ {A = Table} (record { geometry = g; slots = slots_in items }) t
-    → Kept g items held x → slot_at t.slots place ≡ Some (a, b) → 1 ≤ held
-some_held t g items held x place a b is kept here =
+pub some_held : (t : Table) (g : Geometry) (items : List RawSlot) (held : ℕ) (x : Index) (position a b : ℕ) → ◌≡◌ {A = Table} (record { geometry = g; slots = slots_in items }) t
+    → Kept g items held x → slot_at t.slots position ≡ Some (a, b) → 1 ≤ held
+some_held t g items held x position a b is kept here =
     let u : Table = record { geometry = g; slots = slots_in items } in
-    let fewer = held_removed u place a b kept.0 (ap (λ (v : Table). slot_at v.slots place) is ∙ here) in
+    let fewer = held_removed u position a b kept.0 (ap (λ (v : Table). slot_at v.slots position) is ∙ here) in
     let held_is = kept.1 in
     omega arith
 
 -- a slot is emptied
-pub emptied : (t : Table) (g : Geometry) (items : List RawSlot) (held left : ℕ) (x cut now : Index) (place a b : ℕ) (raw : RawSlot) → ◌≡◌ {A = Table} (record { geometry = g; slots = slots_in items }) t
-    → Kept g items held x → slot_at t.slots place ≡ Some (a, b) → held ≡ left + 1 → slot_in raw ≡ None
-    → ((next : ℕ → Option (ℕ × ℕ)) → IsWith next place (a, b) (slot_at (slots_in items)) → IsIndex next cut)
-    → ((next : ℕ → Option (ℕ × ℕ)) → next place ≡ None → IsIndex next cut → IsIndex next now)
+pub emptied : (t : Table) (g : Geometry) (items : List RawSlot) (held left : ℕ) (x cut now : Index) (position a b : ℕ) (raw : RawSlot) → ◌≡◌ {A = Table} (record { geometry = g; slots = slots_in items }) t
+    → Kept g items held x → slot_at t.slots position ≡ Some (a, b) → held ≡ left + 1 → slot_in raw ≡ None
+    → ((next : ℕ → Option (ℕ × ℕ)) → IsWith next position (a, b) (slot_at (slots_in items)) → IsIndex next cut)
+    → ((next : ℕ → Option (ℕ × ℕ)) → next position ≡ None → IsIndex next cut → IsIndex next now)
     → HasLinksAndHeads g.blocks g.slots now
-    → now.empty ≡ place → now.by_bucket.next ≡ set cut.by_bucket.next place x.empty → place < length cut.by_bucket.next
+    → now.empty ≡ position → now.by_bucket.next ≡ set cut.by_bucket.next position x.empty → position < length cut.by_bucket.next
     → ((k : ℕ) → slot_at (slots_in items) k ≡ None → get_or cut.by_bucket.next k 0 ≡ get_or x.by_bucket.next k 0)
-    → Kept g (set items place raw) left now
-emptied t g items held left x cut now place a b raw is kept here one_more raw_is index given rooms first links inside stays = (table, many, empties_now, index_now, rooms)
+    → Kept g (set items position raw) left now
+emptied t g items held left x cut now position a b raw is kept here one_more raw_is index given rooms first links inside stays = (table, many, empties_now, index_now, rooms)
   where
     u : Table
     u = record { geometry = g; slots = slots_in items }
 
-    there : slot_at (slots_in items) place ≡ Some (a, b)
-    there = ap (λ (v : Table). slot_at v.slots place) is ∙ here
+    there : slot_at (slots_in items) position ≡ Some (a, b)
+    there = ap (λ (v : Table). slot_at v.slots position) is ∙ here
 
-    slots_are : set (slots_in items) place None ≡ slots_in (set items place raw)
-    slots_are = ap (set (slots_in items) place) (sym raw_is) ∙ sym (slots_in-set items place raw)
+    slots_are : set (slots_in items) position None ≡ slots_in (set items position raw)
+    slots_are = ap (set (slots_in items) position) (sym raw_is) ∙ sym (slots_in-set items position raw)
 
-    table : IsTable (record { geometry = g; slots = slots_in (set items place raw) })
-    table = subst (λ (slots : List (Option (ℕ × ℕ))). IsTable (record { geometry = g; slots = slots })) slots_are (removed u place a b kept.0 there)
+    table : IsTable (record { geometry = g; slots = slots_in (set items position raw) })
+    table = subst (λ (slots : List (Option (ℕ × ℕ))). IsTable (record { geometry = g; slots = slots })) slots_are (removed u position a b kept.0 there)
 
-    many : left ≡ length (pairs (record { geometry = g; slots = slots_in (set items place raw) }))
+    many : left ≡ length (pairs (record { geometry = g; slots = slots_in (set items position raw) }))
     many =
-        let fewer = held_removed u place a b kept.0 there in
+        let fewer = held_removed u position a b kept.0 there in
         let held_is = kept.1 in
-        let less : left ≡ length (pairs_in (set (slots_in items) place None)) = omega arith in
+        let less : left ≡ length (pairs_in (set (slots_in items) position None)) = omega arith in
         less ∙ ap (λ (slots : List (Option (ℕ × ℕ))). length (pairs_in slots)) slots_are
 
-    empties_now : AreEmpties (slots_in (set items place raw)) left now.empty now.by_bucket.next
-    empties_now = subst (λ (link : ℕ). AreEmpties (slots_in (set items place raw)) left link now.by_bucket.next) (sym first)
-        (subst (AreEmpties (slots_in (set items place raw)) left place) (sym links)
-        (subst (λ (slots : List (Option (ℕ × ℕ))). AreEmpties slots left place (set cut.by_bucket.next place x.empty)) slots_are
-        (empties_given (slots_in items) held left x.empty x.by_bucket.next cut.by_bucket.next place (a, b) kept.2 one_more there inside stays)))
+    empties_now : AreEmpties (slots_in (set items position raw)) left now.empty now.by_bucket.next
+    empties_now = subst (λ (link : ℕ). AreEmpties (slots_in (set items position raw)) left link now.by_bucket.next) (sym first)
+        (subst (AreEmpties (slots_in (set items position raw)) left position) (sym links)
+        (subst (λ (slots : List (Option (ℕ × ℕ))). AreEmpties slots left position (set cut.by_bucket.next position x.empty)) slots_are
+        (empties_given (slots_in items) held left x.empty x.by_bucket.next cut.by_bucket.next position (a, b) kept.2 one_more there inside stays)))
 
-    index_now : IsIndex (slot_at (slots_in (set items place raw))) now
+    index_now : IsIndex (slot_at (slots_in (set items position raw))) now
     index_now = subst (λ (slots : List (Option (ℕ × ℕ))). IsIndex (slot_at slots) now) slots_are
-        (given (slot_at (set (slots_in items) place None)) (set_same (slots_in items) place None (some_inside (slots_in items) place (a, b) there))
-        (index (slot_at (set (slots_in items) place None)) (slot_emptied (slots_in items) place (a, b) there)))
+        (given (slot_at (set (slots_in items) position None)) (set_same (slots_in items) position None (some_inside (slots_in items) position (a, b) there))
+        (index (slot_at (set (slots_in items) position None)) (slot_emptied (slots_in items) position (a, b) there)))
 
 -- ---- what is asked of a change of the index
 
@@ -192,7 +192,7 @@ pub absent_slots : (slots : List (Option (ℕ × ℕ))) (a b : ℕ) → holds (p
 absent_slots slots a b absent k here = both_ways (holds (pairs_in slots) a b) absent (holds_from_slot slots k a b here)
 
 -- whether a pair has a slot
-pub has_is : (slots : List (Option (ℕ × ℕ))) (a b : ℕ) (place : Option ℕ) → IsPlaceOf slots a b place → is_some place ≡ holds (pairs_in slots) a b
+pub has_is : (slots : List (Option (ℕ × ℕ))) (a b : ℕ) (position : Option ℕ) → IsPlaceOf slots a b position → is_some position ≡ holds (pairs_in slots) a b
 has_is slots a b None absent = sym absent
 has_is slots a b (Some k) here = sym (holds_from_slot slots k a b here)
 
@@ -205,25 +205,25 @@ small g slots lawful count within k e here =
 
 -- ---- the patch of a changed slot
 
-pub change_after : (t : Table) (g : Geometry) (items : List RawSlot) (place : ℕ) (raw : RawSlot) (patch : Patch) (before after : Option (ℕ × ℕ)) → ◌≡◌ {A = Table} (record { geometry = g; slots = slots_in items }) t
-    → place < t.geometry.slots → slot_at t.slots place ≡ before → slot_in raw ≡ after → patch.sector ≡ sector_of g place
-    → patch.bytes ≡ slot_sector_bytes (slots_in (set items place raw)) (place / 64) → IsChange t (record { geometry = g; slots = slots_in (set items place raw) }) before after patch
-change_after t g items place raw patch before after is inside was now sector bytes = record {
-  place = place;
+pub change_after : (t : Table) (g : Geometry) (items : List RawSlot) (position : ℕ) (raw : RawSlot) (patch : Patch) (before after : Option (ℕ × ℕ)) → ◌≡◌ {A = Table} (record { geometry = g; slots = slots_in items }) t
+    → position < t.geometry.slots → slot_at t.slots position ≡ before → slot_in raw ≡ after → patch.sector ≡ sector_of g position
+    → patch.bytes ≡ slot_sector_bytes (slots_in (set items position raw)) (position / 64) → IsChange t (record { geometry = g; slots = slots_in (set items position raw) }) before after patch
+change_after t g items position raw patch before after is inside was now sector bytes = record {
+  position = position;
   inside = inside;
   was = was;
-  now = sym (set_in t g items place raw is) ∙ ap (with_slot t place) now;
-  sector = sector ∙ ap (λ (u : Table). sector_of u.geometry place) is;
+  now = sym (set_in t g items position raw is) ∙ ap (with_slot t position) now;
+  sector = sector ∙ ap (λ (u : Table). sector_of u.geometry position) is;
   bytes = bytes;
 }
 
-pub stored_after : (t : Table) (g : Geometry) (items : List RawSlot) (place : ℕ) (raw : RawSlot) (patch : Patch) → ◌≡◌ {A = Table} (record { geometry = g; slots = slots_in items }) t
-    → IsTable (record { geometry = g; slots = slots_in (set items place raw) }) → patch.sector ≡ sector_of g place
-    → patch.bytes ≡ slot_sector_bytes (slots_in (set items place raw)) (place / 64) → (x : Image) → IsStored t.slots t.geometry x
-    → IsStored (slots_in (set items place raw)) g (put_at patch.sector patch.bytes x)
-stored_after t g items place raw patch is table sector bytes x old =
-    let same = set_in t g items place raw is in
+pub stored_after : (t : Table) (g : Geometry) (items : List RawSlot) (position : ℕ) (raw : RawSlot) (patch : Patch) → ◌≡◌ {A = Table} (record { geometry = g; slots = slots_in items }) t
+    → IsTable (record { geometry = g; slots = slots_in (set items position raw) }) → patch.sector ≡ sector_of g position
+    → patch.bytes ≡ slot_sector_bytes (slots_in (set items position raw)) (position / 64) → (x : Image) → IsStored t.slots t.geometry x
+    → IsStored (slots_in (set items position raw)) g (put_at patch.sector patch.bytes x)
+stored_after t g items position raw patch is table sector bytes x old =
+    let same = set_in t g items position raw is in
     subst (λ (u : Table). IsStored u.slots u.geometry (put_at patch.sector patch.bytes x)) same
-    (stored_kept t.slots t.geometry place (slot_in raw) patch.sector patch.bytes (fits (with_slot t place (slot_in raw)) (subst IsTable (sym same) table))
-    (sector ∙ ap (λ (u : Table). sector_of u.geometry place) is)
-    (bytes ∙ ap (λ (u : Table). slot_sector_bytes u.slots (place / 64)) (sym same)) x old)
+    (stored_kept t.slots t.geometry position (slot_in raw) patch.sector patch.bytes (fits (with_slot t position (slot_in raw)) (subst IsTable (sym same) table))
+    (sector ∙ ap (λ (u : Table). sector_of u.geometry position) is)
+    (bytes ∙ ap (λ (u : Table). slot_sector_bytes u.slots (position / 64)) (sym same)) x old)

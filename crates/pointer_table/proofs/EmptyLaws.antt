@@ -15,59 +15,59 @@ use Rattle.pointer_table.proofs.SlotLaws.{some_inside, set_same, set_other}
 pub not_some : (slot : Option (ℕ × ℕ)) (e : ℕ × ℕ) → slot ≡ None → slot ≡ Some e → ⊥
 not_some slot e none some = cc
 
-chain_stays : (next now : List ℕ) (link : ℕ) (places : List ℕ) → ((k : ℕ) → is_among places k ≡ true → get_or now k 0 ≡ get_or next k 0) → AreLinked next link places → AreLinked now link places
+chain_stays : (next now : List ℕ) (link : ℕ) (positions : List ℕ) → ((k : ℕ) → is_among positions k ≡ true → get_or now k 0 ≡ get_or next k 0) → AreLinked next link positions → AreLinked now link positions
 chain_stays next now link [] same chain = chain
-chain_stays next now link (p ∷ places) same chain = (
+chain_stays next now link (p ∷ positions) same chain = (
   chain.0,
-  subst (λ (l : ℕ). AreLinked now l places) (sym (same p (or_left (p == p) (is_among places p) (eq-eqb p p refl))))
-      (chain_stays next now (get_or next p 0) places (λ k among. same k (or_right (p == k) (is_among places k) among)) chain.1),
+  subst (λ (l : ℕ). AreLinked now l positions) (sym (same p (or_left (p == p) (is_among positions p) (eq-eqb p p refl))))
+      (chain_stays next now (get_or next p 0) positions (λ k among. same k (or_right (p == k) (is_among positions k) among)) chain.1),
 )
 
-among_empty : (slots : List (Option (ℕ × ℕ))) (places : List ℕ) (k : ℕ) → AreEmptyOnce slots places → is_among places k ≡ true → (k < length slots) × (slot_at slots k ≡ None)
+among_empty : (slots : List (Option (ℕ × ℕ))) (positions : List ℕ) (k : ℕ) → AreEmptyOnce slots positions → is_among positions k ≡ true → (k < length slots) × (slot_at slots k ≡ None)
 among_empty slots [] k empty among = absurd (cc)
-among_empty slots (p ∷ places) k empty among = elim (or_cases (p == k) (is_among places k) among) [
+among_empty slots (p ∷ positions) k empty among = elim (or_cases (p == k) (is_among positions k) among) [
   | inl here ↦
       (let same : p ≡ k = eqb-true p k here in
       let inside = empty.0 in
       (omega arith, ap (slot_at slots) (sym same) ∙ empty.1))
-  | inr later ↦ among_empty slots places k empty.3 later
+  | inr later ↦ among_empty slots positions k empty.3 later
 ]
 
-empty_stays : (slots now : List (Option (ℕ × ℕ))) (places : List ℕ) → ((k : ℕ) → is_among places k ≡ true → (k < length now) × (slot_at now k ≡ None)) → AreEmptyOnce slots places → AreEmptyOnce now places
+empty_stays : (slots now : List (Option (ℕ × ℕ))) (positions : List ℕ) → ((k : ℕ) → is_among positions k ≡ true → (k < length now) × (slot_at now k ≡ None)) → AreEmptyOnce slots positions → AreEmptyOnce now positions
 empty_stays slots now [] stays empty = tt
-empty_stays slots now (p ∷ places) stays empty =
-    let here = stays p (or_left (p == p) (is_among places p) (eq-eqb p p refl)) in (
+empty_stays slots now (p ∷ positions) stays empty =
+    let here = stays p (or_left (p == p) (is_among positions p) (eq-eqb p p refl)) in (
       here.0,
       here.1,
       empty.2,
-      empty_stays slots now places (λ k among. stays k (or_right (p == k) (is_among places k) among)) empty.3,
+      empty_stays slots now positions (λ k among. stays k (or_right (p == k) (is_among positions k) among)) empty.3,
     )
 
 -- ---- the first taken off
 
 pub first_empty : (slots : List (Option (ℕ × ℕ))) (held first : ℕ) (next : List ℕ) → AreEmpties slots held first next → held < length slots → (first < length slots) × (slot_at slots first ≡ None)
-first_empty slots held first next empties room = go empties.places empties.chain empties.empty empties.many
+first_empty slots held first next empties room = go empties.positions empties.chain empties.empty empties.many
   where
-    go : (places : List ℕ) → AreLinked next first places → AreEmptyOnce slots places → length places + held ≡ length slots → (first < length slots) × (slot_at slots first ≡ None)
+    go : (positions : List ℕ) → AreLinked next first positions → AreEmptyOnce slots positions → length positions + held ≡ length slots → (first < length slots) × (slot_at slots first ≡ None)
     go [] chain empty many = absurd (omega arith)
-    go (p ∷ places) chain empty many = let inside = empty.0 in let is = chain.0 in (omega arith, ap (slot_at slots) chain.0 ∙ empty.1)
+    go (p ∷ positions) chain empty many = let inside = empty.0 in let is = chain.0 in (omega arith, ap (slot_at slots) chain.0 ∙ empty.1)
 
 pub empties_taken : (slots : List (Option (ℕ × ℕ))) (held first : ℕ) (next now : List ℕ) (e : ℕ × ℕ) → AreEmpties slots held first next → held < length slots
     → ((k : ℕ) → slot_at slots k ≡ None → (k ≡ first → ⊥) → get_or now k 0 ≡ get_or next k 0) → AreEmpties (set slots first (Some e)) (held + 1) (get_or next first 0) now
-empties_taken slots held first next now e empties room stays = go empties.places empties.chain empties.empty empties.many
+empties_taken slots held first next now e empties room stays = go empties.positions empties.chain empties.empty empties.many
   where
-    go : (places : List ℕ) → AreLinked next first places → AreEmptyOnce slots places → length places + held ≡ length slots → AreEmpties (set slots first (Some e)) (held + 1) (get_or next first 0) now
+    go : (positions : List ℕ) → AreLinked next first positions → AreEmptyOnce slots positions → length positions + held ≡ length slots → AreEmpties (set slots first (Some e)) (held + 1) (get_or next first 0) now
     go [] chain empty many = absurd (omega arith)
-    go (p ∷ places) chain empty many =
-        let off : (k : ℕ) → is_among places k ≡ true → k ≡ first → ⊥ = λ k among same.
-        both_ways (is_among places p) empty.2 (ap (is_among places) (sym (same ∙ chain.0)) ∙ among) in
+    go (p ∷ positions) chain empty many =
+        let off : (k : ℕ) → is_among positions k ≡ true → k ≡ first → ⊥ = λ k among same.
+        both_ways (is_among positions p) empty.2 (ap (is_among positions) (sym (same ∙ chain.0)) ∙ among) in
         let all = length-set slots first (Some e) in
         record {
-          places = places;
-          chain = subst (λ (q : ℕ). AreLinked now (get_or next q 0) places) (sym chain.0)
-              (chain_stays next now (get_or next p 0) places (λ k among. stays k (among_empty slots places k empty.3 among).1 (off k among)) chain.1);
-          empty = empty_stays slots (set slots first (Some e)) places (λ k among.
-              let old = among_empty slots places k empty.3 among in
+          positions = positions;
+          chain = subst (λ (q : ℕ). AreLinked now (get_or next q 0) positions) (sym chain.0)
+              (chain_stays next now (get_or next p 0) positions (λ k among. stays k (among_empty slots positions k empty.3 among).1 (off k among)) chain.1);
+          empty = empty_stays slots (set slots first (Some e)) positions (λ k among.
+              let old = among_empty slots positions k empty.3 among in
               let inside = old.0 in
               (omega arith, set_other slots first k (Some e) (off k among) ∙ old.1)) empty.3;
           many = omega arith;
@@ -75,44 +75,44 @@ empties_taken slots held first next now e empties room stays = go empties.places
 
 -- ---- one put in front
 
-pub empties_given : (slots : List (Option (ℕ × ℕ))) (held left first : ℕ) (next now : List ℕ) (place : ℕ) (e : ℕ × ℕ) → AreEmpties slots held first next → held ≡ left + 1 → slot_at slots place ≡ Some e
-    → place < length now → ((k : ℕ) → slot_at slots k ≡ None → get_or now k 0 ≡ get_or next k 0) → AreEmpties (set slots place None) left place (set now place first)
-empties_given slots held left first next now place e empties one_more here room stays =
-    let all = length-set slots place None in
-    let inside = some_inside slots place e here in
+pub empties_given : (slots : List (Option (ℕ × ℕ))) (held left first : ℕ) (next now : List ℕ) (position : ℕ) (e : ℕ × ℕ) → AreEmpties slots held first next → held ≡ left + 1 → slot_at slots position ≡ Some e
+    → position < length now → ((k : ℕ) → slot_at slots k ≡ None → get_or now k 0 ≡ get_or next k 0) → AreEmpties (set slots position None) left position (set now position first)
+empties_given slots held left first next now position e empties one_more here room stays =
+    let all = length-set slots position None in
+    let inside = some_inside slots position e here in
     let sum = empties.many in
     record {
-      places = place ∷ empties.places;
+      positions = position ∷ empties.positions;
       chain = (
         refl,
-        subst (λ (l : ℕ). AreLinked (set now place first) l empties.places) (sym (get_or-set_same now place first 0 room))
-            (chain_stays next (set now place first) first empties.places (λ k among.
-            get_or-set_other now place k first 0 (off k among) ∙ stays k (among_empty slots empties.places k empties.empty among).1) empties.chain),
+        subst (λ (l : ℕ). AreLinked (set now position first) l empties.positions) (sym (get_or-set_same now position first 0 room))
+            (chain_stays next (set now position first) first empties.positions (λ k among.
+            get_or-set_other now position k first 0 (off k among) ∙ stays k (among_empty slots empties.positions k empties.empty among).1) empties.chain),
       );
       empty = (
         omega arith,
-        set_same slots place None inside,
-        false_from_ne_true (is_among empties.places place) (λ among. off place among refl),
-        empty_stays slots (set slots place None) empties.places (λ k among.
-            let old = among_empty slots empties.places k empties.empty among in
+        set_same slots position None inside,
+        false_from_ne_true (is_among empties.positions position) (λ among. off position among refl),
+        empty_stays slots (set slots position None) empties.positions (λ k among.
+            let old = among_empty slots empties.positions k empties.empty among in
             let within = old.0 in
-            (omega arith, set_other slots place k None (off k among) ∙ old.1)) empties.empty,
+            (omega arith, set_other slots position k None (off k among) ∙ old.1)) empties.empty,
       );
       many = omega arith;
     }
   where
-    off : (k : ℕ) → is_among empties.places k ≡ true → k ≡ place → ⊥
-    off k among same = not_some (slot_at slots place) e (ap (slot_at slots) (sym same) ∙ (among_empty slots empties.places k empties.empty among).1) here
+    off : (k : ℕ) → is_among empties.positions k ≡ true → k ≡ position → ⊥
+    off k among same = not_some (slot_at slots position) e (ap (slot_at slots) (sym same) ∙ (among_empty slots empties.positions k empties.empty among).1) here
 
 -- ---- made from the last slot to the first
 
 -- the slots from this one on that are empty are linked
 pub record AreEmptiesFrom (slots : List (Option (ℕ × ℕ))) (left first : ℕ) (next : List ℕ) : Type 0 where
-  pub places : List ℕ
-  pub chain : AreLinked next first places
-  pub empty : AreEmptyOnce slots places
-  pub from : (k : ℕ) → is_among places k ≡ true → left ≤ k
-  pub many : length places + count_by is_some (drop left slots) + left ≡ length slots
+  pub positions : List ℕ
+  pub chain : AreLinked next first positions
+  pub empty : AreEmptyOnce slots positions
+  pub from : (k : ℕ) → is_among positions k ≡ true → left ≤ k
+  pub many : length positions + count_by is_some (drop left slots) + left ≡ length slots
 
 pub count_drop : (slots : List (Option (ℕ × ℕ))) (l : ℕ) → l < length slots → count_by is_some (drop l slots) ≡ cond (is_some (slot_at slots l)) 1 0 + count_by is_some (drop (suc l) slots)
 count_drop slots l inside =
@@ -130,7 +130,7 @@ count_drop_all slots l past = ap (count_by is_some) (drop_all l slots past)
 
 pub empties_none : (slots : List (Option (ℕ × ℕ))) (first left : ℕ) (next : List ℕ) → first ≡ no_link → left ≡ length slots → AreEmptiesFrom slots left first next
 empties_none slots first left next nowhere all = record {
-  places = [];
+  positions = [];
   chain = nowhere;
   empty = tt;
   from = λ k among. absurd (cc);
@@ -145,22 +145,22 @@ empties_more slots left first next some inside long none empties =
     let same : count_by is_some (drop (suc (left - 1)) slots) ≡ count_by is_some (drop left slots) = ap (λ n. count_by is_some (drop n slots)) back in
     let sum = empties.many in
     record {
-      places = (left - 1) ∷ empties.places;
+      positions = (left - 1) ∷ empties.positions;
       chain = (
         refl,
-        subst (λ (l : ℕ). AreLinked (set next (left - 1) first) l empties.places) (sym (get_or-set_same next (left - 1) first 0 (omega arith)))
-            (chain_stays next (set next (left - 1) first) first empties.places (λ k among.
+        subst (λ (l : ℕ). AreLinked (set next (left - 1) first) l empties.positions) (sym (get_or-set_same next (left - 1) first 0 (omega arith)))
+            (chain_stays next (set next (left - 1) first) first empties.positions (λ k among.
             get_or-set_other next (left - 1) k first 0 (off k among)) empties.chain),
       );
-      empty = (omega arith, none, false_from_ne_true (is_among empties.places (left - 1)) (λ among. off (left - 1) among refl), empties.empty);
-      from = λ k among. elim (or_cases ((left - 1) == k) (is_among empties.places k) among) [
+      empty = (omega arith, none, false_from_ne_true (is_among empties.positions (left - 1)) (λ among. off (left - 1) among refl), empties.empty);
+      from = λ k among. elim (or_cases ((left - 1) == k) (is_among empties.positions k) among) [
         | inl here ↦ (let is = eqb-true (left - 1) k here in omega arith)
         | inr later ↦ (let low = empties.from k later in omega arith)
       ];
       many = omega arith;
     }
   where
-    off : (k : ℕ) → is_among empties.places k ≡ true → k ≡ left - 1 → ⊥
+    off : (k : ℕ) → is_among empties.positions k ≡ true → k ≡ left - 1 → ⊥
     off k among same = let low = empties.from k among in omega arith
 
 pub empties_skip : (slots : List (Option (ℕ × ℕ))) (left first : ℕ) (next : List ℕ) (e : ℕ × ℕ) → 0 < left → left ≤ length slots → slot_at slots (left - 1) ≡ Some e → AreEmptiesFrom slots left first next
@@ -171,7 +171,7 @@ empties_skip slots left first next e some inside here empties =
     let same : count_by is_some (drop (suc (left - 1)) slots) ≡ count_by is_some (drop left slots) = ap (λ n. count_by is_some (drop n slots)) back in
     let sum = empties.many in
     record {
-      places = empties.places;
+      positions = empties.positions;
       chain = empties.chain;
       empty = empties.empty;
       from = λ k among. let low = empties.from k among in omega arith;
@@ -182,4 +182,4 @@ pub empties_all : (slots : List (Option (ℕ × ℕ))) (left first : ℕ) (next 
 empties_all slots left first next end empties =
     let same : count_by is_some (drop left slots) ≡ count_by is_some slots = ap (λ n. count_by is_some (drop n slots)) end in
     let sum = empties.many in
-    record { places = empties.places; chain = empties.chain; empty = empties.empty; many = omega arith }
+    record { positions = empties.positions; chain = empties.chain; empty = empties.empty; many = omega arith }

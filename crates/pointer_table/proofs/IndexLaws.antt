@@ -27,8 +27,8 @@ target_group w n e is = ap (λ v. group v n e) is
 pub bucket_group : (w : Way) (n : ℕ) (e : ℕ × ℕ) → w ≡ way.Bucket → 0 < n → group w n e < n
 bucket_group w n e is some = let same : group w n e ≡ mixed (rank e) % n = ap (λ v. group v n e) is in omega arith
 
-pub room_here : (blocks places : ℕ) (x : Index) → HasLinksAndHeads blocks places x → HasLinksAndHeads (length x.by_source.heads) places x
-room_here blocks places x room = record {
+pub room_here : (blocks positions : ℕ) (x : Index) → HasLinksAndHeads blocks positions x → HasLinksAndHeads (length x.by_source.heads) positions x
+room_here blocks positions x room = record {
   sources = refl;
   targets = room.targets ∙ sym room.sources;
   by_source = room.by_source;
@@ -45,17 +45,17 @@ no_place slots by of r a b groups ranks none = false_from_ne_true (holds (pairs_
     let low = none k.0 (a, b) (record { here = k.2; belongs = sym groups }) in
     omega arith)
 
-pub another_place : (slots : List (Option (ℕ × ℕ))) (by : (ℕ × ℕ) → ℕ) (heads next : List ℕ) (of r a b place : ℕ) → AreThreads (slot_at slots) by heads next → of ≡ by (a, b) → r ≡ rank (a, b) → b < 4294967296
-    → IsFirstThatFar (slot_at slots) by of r (Some place) → is_at a b (slot_at slots place) ≡ false → holds (pairs_in slots) a b ≡ false
-another_place slots by heads next of r a b place threads groups ranks fits there off = false_from_ne_true (holds (pairs_in slots) a b) (λ held.
+pub another_place : (slots : List (Option (ℕ × ℕ))) (by : (ℕ × ℕ) → ℕ) (heads next : List ℕ) (of r a b position : ℕ) → AreThreads (slot_at slots) by heads next → of ≡ by (a, b) → r ≡ rank (a, b) → b < 4294967296
+    → IsFirstThatFar (slot_at slots) by of r (Some position) → is_at a b (slot_at slots position) ≡ false → holds (pairs_in slots) a b ≡ false
+another_place slots by heads next of r a b position threads groups ranks fits there off = false_from_ne_true (holds (pairs_in slots) a b) (λ held.
     let k = slot_from_holds slots a b held in
     let least = there.least k.0 (a, b) (record { here = k.2; belongs = sym groups }) (omega arith) in
     let above = there.above in
-    let pair : there.pair ≡ (a, b) = same_rank there.pair (a, b) (threads.fits place there.pair there.member.here) fits (omega arith) in
-    both_ways (is_at a b (slot_at slots place)) off (is_at_same a b (slot_at slots place) (there.member.here ∙ ap Some pair)))
+    let pair : there.pair ≡ (a, b) = same_rank there.pair (a, b) (threads.fits position there.pair there.member.here) fits (omega arith) in
+    both_ways (is_at a b (slot_at slots position)) off (is_at_same a b (slot_at slots position) (there.member.here ∙ ap Some pair)))
 
-pub that_place : (slots : List (Option (ℕ × ℕ))) (a b place : ℕ) → is_at a b (slot_at slots place) ≡ true → slot_at slots place ≡ Some (a, b)
-that_place slots a b place on = is_at_some a b (slot_at slots place) on
+pub that_place : (slots : List (Option (ℕ × ℕ))) (a b position : ℕ) → is_at a b (slot_at slots position) ≡ true → slot_at slots position ≡ Some (a, b)
+that_place slots a b position on = is_at_some a b (slot_at slots position) on
 
 -- ---- the next target and the next source
 
@@ -66,13 +66,13 @@ no_target slots by a start groups none b held =
     let low = none k.0 (a, b) (record { here = k.2; belongs = groups (a, b) }) in
     omega arith
 
-that_target : (slots : List (Option (ℕ × ℕ))) (by : (ℕ × ℕ) → ℕ) (a start place : ℕ) → ((e : ℕ × ℕ) → by e ≡ e.0) → (there : IsFirstThatFar (slot_at slots) by a (rank (a, start)) (Some place))
+that_target : (slots : List (Option (ℕ × ℕ))) (by : (ℕ × ℕ) → ℕ) (a start position : ℕ) → ((e : ℕ × ℕ) → by e ≡ e.0) → (there : IsFirstThatFar (slot_at slots) by a (rank (a, start)) (Some position))
     → IsNextTarget (pairs_in slots) a start (Some there.pair.1)
-that_target slots by a start place groups there =
+that_target slots by a start position groups there =
     let source : there.pair.0 ≡ a = sym (groups there.pair) ∙ there.member.belongs in
     let above = there.above in
     record {
-      there = holds_from_slot slots place a there.pair.1 (there.member.here ∙ ap (λ x. Some (x, there.pair.1)) source);
+      there = holds_from_slot slots position a there.pair.1 (there.member.here ∙ ap (λ x. Some (x, there.pair.1)) source);
       from = omega arith;
       least = λ b held from.
           let k = slot_from_holds slots a b held in
@@ -98,13 +98,13 @@ no_source slots by b start groups none a held =
     let low = none k.0 (a, b) (record { here = k.2; belongs = groups (a, b) }) in
     omega arith
 
-that_source : (slots : List (Option (ℕ × ℕ))) (by : (ℕ × ℕ) → ℕ) (b start place : ℕ) → ((e : ℕ × ℕ) → by e ≡ e.1) → (there : IsFirstThatFar (slot_at slots) by b (rank (start, b)) (Some place))
+that_source : (slots : List (Option (ℕ × ℕ))) (by : (ℕ × ℕ) → ℕ) (b start position : ℕ) → ((e : ℕ × ℕ) → by e ≡ e.1) → (there : IsFirstThatFar (slot_at slots) by b (rank (start, b)) (Some position))
     → IsNextSource (pairs_in slots) b start (Some there.pair.0)
-that_source slots by b start place groups there =
+that_source slots by b start position groups there =
     let target : there.pair.1 ≡ b = sym (groups there.pair) ∙ there.member.belongs in
     let above = there.above in
     record {
-      there = holds_from_slot slots place there.pair.0 b (there.member.here ∙ ap (λ x. Some (there.pair.0, x)) target);
+      there = holds_from_slot slots position there.pair.0 b (there.member.here ∙ ap (λ x. Some (there.pair.0, x)) target);
       from = omega arith;
       least = λ a held from.
           let k = slot_from_holds slots a b held in
@@ -162,14 +162,14 @@ none_threaded way groups t some ways heads = record {
 
 -- ---- the link of an empty slot
 
-pub linked_aside : (way : Way) (held : ℕ → Option (ℕ × ℕ)) (t now : Threads) (place link : ℕ) → held place ≡ None → now.way ≡ t.way → now.heads ≡ t.heads → now.next ≡ set t.next place link
+pub linked_aside : (way : Way) (held : ℕ → Option (ℕ × ℕ)) (t now : Threads) (position link : ℕ) → held position ≡ None → now.way ≡ t.way → now.heads ≡ t.heads → now.next ≡ set t.next position link
     → IsThreadedBy way held t → IsThreadedBy way held now
-linked_aside way held t now place link none ways heads next threads = record {
+linked_aside way held t now position link none ways heads next threads = record {
   way_is = ways ∙ threads.way_is;
   some = (let many = ap length heads in let some = threads.some in omega arith);
   threads =
       subst (λ (w : Way). AreThreads held (group w (length now.heads)) now.heads now.next) (sym ways)
       (subst (λ (xs : List ℕ). AreThreads held (group t.way (length xs)) xs now.next) (sym heads)
       (subst (AreThreads held (group t.way (length t.heads)) t.heads) (sym next)
-      (link_aside held (group t.way (length t.heads)) t.heads t.next place link threads.threads none)));
+      (link_aside held (group t.way (length t.heads)) t.heads t.next position link threads.threads none)));
 }

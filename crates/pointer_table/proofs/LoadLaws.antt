@@ -56,45 +56,45 @@ good_slot g source target e good is =
           subst (MayBeHeld g) same (omega arith, omega arith, omega arith)
     ] refl good is
 
-pub read_more : (image : Image) (g : Geometry) (place : ℕ) (raws : List RawSlot) (raw : RawSlot) → place < length raws
-    → raw.source ≡ source_field image g place → raw.target ≡ target_field image g place → is_bad g raw.source raw.target ≡ false
-    → AreReadTo image g place (slots_in raws) → AreReadTo image g (place + 1) (slots_in (set raws place raw))
-read_more image g place raws raw inside source target good so_far = record {
-  each = λ k below. elim (cases_eq k place) [
+pub read_more : (image : Image) (g : Geometry) (position : ℕ) (raws : List RawSlot) (raw : RawSlot) → position < length raws
+    → raw.source ≡ source_field image g position → raw.target ≡ target_field image g position → is_bad g raw.source raw.target ≡ false
+    → AreReadTo image g position (slots_in raws) → AreReadTo image g (position + 1) (slots_in (set raws position raw))
+read_more image g position raws raw inside source target good so_far = record {
+  each = λ k below. elim (cases_eq k position) [
     | inl here ↦
         ap (stored_slot image g) here
-        ∙ (ap (λ s. slot_of s (target_field image g place)) (sym source) ∙ (ap (slot_of raw.source) (sym target)
-        ∙ (sym (set_same (slots_in raws) place (slot_in raw) (let same = length-slots_in raws in omega arith))
-        ∙ (ap (λ slots. slot_at slots place) (sym (slots_in-set raws place raw)) ∙ ap (slot_at (slots_in (set raws place raw))) (sym here)))))
+        ∙ (ap (λ s. slot_of s (target_field image g position)) (sym source) ∙ (ap (slot_of raw.source) (sym target)
+        ∙ (sym (set_same (slots_in raws) position (slot_in raw) (let same = length-slots_in raws in omega arith))
+        ∙ (ap (λ slots. slot_at slots position) (sym (slots_in-set raws position raw)) ∙ ap (slot_at (slots_in (set raws position raw))) (sym here)))))
     | inr other ↦
         so_far.each k (omega arith)
-        ∙ (sym (set_other (slots_in raws) place k (slot_in raw) other) ∙ ap (λ slots. slot_at slots k) (sym (slots_in-set raws place raw)))
+        ∙ (sym (set_other (slots_in raws) position k (slot_in raw) other) ∙ ap (λ slots. slot_at slots k) (sym (slots_in-set raws position raw)))
   ];
-  no_bad = λ k below. elim (cases_eq k place) [
-    | inl here ↦ ap (is_bad_at image g) here ∙ (ap (λ s. is_bad g s (target_field image g place)) (sym source) ∙ (ap (is_bad g raw.source) (sym target) ∙ good))
+  no_bad = λ k below. elim (cases_eq k position) [
+    | inl here ↦ ap (is_bad_at image g) here ∙ (ap (λ s. is_bad g s (target_field image g position)) (sym source) ∙ (ap (is_bad g raw.source) (sym target) ∙ good))
     | inr other ↦ so_far.no_bad k (omega arith)
   ];
 }
 
-pub within_more : (g : Geometry) (place : ℕ) (raws : List RawSlot) (raw : RawSlot) → place < length raws → is_bad g raw.source raw.target ≡ false
-    → AreWithinTo g place (slots_in raws) → AreWithinTo g (place + 1) (slots_in (set raws place raw))
-within_more g place raws raw inside good so_far = record {
-  each = λ k e below here. elim (cases_eq k place) [
+pub within_more : (g : Geometry) (position : ℕ) (raws : List RawSlot) (raw : RawSlot) → position < length raws → is_bad g raw.source raw.target ≡ false
+    → AreWithinTo g position (slots_in raws) → AreWithinTo g (position + 1) (slots_in (set raws position raw))
+within_more g position raws raw inside good so_far = record {
+  each = λ k e below here. elim (cases_eq k position) [
     | inl same ↦
         good_slot g raw.source raw.target e good
-        (sym (set_same (slots_in raws) place (slot_in raw) (let l = length-slots_in raws in omega arith))
-        ∙ (ap (λ slots. slot_at slots place) (sym (slots_in-set raws place raw)) ∙ (ap (slot_at (slots_in (set raws place raw))) (sym same) ∙ here)))
+        (sym (set_same (slots_in raws) position (slot_in raw) (let l = length-slots_in raws in omega arith))
+        ∙ (ap (λ slots. slot_at slots position) (sym (slots_in-set raws position raw)) ∙ (ap (slot_at (slots_in (set raws position raw))) (sym same) ∙ here)))
     | inr other ↦
         so_far.each k e (omega arith)
-        (sym (set_other (slots_in raws) place k (slot_in raw) other) ∙ (ap (λ slots. slot_at slots k) (sym (slots_in-set raws place raw)) ∙ here))
+        (sym (set_other (slots_in raws) position k (slot_in raw) other) ∙ (ap (λ slots. slot_at slots k) (sym (slots_in-set raws position raw)) ∙ here))
   ];
 }
 
 -- a bad one behind those that were read
-pub least_bad : (image : Image) (g : Geometry) (place : ℕ) (raws : List RawSlot) (raw : RawSlot) → place < g.slots
-    → raw.source ≡ source_field image g place → raw.target ≡ target_field image g place → is_bad g raw.source raw.target ≡ true
-    → AreReadTo image g place (slots_in raws) → IsLeastBadSlot image g place raw.source raw.target
-least_bad image g place raws raw inside source target bad so_far = record {
+pub least_bad : (image : Image) (g : Geometry) (position : ℕ) (raws : List RawSlot) (raw : RawSlot) → position < g.slots
+    → raw.source ≡ source_field image g position → raw.target ≡ target_field image g position → is_bad g raw.source raw.target ≡ true
+    → AreReadTo image g position (slots_in raws) → IsLeastBadSlot image g position raw.source raw.target
+least_bad image g position raws raw inside source target bad so_far = record {
   inside = inside;
   source_is = source;
   target_is = target;

@@ -9,7 +9,7 @@ use Rattle.tsd_model.specs.declared.geometry.Geometry.{Geometry}
 use Rattle.image_device.specs.Image.{put_at}
 use Rattle.image_layout.specs.Areas.{slots_start}
 use Rattle.image_layout.specs.Image.{Image}
-use Rattle.image_layout.specs.Places.{slot_place}
+use Rattle.image_layout.specs.Offsets.{slot_offset}
 use Rattle.pointer_table.specs.Slots.{slot_at}
 use Rattle.pointer_table.specs.Sectors.{slot_of, stored_slot, IsStored, slot_bytes, row_bytes, slot_sector_bytes}
 use Rattle.pointer_table.proofs.SlotLaws.{set_other}
@@ -119,19 +119,19 @@ stored_at image g k =
     ap (λ s. slot_of (little_from (8 * k % 512) 4 (image (slots_start g + s))) (little_from (8 * k % 512 + 4) 4 (image (slots_start g + s)))) (slot_sector k)
     ∙ ap (λ b. read_at (image (slots_start g + k / 64)) b) (slot_byte k)
 
-pub stored_kept : (slots : List (Option (ℕ × ℕ))) (g : Geometry) (place : ℕ) (slot : Option (ℕ × ℕ)) (sector : ℕ) (bytes : List ℕ) → ((i : ℕ) → Fits4 (slot_at (set slots place slot) i))
-    → sector ≡ (slot_place g place).sector → bytes ≡ slot_sector_bytes (set slots place slot) (place / 64) → (x : Image) → IsStored slots g x → IsStored (set slots place slot) g (put_at sector bytes x)
-stored_kept slots g place slot sector bytes fits at is x old = record {
-  count = length-set slots place slot ∙ old.count;
+pub stored_kept : (slots : List (Option (ℕ × ℕ))) (g : Geometry) (position : ℕ) (slot : Option (ℕ × ℕ)) (sector : ℕ) (bytes : List ℕ) → ((i : ℕ) → Fits4 (slot_at (set slots position slot) i))
+    → sector ≡ (slot_offset g position).sector → bytes ≡ slot_sector_bytes (set slots position slot) (position / 64) → (x : Image) → IsStored slots g x → IsStored (set slots position slot) g (put_at sector bytes x)
+stored_kept slots g position slot sector bytes fits at is x old = record {
+  count = length-set slots position slot ∙ old.count;
   each = λ k inside. stored_at (put_at sector bytes x) g k ∙ elim (cases_eq (slots_start g + k / 64) sector) [
     | inl here ↦
-        let part : k / 64 ≡ place / 64 = let e = at ∙ ap (λ s. slots_start g + s) (slot_sector place) in omega arith in
+        let part : k / 64 ≡ position / 64 = let e = at ∙ ap (λ s. slots_start g + s) (slot_sector position) in omega arith in
         ap (λ t. read_at (cond t bytes (x (slots_start g + k / 64))) (8 * (k % 64))) (eq-eqb (slots_start g + k / 64) sector here)
-        ∙ (ap (λ b. read_at b (8 * (k % 64))) is ∙ sector_read (set slots place slot) (place / 64) (k % 64) k fits (omega arith) (omega arith))
+        ∙ (ap (λ b. read_at b (8 * (k % 64))) is ∙ sector_read (set slots position slot) (position / 64) (k % 64) k fits (omega arith) (omega arith))
     | inr off ↦
-        let other : k ≡ place → ⊥ = λ same. off (ap (λ i. slots_start g + i / 64) same ∙ (ap (λ s. slots_start g + s) (sym (slot_sector place)) ∙ sym at)) in
+        let other : k ≡ position → ⊥ = λ same. off (ap (λ i. slots_start g + i / 64) same ∙ (ap (λ s. slots_start g + s) (sym (slot_sector position)) ∙ sym at)) in
         ap (λ t. read_at (cond t bytes (x (slots_start g + k / 64))) (8 * (k % 64))) (ne_eqb (slots_start g + k / 64) sector off)
-        ∙ (sym (stored_at x g k) ∙ (old.each k inside ∙ sym (set_other slots place k slot other)))
+        ∙ (sym (stored_at x g k) ∙ (old.each k inside ∙ sym (set_other slots position k slot other)))
   ];
 }
 

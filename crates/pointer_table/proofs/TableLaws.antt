@@ -20,11 +20,11 @@ use Rattle.pointer_table.specs.Repeats.{IsRepeatedIn, IsLeastOfAll}
 use Rattle.pointer_table.specs.Slots.{slot_at}
 use Rattle.pointer_table.specs.Table.{Table, pairs, MayBeHeld, IsTable, ArePairs}
 use Rattle.tsd_model.proofs.PairLaws.{length-with_new_pair}
-use Rattle.image_layout.specs.declared.place.Patch.{Patch}
+use Rattle.image_layout.specs.declared.position.Patch.{Patch}
 use Rattle.pointer_table.specs.Changes.{IsChange}
 use Rattle.pointer_table.proofs.RawLaws.{slots_in-set}
 use Rattle.image_layout.specs.Areas.{slots_start}
-use Rattle.image_layout.specs.Places.{slot_place}
+use Rattle.image_layout.specs.Offsets.{slot_offset}
 use Rattle.pointer_table.specs.Sectors.{IsStored, slot_sector_bytes}
 use Rattle.pointer_table.proofs.SectorLaws.{Fits4, read_at, sector_read, slot_sector, stored_at}
 use Rattle.pointer_table.proofs.SlotLaws.{some_inside, holds_from_slot, slot_from_holds, rising-pairs_in, set_same, set_other, pairs_added, pairs_removed, length-pairs_in_le}
@@ -56,81 +56,81 @@ made g slots lawful count within none = record {
 -- ---- changed
 
 abbrev pub with_slot : Table → ℕ → Option (ℕ × ℕ) → Table
-with_slot t place slot = record t { slots = set t.slots place slot }
+with_slot t position slot = record t { slots = set t.slots position slot }
 
-pub added : (t : Table) (place a b : ℕ) → IsTable t → place < t.geometry.slots → holds (pairs t) a b ≡ false → MayBeHeld t.geometry (a, b) → IsTable (with_slot t place (Some (a, b)))
-added t place a b table inside absent within = record {
+pub added : (t : Table) (position a b : ℕ) → IsTable t → position < t.geometry.slots → holds (pairs t) a b ≡ false → MayBeHeld t.geometry (a, b) → IsTable (with_slot t position (Some (a, b)))
+added t position a b table inside absent within = record {
   lawful = table.lawful;
-  count = length-set t.slots place (Some (a, b)) ∙ table.count;
-  ends = λ k e here. elim (cases_eq k place) [
+  count = length-set t.slots position (Some (a, b)) ∙ table.count;
+  ends = λ k e here. elim (cases_eq k position) [
     | inl same ↦
         let one : Some e ≡ Some (a, b) = sym here ∙ (ap (slot_at now) same ∙ at_place) in
         let pair : e ≡ (a, b) = cc in
         subst (MayBeHeld t.geometry) (sym pair) within
-    | inr other ↦ table.ends k e (sym (set_other t.slots place k (Some (a, b)) other) ∙ here)
+    | inr other ↦ table.ends k e (sym (set_other t.slots position k (Some (a, b)) other) ∙ here)
   ];
-  apart = λ i j e p q. elim (cases_eq i place) [
-    | inl i_here ↦ elim (cases_eq j place) [ inl j_here ↦ i_here ∙ sym j_here | inr j_off ↦ absurd (never i j e i_here j_off p q) ]
-    | inr i_off ↦ elim (cases_eq j place) [
+  apart = λ i j e p q. elim (cases_eq i position) [
+    | inl i_here ↦ elim (cases_eq j position) [ inl j_here ↦ i_here ∙ sym j_here | inr j_off ↦ absurd (never i j e i_here j_off p q) ]
+    | inr i_off ↦ elim (cases_eq j position) [
       | inl j_here ↦ absurd (never j i e j_here i_off q p)
-      | inr j_off ↦ table.apart i j e (sym (set_other t.slots place i (Some (a, b)) i_off) ∙ p) (sym (set_other t.slots place j (Some (a, b)) j_off) ∙ q)
+      | inr j_off ↦ table.apart i j e (sym (set_other t.slots position i (Some (a, b)) i_off) ∙ p) (sym (set_other t.slots position j (Some (a, b)) j_off) ∙ q)
     ]
   ];
 }
   where
     now : List (Option (ℕ × ℕ))
-    now = set t.slots place (Some (a, b))
+    now = set t.slots position (Some (a, b))
 
-    at_place : slot_at (set t.slots place (Some (a, b))) place ≡ Some (a, b)
-    at_place = set_same t.slots place (Some (a, b)) (let all = table.count in omega arith)
+    at_place : slot_at (set t.slots position (Some (a, b))) position ≡ Some (a, b)
+    at_place = set_same t.slots position (Some (a, b)) (let all = table.count in omega arith)
 
-    never : (i j : ℕ) (e : ℕ × ℕ) → i ≡ place → (j ≡ place → ⊥) → slot_at (set t.slots place (Some (a, b))) i ≡ Some e → slot_at (set t.slots place (Some (a, b))) j ≡ Some e → ⊥
+    never : (i j : ℕ) (e : ℕ × ℕ) → i ≡ position → (j ≡ position → ⊥) → slot_at (set t.slots position (Some (a, b))) i ≡ Some e → slot_at (set t.slots position (Some (a, b))) j ≡ Some e → ⊥
     never i j e here off p q =
-        let one : Some (a, b) ≡ Some e = sym at_place ∙ (ap (slot_at (set t.slots place (Some (a, b)))) (sym here) ∙ p) in
-        let held : slot_at t.slots j ≡ Some (a, b) = sym (set_other t.slots place j (Some (a, b)) off) ∙ (q ∙ sym one) in
+        let one : Some (a, b) ≡ Some e = sym at_place ∙ (ap (slot_at (set t.slots position (Some (a, b)))) (sym here) ∙ p) in
+        let held : slot_at t.slots j ≡ Some (a, b) = sym (set_other t.slots position j (Some (a, b)) off) ∙ (q ∙ sym one) in
         both_ways (holds (pairs t) a b) absent (holds_from_slot t.slots j a b held)
 
-pub removed : (t : Table) (place a b : ℕ) → IsTable t → slot_at t.slots place ≡ Some (a, b) → IsTable (with_slot t place None)
-removed t place a b table here = record {
+pub removed : (t : Table) (position a b : ℕ) → IsTable t → slot_at t.slots position ≡ Some (a, b) → IsTable (with_slot t position None)
+removed t position a b table here = record {
   lawful = table.lawful;
-  count = length-set t.slots place None ∙ table.count;
+  count = length-set t.slots position None ∙ table.count;
   ends = λ k e p. table.ends k e (still k e p);
   apart = λ i j e p q. table.apart i j e (still i e p) (still j e q);
 }
   where
-    still : (k : ℕ) (e : ℕ × ℕ) → slot_at (set t.slots place None) k ≡ Some e → slot_at t.slots k ≡ Some e
-    still k e p = elim (cases_eq k place) [
+    still : (k : ℕ) (e : ℕ × ℕ) → slot_at (set t.slots position None) k ≡ Some e → slot_at t.slots k ≡ Some e
+    still k e p = elim (cases_eq k position) [
       | inl same ↦
-          let none : slot_at (set t.slots place None) k ≡ None = ap (slot_at (set t.slots place None)) same ∙ set_same t.slots place None (some_inside t.slots place (a, b) here) in
+          let none : slot_at (set t.slots position None) k ≡ None = ap (slot_at (set t.slots position None)) same ∙ set_same t.slots position None (some_inside t.slots position (a, b) here) in
           absurd (cc)
-      | inr other ↦ sym (set_other t.slots place k None other) ∙ p
+      | inr other ↦ sym (set_other t.slots position k None other) ∙ p
     ]
 
-pub held_added : (t : Table) (place a b : ℕ) → IsTable t → place < t.geometry.slots → slot_at t.slots place ≡ None → holds (pairs t) a b ≡ false → length (pairs (with_slot t place (Some (a, b)))) ≡ length (pairs t) + 1
-held_added t place a b table inside empty absent =
-    ap length (pairs_added t.slots place (a, b) (let all = table.count in omega arith) empty)
+pub held_added : (t : Table) (position a b : ℕ) → IsTable t → position < t.geometry.slots → slot_at t.slots position ≡ None → holds (pairs t) a b ≡ false → length (pairs (with_slot t position (Some (a, b)))) ≡ length (pairs t) + 1
+held_added t position a b table inside empty absent =
+    ap length (pairs_added t.slots position (a, b) (let all = table.count in omega arith) empty)
     ∙ (length-with_new_pair (a, b) (pairs t) absent ∙ omega arith)
 
-pub held_removed : (t : Table) (place a b : ℕ) → IsTable t → slot_at t.slots place ≡ Some (a, b) → length (pairs (with_slot t place None)) + 1 ≡ length (pairs t)
-held_removed t place a b table here =
-    let inside = some_inside t.slots place (a, b) here in
-    let gone = removed t place a b table here in
-    let empty : slot_at (set t.slots place None) place ≡ None = set_same t.slots place None inside in
-    let absent : holds (pairs (with_slot t place None)) a b ≡ false = absent_after in
-    let back = held_added (with_slot t place None) place a b gone (let all = table.count in omega arith) empty absent in
-    let same : with_slot (with_slot t place None) place (Some (a, b)) ≡ t =
-    ap (λ slots. record t { slots = slots }) (set-set t.slots place None (Some (a, b)) ∙ (ap (set t.slots place) (sym here) ∙ set-get_or t.slots place None)) in
+pub held_removed : (t : Table) (position a b : ℕ) → IsTable t → slot_at t.slots position ≡ Some (a, b) → length (pairs (with_slot t position None)) + 1 ≡ length (pairs t)
+held_removed t position a b table here =
+    let inside = some_inside t.slots position (a, b) here in
+    let gone = removed t position a b table here in
+    let empty : slot_at (set t.slots position None) position ≡ None = set_same t.slots position None inside in
+    let absent : holds (pairs (with_slot t position None)) a b ≡ false = absent_after in
+    let back = held_added (with_slot t position None) position a b gone (let all = table.count in omega arith) empty absent in
+    let same : with_slot (with_slot t position None) position (Some (a, b)) ≡ t =
+    ap (λ slots. record t { slots = slots }) (set-set t.slots position None (Some (a, b)) ∙ (ap (set t.slots position) (sym here) ∙ set-get_or t.slots position None)) in
     sym back ∙ ap (λ s. length (pairs s)) same
   where
-    absent_after : holds (pairs (with_slot t place None)) a b ≡ false
-    absent_after = false_from_ne_true (holds (pairs (with_slot t place None)) a b) (λ held.
-        let k = slot_from_holds (set t.slots place None) a b held in
-        elim (cases_eq k.0 place) [
+    absent_after : holds (pairs (with_slot t position None)) a b ≡ false
+    absent_after = false_from_ne_true (holds (pairs (with_slot t position None)) a b) (λ held.
+        let k = slot_from_holds (set t.slots position None) a b held in
+        elim (cases_eq k.0 position) [
           | inl same ↦
-              let none : slot_at (set t.slots place None) k.0 ≡ None = ap (slot_at (set t.slots place None)) same ∙ set_same t.slots place None (some_inside t.slots place (a, b) here) in
+              let none : slot_at (set t.slots position None) k.0 ≡ None = ap (slot_at (set t.slots position None)) same ∙ set_same t.slots position None (some_inside t.slots position (a, b) here) in
               let some = k.2 in
               absurd (cc)
-          | inr other ↦ other (table.apart k.0 place (a, b) (sym (set_other t.slots place k.0 None other) ∙ k.2) here)
+          | inr other ↦ other (table.apart k.0 position (a, b) (sym (set_other t.slots position k.0 None other) ∙ k.2) here)
         ])
 
 -- the numbers of a table's slots fit
@@ -181,12 +181,12 @@ load_answers image g slots (Err (fault.Repeated a b)) count read is found = (rea
 
 -- many slots that change, and the sectors patched that have them
 pub batch_stored : (slots now : List (Option (ℕ × ℕ))) (g : Geometry) (x y : Image) → IsTable (record { geometry = g; slots = now }) → IsStored slots g x
-    → ((k : ℕ) → k < g.slots → (y (slot_place g k).sector ≡ slot_sector_bytes now (k / 64)) ⊎ ((y (slot_place g k).sector ≡ x (slot_place g k).sector) × (slot_at now k ≡ slot_at slots k)))
+    → ((k : ℕ) → k < g.slots → (y (slot_offset g k).sector ≡ slot_sector_bytes now (k / 64)) ⊎ ((y (slot_offset g k).sector ≡ x (slot_offset g k).sector) × (slot_at now k ≡ slot_at slots k)))
     → IsStored now g y
 batch_stored slots now g x y table stored patched = record {
   count = table.count;
   each = λ k inside.
-      let here : (z : Image) → z (slots_start g + k / 64) ≡ z (slot_place g k).sector = λ z. ap (λ s. z (slots_start g + s)) (sym (slot_sector k)) in
+      let here : (z : Image) → z (slots_start g + k / 64) ≡ z (slot_offset g k).sector = λ z. ap (λ s. z (slots_start g + s)) (sym (slot_sector k)) in
       stored_at y g k ∙ elim (patched k inside) [
         | inl written ↦
             ap (λ bytes. read_at bytes (8 * (k % 64))) (here y ∙ written)
@@ -200,16 +200,16 @@ batch_stored slots now g x y table stored patched = record {
 -- ---- the fields of a table in memory
 
 -- a slot set in memory is one set in the table
-pub set_in : (t : Table) (g : Geometry) (raws : List RawSlot) (place : ℕ) (raw : RawSlot) → ◌≡◌ {A = Table} (record { geometry = g; slots = slots_in raws }) t
-    → with_slot t place (slot_in raw) ≡ record { geometry = g; slots = slots_in (set raws place raw) }
-set_in t g raws place raw is =
-    sym (ap (λ (u : Table). with_slot u place (slot_in raw)) is) ∙ ap (λ slots. record { geometry = g; slots = slots }) (sym (slots_in-set raws place raw))
+pub set_in : (t : Table) (g : Geometry) (raws : List RawSlot) (position : ℕ) (raw : RawSlot) → ◌≡◌ {A = Table} (record { geometry = g; slots = slots_in raws }) t
+    → with_slot t position (slot_in raw) ≡ record { geometry = g; slots = slots_in (set raws position raw) }
+set_in t g raws position raw is =
+    sym (ap (λ (u : Table). with_slot u position (slot_in raw)) is) ∙ ap (λ slots. record { geometry = g; slots = slots }) (sym (slots_in-set raws position raw))
 
 -- ---- the pairs after a change
 
 pub pairs_with : (old new : Table) (patch : Patch) (e : ℕ × ℕ) → IsTable old → IsChange old new None (Some e) patch → pairs new ≡ with_pair e (pairs old)
 pairs_with old new patch e table change =
-    ap pairs change.now ∙ pairs_added old.slots change.place e (let inside = change.inside in let all = table.count in omega arith) change.was
+    ap pairs change.now ∙ pairs_added old.slots change.position e (let inside = change.inside in let all = table.count in omega arith) change.was
 
 pub pairs_without : (old new : Table) (patch : Patch) (a b : ℕ) → IsTable old → IsChange old new (Some (a, b)) None patch → pairs new ≡ without_pair a b (pairs old)
-pairs_without old new patch a b table change = ap pairs change.now ∙ pairs_removed old.slots change.place a b table.apart change.was
+pairs_without old new patch a b table change = ap pairs change.now ∙ pairs_removed old.slots change.position a b table.apart change.was

@@ -17,7 +17,7 @@ use Rattle.pointer_table.specs.declared.threads.Threads.{Threads}
 use Rattle.pointer_table.specs.declared.way.Way.{Way}
 use Rattle.pointer_table.proofs.ThreadLaws.{same_rank}
 
--- the slots that stand in the order from a place on
+-- the slots that stand in the order from an offset on
 abbrev pub is_threaded : List ℕ → ℕ → ℕ → Bool
 is_threaded order left k = list_any (λ p. p == k) (drop left order)
 
@@ -107,12 +107,12 @@ thread_least g slots order left e table sorted inside here k f held =
       | inl same ↦
           (let pair : e ≡ f = same_rank e f (omega arith) (omega arith) same in
           let slot = table.apart (get_or order left 0) (get_or order at.0 0) e here (there ∙ ap Some (sym pair)) in
-          let place = sorted.holders.apart left at.0 inside at.1.1.0 slot in
+          let position = sorted.holders.apart left at.0 inside at.1.1.0 slot in
           absurd (omega arith))
       | inr off ↦ omega arith
     ]
 
--- the same at a place that is counted down to: what a change with the slot in front of it makes of the threads
+-- the same at a position that is counted down to: what a change with the slot in front of it makes of the threads
 pub one_more : (g : Geometry) (slots : List (Option (ℕ × ℕ))) (order : List ℕ) (l : ℕ) (e : ℕ × ℕ) (before after : (ℕ → Option (ℕ × ℕ)) → Type 0) → IsTable (record { geometry = g; slots = slots }) → IsOrder slots order
     → 0 < l → l ≤ length order → slot_at slots (get_or order (l - 1) 0) ≡ Some e → before (threaded slots order l)
     → ((held now : ℕ → Option (ℕ × ℕ)) → IsWith held (get_or order (l - 1) 0) e now → ((k : ℕ) (f : ℕ × ℕ) → held k ≡ Some f → rank e < rank f) → before held → after now)
@@ -126,38 +126,38 @@ one_more g slots order l e before after table sorted some inside here so_far mor
 -- ---- slots threaded in their own order
 
 -- the slots in front of a place
-before_place : (slots : List (Option (ℕ × ℕ))) (place k : ℕ) → k < place → slot_at (take place slots) k ≡ slot_at slots k
-before_place slots place k low = get_or-take place slots k None low
+before_offset : (slots : List (Option (ℕ × ℕ))) (position k : ℕ) → k < position → slot_at (take position slots) k ≡ slot_at slots k
+before_offset slots position k low = get_or-take position slots k None low
 
-behind_place : (slots : List (Option (ℕ × ℕ))) (place k : ℕ) → place ≤ k → slot_at (take place slots) k ≡ None
-behind_place slots place k far = get_or_past (take place slots) k None (let len = length-take place slots in omega arith)
+behind_place : (slots : List (Option (ℕ × ℕ))) (position k : ℕ) → position ≤ k → slot_at (take position slots) k ≡ None
+behind_place slots position k far = get_or_past (take position slots) k None (let len = length-take position slots in omega arith)
 
-pub front_empty : (slots : List (Option (ℕ × ℕ))) (place : ℕ) → slot_at (take place slots) place ≡ None
-front_empty slots place = behind_place slots place place (omega arith)
+pub front_empty : (slots : List (Option (ℕ × ℕ))) (position : ℕ) → slot_at (take position slots) position ≡ None
+front_empty slots position = behind_place slots position position (omega arith)
 
 -- what is held in front of a place is held
-pub front_held : (slots : List (Option (ℕ × ℕ))) (place k : ℕ) (e : ℕ × ℕ) → slot_at (take place slots) k ≡ Some e → (k < place) × (slot_at slots k ≡ Some e)
-front_held slots place k e here = elim (cases_lt k place) [
-  | inl low ↦ (low, sym (before_place slots place k low) ∙ here)
-  | inr far ↦ (let none = behind_place slots place k far in absurd (cc))
+pub front_held : (slots : List (Option (ℕ × ℕ))) (position k : ℕ) (e : ℕ × ℕ) → slot_at (take position slots) k ≡ Some e → (k < position) × (slot_at slots k ≡ Some e)
+front_held slots position k e here = elim (cases_lt k position) [
+  | inl low ↦ (low, sym (before_offset slots position k low) ∙ here)
+  | inr far ↦ (let none = behind_place slots position k far in absurd (cc))
 ]
 
-pub front_more : (slots : List (Option (ℕ × ℕ))) (place : ℕ) (e : ℕ × ℕ) → slot_at slots place ≡ Some e → IsWith (slot_at (take place slots)) place e (slot_at (take (place + 1) slots))
-front_more slots place e here = record {
-  empty = front_empty slots place;
-  filled = before_place slots (place + 1) place (omega arith) ∙ here;
-  others = λ k off. elim (cases_lt k place) [
-    | inl low ↦ before_place slots (place + 1) k (omega arith) ∙ sym (before_place slots place k low)
-    | inr far ↦ behind_place slots (place + 1) k (omega arith) ∙ sym (behind_place slots place k far)
+pub front_more : (slots : List (Option (ℕ × ℕ))) (position : ℕ) (e : ℕ × ℕ) → slot_at slots position ≡ Some e → IsWith (slot_at (take position slots)) position e (slot_at (take (position + 1) slots))
+front_more slots position e here = record {
+  empty = front_empty slots position;
+  filled = before_offset slots (position + 1) position (omega arith) ∙ here;
+  others = λ k off. elim (cases_lt k position) [
+    | inl low ↦ before_offset slots (position + 1) k (omega arith) ∙ sym (before_offset slots position k low)
+    | inr far ↦ behind_place slots (position + 1) k (omega arith) ∙ sym (behind_place slots position k far)
   ];
 }
 
-pub front_same : (slots : List (Option (ℕ × ℕ))) (place : ℕ) → slot_at slots place ≡ None → (k : ℕ) → slot_at (take place slots) k ≡ slot_at (take (place + 1) slots) k
-front_same slots place none k = elim (cases_lt k place) [
-  | inl low ↦ before_place slots place k low ∙ sym (before_place slots (place + 1) k (omega arith))
-  | inr far ↦ behind_place slots place k far ∙ sym (elim (cases_eq k place) [
-    | inl same ↦ before_place slots (place + 1) k (omega arith) ∙ (ap (slot_at slots) same ∙ none)
-    | inr off ↦ behind_place slots (place + 1) k (omega arith)
+pub front_same : (slots : List (Option (ℕ × ℕ))) (position : ℕ) → slot_at slots position ≡ None → (k : ℕ) → slot_at (take position slots) k ≡ slot_at (take (position + 1) slots) k
+front_same slots position none k = elim (cases_lt k position) [
+  | inl low ↦ before_offset slots position k low ∙ sym (before_offset slots (position + 1) k (omega arith))
+  | inr far ↦ behind_place slots position k far ∙ sym (elim (cases_eq k position) [
+    | inl same ↦ before_offset slots (position + 1) k (omega arith) ∙ (ap (slot_at slots) same ∙ none)
+    | inr off ↦ behind_place slots (position + 1) k (omega arith)
   ])
 ]
 
@@ -165,17 +165,17 @@ front_same slots place none k = elim (cases_lt k place) [
 slots_front : (raws : List RawSlot) (n : ℕ) → take n (slots_in raws) ≡ slots_in (take n raws)
 slots_front raws n = take-map slot_in n raws
 
-pub raws_held : (raws : List RawSlot) (place k : ℕ) (e : ℕ × ℕ) → slot_at (slots_in (take place raws)) k ≡ Some e → (k < place) × (slot_at (slots_in raws) k ≡ Some e)
-raws_held raws place k e here = front_held (slots_in raws) place k e (ap (λ slots. slot_at slots k) (slots_front raws place) ∙ here)
+pub raws_held : (raws : List RawSlot) (position k : ℕ) (e : ℕ × ℕ) → slot_at (slots_in (take position raws)) k ≡ Some e → (k < position) × (slot_at (slots_in raws) k ≡ Some e)
+raws_held raws position k e here = front_held (slots_in raws) position k e (ap (λ slots. slot_at slots k) (slots_front raws position) ∙ here)
 
-pub raws_more : (raws : List RawSlot) (place : ℕ) (e : ℕ × ℕ) → slot_at (slots_in raws) place ≡ Some e → IsWith (slot_at (slots_in (take place raws))) place e (slot_at (slots_in (take (place + 1) raws)))
-raws_more raws place e here =
-    subst (λ (slots : List (Option (ℕ × ℕ))). IsWith (slot_at slots) place e (slot_at (slots_in (take (place + 1) raws)))) (slots_front raws place)
-    (subst (λ (slots : List (Option (ℕ × ℕ))). IsWith (slot_at (take place (slots_in raws))) place e (slot_at slots)) (slots_front raws (place + 1)) (front_more (slots_in raws) place e here))
+pub raws_more : (raws : List RawSlot) (position : ℕ) (e : ℕ × ℕ) → slot_at (slots_in raws) position ≡ Some e → IsWith (slot_at (slots_in (take position raws))) position e (slot_at (slots_in (take (position + 1) raws)))
+raws_more raws position e here =
+    subst (λ (slots : List (Option (ℕ × ℕ))). IsWith (slot_at slots) position e (slot_at (slots_in (take (position + 1) raws)))) (slots_front raws position)
+    (subst (λ (slots : List (Option (ℕ × ℕ))). IsWith (slot_at (take position (slots_in raws))) position e (slot_at slots)) (slots_front raws (position + 1)) (front_more (slots_in raws) position e here))
 
-pub raws_same : (raws : List RawSlot) (place : ℕ) → slot_at (slots_in raws) place ≡ None → (k : ℕ) → slot_at (slots_in (take place raws)) k ≡ slot_at (slots_in (take (place + 1) raws)) k
-raws_same raws place none k =
-    sym (ap (λ slots. slot_at slots k) (slots_front raws place)) ∙ (front_same (slots_in raws) place none k ∙ ap (λ slots. slot_at slots k) (slots_front raws (place + 1)))
+pub raws_same : (raws : List RawSlot) (position : ℕ) → slot_at (slots_in raws) position ≡ None → (k : ℕ) → slot_at (slots_in (take position raws)) k ≡ slot_at (slots_in (take (position + 1) raws)) k
+raws_same raws position none k =
+    sym (ap (λ slots. slot_at slots k) (slots_front raws position)) ∙ (front_same (slots_in raws) position none k ∙ ap (λ slots. slot_at slots k) (slots_front raws (position + 1)))
 
 -- slots given another way
 pub threaded_same : (way : Way) (held now : ℕ → Option (ℕ × ℕ)) (t : Threads) → ((k : ℕ) → held k ≡ now k) → IsThreadedBy way held t → IsThreadedBy way now t

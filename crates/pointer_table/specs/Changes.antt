@@ -1,7 +1,7 @@
 -- What a change of a table leaves, in memory and on the disk.
 use Rattle.std.specs.Prelude.{◌≡◌, ℕ, ◌/◌, ◌<◌, ◌≤◌, slice_set, Option}
 use Rattle.image_device.specs.Image.{Image, IsSector, put_at}
-use Rattle.image_layout.specs.declared.place.Patch.{Patch}
+use Rattle.image_layout.specs.declared.position.Patch.{Patch}
 use Rattle.image_layout.specs.Areas.{slots_start, data_start}
 use Rattle.pointer_table.specs.Slots.{slot_at}
 use Rattle.pointer_table.specs.Table.{Table}
@@ -9,12 +9,12 @@ use Rattle.pointer_table.specs.Sectors.{IsStored, per_sector, sector_of, slot_se
 
 -- One slot that was `before` is `after` now, and the patch is its sector as the whole table now has it.
 pub record IsChange (old new : Table) (before after : Option (ℕ × ℕ)) (patch : Patch) : Type 0 where
-  pub place : ℕ
-  pub inside : place < old.geometry.slots
-  pub was : slot_at old.slots place ≡ before
-  pub now : new ≡ record old { slots = slice_set old.slots place after }
-  pub sector : patch.sector ≡ sector_of old.geometry place
-  pub bytes : patch.bytes ≡ slot_sector_bytes new.slots (place / per_sector)
+  pub position : ℕ
+  pub inside : position < old.geometry.slots
+  pub was : slot_at old.slots position ≡ before
+  pub now : new ≡ record old { slots = slice_set old.slots position after }
+  pub sector : patch.sector ≡ sector_of old.geometry position
+  pub bytes : patch.bytes ≡ slot_sector_bytes new.slots (position / per_sector)
 
 -- the patch is a whole sector of the slots' area
 pub record IsSlotSector (t : Table) (patch : Patch) : Type 0 where

@@ -5,7 +5,7 @@ use Rattle.byteorder.specs.Endian.{little_bytes}
 use Rattle.tsd_model.specs.declared.geometry.Geometry.{Geometry}
 use Rattle.image_layout.specs.Image.{Image, source_field, target_field}
 use Rattle.image_layout.specs.Areas.{slots_start, data_start}
-use Rattle.image_layout.specs.Places.{slot_place}
+use Rattle.image_layout.specs.Offsets.{slot_offset}
 use Rattle.pointer_table.specs.Slots.{slot_at}
 
 -- how many slots a sector has
@@ -14,7 +14,7 @@ per_sector = 64
 
 -- the sector of a slot
 abbrev pub sector_of : Geometry → ℕ → ℕ
-sector_of g k = (slot_place g k).sector
+sector_of g k = (slot_offset g k).sector
 
 -- ---- read
 -- the slot with these two numbers: one more than the source, or 0 for an empty slot, and the target

@@ -9,8 +9,8 @@
 -- first pair of its group, and the link behind a pair leads to the next one of its group, ascending: that is the
 -- invariant, said of each head and each link alone. Where an ascending walk through a group stands is therefore known
 -- without the walk. A pair is looked for in its bucket, the targets of a source and the sources of a target in their
--- groups. A walk to a place in a group begins near it: two searches take turns, up from the head of the group and down
--- from the number that is sought, by the buckets, and the first that finds a pair of the group below the place ends
+-- groups. A walk to a position in a group begins near it: two searches take turns, up from the head of the group and down
+-- from the number that is sought, by the buckets, and the first that finds a pair of the group below the position ends
 -- both. What they find is a guess, of which no word is said here. The empty slots are linked to a list (Empties.antt).
 --
 -- Slots are given as a function from their numbers, so that the same words serve for slots of which some are threaded
@@ -22,7 +22,7 @@ use Rattle.pointer_table.specs.declared.way.Way.TheVariants as way
 
 -- ---- groups
 
--- the place of a pair among all pairs, by source and then by target
+-- the position of a pair among all pairs, by source and then by target
 abbrev pub rank : (ℕ × ℕ) → ℕ
 rank e = 4294967296 * e.0 + e.1
 
@@ -108,11 +108,11 @@ pub record AreThreads (held : ℕ → Option (ℕ × ℕ)) (by : (ℕ × ℕ) �
 
 -- ---- changes
 
--- `now` is `held` with the pair e in slot `place`, which was empty
-pub record IsWith (held : ℕ → Option (ℕ × ℕ)) (place : ℕ) (e : ℕ × ℕ) (now : ℕ → Option (ℕ × ℕ)) : Type 0 where
-  pub empty : held place ≡ None
-  pub filled : now place ≡ Some e
-  pub others : (k : ℕ) → (k ≡ place → ⊥) → now k ≡ held k
+-- `now` is `held` with the pair e in slot `position`, which was empty
+pub record IsWith (held : ℕ → Option (ℕ × ℕ)) (position : ℕ) (e : ℕ × ℕ) (now : ℕ → Option (ℕ × ℕ)) : Type 0 where
+  pub empty : held position ≡ None
+  pub filled : now position ≡ Some e
+  pub others : (k : ℕ) → (k ≡ position → ⊥) → now k ≡ held k
 
 -- the pair e comes before each pair that is held
 abbrev pub IsBelowAll : (ℕ → Option (ℕ × ℕ)) → (ℕ × ℕ) → Type 0

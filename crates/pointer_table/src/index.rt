@@ -41,20 +41,20 @@ pub(crate) struct Index {
 }
 
 /// Whether a slot holds a pair.
-fn holds_at(slots: &[RawSlot], place: u32, source: u32, target: u32) -> bool
-    ensures { result ≡ is_at source target (slot_at (slots_in slots.now) place) }
+fn holds_at(slots: &[RawSlot], position: u32, source: u32, target: u32) -> bool
+    ensures { result ≡ is_at source target (slot_at (slots_in slots.now) position) }
 {
-    match slots.get(place as usize) {
+    match slots.get(position as usize) {
         Some(slot) => slot.holds(source, target),
         None => false,
     }
 }
 
 /// The source of the pair in a slot.
-fn source_in(slots: &[RawSlot], place: u32) -> Option<u32>
-    ensures { result ≡ source_of (slot_at (slots_in slots.now) place) }
+fn source_in(slots: &[RawSlot], position: u32) -> Option<u32>
+    ensures { result ≡ source_of (slot_at (slots_in slots.now) position) }
 {
-    match slots.get(place as usize) {
+    match slots.get(position as usize) {
         Some(slot) => match slot.pair() {
             Some((source, _)) => Some(source),
             None => None,
@@ -64,10 +64,10 @@ fn source_in(slots: &[RawSlot], place: u32) -> Option<u32>
 }
 
 /// The target of the pair in a slot.
-fn target_in(slots: &[RawSlot], place: u32) -> Option<u32>
-    ensures { result ≡ target_of (slot_at (slots_in slots.now) place) }
+fn target_in(slots: &[RawSlot], position: u32) -> Option<u32>
+    ensures { result ≡ target_of (slot_at (slots_in slots.now) position) }
 {
-    match slots.get(place as usize) {
+    match slots.get(position as usize) {
         Some(slot) => match slot.pair() {
             Some((_, target)) => Some(target),
             None => None,
@@ -106,25 +106,25 @@ impl Index {
     }
 
     /// The slot that holds a pair.
-    pub(crate) fn place_of(&self, slots: &[RawSlot], source: u32, target: u32) -> Option<u32>
+    pub(crate) fn position_of(&self, slots: &[RawSlot], source: u32, target: u32) -> Option<u32>
         requires { IsIndex (slot_at (slots_in slots.now)) self.now }
         ensures { IsPlaceOf (slots_in slots.now) source target result }
     {
         let of = self.by_bucket.group(source, target);
-        let Some(place) = self
+        let Some(position) = self
             .by_bucket
             .first(slots, of, rank(source, target), NO_LINK)
         else {
             return None;
         };
-        if holds_at(slots, place, source, target) {
-            Some(place)
+        if holds_at(slots, position, source, target) {
+            Some(position)
         } else {
             None
         }
     }
 
-    /// A slot from which the walk to a pair's place among those of its source is short: a guess, so a wrong one costs
+    /// A slot from which the walk to a pair's position among those of its source is short: a guess, so a wrong one costs
     /// time alone. Up from the head of the source and down from the target two searches take turns, and the first that
     /// finds one ends both.
     fn near_target(&self, slots: &[RawSlot], source: u32, target: u32) -> u32
@@ -141,8 +141,8 @@ impl Index {
             if !is_below(slots, link, limit) {
                 break;
             }
-            if let Some(place) = self.place_of(slots, source, target - step - 1) {
-                return place;
+            if let Some(position) = self.position_of(slots, source, target - step - 1) {
+                return position;
             }
             near = link;
             link = self.by_source.link(link);
@@ -150,7 +150,7 @@ impl Index {
         near
     }
 
-    /// A slot from which the walk to a pair's place among those of its target is short, found as `near_target` does.
+    /// A slot from which the walk to a pair's position among those of its target is short, found as `near_target` does.
     fn near_source(&self, slots: &[RawSlot], source: u32, target: u32) -> u32
         requires { IsIndex (slot_at (slots_in slots.now)) self.now }
     {
@@ -165,8 +165,8 @@ impl Index {
             if !is_below(slots, link, limit) {
                 break;
             }
-            if let Some(place) = self.place_of(slots, source - step - 1, target) {
-                return place;
+            if let Some(position) = self.position_of(slots, source - step - 1, target) {
+                return position;
             }
             near = link;
             link = self.by_target.link(link);
@@ -184,10 +184,10 @@ impl Index {
             return None;
         }
         let near = self.near_target(slots, source, start);
-        let Some(place) = self.by_source.first(slots, of, rank(source, start), near) else {
+        let Some(position) = self.by_source.first(slots, of, rank(source, start), near) else {
             return None;
         };
-        target_in(slots, place)
+        target_in(slots, position)
     }
 
     /// The least source of the pairs to a block that is not below `start`.
@@ -200,49 +200,49 @@ impl Index {
             return None;
         }
         let near = self.near_source(slots, start, target);
-        let Some(place) = self.by_target.first(slots, of, rank(start, target), near) else {
+        let Some(position) = self.by_target.first(slots, of, rank(start, target), near) else {
             return None;
         };
-        source_in(slots, place)
+        source_in(slots, position)
     }
 }
 
 impl Index {
     /// Threads the pair that an empty slot is to hold.
-    pub(crate) fn add(&mut self, slots: &[RawSlot], place: u32, source: u32, target: u32)
+    pub(crate) fn add(&mut self, slots: &[RawSlot], position: u32, source: u32, target: u32)
         requires index { IsIndex (slot_at (slots_in slots.now)) self.old }
         requires room { HasLinksAndHeads (length self.old.by_source.heads) (length slots.now) self.old }
         requires source { source < length self.old.by_source.heads }
         requires target { target < length self.old.by_source.heads }
-        requires inside { place < length slots.now }
+        requires inside { position < length slots.now }
         requires few { length slots.now < no_link }
-        requires empty { slot_at (slots_in slots.now) place ≡ None }
+        requires empty { slot_at (slots_in slots.now) position ≡ None }
         requires absent { (k : ℕ) → slot_at (slots_in slots.now) k ≡ Some (source, target) → ⊥ }
-        ensures index { (now : ℕ → Option (ℕ × ℕ)) → IsWith (slot_at (slots_in slots.now)) place
+        ensures index { (now : ℕ → Option (ℕ × ℕ)) → IsWith (slot_at (slots_in slots.now)) position
             (source, target) now → IsIndex now self.new }
-        ensures room { (blocks places : ℕ) → HasLinksAndHeads blocks places self.old
-            → HasLinksAndHeads blocks places self.new }
+        ensures room { (blocks positions : ℕ) → HasLinksAndHeads blocks positions self.old
+            → HasLinksAndHeads blocks positions self.new }
         ensures empty { self.new.empty ≡ self.old.empty }
-        ensures empties { (k : ℕ) → slot_at (slots_in slots.now) k ≡ None → (k ≡ place → ⊥)
+        ensures empties { (k : ℕ) → slot_at (slots_in slots.now) k ≡ None → (k ≡ position → ⊥)
             → slice_index_or self.new.by_bucket.next k 0 ≡ slice_index_or self.old.by_bucket.next k 0 }
     {
         let near_target = self.near_target(slots, source, target);
         let near_source = self.near_source(slots, source, target);
         self.by_source
-            .add(slots, place, source, target, near_target);
+            .add(slots, position, source, target, near_target);
         self.by_target
-            .add(slots, place, source, target, near_source);
-        self.by_bucket.add(slots, place, source, target, NO_LINK);
+            .add(slots, position, source, target, near_source);
+        self.by_bucket.add(slots, position, source, target, NO_LINK);
     }
 
     /// Takes a pair out of the threads, while its slot still holds it.
-    pub(crate) fn remove(&mut self, slots: &[RawSlot], place: u32, source: u32, target: u32)
+    pub(crate) fn remove(&mut self, slots: &[RawSlot], position: u32, source: u32, target: u32)
         requires index { IsIndex (slot_at (slots_in slots.now)) self.old }
-        requires held { slot_at (slots_in slots.now) place ≡ Some (source, target) }
+        requires held { slot_at (slots_in slots.now) position ≡ Some (source, target) }
         ensures index { (left : ℕ → Option (ℕ × ℕ))
-            → IsWith left place (source, target) (slot_at (slots_in slots.now)) → IsIndex left self.new }
-        ensures room { (blocks places : ℕ) → HasLinksAndHeads blocks places self.old
-            → HasLinksAndHeads blocks places self.new }
+            → IsWith left position (source, target) (slot_at (slots_in slots.now)) → IsIndex left self.new }
+        ensures room { (blocks positions : ℕ) → HasLinksAndHeads blocks positions self.old
+            → HasLinksAndHeads blocks positions self.new }
         ensures empty { self.new.empty ≡ self.old.empty }
         ensures empties { (k : ℕ) → slot_at (slots_in slots.now) k ≡ None
             → slice_index_or self.new.by_bucket.next k 0 ≡ slice_index_or self.old.by_bucket.next k 0 }
@@ -250,37 +250,38 @@ impl Index {
         let near_target = self.near_target(slots, source, target);
         let near_source = self.near_source(slots, source, target);
         self.by_source
-            .remove(slots, place, source, target, near_target);
+            .remove(slots, position, source, target, near_target);
         self.by_target
-            .remove(slots, place, source, target, near_source);
-        self.by_bucket.remove(slots, place, source, target, NO_LINK);
+            .remove(slots, position, source, target, near_source);
+        self.by_bucket
+            .remove(slots, position, source, target, NO_LINK);
     }
 
     /// Takes the first slot off the list of empty slots.
     pub(crate) fn take_empty(&mut self) -> u32
         requires { self.old.empty < length self.old.by_bucket.next }
-        ensures place { result ≡ self.old.empty }
+        ensures position { result ≡ self.old.empty }
         ensures now { self.new ≡ record self.old {
           empty = slice_index_or self.old.by_bucket.next self.old.empty
               0;
         } }
     {
-        let place = self.empty;
-        self.empty = self.by_bucket.next.get(place as usize);
-        place
+        let position = self.empty;
+        self.empty = self.by_bucket.next.get(position as usize);
+        position
     }
 
     /// Puts an empty slot in front of the list of empty slots.
-    pub(crate) fn give_empty(&mut self, place: u32)
-        requires { place < length self.old.by_bucket.next }
-        ensures empty { self.new.empty ≡ place }
-        ensures next { self.new.by_bucket.next ≡ slice_set self.old.by_bucket.next place self.old.empty }
-        ensures index { (held : ℕ → Option (ℕ × ℕ)) → held place ≡ None → IsIndex held self.old
+    pub(crate) fn give_empty(&mut self, position: u32)
+        requires { position < length self.old.by_bucket.next }
+        ensures empty { self.new.empty ≡ position }
+        ensures next { self.new.by_bucket.next ≡ slice_set self.old.by_bucket.next position self.old.empty }
+        ensures index { (held : ℕ → Option (ℕ × ℕ)) → held position ≡ None → IsIndex held self.old
             → IsIndex held self.new }
-        ensures room { (blocks places : ℕ) → HasLinksAndHeads blocks places self.old
-            → HasLinksAndHeads blocks places self.new }
+        ensures room { (blocks positions : ℕ) → HasLinksAndHeads blocks positions self.old
+            → HasLinksAndHeads blocks positions self.new }
     {
-        self.by_bucket.link_empty(place, self.empty);
-        self.empty = place;
+        self.by_bucket.link_empty(position, self.empty);
+        self.empty = position;
     }
 }

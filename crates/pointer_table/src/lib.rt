@@ -1,6 +1,6 @@
 //! The pointer slots of a disk, kept in memory as they stand in their sectors.
 //!
-//! What it stands on: `image_device` for the disk, `image_layout` for places and patches, `tsd_model` for the geometry
+//! What it stands on: `image_device` for the disk, `image_layout` for offsets and patches, `tsd_model` for the geometry
 //! and the pairs, `byteorder` for numbers in bytes.
 //!
 //! What it promises: `load` answers exactly what the slot sectors say, and names the first thing that is wrong with

@@ -38,27 +38,27 @@ impl Model for Links {
 }
 
 /// A link that was never set.
-fn unset_link(in_row: bool, count: usize, place: usize) -> u32
-    requires inside { place < count }
+fn unset_link(in_row: bool, count: usize, position: usize) -> u32
+    requires inside { position < count }
     requires few { count < 2 ^ 32 }
-    ensures { result ≡ unset_link in_row count place }
+    ensures { result ≡ unset_link in_row count position }
 {
-    if in_row && place + 1 < count {
-        (place + 1) as u32
+    if in_row && position + 1 < count {
+        (position + 1) as u32
     } else {
         NO_LINK
     }
 }
 
 /// Puts links that were never set behind the ones in memory, until this one is among them.
-fn touch(items: &mut Vec<u32>, in_row: bool, count: usize, place: usize)
+fn touch(items: &mut Vec<u32>, in_row: bool, count: usize, position: usize)
     requires kept { AreKept count items.old.items (vec_capacity items.old) }
-    requires inside { place < count }
+    requires inside { position < count }
     ensures kept { AreKept count items.new.items (vec_capacity items.new) }
     ensures same { links_of in_row count items.new.items ≡ links_of in_row count items.old.items }
-    ensures touched { place < length items.new.items }
+    ensures touched { position < length items.new.items }
 {
-    while items.len() <= place {
+    while items.len() <= position {
         let link = unset_link(in_row, count, items.len());
         items.push_reserved(link);
     }
@@ -108,26 +108,26 @@ impl Links {
     }
 
     /// A link.
-    pub(crate) fn get(&self, place: usize) -> u32
-        requires { place < length self.now }
-        ensures { result ≡ slice_index_or self.now place 0 }
+    pub(crate) fn get(&self, position: usize) -> u32
+        requires { position < length self.now }
+        ensures { result ≡ slice_index_or self.now position 0 }
     {
-        if place < self.items.len() {
-            self.items[place]
+        if position < self.items.len() {
+            self.items[position]
         } else {
-            unset_link(self.in_row, self.count, place)
+            unset_link(self.in_row, self.count, position)
         }
     }
 
     /// Sets a link.
-    pub(crate) fn set(&mut self, place: usize, link: u32)
-        requires { place < length self.old }
-        ensures { self.new ≡ slice_set self.old place link }
+    pub(crate) fn set(&mut self, position: usize, link: u32)
+        requires { position < length self.old }
+        ensures { self.new ≡ slice_set self.old position link }
     {
-        if self.get(place) == link {
+        if self.get(position) == link {
             return;
         }
-        touch(&mut self.items, self.in_row, self.count, place);
-        self.items[place] = link;
+        touch(&mut self.items, self.in_row, self.count, position);
+        self.items[position] = link;
     }
 }

@@ -62,16 +62,16 @@ fn take_sector(
 {
     let first = PER_SECTOR * part;
     let end = slots.len().min(first + PER_SECTOR);
-    for place in first..end {
-        let slot = read_slot(sector, place - first);
+    for position in first..end {
+        let slot = read_slot(sector, position - first);
         if is_bad(&slot, geometry) {
             return Err(BadSlot {
-                slot: place as u32,
+                slot: position as u32,
                 source: slot.source,
                 target: slot.target,
             });
         }
-        slots[place] = slot;
+        slots[position] = slot;
     }
     Ok(())
 }

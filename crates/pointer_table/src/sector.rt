@@ -71,10 +71,10 @@ fn write_slot(sector: &mut [u8; SECTOR_BYTES], index: usize, slot: &RawSlot)
 }
 
 /// The slot of a number; past the last slot an empty one.
-fn slot_or_empty(slots: &[RawSlot], place: usize) -> RawSlot
-    ensures { slot_in result ≡ slot_at (slots_in slots.now) place }
+fn slot_or_empty(slots: &[RawSlot], position: usize) -> RawSlot
+    ensures { slot_in result ≡ slot_at (slots_in slots.now) position }
 {
-    match slots.get(place) {
+    match slots.get(position) {
         Some(slot) => *slot,
         None => RawSlot::EMPTY,
     }

@@ -113,7 +113,9 @@ impl PointerTable {
     pub fn has(&self, source: u32, target: u32) -> bool
         ensures { result ≡ holds (pairs self.now) source target }
     {
-        self.index.place_of(&self.slots, source, target).is_some()
+        self.index
+            .position_of(&self.slots, source, target)
+            .is_some()
     }
 
     /// The least 64 targets of the pairs from a block that are not below `start`, ascending.
@@ -183,8 +185,8 @@ impl PointerTable {
         ensures stored { IfOk result (KeepsStored self.old self.new) }
         ensures table { IsTable self.new }
     {
-        match self.index.place_of(&self.slots, source, target) {
-            Some(place) => Ok(self.clear(place, source, target)),
+        match self.index.position_of(&self.slots, source, target) {
+            Some(position) => Ok(self.clear(position, source, target)),
             None => Err(NoPointer),
         }
     }
@@ -221,39 +223,39 @@ impl PointerTable {
         ensures stored { KeepsStored self.old self.new result }
         ensures table { IsTable self.new }
     {
-        let place = self.index.take_empty();
-        self.index.add(&self.slots, place, source, target);
-        self.slots[place as usize] = RawSlot::of(source, target);
+        let position = self.index.take_empty();
+        self.index.add(&self.slots, position, source, target);
+        self.slots[position as usize] = RawSlot::of(source, target);
         self.held += 1;
-        self.patch(place as usize)
+        self.patch(position as usize)
     }
 
     /// Takes a pair out of its slot, and gives the sector of that slot.
-    fn clear(&mut self, place: u32, source: u32, target: u32) -> Patch
-        requires { slot_at self.old.slots place ≡ Some (source, target) }
+    fn clear(&mut self, position: u32, source: u32, target: u32) -> Patch
+        requires { slot_at self.old.slots position ≡ Some (source, target) }
         ensures change { IsChange self.old self.new (Some (source, target)) None result }
         ensures sector { IsSlotSector self.old result }
         ensures stored { KeepsStored self.old self.new result }
         ensures table { IsTable self.new }
     {
-        self.index.remove(&self.slots, place, source, target);
-        self.slots[place as usize] = RawSlot::EMPTY;
-        self.index.give_empty(place);
+        self.index.remove(&self.slots, position, source, target);
+        self.slots[position as usize] = RawSlot::EMPTY;
+        self.index.give_empty(position);
         self.held -= 1;
-        self.patch(place as usize)
+        self.patch(position as usize)
     }
 
     /// The sector of a slot.
-    fn patch(&self, place: usize) -> Patch
-        requires { place < self.now.geometry.slots }
-        ensures place { result.sector ≡ sector_of self.now.geometry place }
-        ensures bytes { result.bytes ≡ slot_sector_bytes self.now.slots (place / PER_SECTOR) }
+    fn patch(&self, position: usize) -> Patch
+        requires { position < self.now.geometry.slots }
+        ensures position { result.sector ≡ sector_of self.now.geometry position }
+        ensures bytes { result.bytes ≡ slot_sector_bytes self.now.slots (position / PER_SECTOR) }
         ensures sector { IsSlotSector self.now result }
     {
-        let at = Layout::of(&self.geometry).slot_place(place as u32);
+        let at = Layout::of(&self.geometry).slot_offset(position as u32);
         Patch {
             sector: at.sector,
-            bytes: sector_bytes(&self.slots, place / PER_SECTOR),
+            bytes: sector_bytes(&self.slots, position / PER_SECTOR),
         }
     }
 }

@@ -44,9 +44,9 @@ fn by_order(
     let mut left = order.len();
     while left > 0 {
         left -= 1;
-        let place = order[left];
-        if let Some((source, target)) = pair_at(slots, place) {
-            threads.add_first(place, source, target);
+        let position = order[left];
+        if let Some((source, target)) = pair_at(slots, position) {
+            threads.add_first(position, source, target);
         }
     }
     Ok(threads)
@@ -93,9 +93,9 @@ pub(crate) fn by_bucket(
     ensures err { IfErr result (λ e. e ≡ TableFault.NoMemory) }
 {
     let mut threads = Threads::none(alloc, Way::Bucket, slots.len() / 2 + 1, slots.len(), false)?;
-    for place in 0..slots.len() {
-        if let Some((source, target)) = pair_at(slots, place as u32) {
-            threads.add(&slots[..place], place as u32, source, target, NO_LINK);
+    for position in 0..slots.len() {
+        if let Some((source, target)) = pair_at(slots, position as u32) {
+            threads.add(&slots[..position], position as u32, source, target, NO_LINK);
         }
     }
     Ok(threads)

@@ -32,10 +32,10 @@ pub(crate) struct Threads {
 }
 
 /// Whether the pair of a slot is below a rank.
-pub(crate) fn is_below(slots: &[RawSlot], place: u32, limit: u64) -> bool
-    ensures { result ≡ is_below limit (slot_at (slots_in slots.now) place) }
+pub(crate) fn is_below(slots: &[RawSlot], position: u32, limit: u64) -> bool
+    ensures { result ≡ is_below limit (slot_at (slots_in slots.now) position) }
 {
-    match slots.get(place as usize) {
+    match slots.get(position as usize) {
         Some(slot) => match slot.pair() {
             Some((source, target)) => rank(source, target) < limit,
             None => false,
@@ -52,9 +52,9 @@ fn linked(link: u32) -> Option<u32>
 }
 
 /// One of some links. Past the last of them none leads anywhere.
-fn link_at(links: &Links, place: usize) -> u32 {
-    if place < links.len() {
-        links.get(place)
+fn link_at(links: &Links, position: usize) -> u32 {
+    if position < links.len() {
+        links.get(position)
     } else {
         NO_LINK
     }
@@ -82,8 +82,8 @@ impl Threads {
     }
 
     /// The link behind a slot.
-    pub(crate) fn link(&self, place: u32) -> u32 {
-        link_at(&self.next, place as usize)
+    pub(crate) fn link(&self, position: u32) -> u32 {
+        link_at(&self.next, position as usize)
     }
 
     /// The end of a group, where that is kept.
@@ -98,7 +98,7 @@ impl Threads {
         ensures { result ≡ after self.now.heads self.now.next of before }
     {
         match before {
-            Some(place) => self.next.get(place as usize),
+            Some(position) => self.next.get(position as usize),
             None => self.heads.get(of),
         }
     }
@@ -112,20 +112,20 @@ impl Threads {
         ensures way { self.new.way ≡ self.old.way }
     {
         match before {
-            Some(place) => self.next.set(place as usize, link),
+            Some(position) => self.next.set(position as usize, link),
             None => self.heads.set(of, link),
         }
     }
 
     /// A slot of a group whose pair is below a rank: this one, if it is.
-    fn near(&self, slots: &[RawSlot], of: usize, limit: u64, place: u32) -> Option<u32>
+    fn near(&self, slots: &[RawSlot], of: usize, limit: u64, position: u32) -> Option<u32>
         requires { of < length self.now.heads }
         ensures { IsNear (slot_at (slots_in slots.now)) (group self.now.way (length self.now.heads)) of limit
             result }
     {
-        let (source, target) = slots.get(place as usize)?.pair()?;
+        let (source, target) = slots.get(position as usize)?.pair()?;
         if self.group(source, target) == of && rank(source, target) < limit {
-            Some(place)
+            Some(position)
         } else {
             None
         }
@@ -191,60 +191,67 @@ impl Threads {
     }
 
     /// Puts a slot behind another of its group, or first, and gives the link that is behind it now.
-    fn put(&mut self, of: usize, before: Option<u32>, place: u32) -> u32
+    fn put(&mut self, of: usize, before: Option<u32>, position: u32) -> u32
         requires group { of < length self.old.heads }
         requires slot { IfSome before (λ k. k < length self.old.next) }
-        requires place { place < length self.old.next }
-        ensures heads { self.new.heads ≡ heads_with self.old.heads of before place }
+        requires position { position < length self.old.next }
+        ensures heads { self.new.heads ≡ heads_with self.old.heads of before position }
         ensures next { let link = after self.old.heads self.old.next of before in
-            self.new.next ≡ next_with (slice_set self.old.next place link) before place }
+            self.new.next ≡ next_with (slice_set self.old.next position link) before position }
         ensures way { self.new.way ≡ self.old.way }
     {
         let link = self.after(of, before);
-        self.next.set(place as usize, link);
-        self.set_after(of, before, place);
+        self.next.set(position as usize, link);
+        self.set_after(of, before, position);
         link
     }
 
-    /// Threads the pair of a slot that was empty. The walk to its place begins as that of `before`.
-    pub(crate) fn add(&mut self, slots: &[RawSlot], place: u32, source: u32, target: u32, near: u32)
-        requires some { 0 < length self.old.heads }
-        requires threads { AreThreadsOf (slot_at (slots_in slots.now)) self.old }
-        requires group { group self.old.way (length self.old.heads) (source, target)
-            < length self.old.heads }
-        requires empty { slot_at (slots_in slots.now) place ≡ None }
-        requires place { place < length self.old.next }
-        requires link { place < no_link }
-        requires absent { (k : ℕ) → slot_at (slots_in slots.now) k ≡ Some (source, target) → ⊥ }
-        ensures threads { (now : ℕ → Option (ℕ × ℕ)) → IsWith (slot_at (slots_in slots.now)) place
-            (source, target) now
-            → AreThreadsOf now self.new }
-        ensures way { self.new.way ≡ self.old.way }
-        ensures groups { length self.new.heads ≡ length self.old.heads }
-        ensures slots { length self.new.next ≡ length self.old.next }
-        ensures empties { (k : ℕ) → slot_at (slots_in slots.now) k ≡ None → (k ≡ place → ⊥)
-            → slice_index_or self.new.next k 0 ≡ slice_index_or self.old.next k 0 }
-    {
-        let of = self.group(source, target);
-        let before = self.before(slots, of, rank(source, target), near);
-        let link = self.put(of, before, place);
-        self.keep_end(of, link, place);
-    }
-
-    /// Takes a pair out of the threads, while its slot still holds it. The walk to it begins as that of `before`.
-    pub(crate) fn remove(
+    /// Threads the pair of a slot that was empty. The walk to its position begins as that of `before`.
+    pub(crate) fn add(
         &mut self,
         slots: &[RawSlot],
-        place: u32,
+        position: u32,
         source: u32,
         target: u32,
         near: u32,
     )
         requires some { 0 < length self.old.heads }
         requires threads { AreThreadsOf (slot_at (slots_in slots.now)) self.old }
-        requires held { slot_at (slots_in slots.now) place ≡ Some (source, target) }
+        requires group { group self.old.way (length self.old.heads) (source, target)
+            < length self.old.heads }
+        requires empty { slot_at (slots_in slots.now) position ≡ None }
+        requires position { position < length self.old.next }
+        requires link { position < no_link }
+        requires absent { (k : ℕ) → slot_at (slots_in slots.now) k ≡ Some (source, target) → ⊥ }
+        ensures threads { (now : ℕ → Option (ℕ × ℕ)) → IsWith (slot_at (slots_in slots.now)) position
+            (source, target) now
+            → AreThreadsOf now self.new }
+        ensures way { self.new.way ≡ self.old.way }
+        ensures groups { length self.new.heads ≡ length self.old.heads }
+        ensures slots { length self.new.next ≡ length self.old.next }
+        ensures empties { (k : ℕ) → slot_at (slots_in slots.now) k ≡ None → (k ≡ position → ⊥)
+            → slice_index_or self.new.next k 0 ≡ slice_index_or self.old.next k 0 }
+    {
+        let of = self.group(source, target);
+        let before = self.before(slots, of, rank(source, target), near);
+        let link = self.put(of, before, position);
+        self.keep_end(of, link, position);
+    }
+
+    /// Takes a pair out of the threads, while its slot still holds it. The walk to it begins as that of `before`.
+    pub(crate) fn remove(
+        &mut self,
+        slots: &[RawSlot],
+        position: u32,
+        source: u32,
+        target: u32,
+        near: u32,
+    )
+        requires some { 0 < length self.old.heads }
+        requires threads { AreThreadsOf (slot_at (slots_in slots.now)) self.old }
+        requires held { slot_at (slots_in slots.now) position ≡ Some (source, target) }
         ensures threads { (left : ℕ → Option (ℕ × ℕ))
-            → IsWith left place (source, target) (slot_at (slots_in slots.now))
+            → IsWith left position (source, target) (slot_at (slots_in slots.now))
             → AreThreadsOf left self.new }
         ensures way { self.new.way ≡ self.old.way }
         ensures groups { length self.new.heads ≡ length self.old.heads }
@@ -254,41 +261,41 @@ impl Threads {
     {
         let of = self.group(source, target);
         let before = self.before(slots, of, rank(source, target), near);
-        let link = self.after(of, Some(place));
+        let link = self.after(of, Some(position));
         self.set_after(of, before, link);
         self.keep_end(of, link, before.unwrap_or(NO_LINK));
     }
 
     /// Threads the pair of a slot, which is below all pairs of its group that are threaded.
-    pub(crate) fn add_first(&mut self, place: u32, source: u32, target: u32)
+    pub(crate) fn add_first(&mut self, position: u32, source: u32, target: u32)
         requires some { 0 < length self.old.heads }
         requires group { group self.old.way (length self.old.heads) (source, target)
             < length self.old.heads }
-        requires place { place < length self.old.next }
-        requires link { place < no_link }
-        ensures threads { (held now : ℕ → Option (ℕ × ℕ)) → IsWith held place (source, target) now
+        requires position { position < length self.old.next }
+        requires link { position < no_link }
+        ensures threads { (held now : ℕ → Option (ℕ × ℕ)) → IsWith held position (source, target) now
             → IsBelowAll held (source, target) → AreThreadsOf held self.old → AreThreadsOf now self.new }
         ensures way { self.new.way ≡ self.old.way }
         ensures groups { length self.new.heads ≡ length self.old.heads }
         ensures slots { length self.new.next ≡ length self.old.next }
     {
         let of = self.group(source, target);
-        let link = self.put(of, None, place);
-        self.keep_end(of, link, place);
+        let link = self.put(of, None, position);
+        self.keep_end(of, link, position);
     }
 
     /// Sets the link of an empty slot, which is in no thread.
-    pub(crate) fn link_empty(&mut self, place: u32, behind: u32)
-        requires { place < length self.old.next }
+    pub(crate) fn link_empty(&mut self, position: u32, behind: u32)
+        requires { position < length self.old.next }
         ensures way { self.new.way ≡ self.old.way }
         ensures heads { self.new.heads ≡ self.old.heads }
-        ensures next { self.new.next ≡ slice_set self.old.next place behind }
+        ensures next { self.new.next ≡ slice_set self.old.next position behind }
     {
-        self.next.set(place as usize, behind);
+        self.next.set(position as usize, behind);
     }
 
     /// Keeps a slot as the end of a group, where ends are kept and no link leads on from it.
-    fn keep_end(&mut self, of: usize, link: u32, place: u32)
+    fn keep_end(&mut self, of: usize, link: u32, position: u32)
         ensures way { self.new.way ≡ self.old.way }
         ensures heads { self.new.heads ≡ self.old.heads }
         ensures next { self.new.next ≡ self.old.next }
@@ -297,7 +304,7 @@ impl Threads {
             return;
         }
         if of < self.ends.len() {
-            self.ends.set(of, place);
+            self.ends.set(of, position);
         }
     }
 }

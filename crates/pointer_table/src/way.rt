@@ -19,7 +19,7 @@ pub(crate) enum Way {
 /// A fixed odd number, by which the numbers of a pair are mixed: 2^64 over the golden ratio.
 const ODD: u64 = 11_400_714_819_323_198_485;
 
-/// The place of a pair among all pairs, by source and then by target.
+/// The position of a pair among all pairs, by source and then by target.
 pub(crate) fn rank(source: u32, target: u32) -> u64
     ensures { result ≡ rank (source, target) }
 {

@@ -123,7 +123,7 @@ has-at [] i h = absurd (omega arith)
 has-at (x ∷ xs) zero h = or_left (x == x) (has_number xs x) (eq-eqb x x refl)
 has-at (x ∷ xs) (suc i) h = or_right (x == get_or xs i 0) (has_number xs (get_or xs i 0)) (has-at xs i (omega arith))
 
--- none twice: the one at a place isn't among those before it
+-- none twice: the one at a position isn't among those before it
 pub not_before : (xs : List ℕ) (i : ℕ) → all_apart xs ≡ true → i < length xs → has_number (take i xs) (get_or xs i 0) ≡ false
 not_before [] i once h = absurd (omega arith)
 not_before (x ∷ xs) zero once h = refl

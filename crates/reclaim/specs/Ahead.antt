@@ -12,9 +12,9 @@ use Rattle.graph_laws.specs.RawGraph.{IsLaidOut, IsRawGraph}
 use Rattle.graph_laws.specs.Steps.{IsStep, IsLost}
 
 pub record Kept : Type 0 where
-  -- at place b how many pairs lead to block b from blocks that aren't doomed
+  -- at index b how many pairs lead to block b from blocks that aren't doomed
   pub counts : List ℕ
-  -- at place b whether block b is doomed
+  -- at index b whether block b is doomed
   pub gone : List Bool
   -- how many blocks are doomed, and how many pairs come from them
   pub doomed : ℕ

@@ -11,7 +11,7 @@ use Rattle.tsd_model.specs.Records.{kept}
 use Rattle.image_device.specs.Image.{Image, zeros}
 use Rattle.image_layout.specs.Areas.{sweep_flag, bitmap_start, slots_start}
 use Rattle.image_layout.specs.Image.{is_open}
-use Rattle.image_layout.specs.Places.{data_sector}
+use Rattle.image_layout.specs.Offsets.{data_sector}
 use Rattle.block_alloc.specs.Bytes.{bitmap_sector_bytes}
 use Rattle.block_alloc.specs.Fresh.{fresh_live}
 use Rattle.cap_store.specs.Fresh.{fresh_records}

@@ -29,8 +29,8 @@ read_more x part len old new bytes is here before so_far block less inside = eli
   | inr at ↦
       let k : ℕ = block - 128 * part in
       let fits : k < 128 = omega arith in
-      let place : block ≡ 128 * part + k = omega arith in
-      ap (λ b. get_or new b 0) place ∙ here k fits (omega arith) ∙ ap (λ bs. little_from (4 * k) 4 bs) is ∙ sym (number_in x part k fits) ∙ ap (number_of x) (sym place)
+      let position : block ≡ 128 * part + k = omega arith in
+      ap (λ b. get_or new b 0) position ∙ here k fits (omega arith) ∙ ap (λ bs. little_from (4 * k) 4 bs) is ∙ sym (number_in x part k fits) ∙ ap (number_of x) (sym position)
 ]
 
 -- what the sectors have is what the image stores

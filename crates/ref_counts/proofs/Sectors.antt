@@ -59,11 +59,11 @@ count_back counts block fits inside =
     let part : ℕ = block / 128 in
     let here : List ℕ = drop (128 * part) counts in
     let small : k < 128 = omega arith in
-    let place : 128 * part + k ≡ block = omega arith in
+    let position : 128 * part + k ≡ block = omega arith in
     let many : length (take 128 here) ≡ _ = length-take 128 here in
     let left : length here ≡ length counts - 128 * part = length-drop (128 * part) counts in
     numbers_back (take 128 here) k _ (λ i. taken_fits here 128 (λ j. subst (λ n. n < 2 ^ 32) (sym (get_or-drop (128 * part) counts j 0)) (fits (128 * part + j))) i) (omega arith)
-    ∙ get_or-take 128 here k 0 small ∙ get_or-drop (128 * part) counts k 0 ∙ ap (λ b. get_or counts b 0) place
+    ∙ get_or-take 128 here k 0 small ∙ get_or-drop (128 * part) counts k 0 ∙ ap (λ b. get_or counts b 0) position
   where
     taken_fits : (xs : List ℕ) (n : ℕ) → AllFit xs → AllFit (take n xs)
     taken_fits xs zero fits i = lit< tt
@@ -84,7 +84,7 @@ part_of_counts counts part end is = elim (cases_lt (length counts) (128 * part +
       ap (λ n. take n (drop (128 * part) counts)) len
 ]
 
-module _ (counts : List ℕ) (g : Geometry) (x : Image) (block sector : ℕ) (bytes : List ℕ) (each : length counts ≡ g.blocks) (fits : AllFit counts) (place : sector ≡ sector_of g block) (is : bytes ≡ counts_sector_bytes counts (part_of block)) where
+module _ (counts : List ℕ) (g : Geometry) (x : Image) (block sector : ℕ) (bytes : List ℕ) (each : length counts ≡ g.blocks) (fits : AllFit counts) (position : sector ≡ sector_of g block) (is : bytes ≡ counts_sector_bytes counts (part_of block)) where
   abbrev after : Image
   after = put_at sector bytes x
 

@@ -5,7 +5,7 @@ use Rattle.std.specs.List.{flat_map}
 use Rattle.byteorder.specs.Endian.{little_bytes}
 use Rattle.tsd_model.specs.declared.geometry.Geometry.{Geometry}
 use Rattle.image_layout.specs.Areas.{bitmap_start, counts_start}
-use Rattle.image_layout.specs.Places.{count_place}
+use Rattle.image_layout.specs.Offsets.{count_offset}
 use Rattle.image_layout.specs.Image.{Image, stored_count}
 
 -- ---- the bytes
@@ -29,7 +29,7 @@ counts_sector_bytes counts part =
 -- ---- table and sectors
 -- the sector of an entry: that of a block's count
 abbrev pub sector_of : Geometry → ℕ → ℕ
-sector_of g block = (count_place g block).sector
+sector_of g block = (count_offset g block).sector
 
 -- the image has the count of each block
 abbrev pub IsStored : List ℕ → Geometry → Image → Type 0

@@ -3,7 +3,7 @@ use Rattle.std.specs.Prelude.{◌≡◌, ℕ, List, length}
 use Rattle.tsd_model.specs.declared.geometry.Geometry.{Geometry}
 use Rattle.tsd_model.specs.Geometry.{IsLawful}
 
--- the size of the disk, and at place b the count of block b
+-- the size of the disk, and at index b the count of block b
 pub record Table : Type 0 where
   pub geometry : Geometry
   pub counts : List ℕ

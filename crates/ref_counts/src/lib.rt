@@ -1,6 +1,6 @@
 //! How many pointers lead to each block, as the image keeps it: a number of four bytes for each block.
 //!
-//! What it stands on: `tsd_model` for the size of a disk, `image_device` for the reads, `image_layout` for the places,
+//! What it stands on: `tsd_model` for the size of a disk, `image_device` for the reads, `image_layout` for the offsets,
 //! `byteorder` for numbers in bytes.
 //!
 //! What it promises: after `load` the table is what the sectors say, whatever numbers they have; `patch` is the sector

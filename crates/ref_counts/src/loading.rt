@@ -10,7 +10,7 @@ use crate::sector::{PER_SECTOR, take_counts};
 use image_device::{Device, Failed};
 use image_layout::sectors::{COUNTS_START, SECTOR_BYTES};
 
-/// Sets the counts of one sector, of which the first stands at this place.
+/// Sets the counts of one sector, of which the first stands at this position.
 fn set_counts(bytes: &[u8; SECTOR_BYTES], first: usize, counts: &mut [u32])
     requires { first < length counts.old }
     ensures here { (k : ℕ) → k < 128 → first + k < length counts.old → slice_index counts.new (first + k)

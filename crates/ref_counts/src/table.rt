@@ -80,8 +80,8 @@ impl RefCounts {
         ensures value { result ≡ slice_index self.now.counts block }
         ensures table { IsTable self.now }
     {
-        let place = block as usize;
-        self.counts[place]
+        let position = block as usize;
+        self.counts[position]
     }
 
     /// One pointer more leads to a block.
@@ -137,10 +137,10 @@ impl RefCounts {
         // The same where more sectors are still to be patched.
         ensures more { CompletesBut self.now result }
     {
-        let place = Layout::of(&self.geometry).count_place(block);
-        let part = place.sector - COUNTS_START;
+        let position = Layout::of(&self.geometry).count_offset(block);
+        let part = position.sector - COUNTS_START;
         Patch {
-            sector: place.sector,
+            sector: position.sector,
             bytes: bytes_of_part(&self.counts, part as usize),
         }
     }

@@ -10,30 +10,30 @@ use Rattle.tsd_model.specs.declared.caps.Shown.{Shown}
 use Rattle.tsd_model.specs.declared.requests.Hint.{Hint}
 use Rattle.tsd_model.specs.declared.requests.Request.{Request}
 use Rattle.tsd_model.specs.declared.requests.Request.TheVariants as ask
-use Rattle.request_frames.specs.declared.reader.Place.{Place}
+use Rattle.request_frames.specs.declared.reader.Access.{Access}
 use Rattle.request_frames.specs.Fields.{Field, Code, Number, Show, New, Near, Rank, Bytes, field_bytes, HasRoomFor, AllFit, bytes_of}
 use Rattle.request_frames.specs.Requests.{fields, body_of, IsBody}
-use Rattle.request_frames.specs.Reading.{num_of, cap_of, shown_of, hint_of, data_of, ◌>>=◌, place_of, begin_of, end_of, read_of, write_of, alloc_of, contig_of, free_of, create_of, delete_of, set_cap_of, sweep_of, list_of, chosen, forms, coded, asked, request_of}
+use Rattle.request_frames.specs.Reading.{num_of, cap_of, shown_of, hint_of, data_of, ◌>>=◌, access_of, begin_of, end_of, read_of, write_of, alloc_of, contig_of, free_of, create_of, delete_of, set_cap_of, sweep_of, list_of, chosen, forms, coded, asked, request_of}
 use Rattle.request_frames.proofs.FieldLaws.{AreBytes, Spelled, some_is, bind_is, took, no_more, next, last, bind_some, num_sound, cap_sound, shown_sound, hint_sound, data_sound, num_back, cap_back, shown_back, hint_back, data_back}
 
 -- the fields of a place, before others
-abbrev pub at_place : Place → List Field → List Field
+abbrev pub at_place : Access → List Field → List Field
 at_place p fs = Number p.session ∷ Number p.block ∷ Show p.shown ∷ fs
 
 -- a place was read, and whatever the bytes after it spell goes on after its fields
-read_place : {B : Type 0} (k : Place × List ℕ → Option B) (bs : List ℕ) (y : B) → AreBytes bs → (place_of bs >>= k) ≡ Some y → (p : Place) × (rest : List ℕ) × AreBytes rest × (k (p, rest) ≡ Some y) × ((fs : List Field) → Spelled fs rest → Spelled (at_place p fs) bs)
-unfolding place_of
+read_place : {B : Type 0} (k : Access × List ℕ → Option B) (bs : List ℕ) (y : B) → AreBytes bs → (access_of bs >>= k) ≡ Some y → (p : Access) × (rest : List ℕ) × AreBytes rest × (k (p, rest) ≡ Some y) × ((fs : List Field) → Spelled fs rest → Spelled (at_place p fs) bs)
+unfolding access_of
 read_place k bs y all e =
-    let o = bind_is (place_of bs) k y e in
+    let o = bind_is (access_of bs) k y e in
     let s = took (λ n. Number n) num_of num_sound _ bs o.0 all o.1 in
     let b = took (λ n. Number n) num_of num_sound _ s.1 o.0 s.4 s.5 in
     let c = took (λ shown. Show shown) shown_of shown_sound _ b.1 o.0 b.4 b.5 in
     let same : (record { session = s.0; block = b.0; shown = c.0 }, c.1) ≡ o.0 = some_is {x = (record { session = s.0; block = b.0; shown = c.0 }, c.1)} c.5 in (
       o.0.0,
       o.0.1,
-      subst (λ (x : Place × List ℕ). AreBytes x.1) same c.4,
+      subst (λ (x : Access × List ℕ). AreBytes x.1) same c.4,
       o.2,
-      subst (λ (x : Place × List ℕ). (fs : List Field) → Spelled fs x.1 → Spelled (at_place x.0 fs) bs) same (λ fs h.
+      subst (λ (x : Access × List ℕ). (fs : List Field) → Spelled fs x.1 → Spelled (at_place x.0 fs) bs) same (λ fs h.
           next (Number s.0) (Number b.0 ∷ Show c.0 ∷ fs) s.1 bs s.2 s.3
           (next (Number b.0) (Show c.0 ∷ fs) b.1 s.1 b.2 b.3
           (next (Show c.0) fs c.1 b.1 c.2 c.3 h))),
@@ -174,8 +174,8 @@ body_is body all = elim (asked body) as (λ o. asked body ≡ o → (unwrap_or o
 
 -- ---- what is spelled is read
 
-place_back : (p : Place) (fs : List Field) → AllFit (at_place p fs) → place_of (bytes_of (at_place p fs)) ≡ Some (p, bytes_of fs)
-unfolding place_of
+place_back : (p : Access) (fs : List Field) → AllFit (at_place p fs) → access_of (bytes_of (at_place p fs)) ≡ Some (p, bytes_of fs)
+unfolding access_of
 place_back p fs h =
     bind_some _ _ _ _ (num_back p.session (bytes_of (Number p.block ∷ Show p.shown ∷ fs)) h.0)
     (bind_some _ _ _ _ (num_back p.block (bytes_of (Show p.shown ∷ fs)) h.1.0)

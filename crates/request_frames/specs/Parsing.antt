@@ -2,12 +2,12 @@
 use Rattle.std.specs.Prelude.{ℕ, List, Option, Some, None}
 use Rattle.tsd_model.specs.declared.requests.Request.{Request}
 use Rattle.tsd_model.specs.declared.requests.Request.TheVariants as ask
-use Rattle.request_frames.specs.declared.reader.Place.{Place}
+use Rattle.request_frames.specs.declared.reader.Access.{Access}
 use Rattle.request_frames.specs.declared.parsed.Parsed.{Parsed}
 use Rattle.request_frames.specs.declared.parsed.Parsed.TheVariants as say
 use Rattle.request_frames.specs.Reading.{◌>>=◌, data_of, ends}
 
-abbrev pub write_parsed : Place → List ℕ → Option Request
+abbrev pub write_parsed : Access → List ℕ → Option Request
 write_parsed p bs = data_of bs >>= λ d. ends d.1 (ask.Write p.session p.block p.shown d.0)
 
 abbrev pub request_parsed : Parsed → Option Request

@@ -11,7 +11,7 @@ use Rattle.tsd_model.specs.declared.requests.Level.{Level}
 use Rattle.tsd_model.specs.declared.requests.Level.TheVariants as level
 use Rattle.tsd_model.specs.declared.requests.Request.{Request}
 use Rattle.tsd_model.specs.declared.requests.Request.TheVariants as ask
-use Rattle.request_frames.specs.declared.reader.Place.{Place}
+use Rattle.request_frames.specs.declared.reader.Access.{Access}
 
 -- the second step, where the first gave a value
 infixl 10 ◌>>=◌
@@ -74,8 +74,8 @@ abbrev pub ends : {A : Type 0} → List ℕ → A → Option A
 ends [] x = Some x
 ends (b ∷ bs) x = None
 
-unfoldable pub place_of : List ℕ → Option (Place × List ℕ)
-place_of bs = do
+unfoldable pub access_of : List ℕ → Option (Access × List ℕ)
+access_of bs = do
   s ← num_of bs
   b ← num_of s.1
   c ← shown_of b.1
@@ -90,24 +90,24 @@ unfoldable pub end_of : List ℕ → Option Request
 end_of bs = num_of bs >>= λ s. ends s.1 (ask.End s.0)
 
 unfoldable pub read_of : List ℕ → Option Request
-read_of bs = place_of bs >>= λ p. ends p.1 (ask.Read p.0.session p.0.block p.0.shown)
+read_of bs = access_of bs >>= λ p. ends p.1 (ask.Read p.0.session p.0.block p.0.shown)
 
 unfoldable pub write_of : List ℕ → Option Request
 write_of bs = do
-  p ← place_of bs
+  p ← access_of bs
   d ← data_of p.1
   ends d.1 (ask.Write p.0.session p.0.block p.0.shown d.0)
 
 unfoldable pub alloc_of : List ℕ → Option Request
 alloc_of bs = do
-  p ← place_of bs
+  p ← access_of bs
   h ← hint_of p.1
   n ← num_of h.1
   ends n.1 (ask.Alloc p.0.session p.0.block p.0.shown h.0 n.0)
 
 unfoldable pub contig_of : List ℕ → Option Request
 contig_of bs = do
-  p ← place_of bs
+  p ← access_of bs
   h ← hint_of p.1
   n ← num_of h.1
   ends n.1 (ask.Contig p.0.session p.0.block p.0.shown h.0 n.0)
@@ -117,19 +117,19 @@ free_of bs = ends bs ask.GetFree
 
 unfoldable pub create_of : List ℕ → Option Request
 create_of bs = do
-  p ← place_of bs
+  p ← access_of bs
   b ← num_of p.1
   ends b.1 (ask.Create p.0.session p.0.block p.0.shown b.0)
 
 unfoldable pub delete_of : List ℕ → Option Request
 delete_of bs = do
-  p ← place_of bs
+  p ← access_of bs
   b ← num_of p.1
   ends b.1 (ask.Delete p.0.session p.0.block p.0.shown b.0)
 
 unfoldable pub set_cap_of : List ℕ → Option Request
 set_cap_of bs = do
-  p ← place_of bs
+  p ← access_of bs
   r ← cap_of p.1
   w ← cap_of r.1
   ends w.1 (ask.SetCap p.0.session p.0.block p.0.shown (record { read = r.0; write = w.0 }))
@@ -142,7 +142,7 @@ sweep_of bs = do
 
 unfoldable pub list_of : List ℕ → Option Request
 list_of bs = do
-  p ← place_of bs
+  p ← access_of bs
   b ← num_of p.1
   ends b.1 (ask.List p.0.session p.0.block p.0.shown b.0)
 

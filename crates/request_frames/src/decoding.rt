@@ -104,17 +104,17 @@ fn end(mut reader: BodyReader<'_>) -> Option<Parsed<'_>>
 fn read(mut reader: BodyReader<'_>) -> Option<Parsed<'_>>
     ensures { request_said result ≡ read_of reader.entry }
 {
-    let place = reader.place()?;
-    done(reader, Parsed::Read { place })
+    let access = reader.access()?;
+    done(reader, Parsed::Read { access })
 }
 
 #[tactic(auto, unfolding(crate::specs::Reading::write_of))]
 fn write(mut reader: BodyReader<'_>) -> Option<Parsed<'_>>
     ensures { request_said result ≡ write_of reader.entry }
 {
-    let place = reader.place()?;
+    let access = reader.access()?;
     Some(Parsed::Write {
-        place,
+        access,
         bytes: reader.left(),
     })
 }
@@ -123,20 +123,34 @@ fn write(mut reader: BodyReader<'_>) -> Option<Parsed<'_>>
 fn alloc(mut reader: BodyReader<'_>) -> Option<Parsed<'_>>
     ensures { request_said result ≡ alloc_of reader.entry }
 {
-    let place = reader.place()?;
+    let access = reader.access()?;
     let hint = reader.hint()?;
     let count = reader.number()?;
-    done(reader, Parsed::Alloc { place, hint, count })
+    done(
+        reader,
+        Parsed::Alloc {
+            access,
+            hint,
+            count,
+        },
+    )
 }
 
 #[tactic(auto, unfolding(crate::specs::Reading::contig_of))]
 fn contig(mut reader: BodyReader<'_>) -> Option<Parsed<'_>>
     ensures { request_said result ≡ contig_of reader.entry }
 {
-    let place = reader.place()?;
+    let access = reader.access()?;
     let hint = reader.hint()?;
     let count = reader.number()?;
-    done(reader, Parsed::Contig { place, hint, count })
+    done(
+        reader,
+        Parsed::Contig {
+            access,
+            hint,
+            count,
+        },
+    )
 }
 
 fn free(reader: BodyReader<'_>) -> Option<Parsed<'_>>
@@ -149,29 +163,29 @@ fn free(reader: BodyReader<'_>) -> Option<Parsed<'_>>
 fn create(mut reader: BodyReader<'_>) -> Option<Parsed<'_>>
     ensures { request_said result ≡ create_of reader.entry }
 {
-    let place = reader.place()?;
+    let access = reader.access()?;
     let target = reader.number()?;
-    done(reader, Parsed::Create { place, target })
+    done(reader, Parsed::Create { access, target })
 }
 
 #[tactic(auto, unfolding(crate::specs::Reading::delete_of))]
 fn delete(mut reader: BodyReader<'_>) -> Option<Parsed<'_>>
     ensures { request_said result ≡ delete_of reader.entry }
 {
-    let place = reader.place()?;
+    let access = reader.access()?;
     let target = reader.number()?;
-    done(reader, Parsed::Delete { place, target })
+    done(reader, Parsed::Delete { access, target })
 }
 
 #[tactic(auto, unfolding(crate::specs::Reading::set_cap_of))]
 fn set_cap(mut reader: BodyReader<'_>) -> Option<Parsed<'_>>
     ensures { request_said result ≡ set_cap_of reader.entry }
 {
-    let place = reader.place()?;
+    let access = reader.access()?;
     let read = reader.cap()?;
     let write = reader.cap()?;
     let caps = CapPair { read, write };
-    done(reader, Parsed::SetCap { place, caps })
+    done(reader, Parsed::SetCap { access, caps })
 }
 
 #[tactic(auto, unfolding(crate::specs::Reading::sweep_of))]
@@ -187,7 +201,7 @@ fn sweep(mut reader: BodyReader<'_>) -> Option<Parsed<'_>>
 fn list(mut reader: BodyReader<'_>) -> Option<Parsed<'_>>
     ensures { request_said result ≡ list_of reader.entry }
 {
-    let place = reader.place()?;
+    let access = reader.access()?;
     let start = reader.number()?;
-    done(reader, Parsed::List { place, start })
+    done(reader, Parsed::List { access, start })
 }

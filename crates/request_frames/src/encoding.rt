@@ -57,7 +57,7 @@ fn put_request(into: &mut FrameBuf, request: &Request)
             block,
             shown: cap,
         } => {
-            place(into, READ, *session, *block, cap);
+            access(into, READ, *session, *block, cap);
         }
         Request::Write {
             session,
@@ -65,7 +65,7 @@ fn put_request(into: &mut FrameBuf, request: &Request)
             shown: cap,
             bytes: all,
         } => {
-            place(into, WRITE, *session, *block, cap);
+            access(into, WRITE, *session, *block, cap);
             into.put(all.as_slice());
         }
         Request::Alloc {
@@ -75,7 +75,7 @@ fn put_request(into: &mut FrameBuf, request: &Request)
             hint: near,
             count,
         } => {
-            place(into, ALLOC, *session, *source, cap);
+            access(into, ALLOC, *session, *source, cap);
             put_hint(into, *near);
             put_number(into, *count);
         }
@@ -86,7 +86,7 @@ fn put_request(into: &mut FrameBuf, request: &Request)
             hint: near,
             count,
         } => {
-            place(into, CONTIG, *session, *source, cap);
+            access(into, CONTIG, *session, *source, cap);
             put_hint(into, *near);
             put_number(into, *count);
         }
@@ -96,7 +96,7 @@ fn put_request(into: &mut FrameBuf, request: &Request)
             shown: cap,
             target,
         } => {
-            place(into, CREATE, *session, *source, cap);
+            access(into, CREATE, *session, *source, cap);
             put_number(into, *target);
         }
         Request::Delete {
@@ -105,7 +105,7 @@ fn put_request(into: &mut FrameBuf, request: &Request)
             shown: cap,
             target,
         } => {
-            place(into, DELETE, *session, *source, cap);
+            access(into, DELETE, *session, *source, cap);
             put_number(into, *target);
         }
         Request::SetCap {
@@ -114,7 +114,7 @@ fn put_request(into: &mut FrameBuf, request: &Request)
             shown: cap,
             caps,
         } => {
-            place(into, SET_CAP, *session, *block, cap);
+            access(into, SET_CAP, *session, *block, cap);
             put_cap(into, &caps.read);
             put_cap(into, &caps.write);
         }
@@ -124,14 +124,14 @@ fn put_request(into: &mut FrameBuf, request: &Request)
             shown: cap,
             start,
         } => {
-            place(into, LIST, *session, *source, cap);
+            access(into, LIST, *session, *source, cap);
             put_number(into, *start);
         }
     }
 }
 
 /// What most requests begin with.
-fn place(into: &mut FrameBuf, code: u8, session: u32, block: u32, cap: &Shown)
+fn access(into: &mut FrameBuf, code: u8, session: u32, block: u32, cap: &Shown)
     requires { into.old ≡ 0 ∷ 0 ∷ [] }
     ensures bytes { into.new ≡ 0 ∷ 0 ∷ bytes_of (Code code ∷ Number session ∷ Number block ∷ Show cap.now
         ∷ []) }

@@ -2,7 +2,7 @@
 
 ghost use Rattle.std.specs.Prelude.{◌≡◌, ◌↔◌, [], IsTrue, MatchOption};
 ghost use Rattle.request_frames.specs.Reading.{byte_of, num_of, cap_of, shown_of, hint_of, level_of, data_of};
-ghost use Rattle.request_frames.specs.Reading.{list_of_blocks, place_of};
+ghost use Rattle.request_frames.specs.Reading.{list_of_blocks, access_of};
 
 use crate::codes::{ABSENT, LEVEL_NONE, LEVEL_READ, LEVEL_WRITE, PRESENT};
 use byteorder::{ByteOrder, LittleEndian};
@@ -16,7 +16,7 @@ pub const NUMBER_BYTES: usize = 4;
 
 /// What most requests begin with.
 #[derive(Clone, Copy, Debug)]
-pub struct Place {
+pub struct Access {
     /// The session.
     pub session: u32,
 
@@ -162,14 +162,14 @@ impl<'a> BodyReader<'a> {
     }
 
     /// Session, block and what is shown.
-    #[tactic(auto, unfolding(crate::specs::Reading::place_of))]
-    pub fn place(&mut self) -> Option<Place>
-        ensures { MatchOption result (place_of self.old ≡ None) (λ p. place_of self.old ≡ Some (p, self.new)) }
+    #[tactic(auto, unfolding(crate::specs::Reading::access_of))]
+    pub fn access(&mut self) -> Option<Access>
+        ensures { MatchOption result (access_of self.old ≡ None) (λ p. access_of self.old ≡ Some (p, self.new)) }
     {
         let session = self.number()?;
         let block = self.number()?;
         let shown = self.shown()?;
-        Some(Place {
+        Some(Access {
             session,
             block,
             shown,

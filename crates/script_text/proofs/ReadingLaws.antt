@@ -3,8 +3,8 @@ use Rattle.std.proofs.Common.{◌≡◌, ℕ, true, false, cond, List, [], ◌�
 use Rattle.std.specs.Prelude.{codes, bytes_eq, option_map}
 use Rattle.std.proofs.lemmas.Slice.Eq.{bytes_eq-Decides}
 use Rattle.tsd_model.specs.declared.requests.Request.{Request}
-use Rattle.script_text.specs.declared.words.Place.{Place}
-use Rattle.script_text.specs.Reading.{num_of, new_of, shown_of, hint_of, data_of, reads, ends, Words, ◌>>=◌, place_of, begin_of, end_of, read_of, write_of, alloc_of, contig_of, free_of, create_of, delete_of, set_cap_of, sweep_of, list_of, chosen, forms, named, asked}
+use Rattle.script_text.specs.declared.words.Access.{Access}
+use Rattle.script_text.specs.Reading.{num_of, new_of, shown_of, hint_of, data_of, reads, ends, Words, ◌>>=◌, access_of, begin_of, end_of, read_of, write_of, alloc_of, contig_of, free_of, create_of, delete_of, set_cap_of, sweep_of, list_of, chosen, forms, named, asked}
 use Rattle.script_text.specs.Grammar.{Field, Number, Show, New, Near, Bytes, fields, IsField, AreFields}
 use Rattle.script_text.proofs.WordLaws.{num_is, new_is, shown_is, hint_is, data_is}
 
@@ -36,14 +36,14 @@ last : (ws : Words) → ws ≡ [] → AreFields [] ws
 last ws e = subst (AreFields []) (sym e) tt
 
 -- the fields of a place, before others
-abbrev pub at_place : Place → List Field → List Field
+abbrev pub at_place : Access → List Field → List Field
 at_place p fs = Number p.session ∷ Number p.block ∷ Show p.shown ∷ fs
 
 -- a place was read, and whatever the words after it spell goes on after its fields
-read_place : {B : Type 0} (k : Place × Words → Option B) (ws : Words) (y : B) → (place_of ws >>= k) ≡ Some y → (p : Place) × (rest : Words) × (k (p, rest) ≡ Some y) × ((fs : List Field) → AreFields fs rest → AreFields (at_place p fs) ws)
-unfolding place_of
+read_place : {B : Type 0} (k : Access × Words → Option B) (ws : Words) (y : B) → (access_of ws >>= k) ≡ Some y → (p : Access) × (rest : Words) × (k (p, rest) ≡ Some y) × ((fs : List Field) → AreFields fs rest → AreFields (at_place p fs) ws)
+unfolding access_of
 read_place k ws y e =
-    let o = bind_is (place_of ws) k y e in
+    let o = bind_is (access_of ws) k y e in
     let s = read_word num_of _ ws o.0 o.1 in
     let b = read_word num_of _ s.1 o.0 s.5 in
     let c = read_word shown_of _ b.1 o.0 b.5 in
@@ -51,7 +51,7 @@ read_place k ws y e =
       o.0.0,
       o.0.1,
       o.2,
-      subst (λ (x : Place × Words). (fs : List Field) → AreFields fs x.1 → AreFields (at_place x.0 fs) ws) same (λ fs h.
+      subst (λ (x : Access × Words). (fs : List Field) → AreFields fs x.1 → AreFields (at_place x.0 fs) ws) same (λ fs h.
           next (Number s.2) (Number b.2 ∷ Show c.2 ∷ fs) s.0 s.1 ws s.3 (num_is s.0 s.2 s.4)
           (next (Number b.2) (Show c.2 ∷ fs) b.0 b.1 s.1 b.3 (num_is b.0 b.2 b.4)
           (next (Show c.2) fs c.0 c.1 b.1 c.3 (shown_is c.0 c.2 c.4) h))),

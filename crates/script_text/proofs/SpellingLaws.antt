@@ -17,9 +17,9 @@ use Rattle.tsd_model.specs.declared.requests.Hint.{Hint}
 use Rattle.tsd_model.specs.declared.requests.Hint.TheVariants.{Null, At}
 use Rattle.tsd_model.specs.declared.requests.Request.{Request}
 use Rattle.tsd_model.specs.declared.requests.Request.TheVariants as ask
-use Rattle.script_text.specs.declared.words.Place.{Place}
+use Rattle.script_text.specs.declared.words.Access.{Access}
 use Rattle.script_text.specs.Pieces.{pieces}
-use Rattle.script_text.specs.Reading.{num_of, new_of, shown_of, hint_of, data_of, reads, ends, Words, ◌>>=◌, place_of, begin_of, end_of, read_of, write_of, alloc_of, contig_of, free_of, create_of, delete_of, set_cap_of, sweep_of, list_of, chosen, forms, named, asked, request_of}
+use Rattle.script_text.specs.Reading.{num_of, new_of, shown_of, hint_of, data_of, reads, ends, Words, ◌>>=◌, access_of, begin_of, end_of, read_of, write_of, alloc_of, contig_of, free_of, create_of, delete_of, set_cap_of, sweep_of, list_of, chosen, forms, named, asked, request_of}
 use Rattle.script_text.specs.Grammar.{Field, Name, Number, Show, New, Near, Bytes, fields, IsNumber, IsCapText, IsData, IsField, AreFields, IsLine}
 use Rattle.script_text.proofs.PiecesLaws.{take_all, join-pieces, pieces-join, lacks, some_pieces}
 use Rattle.script_text.proofs.WordLaws.{are_digits, num_back, new_back, shown_back, hint_back, data_back}
@@ -39,8 +39,8 @@ word_back f x field fs (w ∷ ws) back h = (ws, ap (option_map (λ v. (v, ws))) 
 num_next : (n : ℕ) (fs : List Field) (ws : Words) → AreFields (Number n ∷ fs) ws → Reads (reads num_of) ws n fs
 num_next n fs ws h = word_back num_of n (Number n) fs ws (λ w g. num_back w n g) h
 
-place_back : (p : Place) (fs : List Field) (ws : Words) → AreFields (at_place p fs) ws → Reads place_of ws p fs
-unfolding place_of
+place_back : (p : Access) (fs : List Field) (ws : Words) → AreFields (at_place p fs) ws → Reads access_of ws p fs
+unfolding access_of
 place_back p fs ws h =
     let s = num_next p.session (Number p.block ∷ Show p.shown ∷ fs) ws h in
     let b = num_next p.block (Show p.shown ∷ fs) s.0 s.2 in

@@ -2,12 +2,12 @@
 use Rattle.std.specs.Prelude.{ℕ, List, Option, Some, None, option_map}
 use Rattle.tsd_model.specs.declared.requests.Request.{Request}
 use Rattle.tsd_model.specs.declared.requests.Request.TheVariants as ask
-use Rattle.script_text.specs.declared.words.Place.{Place}
+use Rattle.script_text.specs.declared.words.Access.{Access}
 use Rattle.script_text.specs.declared.parsed.Parsed.{Parsed}
 use Rattle.script_text.specs.declared.parsed.Parsed.TheVariants as say
 use Rattle.script_text.specs.Reading.{Words, data_of, ends}
 
-abbrev pub write_parsed : Place → List ℕ → Option Request
+abbrev pub write_parsed : Access → List ℕ → Option Request
 write_parsed p w = option_map (λ d. ask.Write p.session p.block p.shown d) (data_of w)
 
 abbrev pub request_parsed : Parsed → Option Request

@@ -1,4 +1,4 @@
--- A text cut at each place where one byte stands: lines at line feeds, words at spaces.
+-- A text cut at each index where one byte stands: lines at line feeds, words at spaces.
 use Rattle.std.specs.Prelude.{ℕ, ◌+◌, cond, ◌==◌, List, [], ◌∷◌, ◌++◌, Option, Some, None}
 use Rattle.std.specs.Borrow.{Bor}
 

@@ -13,7 +13,7 @@ use Rattle.tsd_model.specs.declared.requests.Hint.{Hint}
 use Rattle.tsd_model.specs.declared.requests.Hint.TheVariants.{Null, At}
 use Rattle.tsd_model.specs.declared.requests.Request.{Request}
 use Rattle.tsd_model.specs.declared.requests.Request.TheVariants as ask
-use Rattle.script_text.specs.declared.words.Place.{Place}
+use Rattle.script_text.specs.declared.words.Access.{Access}
 use Rattle.script_text.specs.Pieces.{pieces}
 
 abbrev pub Words : Type 0
@@ -60,8 +60,8 @@ abbrev pub ends : {A : Type 0} → Words → A → Option A
 ends [] x = Some x
 ends (w ∷ ws) x = None
 
-unfoldable pub place_of : Words → Option (Place × Words)
-place_of ws = do
+unfoldable pub access_of : Words → Option (Access × Words)
+access_of ws = do
   s ← reads num_of ws
   b ← reads num_of s.1
   c ← reads shown_of b.1
@@ -76,24 +76,24 @@ unfoldable pub end_of : Words → Option Request
 end_of ws = reads num_of ws >>= λ s. ends s.1 (ask.End s.0)
 
 unfoldable pub read_of : Words → Option Request
-read_of ws = place_of ws >>= λ p. ends p.1 (ask.Read p.0.session p.0.block p.0.shown)
+read_of ws = access_of ws >>= λ p. ends p.1 (ask.Read p.0.session p.0.block p.0.shown)
 
 unfoldable pub write_of : Words → Option Request
 write_of ws = do
-  p ← place_of ws
+  p ← access_of ws
   d ← reads data_of p.1
   ends d.1 (ask.Write p.0.session p.0.block p.0.shown d.0)
 
 unfoldable pub alloc_of : Words → Option Request
 alloc_of ws = do
-  p ← place_of ws
+  p ← access_of ws
   h ← reads hint_of p.1
   n ← reads num_of h.1
   ends n.1 (ask.Alloc p.0.session p.0.block p.0.shown h.0 n.0)
 
 unfoldable pub contig_of : Words → Option Request
 contig_of ws = do
-  p ← place_of ws
+  p ← access_of ws
   h ← reads hint_of p.1
   n ← reads num_of h.1
   ends n.1 (ask.Contig p.0.session p.0.block p.0.shown h.0 n.0)
@@ -103,19 +103,19 @@ free_of ws = ends ws ask.GetFree
 
 unfoldable pub create_of : Words → Option Request
 create_of ws = do
-  p ← place_of ws
+  p ← access_of ws
   b ← reads num_of p.1
   ends b.1 (ask.Create p.0.session p.0.block p.0.shown b.0)
 
 unfoldable pub delete_of : Words → Option Request
 delete_of ws = do
-  p ← place_of ws
+  p ← access_of ws
   b ← reads num_of p.1
   ends b.1 (ask.Delete p.0.session p.0.block p.0.shown b.0)
 
 unfoldable pub set_cap_of : Words → Option Request
 set_cap_of ws = do
-  p ← place_of ws
+  p ← access_of ws
   r ← reads new_of p.1
   w ← reads new_of r.1
   ends w.1 (ask.SetCap p.0.session p.0.block p.0.shown (record { read = r.0; write = w.0 }))
@@ -128,7 +128,7 @@ sweep_of ws = do
 
 unfoldable pub list_of : Words → Option Request
 list_of ws = do
-  p ← place_of ws
+  p ← access_of ws
   b ← reads num_of p.1
   ends b.1 (ask.List p.0.session p.0.block p.0.shown b.0)
 

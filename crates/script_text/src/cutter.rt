@@ -10,7 +10,7 @@ ghost use Rattle.script_text.specs.Lines.{Cutting, Cuts, FollowOn, WasFed, lines
 ghost use Rattle.arrayvec.specs.ArrayVec.{array_vec_len};
 
 use crate::parse::LINE_MAX;
-use crate::words::first_place;
+use crate::words::first_position;
 use arrayvec::ArrayVec;
 use std::marker::Model;
 
@@ -70,7 +70,7 @@ impl LineCutter {
         if self.whole {
             self.line.clear();
         }
-        match first_place(piece, b'\n') {
+        match first_position(piece, b'\n') {
             Some(i) => {
                 push_all(&mut self.line, &piece[..i]);
                 self.whole = true;

@@ -116,37 +116,51 @@ fn end(mut words: Words<'_>) -> Option<Parsed<'_>>
 fn read(mut words: Words<'_>) -> Option<Parsed<'_>>
     ensures { request_said result ≡ read_of words.entry }
 {
-    let place = words.place()?;
-    done(words, Parsed::Read { place })
+    let access = words.access()?;
+    done(words, Parsed::Read { access })
 }
 
 #[tactic(auto, unfolding(crate::specs::Reading::write_of))]
 fn write(mut words: Words<'_>) -> Option<Parsed<'_>>
     ensures { request_said result ≡ write_of words.entry }
 {
-    let place = words.place()?;
+    let access = words.access()?;
     let word = words.next()?;
-    done(words, Parsed::Write { place, word })
+    done(words, Parsed::Write { access, word })
 }
 
 #[tactic(auto, unfolding(crate::specs::Reading::alloc_of))]
 fn alloc(mut words: Words<'_>) -> Option<Parsed<'_>>
     ensures { request_said result ≡ alloc_of words.entry }
 {
-    let place = words.place()?;
+    let access = words.access()?;
     let hint = words.hint()?;
     let count = words.number()?;
-    done(words, Parsed::Alloc { place, hint, count })
+    done(
+        words,
+        Parsed::Alloc {
+            access,
+            hint,
+            count,
+        },
+    )
 }
 
 #[tactic(auto, unfolding(crate::specs::Reading::contig_of))]
 fn contig(mut words: Words<'_>) -> Option<Parsed<'_>>
     ensures { request_said result ≡ contig_of words.entry }
 {
-    let place = words.place()?;
+    let access = words.access()?;
     let hint = words.hint()?;
     let count = words.number()?;
-    done(words, Parsed::Contig { place, hint, count })
+    done(
+        words,
+        Parsed::Contig {
+            access,
+            hint,
+            count,
+        },
+    )
 }
 
 fn free(words: Words<'_>) -> Option<Parsed<'_>>
@@ -159,31 +173,31 @@ fn free(words: Words<'_>) -> Option<Parsed<'_>>
 fn create(mut words: Words<'_>) -> Option<Parsed<'_>>
     ensures { request_said result ≡ create_of words.entry }
 {
-    let place = words.place()?;
+    let access = words.access()?;
     let target = words.number()?;
-    done(words, Parsed::Create { place, target })
+    done(words, Parsed::Create { access, target })
 }
 
 #[tactic(auto, unfolding(crate::specs::Reading::delete_of))]
 fn delete(mut words: Words<'_>) -> Option<Parsed<'_>>
     ensures { request_said result ≡ delete_of words.entry }
 {
-    let place = words.place()?;
+    let access = words.access()?;
     let target = words.number()?;
-    done(words, Parsed::Delete { place, target })
+    done(words, Parsed::Delete { access, target })
 }
 
 #[tactic(auto, unfolding(crate::specs::Reading::set_cap_of))]
 fn set_cap(mut words: Words<'_>) -> Option<Parsed<'_>>
     ensures { request_said result ≡ set_cap_of words.entry }
 {
-    let place = words.place()?;
+    let access = words.access()?;
     let read = words.new_cap()?;
     let write = words.new_cap()?;
     done(
         words,
         Parsed::SetCap {
-            place,
+            access,
             caps: CapPair { read, write },
         },
     )
@@ -202,7 +216,7 @@ fn sweep(mut words: Words<'_>) -> Option<Parsed<'_>>
 fn list(mut words: Words<'_>) -> Option<Parsed<'_>>
     ensures { request_said result ≡ list_of words.entry }
 {
-    let place = words.place()?;
+    let access = words.access()?;
     let start = words.number()?;
-    done(words, Parsed::List { place, start })
+    done(words, Parsed::List { access, start })
 }

@@ -8,7 +8,7 @@ ghost use Rattle.script_text.specs.Parsing.{request_parsed, write_parsed};
 ghost use Rattle.tsd_model.specs.declared.requests.Request.TheVariants as ask;
 
 use crate::fields::read_data;
-use crate::words::Place;
+use crate::words::Access;
 use tsd_model::{CapPair, Data, Hint, Request, Shown};
 
 /// A request, but for the bytes to write: those are still a word.
@@ -29,25 +29,25 @@ pub enum Parsed<'a> {
 
     /// Reads a block.
     Read {
-        place: Place,
+        access: Access,
     },
 
     /// Sets a block's bytes to those that the word spells, if it spells some.
     Write {
-        place: Place,
+        access: Access,
         word: &'a [u8],
     },
 
     /// Takes free blocks.
     Alloc {
-        place: Place,
+        access: Access,
         hint: Hint,
         count: u32,
     },
 
     /// The same with blocks in a row.
     Contig {
-        place: Place,
+        access: Access,
         hint: Hint,
         count: u32,
     },
@@ -57,19 +57,19 @@ pub enum Parsed<'a> {
 
     /// Adds a pointer.
     Create {
-        place: Place,
+        access: Access,
         target: u32,
     },
 
     /// Deletes a pointer.
     Delete {
-        place: Place,
+        access: Access,
         target: u32,
     },
 
     /// Gives a primary block new capabilities.
     SetCap {
-        place: Place,
+        access: Access,
         caps: CapPair,
     },
 
@@ -81,7 +81,7 @@ pub enum Parsed<'a> {
 
     /// Lists targets of a block's pointers.
     List {
-        place: Place,
+        access: Access,
         start: u32,
     },
 }
@@ -94,67 +94,75 @@ pub fn request(parsed: Parsed<'_>) -> Request
         Parsed::Bad => Request::Bad,
         Parsed::Begin { session } => Request::Begin { session },
         Parsed::End { session } => Request::End { session },
-        Parsed::Read { place } => Request::Read {
-            session: place.session,
-            block: place.block,
-            shown: place.shown,
+        Parsed::Read { access } => Request::Read {
+            session: access.session,
+            block: access.block,
+            shown: access.shown,
         },
-        Parsed::Write { place, word } => write(&place, word),
-        Parsed::Alloc { place, hint, count } => Request::Alloc {
-            session: place.session,
-            source: place.block,
-            shown: place.shown,
+        Parsed::Write { access, word } => write(&access, word),
+        Parsed::Alloc {
+            access,
+            hint,
+            count,
+        } => Request::Alloc {
+            session: access.session,
+            source: access.block,
+            shown: access.shown,
             hint,
             count,
         },
-        Parsed::Contig { place, hint, count } => Request::Contig {
-            session: place.session,
-            source: place.block,
-            shown: place.shown,
+        Parsed::Contig {
+            access,
+            hint,
+            count,
+        } => Request::Contig {
+            session: access.session,
+            source: access.block,
+            shown: access.shown,
             hint,
             count,
         },
         Parsed::GetFree => Request::GetFree,
-        Parsed::Create { place, target } => Request::Create {
-            session: place.session,
-            source: place.block,
-            shown: place.shown,
+        Parsed::Create { access, target } => Request::Create {
+            session: access.session,
+            source: access.block,
+            shown: access.shown,
             target,
         },
-        Parsed::Delete { place, target } => Request::Delete {
-            session: place.session,
-            source: place.block,
-            shown: place.shown,
+        Parsed::Delete { access, target } => Request::Delete {
+            session: access.session,
+            source: access.block,
+            shown: access.shown,
             target,
         },
-        Parsed::SetCap { place, caps } => Request::SetCap {
-            session: place.session,
-            block: place.block,
-            shown: place.shown,
+        Parsed::SetCap { access, caps } => Request::SetCap {
+            session: access.session,
+            block: access.block,
+            shown: access.shown,
             caps,
         },
         Parsed::Sweep { session, shown } => Request::Sweep { session, shown },
-        Parsed::List { place, start } => Request::List {
-            session: place.session,
-            source: place.block,
-            shown: place.shown,
+        Parsed::List { access, start } => Request::List {
+            session: access.session,
+            source: access.block,
+            shown: access.shown,
             start,
         },
     }
 }
 
 /// A write of the bytes that the word spells, and Bad where it spells none.
-fn write(place: &Place, word: &[u8]) -> Request
-    ensures { result ≡ unwrap_or (write_parsed place.now word.now) ask.Bad }
+fn write(access: &Access, word: &[u8]) -> Request
+    ensures { result ≡ unwrap_or (write_parsed access.now word.now) ask.Bad }
 {
     let mut bytes = Data::new();
     if !read_data(word, &mut bytes) {
         return Request::Bad;
     }
     Request::Write {
-        session: place.session,
-        block: place.block,
-        shown: place.shown,
+        session: access.session,
+        block: access.block,
+        shown: access.shown,
         bytes,
     }
 }

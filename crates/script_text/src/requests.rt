@@ -60,7 +60,7 @@ fn request_words(into: &mut OutBuf, request: &Request)
             block,
             shown: cap,
         } => {
-            place(into, b"read".as_slice(), *session, *block, cap);
+            access(into, b"read".as_slice(), *session, *block, cap);
         }
         Request::Write {
             session,
@@ -68,7 +68,7 @@ fn request_words(into: &mut OutBuf, request: &Request)
             shown: cap,
             bytes: all,
         } => {
-            place(into, b"write".as_slice(), *session, *block, cap);
+            access(into, b"write".as_slice(), *session, *block, cap);
             put_data(into, all.as_slice());
         }
         Request::Alloc {
@@ -78,7 +78,7 @@ fn request_words(into: &mut OutBuf, request: &Request)
             hint: near,
             count,
         } => {
-            place(into, b"alloc".as_slice(), *session, *source, cap);
+            access(into, b"alloc".as_slice(), *session, *source, cap);
             put_hint(into, *near);
             put_number(into, *count);
         }
@@ -89,7 +89,7 @@ fn request_words(into: &mut OutBuf, request: &Request)
             hint: near,
             count,
         } => {
-            place(into, b"contig".as_slice(), *session, *source, cap);
+            access(into, b"contig".as_slice(), *session, *source, cap);
             put_hint(into, *near);
             put_number(into, *count);
         }
@@ -99,7 +99,7 @@ fn request_words(into: &mut OutBuf, request: &Request)
             shown: cap,
             target,
         } => {
-            place(into, b"create".as_slice(), *session, *source, cap);
+            access(into, b"create".as_slice(), *session, *source, cap);
             put_number(into, *target);
         }
         Request::Delete {
@@ -108,7 +108,7 @@ fn request_words(into: &mut OutBuf, request: &Request)
             shown: cap,
             target,
         } => {
-            place(into, b"delete".as_slice(), *session, *source, cap);
+            access(into, b"delete".as_slice(), *session, *source, cap);
             put_number(into, *target);
         }
         Request::SetCap {
@@ -117,7 +117,7 @@ fn request_words(into: &mut OutBuf, request: &Request)
             shown: cap,
             caps,
         } => {
-            place(into, b"setcap".as_slice(), *session, *block, cap);
+            access(into, b"setcap".as_slice(), *session, *block, cap);
             put_cap(into, &caps.read);
             put_cap(into, &caps.write);
         }
@@ -127,14 +127,14 @@ fn request_words(into: &mut OutBuf, request: &Request)
             shown: cap,
             start,
         } => {
-            place(into, b"list".as_slice(), *session, *source, cap);
+            access(into, b"list".as_slice(), *session, *source, cap);
             put_number(into, *start);
         }
     }
 }
 
 /// What most requests begin with.
-fn place(into: &mut OutBuf, name: &[u8], session: u32, block: u32, cap: &Shown)
+fn access(into: &mut OutBuf, name: &[u8], session: u32, block: u32, cap: &Shown)
     requires short { length name.now ≤ NAME_MAX }
     requires empty { into.old ≡ [] }
     ensures text { into.new ≡ join_with_byte 32 (name.now ∷ field_text (Number session) ∷ field_text

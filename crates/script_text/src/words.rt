@@ -2,7 +2,7 @@
 
 ghost use Rattle.std.specs.Prelude.{◌≡◌, ◌↔◌, [], ◌∷◌, IsTrue, MatchOption, position, ◌==◌};
 ghost use Rattle.script_text.specs.Pieces.{pieces, words_left};
-ghost use Rattle.script_text.specs.Reading.{reads, num_of, new_of, shown_of, hint_of, place_of};
+ghost use Rattle.script_text.specs.Reading.{reads, num_of, new_of, shown_of, hint_of, access_of};
 
 use crate::fields::{parse_cap, parse_hint, parse_number, parse_shown};
 use std::marker::Model;
@@ -10,7 +10,7 @@ use tsd_model::{Cap, Hint, Shown};
 
 /// What most requests begin with.
 #[derive(Clone, Copy, Debug)]
-pub struct Place {
+pub struct Access {
     /// The session.
     pub session: u32,
 
@@ -103,14 +103,14 @@ impl<'a> Words<'a> {
     }
 
     /// The next three words as session, block and what is shown.
-    #[tactic(auto, unfolding(crate::specs::Reading::place_of))]
-    pub fn place(&mut self) -> Option<Place>
-        ensures { MatchOption result (place_of self.old ≡ None) (λ p. place_of self.old ≡ Some (p, self.new)) }
+    #[tactic(auto, unfolding(crate::specs::Reading::access_of))]
+    pub fn access(&mut self) -> Option<Access>
+        ensures { MatchOption result (access_of self.old ≡ None) (λ p. access_of self.old ≡ Some (p, self.new)) }
     {
         let session = self.number()?;
         let block = self.number()?;
         let shown = self.shown()?;
-        Some(Place {
+        Some(Access {
             session,
             block,
             shown,
@@ -119,7 +119,7 @@ impl<'a> Words<'a> {
 }
 
 /// Where a byte first stands.
-pub(crate) fn first_place(bytes: &[u8], at: u8) -> Option<usize>
+pub(crate) fn first_position(bytes: &[u8], at: u8) -> Option<usize>
     ensures { result ≡ position (λ b. b == at) bytes.now }
 {
     bytes.iter().position(|b| *b == at)
@@ -129,7 +129,7 @@ pub(crate) fn first_place(bytes: &[u8], at: u8) -> Option<usize>
 fn cut(line: &[u8]) -> (&[u8], Option<&[u8]>)
     ensures { pieces 32 line.now ≡ result.0.now ∷ words_left result.1 }
 {
-    match first_place(line, b' ') {
+    match first_position(line, b' ') {
         Some(i) => (&line[..i], Some(&line[i + 1..])),
         None => (line, None),
     }

@@ -1,4 +1,4 @@
--- The abstract disk as rules, and its runs as lists of places where no memory was found.
+-- The abstract disk as rules, and its runs as lists of requests at which no memory was found.
 use Rattle.std.specs.Prelude.{◌≡◌, ℕ, Bool, List, length, map}
 use Rattle.image_device.specs.Image.{Image}
 use Rattle.tsd_model.specs.World.{World}
@@ -22,7 +22,7 @@ model_rules stands = record {
   stands = λ s x. stands x s.state.world;
 }
 
--- These are the texts of the model's replies, for some places at which no memory was found, and this is its state then.
+-- These are the texts of the model's replies, for some requests at which no memory was found, and this is its state then.
 pub record IsModelRun (v : Voice) (s : Placed) (qs : List Request) (answers : List (List ℕ)) (t : Placed) : Type 0 where
   pub wants : List Bool
   pub each : length wants ≡ length qs

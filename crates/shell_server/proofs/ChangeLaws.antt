@@ -171,14 +171,14 @@ module _ (f : FilesView) (v : DiskView) where
 
 -- ---- an ask on the disk
 
-module _ (start : World) (f : FilesView) (q a : ShellAsk) (hears : heard f.kind q ≡ a) (still : files_after f a ≡ f) (l m : ℕ × ℕ) (kind place : PlaceKind) (c0 c1 : Core) (v w : DeviceView)
+module _ (start : World) (f : FilesView) (q a : ShellAsk) (hears : heard f.kind q ≡ a) (still : files_after f a ≡ f) (l m : ℕ × ℕ) (kind placement : PlaceKind) (c0 c1 : Core) (v w : DeviceView)
     (changes : IsOfChange (step_on f (core_view l kind c0 v) a).answer)
     (unmounted : f.mounted ≡ false → (step_on f (core_view l kind c0 v) a).answer ≡ refused no.NotThisFs) where
   abbrev old : DiskView
   old = core_view l kind c0 v
 
   abbrev new : DiskView
-  new = core_view m place c1 w
+  new = core_view m placement c1 w
 
   abbrev state : ShellState
   state = shell_state f v.reads
@@ -245,7 +245,7 @@ module _ (start : World) (f : FilesView) (q a : ShellAsk) (hears : heard f.kind 
     at = λ t. at_by t result (answer t) (changed.world t) (changed.valid t) changed.unspent;
     answered = λ t. answered_by t result (answer t) (changed.world t) (changed.valid t);
     sent = λ t. (changed.crash t).sent;
-    any_moment = λ t. weakened v w (IsImageOf (IsEitherTree f old a) v.sent) (λ x f. IsLeftBeforeOrAfter start state q x × (f ≡ v.sent)) (images_left l m kind place c0 c1 v w (IsEitherTree f old a) (changed.crash t))
+    any_moment = λ t. weakened v w (IsImageOf (IsEitherTree f old a) v.sent) (λ x f. IsLeftBeforeOrAfter start state q x × (f ≡ v.sent)) (images_left l m kind placement c0 c1 v w (IsEitherTree f old a) (changed.crash t))
         (λ x g left. (crash_in (keeps t).kept left.0 x left.1 left.2, left.3));
     put_faults = changed.counts.put_faults;
     faultless = changed.faultless;
@@ -254,7 +254,7 @@ module _ (start : World) (f : FilesView) (q a : ShellAsk) (hears : heard f.kind 
   }
     where
       ready_now : Stays old new → new.spent ≡ false → AreReady f c1
-      ready_now still_so fine = record { core = core_ready fine; client = client_still f l m kind place c0 c1 v w still_so changed.counts ready.client }
+      ready_now still_so fine = record { core = core_ready fine; client = client_still f l m kind placement c0 c1 v w still_so changed.counts ready.client }
 
       ready_by : (r : Result X FsRefusal) → OnAnswer r (Stays old new) → OnAnswer r (new.spent ≡ false) → OnAnswer r (AreReady f c1)
       ready_by (Ok x) s u = (ready_now s.0 u.0, tt)

@@ -14,10 +14,10 @@ use Rattle.core_blocks.specs.CoreView.{core_view}
 use Rattle.shell_server.specs.Kept.{IsClient}
 
 -- a call of a file system leaves it so
-pub client_still : (f : FilesView) (l m : ℕ × ℕ) (kind place : PlaceKind) (c0 c1 : Core) (v w : DeviceView) → Stays (core_view l kind c0 v) (core_view m place c1 w) → Counts (core_view l kind c0 v) (core_view m place c1 w) → IsClient f c0 → IsClient f c1
-client_still f l m kind place c0 c1 v w stays counts was =
+pub client_still : (f : FilesView) (l m : ℕ × ℕ) (kind placement : PlaceKind) (c0 c1 : Core) (v w : DeviceView) → Stays (core_view l kind c0 v) (core_view m placement c1 w) → Counts (core_view l kind c0 v) (core_view m placement c1 w) → IsClient f c0 → IsClient f c1
+client_still f l m kind placement c0 c1 v w stays counts was =
     let old = core_view l kind c0 v in
-    let new = core_view m place c1 w in
+    let new = core_view m placement c1 w in
     record {
       number = was.number;
       begun = subst (λ b. IsTrue b) (sym (stays.sessions f.session)) was.begun;

@@ -27,12 +27,12 @@ use Rattle.shell_server.specs.Kept.{AreReady, FitsShell, shell_state}
 use Rattle.shell_server.specs.Carried.{IsLooked}
 use Rattle.shell_server.proofs.KeptLaws.{client_still}
 
-module _ (start : World) (f : FilesView) (q a : ShellAsk) (hears : heard f.kind q ≡ a) (l m : ℕ × ℕ) (kind place : PlaceKind) (c0 c1 : Core) (v w : DeviceView) where
+module _ (start : World) (f : FilesView) (q a : ShellAsk) (hears : heard f.kind q ≡ a) (l m : ℕ × ℕ) (kind placement : PlaceKind) (c0 c1 : Core) (v w : DeviceView) where
   abbrev old : DiskView
   old = core_view l kind c0 v
 
   abbrev new : DiskView
-  new = core_view m place c1 w
+  new = core_view m placement c1 w
 
   abbrev state : ShellState
   state = shell_state f v.reads
@@ -56,7 +56,7 @@ module _ (start : World) (f : FilesView) (q a : ShellAsk) (hears : heard f.kind 
     read = λ t. read_by result (ok t);
     refused = λ t. refused_by result (err t);
     sent = λ t. (crash t).sent;
-    any_moment = λ t. weakened v w (IsImageOf (λ u. u ≡ old.world) v.sent) (λ x g. IsLeftOf start state x × (g ≡ v.sent)) (images_left l m kind place c0 c1 v w (λ u. u ≡ old.world) (crash t))
+    any_moment = λ t. weakened v w (IsImageOf (λ u. u ≡ old.world) v.sent) (λ x g. IsLeftOf start state x × (g ≡ v.sent)) (images_left l m kind placement c0 c1 v w (λ u. u ≡ old.world) (crash t))
         (λ x g left. (image_still (keeps t) x left.0 left.1 left.2, left.3));
     put_faults = counts.put_faults;
     faultless = faultless;
@@ -65,7 +65,7 @@ module _ (start : World) (f : FilesView) (q a : ShellAsk) (hears : heard f.kind 
   }
     where
       ready_now : Stays old new → new.spent ≡ false → AreReady f c1
-      ready_now still fine = record { core = core_ready fine; client = client_still f l m kind place c0 c1 v w still counts ready.client }
+      ready_now still fine = record { core = core_ready fine; client = client_still f l m kind placement c0 c1 v w still counts ready.client }
 
       ready_by : (r : Result X FsRefusal) → OnAnswer r (Stays old new) → OnAnswer r (new.spent ≡ false) → OnAnswer r (AreReady f c1)
       ready_by (Ok x) s u = (ready_now s.0 u.0, tt)

@@ -29,12 +29,12 @@ use Rattle.shell_server.specs.Kept.{AreReady, IsClient, FitsShell, shell_state}
 use Rattle.shell_server.specs.Carried.{IsLeftBeforeOrAfter, IsCarried, IsOneLine, change_line}
 use Rattle.shell_server.proofs.KeptLaws.{client_still}
 
-module _ (start : World) (f g : FilesView) (l m : ℕ × ℕ) (kind place : PlaceKind) (c0 c1 : Core) (v w : DeviceView) where
+module _ (start : World) (f g : FilesView) (l m : ℕ × ℕ) (kind placement : PlaceKind) (c0 c1 : Core) (v w : DeviceView) where
   abbrev old : DiskView
   old = core_view l kind c0 v
 
   abbrev new : DiskView
-  new = core_view m place c1 w
+  new = core_view m placement c1 w
 
   abbrev state : ShellState
   state = shell_state f v.reads
@@ -64,7 +64,7 @@ module _ (start : World) (f g : FilesView) (l m : ℕ × ℕ) (kind place : Plac
     at = λ t. at_by t result (makes_it t) (runs.valid t) mounted runs.unspent;
     answered = λ t. answered_by t result (makes_it t) (runs.valid t) mounted;
     sent = λ t. (runs.crash t).sent;
-    any_moment = λ t. weakened v w (IsImageOf (IsEitherTree f old ask.Make) v.sent) (λ x h. IsLeftBeforeOrAfter start state ask.Make x × (h ≡ v.sent)) (images_left l m kind place c0 c1 v w (IsEitherTree f old ask.Make) (runs.crash t))
+    any_moment = λ t. weakened v w (IsImageOf (IsEitherTree f old ask.Make) v.sent) (λ x h. IsLeftBeforeOrAfter start state ask.Make x × (h ≡ v.sent)) (images_left l m kind placement c0 c1 v w (IsEitherTree f old ask.Make) (runs.crash t))
         (λ x h left. (crash_in (keeps t).kept left.0 x left.1 left.2, left.3));
     put_faults = runs.counts.put_faults;
     faultless = runs.faultless;
@@ -73,8 +73,8 @@ module _ (start : World) (f g : FilesView) (l m : ℕ × ℕ) (kind place : Plac
   }
     where
       ready_by : (r : Result X FsRefusal) → OnAnswer r (Stays old new) → OnAnswer r (new.spent ≡ false) → MatchResult r (λ x. g ≡ mounted_now f) (λ e. g ≡ f) → OnAnswer r (AreReady g c1)
-      ready_by (Ok x) s u on = (subst (λ (h : FilesView). AreReady h c1) (sym on) (record { core = core_ready u.0; client = client_mounted (client_still f l m kind place c0 c1 v w s.0 runs.counts ready.client) }), tt)
-      ready_by (Err e) s u off = (tt, λ other. subst (λ (h : FilesView). AreReady h c1) (sym off) (record { core = core_ready (u.1 other); client = client_still f l m kind place c0 c1 v w (s.1 other) runs.counts ready.client }))
+      ready_by (Ok x) s u on = (subst (λ (h : FilesView). AreReady h c1) (sym on) (record { core = core_ready u.0; client = client_mounted (client_still f l m kind placement c0 c1 v w s.0 runs.counts ready.client) }), tt)
+      ready_by (Err e) s u off = (tt, λ other. subst (λ (h : FilesView). AreReady h c1) (sym off) (record { core = core_ready (u.1 other); client = client_still f l m kind placement c0 c1 v w (s.1 other) runs.counts ready.client }))
 
       kept_now : told → LeavesTidyWorld f old new → IsValidNow new → IsKeptSince start (made (world_of w.reads))
       kept_now t left good = record { valid = good.valid; others = outside_twice f.root start (world_of v.reads) (world_of w.reads) (keeps t).kept.others left.others }

@@ -16,7 +16,7 @@ use crate::look::{part_on, size_on};
 use crate::put::{append_on, copy_on, make_dir_on, make_on, put_on, remove_on};
 use crate::send::{send_bad, send_change, send_end, send_text};
 use crate::started::Started;
-use core_blocks::Places;
+use core_blocks::Placing;
 use fs_fields::is_name;
 use fs_port::{Files, FsRefusal, Path};
 use fs_trees::name::PATH_MAX;
@@ -29,10 +29,10 @@ use tsd_model::Data;
 use tsd_words::Status;
 
 /// Puts a file and sends the answer whole.
-pub fn answer_put<F: Files, P: Port, L: Places, K: Started>(
+pub fn answer_put<F: Files, P: Port, L: Placing, K: Started>(
     files: &mut F,
     core: &mut Core,
-    place: &L,
+    placement: &L,
     port: &mut P,
     path: &Path,
     bytes: &Data,
@@ -43,15 +43,15 @@ pub fn answer_put<F: Files, P: Port, L: Places, K: Started>(
     ensures { IsServed P.told K.start (ask.Put path.now bytes.now) (F.view files.old) (F.view files.new) core.old
         core.new (P.view port.old) (P.view port.new) result }
 {
-    let outcome = put_on::<F, P, L, K>(files, core, place, port, path, bytes);
+    let outcome = put_on::<F, P, L, K>(files, core, placement, port, path, bytes);
     send_change(port, outcome)
 }
 
 /// Adds to a file and sends the answer whole.
-pub fn answer_append<F: Files, P: Port, L: Places, K: Started>(
+pub fn answer_append<F: Files, P: Port, L: Placing, K: Started>(
     files: &mut F,
     core: &mut Core,
-    place: &L,
+    placement: &L,
     port: &mut P,
     path: &Path,
     bytes: &Data,
@@ -62,15 +62,15 @@ pub fn answer_append<F: Files, P: Port, L: Places, K: Started>(
     ensures { IsServed P.told K.start (ask.Append path.now bytes.now) (F.view files.old) (F.view files.new) core.old
         core.new (P.view port.old) (P.view port.new) result }
 {
-    let outcome = append_on::<F, P, L, K>(files, core, place, port, path, bytes);
+    let outcome = append_on::<F, P, L, K>(files, core, placement, port, path, bytes);
     send_change(port, outcome)
 }
 
 /// Makes a directory and sends the answer whole.
-pub fn answer_make_dir<F: Files, P: Port, L: Places, K: Started>(
+pub fn answer_make_dir<F: Files, P: Port, L: Placing, K: Started>(
     files: &mut F,
     core: &mut Core,
-    place: &L,
+    placement: &L,
     port: &mut P,
     path: &Path,
 ) -> Result<(), Status>
@@ -81,15 +81,15 @@ pub fn answer_make_dir<F: Files, P: Port, L: Places, K: Started>(
     ensures { IsServed P.told K.start (ask.MakeDir path.now) (F.view files.old) (F.view files.new) core.old core.new
         (P.view port.old) (P.view port.new) result }
 {
-    let outcome = make_dir_on::<F, P, L, K>(files, core, place, port, path);
+    let outcome = make_dir_on::<F, P, L, K>(files, core, placement, port, path);
     send_change(port, outcome)
 }
 
 /// Makes a new file of the bytes of another and sends the answer whole.
-pub fn answer_copy<F: Files, P: Port, L: Places, K: Started>(
+pub fn answer_copy<F: Files, P: Port, L: Placing, K: Started>(
     files: &mut F,
     core: &mut Core,
-    place: &L,
+    placement: &L,
     port: &mut P,
     path: &Path,
     new: &Path,
@@ -102,15 +102,15 @@ pub fn answer_copy<F: Files, P: Port, L: Places, K: Started>(
     ensures { IsServed P.told K.start (ask.Copy path.now new.now) (F.view files.old) (F.view files.new) core.old
         core.new (P.view port.old) (P.view port.new) result }
 {
-    let outcome = copy_on::<F, P, L, K>(files, core, place, port, path, new);
+    let outcome = copy_on::<F, P, L, K>(files, core, placement, port, path, new);
     send_change(port, outcome)
 }
 
 /// Takes away what stands at a path and sends the answer whole.
-pub fn answer_remove<F: Files, P: Port, L: Places, K: Started>(
+pub fn answer_remove<F: Files, P: Port, L: Placing, K: Started>(
     files: &mut F,
     core: &mut Core,
-    place: &L,
+    placement: &L,
     port: &mut P,
     path: &Path,
 ) -> Result<(), Status>
@@ -120,15 +120,15 @@ pub fn answer_remove<F: Files, P: Port, L: Places, K: Started>(
     ensures { IsServed P.told K.start (ask.Rm path.now) (F.view files.old) (F.view files.new) core.old core.new
         (P.view port.old) (P.view port.new) result }
 {
-    let outcome = remove_on::<F, P, L, K>(files, core, place, port, path);
+    let outcome = remove_on::<F, P, L, K>(files, core, placement, port, path);
     send_change(port, outcome)
 }
 
 /// Makes an empty tree in place of what is there and sends the answer whole.
-pub fn answer_make<F: Files, P: Port, L: Places, K: Started>(
+pub fn answer_make<F: Files, P: Port, L: Placing, K: Started>(
     files: &mut F,
     core: &mut Core,
-    place: &L,
+    placement: &L,
     port: &mut P,
 ) -> Result<(), Status>
     requires ready { AreReady (F.view files.old) core.old }
@@ -136,15 +136,15 @@ pub fn answer_make<F: Files, P: Port, L: Places, K: Started>(
     ensures { IsServed P.told K.start ask.Make (F.view files.old) (F.view files.new) core.old core.new
         (P.view port.old) (P.view port.new) result }
 {
-    let outcome = make_on::<F, P, L, K>(files, core, place, port);
+    let outcome = make_on::<F, P, L, K>(files, core, placement, port);
     send_change(port, outcome)
 }
 
 /// AnswersByLine what isn't heard.
-pub fn answer_bad<F: Files, P: Port, L: Places, K: Started>(
+pub fn answer_bad<F: Files, P: Port, L: Placing, K: Started>(
     files: &mut F,
     core: &mut Core,
-    place: &L,
+    placement: &L,
     port: &mut P,
     request: &ShellAsk,
 ) -> Result<(), Status>
@@ -158,10 +158,10 @@ pub fn answer_bad<F: Files, P: Port, L: Places, K: Started>(
 }
 
 /// Sends the bytes of a file, part by part.
-pub fn answer_cat<F: Files, P: Port, L: Places, K: Started>(
+pub fn answer_cat<F: Files, P: Port, L: Placing, K: Started>(
     files: &mut F,
     core: &mut Core,
-    place: &L,
+    placement: &L,
     port: &mut P,
     path: &Path,
 ) -> Result<(), Status>
@@ -171,17 +171,17 @@ pub fn answer_cat<F: Files, P: Port, L: Places, K: Started>(
     ensures { IsServed P.told K.start (ask.Cat path.now) (F.view files.old) (F.view files.new) core.old core.new
         (P.view port.old) (P.view port.new) result }
 {
-    match size_on::<F, P, L, K>(files, core, place, port, path) {
-        Ok(size) => send_file::<F, P, L, K>(files, core, place, port, path, size),
+    match size_on::<F, P, L, K>(files, core, placement, port, path) {
+        Ok(size) => send_file::<F, P, L, K>(files, core, placement, port, path, size),
         Err(why) => send_change(port, Err(why)),
     }
 }
 
 /// Sends the bytes of a file of this size, part by part. A disk that tells its world has all of them.
-fn send_file<F: Files, P: Port, L: Places, K: Started>(
+fn send_file<F: Files, P: Port, L: Placing, K: Started>(
     files: &mut F,
     core: &mut Core,
-    place: &L,
+    placement: &L,
     port: &mut P,
     path: &Path,
     size: u64,
@@ -203,7 +203,7 @@ fn send_file<F: Files, P: Port, L: Places, K: Started>(
     let mut part = Data::new();
     let mut start: u64 = 0;
     while start < size {
-        match part_on::<F, P, L, K>(files, core, place, port, path, start, &mut part) {
+        match part_on::<F, P, L, K>(files, core, placement, port, path, start, &mut part) {
             Ok(()) => {}
             Err(FsRefusal::Device) => return Err(Status::DeviceFault),
             Err(_) => return send_end(port),
@@ -219,10 +219,10 @@ fn send_file<F: Files, P: Port, L: Places, K: Started>(
 }
 
 /// AnswersByLine an ask whole.
-pub fn answer_ask<F: Files, P: Port, L: Places, K: Started>(
+pub fn answer_ask<F: Files, P: Port, L: Placing, K: Started>(
     files: &mut F,
     core: &mut Core,
-    place: &L,
+    placement: &L,
     port: &mut P,
     request: &ShellAsk,
 ) -> Result<(), Status>
@@ -232,58 +232,58 @@ pub fn answer_ask<F: Files, P: Port, L: Places, K: Started>(
         (P.view port.old) (P.view port.new) result }
 {
     match request {
-        ShellAsk::Bad => answer_bad::<F, P, L, K>(files, core, place, port, request),
+        ShellAsk::Bad => answer_bad::<F, P, L, K>(files, core, placement, port, request),
         ShellAsk::Put { path, bytes } => {
             if is_path(path) {
-                answer_put::<F, P, L, K>(files, core, place, port, path, bytes)
+                answer_put::<F, P, L, K>(files, core, placement, port, path, bytes)
             } else {
-                answer_bad::<F, P, L, K>(files, core, place, port, request)
+                answer_bad::<F, P, L, K>(files, core, placement, port, request)
             }
         }
         ShellAsk::Append { path, bytes } => {
             if is_path(path) {
-                answer_append::<F, P, L, K>(files, core, place, port, path, bytes)
+                answer_append::<F, P, L, K>(files, core, placement, port, path, bytes)
             } else {
-                answer_bad::<F, P, L, K>(files, core, place, port, request)
+                answer_bad::<F, P, L, K>(files, core, placement, port, request)
             }
         }
         ShellAsk::MakeDir { path } => {
             if files.has_dirs() && is_path(path) {
-                answer_make_dir::<F, P, L, K>(files, core, place, port, path)
+                answer_make_dir::<F, P, L, K>(files, core, placement, port, path)
             } else {
-                answer_bad::<F, P, L, K>(files, core, place, port, request)
+                answer_bad::<F, P, L, K>(files, core, placement, port, request)
             }
         }
-        ShellAsk::Make => answer_make::<F, P, L, K>(files, core, place, port),
+        ShellAsk::Make => answer_make::<F, P, L, K>(files, core, placement, port),
         ShellAsk::Rm { path } => {
             if is_path(path) {
-                answer_remove::<F, P, L, K>(files, core, place, port, path)
+                answer_remove::<F, P, L, K>(files, core, placement, port, path)
             } else {
-                answer_bad::<F, P, L, K>(files, core, place, port, request)
+                answer_bad::<F, P, L, K>(files, core, placement, port, request)
             }
         }
         ShellAsk::Cat { path } => {
             if is_path(path) {
-                answer_cat::<F, P, L, K>(files, core, place, port, path)
+                answer_cat::<F, P, L, K>(files, core, placement, port, path)
             } else {
-                answer_bad::<F, P, L, K>(files, core, place, port, request)
+                answer_bad::<F, P, L, K>(files, core, placement, port, request)
             }
         }
         ShellAsk::Ls { path } => {
             if is_path(path) {
-                answer_ls::<F, P, L, K>(files, core, place, port, path)
+                answer_ls::<F, P, L, K>(files, core, placement, port, path)
             } else {
-                answer_bad::<F, P, L, K>(files, core, place, port, request)
+                answer_bad::<F, P, L, K>(files, core, placement, port, request)
             }
         }
         ShellAsk::Copy { path, new } => {
             if files.has_dirs() && is_path(path) && is_path(new) {
-                answer_copy::<F, P, L, K>(files, core, place, port, path, new)
+                answer_copy::<F, P, L, K>(files, core, placement, port, path, new)
             } else {
-                answer_bad::<F, P, L, K>(files, core, place, port, request)
+                answer_bad::<F, P, L, K>(files, core, placement, port, request)
             }
         }
-        ShellAsk::Df => answer_df::<F, P, L, K>(files, core, place, port),
+        ShellAsk::Df => answer_df::<F, P, L, K>(files, core, placement, port),
     }
 }
 

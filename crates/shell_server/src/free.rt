@@ -9,17 +9,17 @@ ghost use Rattle.shell_server.specs.Kept.{AreReady, FitsShell};
 
 use crate::send::{send_change, send_free};
 use crate::started::Started;
-use core_blocks::{CoreBlocks, Places};
+use core_blocks::{CoreBlocks, Placing};
 use fs_port::{Files, FsRefusal, free_blocks};
 use image_device::{Device, Port};
 use tsd_core::Core;
 use tsd_words::Status;
 
 /// How many blocks are free, whatever is mounted. The file system is not asked.
-pub fn free_on<F: Files, D: Device, L: Places, K: Started>(
+pub fn free_on<F: Files, D: Device, L: Placing, K: Started>(
     files: &F,
     core: &mut Core,
-    place: &L,
+    placement: &L,
     dev: &mut D,
 ) -> Result<u32, FsRefusal>
     requires ready { AreReady (F.view files.now) core.old }
@@ -27,15 +27,15 @@ pub fn free_on<F: Files, D: Device, L: Places, K: Started>(
     ensures { IsLooked D.told K.start ask.Df (F.view files.now) (F.view files.now) core.old core.new (D.view dev.old)
         (D.view dev.new) (λ n answer. answer ≡ free_blocks n) result }
 {
-    let mut blocks = CoreBlocks::new(core, place, dev);
+    let mut blocks = CoreBlocks::new(core, placement, dev);
     free_blocks(&mut blocks)
 }
 
 /// Sends the number of free blocks.
-pub fn answer_df<F: Files, P: Port, L: Places, K: Started>(
+pub fn answer_df<F: Files, P: Port, L: Placing, K: Started>(
     files: &mut F,
     core: &mut Core,
-    place: &L,
+    placement: &L,
     port: &mut P,
 ) -> Result<(), Status>
     requires ready { AreReady (F.view files.old) core.old }
@@ -43,7 +43,7 @@ pub fn answer_df<F: Files, P: Port, L: Places, K: Started>(
     ensures { IsServed P.told K.start ask.Df (F.view files.old) (F.view files.new) core.old core.new (P.view port.old)
         (P.view port.new) result }
 {
-    match free_on::<F, P, L, K>(files, core, place, port) {
+    match free_on::<F, P, L, K>(files, core, placement, port) {
         Ok(count) => send_free(port, count),
         Err(why) => send_change(port, Err(why)),
     }

@@ -12,7 +12,7 @@ ghost use Rattle.shell_server.specs.Shell.{shell_step};
 use crate::look::next_on;
 use crate::send::{send_change, send_end, send_text};
 use crate::started::Started;
-use core_blocks::Places;
+use core_blocks::Placing;
 use fs_port::{Files, FsRefusal, Path};
 use fs_trees::Name;
 use image_device::Port;
@@ -25,10 +25,10 @@ use tsd_words::Status;
 const NAMES_MAX: u32 = 4096;
 
 /// Sends the names in a directory, name by name.
-pub fn answer_ls<F: Files, P: Port, L: Places, K: Started>(
+pub fn answer_ls<F: Files, P: Port, L: Placing, K: Started>(
     files: &mut F,
     core: &mut Core,
-    place: &L,
+    placement: &L,
     port: &mut P,
     path: &Path,
 ) -> Result<(), Status>
@@ -39,17 +39,17 @@ pub fn answer_ls<F: Files, P: Port, L: Places, K: Started>(
         (P.view port.old) (P.view port.new) result }
 {
     let none = Name::new();
-    match next_on::<F, P, L, K>(files, core, place, port, path, &none) {
-        Ok(first) => send_names::<F, P, L, K>(files, core, place, port, path, first),
+    match next_on::<F, P, L, K>(files, core, placement, port, path, &none) {
+        Ok(first) => send_names::<F, P, L, K>(files, core, placement, port, path, first),
         Err(why) => send_change(port, Err(why)),
     }
 }
 
 /// Sends the names in a directory, of which this is the first. A disk that tells its world has all of them.
-fn send_names<F: Files, P: Port, L: Places, K: Started>(
+fn send_names<F: Files, P: Port, L: Placing, K: Started>(
     files: &mut F,
     core: &mut Core,
-    place: &L,
+    placement: &L,
     port: &mut P,
     path: &Path,
     first: Option<Name>,
@@ -80,7 +80,7 @@ fn send_names<F: Files, P: Port, L: Places, K: Started>(
             Ok(()) => {}
             Err(why) => return Err(why),
         }
-        match next_on::<F, P, L, K>(files, core, place, port, path, &name) {
+        match next_on::<F, P, L, K>(files, core, placement, port, path, &name) {
             Ok(more) => next = more,
             Err(FsRefusal::Device) => return Err(Status::DeviceFault),
             Err(_) => return send_end(port),

@@ -9,7 +9,7 @@ ghost use Rattle.shell_server.specs.Carried.{IsLooked};
 ghost use Rattle.shell_server.specs.Kept.{AreReady, FitsShell};
 
 use crate::started::Started;
-use core_blocks::{CoreBlocks, Places};
+use core_blocks::{CoreBlocks, Placing};
 use fs_port::{Files, FsRefusal, Path};
 use fs_trees::Name;
 use image_device::Device;
@@ -17,10 +17,10 @@ use tsd_core::Core;
 use tsd_model::Data;
 
 /// How many bytes a file has.
-pub fn size_on<F: Files, D: Device, L: Places, K: Started>(
+pub fn size_on<F: Files, D: Device, L: Placing, K: Started>(
     files: &mut F,
     core: &mut Core,
-    place: &L,
+    placement: &L,
     dev: &mut D,
     path: &Path,
 ) -> Result<u64, FsRefusal>
@@ -30,15 +30,15 @@ pub fn size_on<F: Files, D: Device, L: Places, K: Started>(
     ensures { IsLooked D.told K.start (ask.Cat path.now) (F.view files.old) (F.view files.new) core.old core.new
         (D.view dev.old) (D.view dev.new) TellsSize result }
 {
-    let mut blocks = CoreBlocks::new(core, place, dev);
+    let mut blocks = CoreBlocks::new(core, placement, dev);
     files.size(&mut blocks, path)
 }
 
-/// The bytes of a file from a place on, at most 4,096.
-pub fn part_on<F: Files, D: Device, L: Places, K: Started>(
+/// The bytes of a file from an offset on, at most 4,096.
+pub fn part_on<F: Files, D: Device, L: Placing, K: Started>(
     files: &mut F,
     core: &mut Core,
-    place: &L,
+    placement: &L,
     dev: &mut D,
     path: &Path,
     start: u64,
@@ -50,15 +50,15 @@ pub fn part_on<F: Files, D: Device, L: Places, K: Started>(
     ensures { IsLooked D.told K.start (ask.Cat path.now) (F.view files.old) (F.view files.new) core.old core.new
         (D.view dev.old) (D.view dev.new) (λ _. TellsPart start into.new) result }
 {
-    let mut blocks = CoreBlocks::new(core, place, dev);
+    let mut blocks = CoreBlocks::new(core, placement, dev);
     files.read_part(&mut blocks, path, start, into)
 }
 
 /// The least name in a directory above another; the empty name is below all.
-pub fn next_on<F: Files, D: Device, L: Places, K: Started>(
+pub fn next_on<F: Files, D: Device, L: Placing, K: Started>(
     files: &mut F,
     core: &mut Core,
-    place: &L,
+    placement: &L,
     dev: &mut D,
     path: &Path,
     after: &Name,
@@ -69,6 +69,6 @@ pub fn next_on<F: Files, D: Device, L: Places, K: Started>(
     ensures { IsLooked D.told K.start (ask.Ls path.now) (F.view files.old) (F.view files.new) core.old core.new
         (D.view dev.old) (D.view dev.new) (TellsNext after.now) result }
 {
-    let mut blocks = CoreBlocks::new(core, place, dev);
+    let mut blocks = CoreBlocks::new(core, placement, dev);
     files.name_after(&mut blocks, path, after)
 }

@@ -9,17 +9,17 @@ ghost use Rattle.shell_server.specs.Carried.{IsCarried};
 ghost use Rattle.shell_server.specs.Kept.{AreReady, FitsShell};
 
 use crate::started::Started;
-use core_blocks::{CoreBlocks, Places};
+use core_blocks::{CoreBlocks, Placing};
 use fs_port::{Files, FsRefusal, Path};
 use image_device::Device;
 use tsd_core::Core;
 use tsd_model::Data;
 
 /// Puts a file, and answers nothing yet.
-pub fn put_on<F: Files, D: Device, L: Places, K: Started>(
+pub fn put_on<F: Files, D: Device, L: Placing, K: Started>(
     files: &mut F,
     core: &mut Core,
-    place: &L,
+    placement: &L,
     dev: &mut D,
     path: &Path,
     bytes: &Data,
@@ -30,15 +30,15 @@ pub fn put_on<F: Files, D: Device, L: Places, K: Started>(
     ensures { IsCarried D.told K.start (ask.Put path.now bytes.now) (F.view files.old) (F.view files.new) core.old
         core.new (D.view dev.old) (D.view dev.new) result }
 {
-    let mut blocks = CoreBlocks::new(core, place, dev);
+    let mut blocks = CoreBlocks::new(core, placement, dev);
     files.put(&mut blocks, path, bytes)
 }
 
 /// Adds to a file, and answers nothing yet.
-pub fn append_on<F: Files, D: Device, L: Places, K: Started>(
+pub fn append_on<F: Files, D: Device, L: Placing, K: Started>(
     files: &mut F,
     core: &mut Core,
-    place: &L,
+    placement: &L,
     dev: &mut D,
     path: &Path,
     bytes: &Data,
@@ -49,15 +49,15 @@ pub fn append_on<F: Files, D: Device, L: Places, K: Started>(
     ensures { IsCarried D.told K.start (ask.Append path.now bytes.now) (F.view files.old) (F.view files.new) core.old
         core.new (D.view dev.old) (D.view dev.new) result }
 {
-    let mut blocks = CoreBlocks::new(core, place, dev);
+    let mut blocks = CoreBlocks::new(core, placement, dev);
     files.append(&mut blocks, path, bytes)
 }
 
 /// Makes a directory, and answers nothing yet.
-pub fn make_dir_on<F: Files, D: Device, L: Places, K: Started>(
+pub fn make_dir_on<F: Files, D: Device, L: Placing, K: Started>(
     files: &mut F,
     core: &mut Core,
-    place: &L,
+    placement: &L,
     dev: &mut D,
     path: &Path,
 ) -> Result<(), FsRefusal>
@@ -68,15 +68,15 @@ pub fn make_dir_on<F: Files, D: Device, L: Places, K: Started>(
     ensures { IsCarried D.told K.start (ask.MakeDir path.now) (F.view files.old) (F.view files.new) core.old core.new
         (D.view dev.old) (D.view dev.new) result }
 {
-    let mut blocks = CoreBlocks::new(core, place, dev);
+    let mut blocks = CoreBlocks::new(core, placement, dev);
     files.make_dir(&mut blocks, path)
 }
 
 /// Makes a new file of the bytes of another, and answers nothing yet.
-pub fn copy_on<F: Files, D: Device, L: Places, K: Started>(
+pub fn copy_on<F: Files, D: Device, L: Placing, K: Started>(
     files: &mut F,
     core: &mut Core,
-    place: &L,
+    placement: &L,
     dev: &mut D,
     path: &Path,
     new: &Path,
@@ -89,15 +89,15 @@ pub fn copy_on<F: Files, D: Device, L: Places, K: Started>(
     ensures { IsCarried D.told K.start (ask.Copy path.now new.now) (F.view files.old) (F.view files.new) core.old
         core.new (D.view dev.old) (D.view dev.new) result }
 {
-    let mut blocks = CoreBlocks::new(core, place, dev);
+    let mut blocks = CoreBlocks::new(core, placement, dev);
     files.copy(&mut blocks, path, new)
 }
 
 /// Takes away what stands at a path, and answers nothing yet.
-pub fn remove_on<F: Files, D: Device, L: Places, K: Started>(
+pub fn remove_on<F: Files, D: Device, L: Placing, K: Started>(
     files: &mut F,
     core: &mut Core,
-    place: &L,
+    placement: &L,
     dev: &mut D,
     path: &Path,
 ) -> Result<(), FsRefusal>
@@ -107,15 +107,15 @@ pub fn remove_on<F: Files, D: Device, L: Places, K: Started>(
     ensures { IsCarried D.told K.start (ask.Rm path.now) (F.view files.old) (F.view files.new) core.old core.new
         (D.view dev.old) (D.view dev.new) result }
 {
-    let mut blocks = CoreBlocks::new(core, place, dev);
+    let mut blocks = CoreBlocks::new(core, placement, dev);
     files.remove(&mut blocks, path)
 }
 
 /// Makes an empty tree in place of what is there, and answers nothing yet.
-pub fn make_on<F: Files, D: Device, L: Places, K: Started>(
+pub fn make_on<F: Files, D: Device, L: Placing, K: Started>(
     files: &mut F,
     core: &mut Core,
-    place: &L,
+    placement: &L,
     dev: &mut D,
 ) -> Result<(), FsRefusal>
     requires ready { AreReady (F.view files.old) core.old }
@@ -123,6 +123,6 @@ pub fn make_on<F: Files, D: Device, L: Places, K: Started>(
     ensures { IsCarried D.told K.start ask.Make (F.view files.old) (F.view files.new) core.old core.new
         (D.view dev.old) (D.view dev.new) result }
 {
-    let mut blocks = CoreBlocks::new(core, place, dev);
+    let mut blocks = CoreBlocks::new(core, placement, dev);
     files.make(&mut blocks)
 }

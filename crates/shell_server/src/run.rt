@@ -15,7 +15,7 @@ ghost use Rattle.shell_server.specs.Shell.{ShellState, shell_service, shell_work
 use crate::lines::{Layout, ShellLines};
 use crate::server::ShellServer;
 use crate::started::Started;
-use core_blocks::Places;
+use core_blocks::Placing;
 use fs_port::Files;
 use image_device::{Port, Source};
 use serving::{INPUT_MAX, serve};
@@ -24,10 +24,10 @@ use tsd_core::Core;
 use tsd_words::Status;
 
 /// Serves the asks of an input by a file system on a core until it ends, as `serving::serve` does.
-pub fn serve_shell<F: Files, L: Places, K: Started, Y: Layout, S: Source, P: Port>(
+pub fn serve_shell<F: Files, L: Placing, K: Started, Y: Layout, S: Source, P: Port>(
     files: &mut F,
     core: &mut Core,
-    place: &L,
+    placement: &L,
     source: &mut S,
     port: &mut P,
     limit: u64,
@@ -57,7 +57,7 @@ pub fn serve_shell<F: Files, L: Places, K: Started, Y: Layout, S: Source, P: Por
 {
     let mut server: ShellServer<F, L, K> = ShellServer {
         core,
-        place,
+        placement,
         files,
         of: PhantomData,
     };

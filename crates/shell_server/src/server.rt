@@ -12,7 +12,7 @@ ghost use Rattle.shell_server.specs.ShellLaws.{shell_counted};
 use crate::answer::answer_ask;
 use crate::lines::{Layout, ShellLines};
 use crate::started::Started;
-use core_blocks::Places;
+use core_blocks::Placing;
 use fs_port::Files;
 use fs_trees::ShellAsk;
 use image_device::{Device, Failed, Port};
@@ -24,12 +24,12 @@ use tsd_words::Status;
 /// A file system on the disk of a core. It borrows both: of a reference beside something owned nothing would be known
 /// after the run.
 #[derive(Drop)]
-pub struct ShellServer<'a, F: Files, L: Places, K: Started> {
+pub struct ShellServer<'a, F: Files, L: Placing, K: Started> {
     /// The disk.
     pub core: &'a mut Core,
 
     /// In which order free blocks are taken.
-    pub place: &'a L,
+    pub placement: &'a L,
 
     /// The file system.
     pub files: &'a mut F,
@@ -38,7 +38,7 @@ pub struct ShellServer<'a, F: Files, L: Places, K: Started> {
     pub of: PhantomData<K>,
 }
 
-impl<'a, F: Files, L: Places, K: Started, Y: Layout> Server<ShellLines<Y>>
+impl<'a, F: Files, L: Placing, K: Started, Y: Layout> Server<ShellLines<Y>>
     for ShellServer<'a, F, L, K> {
     ghost service = { shell_service K.start };
 
@@ -65,7 +65,7 @@ impl<'a, F: Files, L: Places, K: Started, Y: Layout> Server<ShellLines<Y>>
     ghost counted = { shell_counted K.start };
 
     fn answer<P: Port>(&mut self, port: &mut P, request: &ShellAsk) -> Result<(), Status> {
-        answer_ask::<F, P, L, K>(self.files, self.core, self.place, port, request)
+        answer_ask::<F, P, L, K>(self.files, self.core, self.placement, port, request)
     }
 
     fn close<D: Device>(&mut self, dev: &mut D) -> Result<(), Failed> {

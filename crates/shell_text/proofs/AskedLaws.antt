@@ -8,7 +8,7 @@ use Rattle.script_text.proofs.ReadingLaws.{read_word, no_more}
 use Rattle.fs_trees.specs.declared.ask.ShellAsk.{ShellAsk}
 use Rattle.fs_trees.specs.declared.ask.ShellKind.{ShellKind}
 use Rattle.fs_trees.specs.declared.ask.ShellKind.TheVariants.{Inode, Chain}
-use Rattle.shell_text.specs.Grammar.{Field, Place, Bytes, fields, IsField, AreFields}
+use Rattle.shell_text.specs.Grammar.{Field, PathWord, Bytes, fields, IsField, AreFields}
 use Rattle.shell_text.specs.Reading.{path_of, make_of, put_of, append_of, cat_of, ls_of, rm_of, make_dir_of, copy_of, df_of, of_inodes, chosen, forms, named, asked}
 use Rattle.shell_text.proofs.PathLaws.{path_is}
 
@@ -34,7 +34,7 @@ put_is kind ws a e =
     let p = read_word path_of _ ws a e in
     let x = read_word data_of _ p.1 a p.5 in
     let d = no_more x.1 _ a x.5 in
-    subst (λ r. AreFields (fields kind r) (codes "put" ∷ ws)) d.1 (refl, next (Place p.2) (Bytes x.2 ∷ []) p.0 p.1 ws p.3 (path_is p.0 p.2 p.4) (next (Bytes x.2) [] x.0 x.1 p.1 x.3 (data_is x.0 x.2 x.4) (last x.1 d.0)))
+    subst (λ r. AreFields (fields kind r) (codes "put" ∷ ws)) d.1 (refl, next (PathWord p.2) (Bytes x.2 ∷ []) p.0 p.1 ws p.3 (path_is p.0 p.2 p.4) (next (Bytes x.2) [] x.0 x.1 p.1 x.3 (data_is x.0 x.2 x.4) (last x.1 d.0)))
 
 append_is : (kind : ShellKind) → Sound kind (codes "append") append_of
 unfolding append_of
@@ -42,28 +42,28 @@ append_is kind ws a e =
     let p = read_word path_of _ ws a e in
     let x = read_word data_of _ p.1 a p.5 in
     let d = no_more x.1 _ a x.5 in
-    subst (λ r. AreFields (fields kind r) (codes "append" ∷ ws)) d.1 (refl, next (Place p.2) (Bytes x.2 ∷ []) p.0 p.1 ws p.3 (path_is p.0 p.2 p.4) (next (Bytes x.2) [] x.0 x.1 p.1 x.3 (data_is x.0 x.2 x.4) (last x.1 d.0)))
+    subst (λ r. AreFields (fields kind r) (codes "append" ∷ ws)) d.1 (refl, next (PathWord p.2) (Bytes x.2 ∷ []) p.0 p.1 ws p.3 (path_is p.0 p.2 p.4) (next (Bytes x.2) [] x.0 x.1 p.1 x.3 (data_is x.0 x.2 x.4) (last x.1 d.0)))
 
 cat_is : (kind : ShellKind) → Sound kind (codes "cat") cat_of
 unfolding cat_of
 cat_is kind ws a e =
     let p = read_word path_of _ ws a e in
     let d = no_more p.1 _ a p.5 in
-    subst (λ r. AreFields (fields kind r) (codes "cat" ∷ ws)) d.1 (refl, next (Place p.2) [] p.0 p.1 ws p.3 (path_is p.0 p.2 p.4) (last p.1 d.0))
+    subst (λ r. AreFields (fields kind r) (codes "cat" ∷ ws)) d.1 (refl, next (PathWord p.2) [] p.0 p.1 ws p.3 (path_is p.0 p.2 p.4) (last p.1 d.0))
 
 ls_is : (kind : ShellKind) → Sound kind (codes "ls") ls_of
 unfolding ls_of
 ls_is kind ws a e =
     let p = read_word path_of _ ws a e in
     let d = no_more p.1 _ a p.5 in
-    subst (λ r. AreFields (fields kind r) (codes "ls" ∷ ws)) d.1 (refl, next (Place p.2) [] p.0 p.1 ws p.3 (path_is p.0 p.2 p.4) (last p.1 d.0))
+    subst (λ r. AreFields (fields kind r) (codes "ls" ∷ ws)) d.1 (refl, next (PathWord p.2) [] p.0 p.1 ws p.3 (path_is p.0 p.2 p.4) (last p.1 d.0))
 
 rm_is : (kind : ShellKind) → Sound kind (codes "rm") rm_of
 unfolding rm_of
 rm_is kind ws a e =
     let p = read_word path_of _ ws a e in
     let d = no_more p.1 _ a p.5 in
-    subst (λ r. AreFields (fields kind r) (codes "rm" ∷ ws)) d.1 (refl, next (Place p.2) [] p.0 p.1 ws p.3 (path_is p.0 p.2 p.4) (last p.1 d.0))
+    subst (λ r. AreFields (fields kind r) (codes "rm" ∷ ws)) d.1 (refl, next (PathWord p.2) [] p.0 p.1 ws p.3 (path_is p.0 p.2 p.4) (last p.1 d.0))
 
 make_dir_is : (kind : ShellKind) → Sound kind (codes "mkdir") (of_inodes kind make_dir_of)
 unfolding make_dir_of
@@ -71,7 +71,7 @@ make_dir_is Chain ws a e = absurd (cc)
 make_dir_is Inode ws a e =
     let p = read_word path_of _ ws a e in
     let d = no_more p.1 _ a p.5 in
-    subst (λ r. AreFields (fields Inode r) (codes "mkdir" ∷ ws)) d.1 (refl, next (Place p.2) [] p.0 p.1 ws p.3 (path_is p.0 p.2 p.4) (last p.1 d.0))
+    subst (λ r. AreFields (fields Inode r) (codes "mkdir" ∷ ws)) d.1 (refl, next (PathWord p.2) [] p.0 p.1 ws p.3 (path_is p.0 p.2 p.4) (last p.1 d.0))
 
 copy_is : (kind : ShellKind) → Sound kind (codes "cp") (of_inodes kind copy_of)
 unfolding copy_of
@@ -80,7 +80,7 @@ copy_is Inode ws a e =
     let p = read_word path_of _ ws a e in
     let q = read_word path_of _ p.1 a p.5 in
     let d = no_more q.1 _ a q.5 in
-    subst (λ r. AreFields (fields Inode r) (codes "cp" ∷ ws)) d.1 (refl, next (Place p.2) (Place q.2 ∷ []) p.0 p.1 ws p.3 (path_is p.0 p.2 p.4) (next (Place q.2) [] q.0 q.1 p.1 q.3 (path_is q.0 q.2 q.4) (last q.1 d.0)))
+    subst (λ r. AreFields (fields Inode r) (codes "cp" ∷ ws)) d.1 (refl, next (PathWord p.2) (PathWord q.2 ∷ []) p.0 p.1 ws p.3 (path_is p.0 p.2 p.4) (next (PathWord q.2) [] q.0 q.1 p.1 q.3 (path_is q.0 q.2 q.4) (last q.1 d.0)))
 
 df_is : (kind : ShellKind) → Sound kind (codes "df") df_of
 df_is kind ws a e =

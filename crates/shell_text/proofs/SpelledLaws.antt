@@ -19,7 +19,7 @@ use Rattle.fs_trees.specs.declared.ask.ShellAsk.{ShellAsk}
 use Rattle.fs_trees.specs.declared.ask.ShellAsk.TheVariants as ask
 use Rattle.fs_trees.specs.declared.ask.ShellKind.{ShellKind}
 use Rattle.fs_trees.specs.declared.ask.ShellKind.TheVariants.{Inode, Chain}
-use Rattle.shell_text.specs.Grammar.{Field, Command, Place, Bytes, fields, IsField, AreFields, IsShellLine}
+use Rattle.shell_text.specs.Grammar.{Field, Command, PathWord, Bytes, fields, IsField, AreFields, IsShellLine}
 use Rattle.shell_text.specs.Reading.{path_of, put_of, append_of, cat_of, ls_of, rm_of, make_dir_of, copy_of, chosen, forms, named, asked, ask_of}
 use Rattle.shell_text.proofs.PathLaws.{path_back, path_lacks}
 use Rattle.shell_text.proofs.AskedLaws.{asked_is}
@@ -32,46 +32,46 @@ word_back : {A : Type 0} (f : List ℕ → Option A) (x : A) (field : Field) (fs
 word_back f x field fs [] back h = absurd h
 word_back f x field fs (w ∷ ws) back h = (ws, ap (option_map (λ v. (v, ws))) (back w h.0), h.1)
 
-path_next : (p : Path) (fs : List Field) (ws : Words) → AreFields (Place p ∷ fs) ws → Reads (reads path_of) ws p fs
-path_next p fs ws h = word_back path_of p (Place p) fs ws (λ w g. path_back w p g) h
+path_next : (p : Path) (fs : List Field) (ws : Words) → AreFields (PathWord p ∷ fs) ws → Reads (reads path_of) ws p fs
+path_next p fs ws h = word_back path_of p (PathWord p) fs ws (λ w g. path_back w p g) h
 
 bytes_next : (x : List ℕ) (fs : List Field) (ws : Words) → AreFields (Bytes x ∷ fs) ws → Reads (reads data_of) ws x fs
 bytes_next x fs ws h = word_back data_of x (Bytes x) fs ws (λ w g. data_back w x g) h
 
-put_back : (p : Path) (x : List ℕ) (ws : Words) → AreFields (Place p ∷ Bytes x ∷ []) ws → put_of ws ≡ Some (ask.Put p x)
+put_back : (p : Path) (x : List ℕ) (ws : Words) → AreFields (PathWord p ∷ Bytes x ∷ []) ws → put_of ws ≡ Some (ask.Put p x)
 unfolding put_of
 put_back p x ws g =
     let p1 = path_next p (Bytes x ∷ []) ws g in
     let x1 = bytes_next x [] p1.0 p1.2 in
     bind_some _ _ _ _ p1.1 (bind_some _ _ _ _ x1.1 (ends_back x1.0 _ x1.2))
 
-append_back : (p : Path) (x : List ℕ) (ws : Words) → AreFields (Place p ∷ Bytes x ∷ []) ws → append_of ws ≡ Some (ask.Append p x)
+append_back : (p : Path) (x : List ℕ) (ws : Words) → AreFields (PathWord p ∷ Bytes x ∷ []) ws → append_of ws ≡ Some (ask.Append p x)
 unfolding append_of
 append_back p x ws g =
     let p1 = path_next p (Bytes x ∷ []) ws g in
     let x1 = bytes_next x [] p1.0 p1.2 in
     bind_some _ _ _ _ p1.1 (bind_some _ _ _ _ x1.1 (ends_back x1.0 _ x1.2))
 
-cat_back : (p : Path) (ws : Words) → AreFields (Place p ∷ []) ws → cat_of ws ≡ Some (ask.Cat p)
+cat_back : (p : Path) (ws : Words) → AreFields (PathWord p ∷ []) ws → cat_of ws ≡ Some (ask.Cat p)
 unfolding cat_of
 cat_back p ws g = let p1 = path_next p [] ws g in bind_some _ _ _ _ p1.1 (ends_back p1.0 _ p1.2)
 
-ls_back : (p : Path) (ws : Words) → AreFields (Place p ∷ []) ws → ls_of ws ≡ Some (ask.Ls p)
+ls_back : (p : Path) (ws : Words) → AreFields (PathWord p ∷ []) ws → ls_of ws ≡ Some (ask.Ls p)
 unfolding ls_of
 ls_back p ws g = let p1 = path_next p [] ws g in bind_some _ _ _ _ p1.1 (ends_back p1.0 _ p1.2)
 
-rm_back : (p : Path) (ws : Words) → AreFields (Place p ∷ []) ws → rm_of ws ≡ Some (ask.Rm p)
+rm_back : (p : Path) (ws : Words) → AreFields (PathWord p ∷ []) ws → rm_of ws ≡ Some (ask.Rm p)
 unfolding rm_of
 rm_back p ws g = let p1 = path_next p [] ws g in bind_some _ _ _ _ p1.1 (ends_back p1.0 _ p1.2)
 
-make_dir_back : (p : Path) (ws : Words) → AreFields (Place p ∷ []) ws → make_dir_of ws ≡ Some (ask.MakeDir p)
+make_dir_back : (p : Path) (ws : Words) → AreFields (PathWord p ∷ []) ws → make_dir_of ws ≡ Some (ask.MakeDir p)
 unfolding make_dir_of
 make_dir_back p ws g = let p1 = path_next p [] ws g in bind_some _ _ _ _ p1.1 (ends_back p1.0 _ p1.2)
 
-copy_back : (p q : Path) (ws : Words) → AreFields (Place p ∷ Place q ∷ []) ws → copy_of ws ≡ Some (ask.Copy p q)
+copy_back : (p q : Path) (ws : Words) → AreFields (PathWord p ∷ PathWord q ∷ []) ws → copy_of ws ≡ Some (ask.Copy p q)
 unfolding copy_of
 copy_back p q ws g =
-    let p1 = path_next p (Place q ∷ []) ws g in
+    let p1 = path_next p (PathWord q ∷ []) ws g in
     let q1 = path_next q [] p1.0 p1.2 in
     bind_some _ _ _ _ p1.1 (bind_some _ _ _ _ q1.1 (ends_back q1.0 _ q1.2))
 
@@ -103,7 +103,7 @@ command_lacks f = true
 field_lacks : (f : Field) (w : List ℕ) → command_lacks f ≡ true → IsField f w → lacks 32 w ≡ true
 unfolding command_lacks
 field_lacks (Command name) w n h = subst (λ v. lacks 32 v ≡ true) (sym h) n
-field_lacks (Place p) w n h = path_lacks w p h
+field_lacks (PathWord p) w n h = path_lacks w p h
 field_lacks (Bytes bytes) w n h = data_lacks w bytes h
 
 all_lack : (fs : List Field) (ws : Words) → list_all command_lacks fs ≡ true → AreFields fs ws → list_all (lacks 32) ws ≡ true

@@ -11,7 +11,7 @@ use Rattle.fs_trees.specs.declared.ask.ShellKind.TheVariants.{Inode, Chain}
 -- what one word of a line says
 pub data Field : Type 0 where
   Command : List ℕ → Field
-  Place : Path → Field
+  PathWord : Path → Field
   Bytes : List ℕ → Field
 
 -- a chain's tree has no directories to make, and no copies
@@ -23,13 +23,13 @@ inodes_alone Chain fs = []
 abbrev pub fields : ShellKind → ShellAsk → List Field
 fields kind ask.Bad = []
 fields kind ask.Make = Command (codes "mkfs") ∷ []
-fields kind (ask.Put path bytes) = Command (codes "put") ∷ Place path ∷ Bytes bytes ∷ []
-fields kind (ask.Append path bytes) = Command (codes "append") ∷ Place path ∷ Bytes bytes ∷ []
-fields kind (ask.Cat path) = Command (codes "cat") ∷ Place path ∷ []
-fields kind (ask.Ls path) = Command (codes "ls") ∷ Place path ∷ []
-fields kind (ask.MakeDir path) = inodes_alone kind (Command (codes "mkdir") ∷ Place path ∷ [])
-fields kind (ask.Rm path) = Command (codes "rm") ∷ Place path ∷ []
-fields kind (ask.Copy path new) = inodes_alone kind (Command (codes "cp") ∷ Place path ∷ Place new ∷ [])
+fields kind (ask.Put path bytes) = Command (codes "put") ∷ PathWord path ∷ Bytes bytes ∷ []
+fields kind (ask.Append path bytes) = Command (codes "append") ∷ PathWord path ∷ Bytes bytes ∷ []
+fields kind (ask.Cat path) = Command (codes "cat") ∷ PathWord path ∷ []
+fields kind (ask.Ls path) = Command (codes "ls") ∷ PathWord path ∷ []
+fields kind (ask.MakeDir path) = inodes_alone kind (Command (codes "mkdir") ∷ PathWord path ∷ [])
+fields kind (ask.Rm path) = Command (codes "rm") ∷ PathWord path ∷ []
+fields kind (ask.Copy path new) = inodes_alone kind (Command (codes "cp") ∷ PathWord path ∷ PathWord new ∷ [])
 fields kind ask.Df = Command (codes "df") ∷ []
 
 -- a slash, and the names with a slash between each two
@@ -43,7 +43,7 @@ IsPathWord w path = (is_path path ≡ true) × (w ≡ path_text path)
 -- the word spells this
 abbrev pub IsField : Field → List ℕ → Type 0
 IsField (Command name) w = w ≡ name
-IsField (Place path) w = IsPathWord w path
+IsField (PathWord path) w = IsPathWord w path
 IsField (Bytes bytes) w = IsData w bytes
 
 -- the words spell these, one each

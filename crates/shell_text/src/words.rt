@@ -76,17 +76,17 @@ impl<'a> ShellWords<'a> {
 }
 
 /// Where a byte first stands.
-fn first_place(bytes: &[u8], at: u8) -> Option<usize>
+fn first_position(bytes: &[u8], at: u8) -> Option<usize>
     ensures { result ≡ position (λ b. b == at) bytes.now }
 {
     bytes.iter().position(|b| *b == at)
 }
 
-/// What stands before the first place of a byte, and after it.
+/// What stands before the first position of a byte, and after it.
 pub(crate) fn cut(text: &[u8], at: u8) -> (&[u8], Option<&[u8]>)
     ensures { pieces at text.now ≡ result.0.now ∷ left at result.1 }
 {
-    match first_place(text, at) {
+    match first_position(text, at) {
         Some(i) => (&text[..i], Some(&text[i + 1..])),
         None => (text, None),
     }

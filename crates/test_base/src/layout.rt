@@ -7,7 +7,7 @@ ghost use Rattle.image_layout.specs.Worked.{worked, worked_size};
 
 use image_layout::ring::{body_sector, descriptor_sector, gate_sector};
 use image_layout::{
-    Header, HeaderFault, Layout, Place, bit_mask, gate_bytes, read_header, write_header,
+    Header, HeaderFault, Layout, Offset, bit_mask, gate_bytes, read_header, write_header,
 };
 use tsd_model::{Geometry, lawful};
 
@@ -27,8 +27,8 @@ const LARGE: Geometry = Geometry {
     slots: 4_194_304,
 };
 
-fn at(sector: u32, byte: u32) -> Place {
-    Place { sector, byte }
+fn at(sector: u32, byte: u32) -> Offset {
+    Offset { sector, byte }
 }
 
 #[test]
@@ -39,12 +39,12 @@ fn small_places(rt: HostRuntime) {
     assert_eq!(rt; layout.slots_start(), 136);
     assert_eq!(rt; layout.data_start(), 137);
     assert_eq!(rt; layout.total(), 145);
-    assert_eq!(rt; layout.count_place(0), at(134, 0));
-    assert_eq!(rt; layout.count_place(7), at(134, 28));
-    assert_eq!(rt; layout.bit_place(7), at(135, 0));
-    assert_eq!(rt; layout.slot_place(31), at(136, 248));
-    assert_eq!(rt; layout.cap_place(0), at(132, 0));
-    assert_eq!(rt; layout.digest_place(0), at(132, 0));
+    assert_eq!(rt; layout.count_offset(0), at(134, 0));
+    assert_eq!(rt; layout.count_offset(7), at(134, 28));
+    assert_eq!(rt; layout.bit_offset(7), at(135, 0));
+    assert_eq!(rt; layout.slot_offset(31), at(136, 248));
+    assert_eq!(rt; layout.cap_offset(0), at(132, 0));
+    assert_eq!(rt; layout.digest_offset(0), at(132, 0));
     assert_eq!(rt; layout.data_sector(0, 0), 137);
     assert_eq!(rt; layout.data_sector(7, 0), 144);
 }
@@ -57,12 +57,12 @@ fn large_places(rt: HostRuntime) {
     assert_eq!(rt; layout.slots_start(), 8_582);
     assert_eq!(rt; layout.data_start(), 74_118);
     assert_eq!(rt; layout.total(), 8_462_726);
-    assert_eq!(rt; layout.count_place(1_048_575), at(8_325, 508));
-    assert_eq!(rt; layout.bit_place(1_048_575), at(8_581, 511));
-    assert_eq!(rt; layout.slot_place(4_194_303), at(74_117, 504));
-    assert_eq!(rt; layout.cap_place(15), at(132, 480));
-    assert_eq!(rt; layout.digest_place(7), at(132, 448));
-    assert_eq!(rt; layout.digest_place(8), at(133, 0));
+    assert_eq!(rt; layout.count_offset(1_048_575), at(8_325, 508));
+    assert_eq!(rt; layout.bit_offset(1_048_575), at(8_581, 511));
+    assert_eq!(rt; layout.slot_offset(4_194_303), at(74_117, 504));
+    assert_eq!(rt; layout.cap_offset(15), at(132, 480));
+    assert_eq!(rt; layout.digest_offset(7), at(132, 448));
+    assert_eq!(rt; layout.digest_offset(8), at(133, 0));
     assert_eq!(rt; layout.data_sector(1_048_575, 7), 8_462_725);
 }
 

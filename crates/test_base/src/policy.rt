@@ -88,10 +88,10 @@ fn ranks_of_each_kind(rt: HostRuntime) -> Result<(), Fail> {
 }
 
 /// How many calls a placement makes for the ranks of five blocks, where its closure counts its calls.
-fn calls_of(place: &Placement, calls: &Cell<u32>) -> u32 {
+fn calls_of(placement: &Placement, calls: &Cell<u32>) -> u32 {
     calls.set(0);
     for block in 0..5 {
-        let _rank = place.rank(9, block);
+        let _rank = placement.rank(9, block);
     }
     calls.get()
 }
@@ -143,8 +143,8 @@ fn rank_calls_its_closure(rt: HostRuntime) -> Result<(), Fail> {
     let near = Placement::new(PlaceKind::Near, near);
     let spread = Placement::new(PlaceKind::Spread, spread);
     let zone = Placement::new(PlaceKind::Zone, zone);
-    for place in [&low, &near, &spread, &zone] {
-        assert_eq!(rt; calls_of(place, &calls), 5, "{:?}", place.kind());
+    for placement in [&low, &near, &spread, &zone] {
+        assert_eq!(rt; calls_of(placement, &calls), 5, "{:?}", placement.kind());
     }
     Ok(())
 }

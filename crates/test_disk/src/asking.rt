@@ -79,7 +79,7 @@ fn put_reply(reply: &Reply, replies: &mut Vec<u8>) -> Result<(), AllocError> {
 fn ask<D: Device>(
     core: &mut Core,
     dev: &mut D,
-    place: &Placement,
+    placement: &Placement,
     request: &Request,
     settles: bool,
     replies: &mut Vec<u8>,
@@ -89,7 +89,7 @@ fn ask<D: Device>(
     ensures ready { OnOk result (IsCoreReady core.new) }
     ensures at { D.told → OnOk result (IsCoreAt core.new (D.view dev.new)) }
 {
-    let reply = core.apply(dev, place, request)?;
+    let reply = core.apply(dev, placement, request)?;
     put_reply(&reply, replies)?;
     if settles {
         core.settle_some(dev)?;
@@ -103,7 +103,7 @@ pub fn ask_all<D: Device>(
     alloc: Global,
     core: &mut Core,
     dev: &mut D,
-    place: &Placement,
+    placement: &Placement,
     text: &str,
     settles: bool,
 ) -> Result<Vec<u8>, Fail>
@@ -115,7 +115,7 @@ pub fn ask_all<D: Device>(
     let requests = requests(alloc, text)?;
     let mut replies = Vec::new(alloc);
     for request in &requests {
-        ask(core, dev, place, request, settles, &mut replies)?;
+        ask(core, dev, placement, request, settles, &mut replies)?;
     }
     Ok(replies)
 }
@@ -125,7 +125,7 @@ fn ask_and_close<D: Device>(
     alloc: Global,
     core: &mut Core,
     dev: &mut D,
-    place: &Placement,
+    placement: &Placement,
     text: &str,
     settles: bool,
     closes: bool,
@@ -133,7 +133,7 @@ fn ask_and_close<D: Device>(
     requires ready { IsCoreReady core.old }
     requires at { D.told → IsCoreAt core.old (D.view dev.old) }
 {
-    let replies = ask_all(alloc, core, dev, place, text, settles)?;
+    let replies = ask_all(alloc, core, dev, placement, text, settles)?;
     if closes {
         core.close(dev)?;
     }
@@ -144,11 +144,11 @@ fn ask_and_close<D: Device>(
 pub fn replies_in_run<D: Device>(
     alloc: Global,
     dev: &mut D,
-    place: &Placement,
+    placement: &Placement,
     text: &str,
     settles: bool,
     closes: bool,
 ) -> Result<Vec<u8>, Fail> {
     let mut core = opened(alloc, dev)?;
-    ask_and_close(alloc, &mut core, dev, place, text, settles, closes)
+    ask_and_close(alloc, &mut core, dev, placement, text, settles, closes)
 }

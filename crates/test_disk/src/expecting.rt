@@ -13,12 +13,12 @@ pub fn expect_at<D: Device>(
     rt: &impl Abort,
     alloc: Global,
     dev: &mut D,
-    place: &Placement,
+    placement: &Placement,
     texts: (&str, &str),
     settles: bool,
     closes: bool,
 ) -> Result<(), Fail> {
-    let replies = replies_in_run(alloc, dev, place, texts.0, settles, closes)?;
+    let replies = replies_in_run(alloc, dev, placement, texts.0, settles, closes)?;
     let wanted = spelled_lines(alloc, texts.1)?;
     assert_eq!(rt; replies.as_slice(), wanted.as_slice(), "{}", texts.0);
     Ok(())

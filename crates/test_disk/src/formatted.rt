@@ -59,11 +59,11 @@ fn a_wide_disk(rt: HostRuntime) -> Result<(), Fail> {
         .as_slice()
     );
     let caps = sector(&mut station, 132)?;
-    for (place, byte) in [(0, 1), (16, 2), (32, 3), (48, 4), (64, 5), (80, 6)] {
+    for (placement, byte) in [(0, 1), (16, 2), (32, 3), (48, 4), (64, 5), (80, 6)] {
         assert_eq!(rt;
-            &caps[place..place + 16],
+            &caps[placement..placement + 16],
             [byte; 16].as_slice(),
-            "at {place}"
+            "at {placement}"
         );
     }
     assert!(rt; caps[96..].iter().all(|byte| *byte == 0));

@@ -266,7 +266,7 @@ const WAYS: [Way; 4] = [
 fn check(
     rt: &impl Abort,
     alloc: Global,
-    place: &Placement,
+    placement: &Placement,
     row: &Row,
     way: &Way,
 ) -> Result<(), Fail> {
@@ -276,16 +276,16 @@ fn check(
     }
     let (settles, closes) = (way.settles, way.closes);
     let first = (row.asked, row.told);
-    expect_at(rt, alloc, &mut station, place, first, settles, closes)?;
+    expect_at(rt, alloc, &mut station, placement, first, settles, closes)?;
     let second = (row.again, row.told_again);
-    expect_at(rt, alloc, &mut station, place, second, settles, closes)
+    expect_at(rt, alloc, &mut station, placement, second, settles, closes)
 }
 
 /// A row in each way.
 fn check_ways(rt: &impl Abort, alloc: Global, row: &Row) -> Result<(), Fail> {
-    let place = placement(alloc, row.kind)?;
+    let placement = placement(alloc, row.kind)?;
     for way in &WAYS {
-        check(rt, alloc, &place, row, way)?;
+        check(rt, alloc, &placement, row, way)?;
     }
     Ok(())
 }

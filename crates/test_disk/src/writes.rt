@@ -16,7 +16,7 @@ use tsd_model::PlaceKind;
 fn writes_of(
     rt: &impl Abort,
     alloc: Global,
-    place: &Placement,
+    placement: &Placement,
     count: u32,
     closes: bool,
 ) -> Result<u64, Fail> {
@@ -29,7 +29,7 @@ fn writes_of(
         told.push_str("/ok")?;
     }
     let texts = (asked.as_str(), told.as_str());
-    expect_at(rt, alloc, &mut station, place, texts, false, closes)?;
+    expect_at(rt, alloc, &mut station, placement, texts, false, closes)?;
     Ok(station.write_calls().saturating_sub(none))
 }
 
@@ -52,22 +52,22 @@ const WRITTEN: [(u32, u64); 10] = [
 #[test]
 fn a_ninth_record_wants_a_checkpoint(rt: HostRuntime) -> Result<(), Fail> {
     let alloc = rt.alloc();
-    let place = placement(alloc, PlaceKind::Near)?;
+    let placement = placement(alloc, PlaceKind::Near)?;
     for (count, wanted) in WRITTEN {
-        let writes = writes_of(&rt, alloc, &place, count, false)?;
+        let writes = writes_of(&rt, alloc, &placement, count, false)?;
         assert_eq!(rt; writes, wanted, "{count}");
     }
-    assert_eq!(rt; writes_of(&rt, alloc, &place, 9, true)?, 38);
+    assert_eq!(rt; writes_of(&rt, alloc, &placement, 9, true)?, 38);
     Ok(())
 }
 
 /// A disk with a chain of forty blocks behind block 0.
-fn chained(rt: &impl Abort, alloc: Global, place: &Placement) -> Result<MemStation, Fail> {
+fn chained(rt: &impl Abort, alloc: Global, placement: &Placement) -> Result<MemStation, Fail> {
     let mut station = formatted(alloc, &MANY)?;
     let asked = chain(alloc, 40)?;
     let told = chain_replies(alloc, 40)?;
     let texts = (asked.as_str(), told.as_str());
-    expect_at(rt, alloc, &mut station, place, texts, true, true)?;
+    expect_at(rt, alloc, &mut station, placement, texts, true, true)?;
     Ok(station)
 }
 
@@ -75,13 +75,13 @@ fn chained(rt: &impl Abort, alloc: Global, place: &Placement) -> Result<MemStati
 fn writes_of_deletion(
     rt: &impl Abort,
     alloc: Global,
-    place: &Placement,
+    placement: &Placement,
     station: &mut MemStation,
     settles: bool,
 ) -> Result<u64, Fail> {
     let none = station.write_calls();
     let texts = ("open 1/delete 1 0 W 1", "ok/gone 40");
-    expect_at(rt, alloc, station, place, texts, settles, false)?;
+    expect_at(rt, alloc, station, placement, texts, settles, false)?;
     Ok(station.write_calls().saturating_sub(none))
 }
 
@@ -90,13 +90,13 @@ fn writes_of_deletion(
 #[test]
 fn a_deletion_and_four_steps(rt: HostRuntime) -> Result<(), Fail> {
     let alloc = rt.alloc();
-    let place = placement(alloc, PlaceKind::Near)?;
+    let placement = placement(alloc, PlaceKind::Near)?;
     for (settles, wanted) in [(false, 4), (true, 24)] {
-        let mut station = chained(&rt, alloc, &place)?;
-        let writes = writes_of_deletion(&rt, alloc, &place, &mut station, settles)?;
+        let mut station = chained(&rt, alloc, &placement)?;
+        let writes = writes_of_deletion(&rt, alloc, &placement, &mut station, settles)?;
         assert_eq!(rt; writes, wanted);
         let texts = ("free/open 1/alloc 1 0 W - 2", "free 63/ok/blocks 1 2");
-        expect_at(&rt, alloc, &mut station, &place, texts, false, false)?;
+        expect_at(&rt, alloc, &mut station, &placement, texts, false, false)?;
     }
     Ok(())
 }

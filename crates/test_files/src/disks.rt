@@ -57,8 +57,8 @@ impl<D: Device + Drop> Answering for OnImage<D> {
         if self.is_stopped {
             return None;
         }
-        let place = near(self.alloc)?;
-        match self.core.apply(&mut self.dev, &place, request) {
+        let placement = near(self.alloc)?;
+        match self.core.apply(&mut self.dev, &placement, request) {
             Ok(reply) => Some(reply),
             Err(_) => {
                 self.is_stopped = true;

@@ -17,11 +17,11 @@ const LEN: u32 = CLUSTERS * 496;
 /// How many names a directory has at most.
 const NAMES: u32 = 4_096;
 
-/// The bytes of the long file from a place to another.
+/// The bytes of the long file from one offset to another.
 fn part(first: u32, last: u32) -> Data {
     let mut bytes = Data::new();
-    for place in first..last.min(LEN) {
-        let _ = bytes.push((place % 251) as u8);
+    for placement in first..last.min(LEN) {
+        let _ = bytes.push((placement % 251) as u8);
     }
     bytes
 }
@@ -36,7 +36,7 @@ fn write_all(rt: &impl Abort, site: &mut OnStation<ChainFs>) {
     }
 }
 
-/// Asserts that the long file has its bytes from a place on.
+/// Asserts that the long file has its bytes from an offset on.
 fn reads(rt: &impl Abort, site: &mut OnStation<ChainFs>, first: u32) {
     let mut bytes = Data::new();
     assert_eq!(rt;
@@ -96,7 +96,7 @@ fn long_file(rt: HostRuntime) {
 
 /// The path of a file of this number.
 fn numbered(number: u32) -> [u8; 6] {
-    let digit = |place: u32| b'0' + (number / place % 10) as u8;
+    let digit = |placement: u32| b'0' + (number / placement % 10) as u8;
     [b'/', b'n', digit(1000), digit(100), digit(10), digit(1)]
 }
 

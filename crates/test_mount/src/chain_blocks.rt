@@ -16,11 +16,11 @@ pub fn page(next: Option<u32>, entries: &[(u32, &str)]) -> Data {
     bytes
 }
 
-/// The bytes of the files of these tests from a place to another, at most 4,096.
+/// The bytes of the files of these tests from one offset to another, at most 4,096.
 fn body(first: u64, last: u64) -> Data {
     let mut bytes = Data::new();
-    for place in first..last {
-        let _ = bytes.push((place % 251) as u8);
+    for placement in first..last {
+        let _ = bytes.push((placement % 251) as u8);
     }
     bytes
 }

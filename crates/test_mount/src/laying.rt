@@ -27,7 +27,7 @@ pub enum Said {
     /// A directory's cluster: the next one or none, and its entries.
     Page(Option<u32>, &'static [(u32, &'static str)]),
 
-    /// A file's cluster: the next one or none, and the file's bytes from a place to another.
+    /// A file's cluster: the next one or none, and the file's bytes from one offset to another.
     Part(Option<u32>, u64, u64),
 }
 

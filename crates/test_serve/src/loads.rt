@@ -15,13 +15,13 @@ use tsd_model::PlaceKind;
 use tsd_words::{Load, Status};
 
 /// Asserts that a load of one request over the small disk opens a session.
-fn loads(rt: &impl Abort, alloc: Global, place: &Placement, station: &mut MemStation) {
+fn loads(rt: &impl Abort, alloc: Global, placement: &Placement, station: &mut MemStation) {
     let load = Load {
         seed: [0; 32],
         count: 1,
-        kind: place.kind(),
+        kind: placement.kind(),
     };
-    assert_eq!(rt; load_image(alloc, &load, place, station), Status::Done);
+    assert_eq!(rt; load_image(alloc, &load, placement, station), Status::Done);
     let line = b"load 1 granted 1 refused 0 free 7 pointers 0\n";
     assert!(rt; station.sent().ends_with(line));
 }
@@ -34,7 +34,7 @@ fn one_request(rt: HostRuntime) -> Result<(), Fail> {
             ensures { result ≡ rank_of Near hint block }
         { near_rank(hint, block) },
     )?;
-    let place = Placement::new(PlaceKind::Near, rank);
-    loads(&rt, rt.alloc(), &place, &mut small(&rt, rt.alloc()));
+    let placement = Placement::new(PlaceKind::Near, rank);
+    loads(&rt, rt.alloc(), &placement, &mut small(&rt, rt.alloc()));
     Ok(())
 }

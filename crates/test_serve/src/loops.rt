@@ -17,26 +17,26 @@ use tsd_serve::{INPUT_MAX, Status};
 /// The status of a run over lines, where the image is opened.
 fn lines_over(
     alloc: Global,
-    place: &Placement,
+    placement: &Placement,
     source: &mut MemSource,
     port: &mut MemStation,
 ) -> Result<Status, Status> {
     let mut core = open_core(alloc, port)?;
     let mut cutter = LineCutter::new();
-    Ok(serve_core(&mut core, place, &mut cutter, source, port, INPUT_MAX))
+    Ok(serve_core(&mut core, placement, &mut cutter, source, port, INPUT_MAX))
 }
 
 /// The same over frames.
 fn frames_over(
     alloc: Global,
-    place: &Placement,
+    placement: &Placement,
     source: &mut MemSource,
     port: &mut MemStation,
 ) -> Result<Status, Status> {
     match FrameCutter::new(alloc) {
         Ok(mut cutter) => {
             let mut core = open_core(alloc, port)?;
-            Ok(serve_core(&mut core, place, &mut cutter, source, port, INPUT_MAX))
+            Ok(serve_core(&mut core, placement, &mut cutter, source, port, INPUT_MAX))
         }
         Err(_) => Err(Status::NoMemory),
     }
@@ -46,11 +46,11 @@ fn frames_over(
 fn check_lines(
     rt: &impl Abort,
     alloc: Global,
-    place: &Placement,
+    placement: &Placement,
     port: &mut MemStation,
 ) -> Result<(), Fail> {
     let mut lines = MemSource::new(b"open 1\nfree\n".to_vec(alloc)?, 9, Vec::new(alloc));
-    let status = lines_over(alloc, place, &mut lines, port);
+    let status = lines_over(alloc, placement, &mut lines, port);
     assert_eq!(rt; status, Ok(Status::Done));
     Ok(())
 }
@@ -59,12 +59,12 @@ fn check_lines(
 fn check_frames(
     rt: &impl Abort,
     alloc: Global,
-    place: &Placement,
+    placement: &Placement,
     port: &mut MemStation,
 ) -> Result<(), Fail> {
     let input = b"\x05\0\x01\x01\0\0\0\x01\0\x07".to_vec(alloc)?;
     let mut frames = MemSource::new(input, 3, Vec::new(alloc));
-    let status = frames_over(alloc, place, &mut frames, port);
+    let status = frames_over(alloc, placement, &mut frames, port);
     assert_eq!(rt; status, Ok(Status::Done));
     Ok(())
 }
@@ -78,9 +78,9 @@ fn check_loops(
 ) -> Result<(), Fail> {
     let status = run_over(alloc, book, ("fresh 8 1 R W near", ""), port)?;
     assert_eq!(rt; status, Status::Done);
-    let place = book.pick(PlaceKind::Near);
-    check_lines(rt, alloc, place, port)?;
-    check_frames(rt, alloc, place, port)?;
+    let placement = book.pick(PlaceKind::Near);
+    check_lines(rt, alloc, placement, port)?;
+    check_frames(rt, alloc, placement, port)?;
     assert_eq!(rt;
         port.sent(),
         b"ok\nfree 7\n\x01\0\x01\x05\0\x04\x07\0\0\0".as_slice()

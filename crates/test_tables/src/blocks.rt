@@ -71,13 +71,13 @@ fn change(
 fn see_chosen(
     rt: &impl Abort,
     map: &LiveMap,
-    place: &Placement,
+    placement: &Placement,
     count: u32,
     wanted: Result<&[u32], Short>,
 )
     requires { (1 ≤ count) × (count ≤ 32) }
 {
-    match map.choose(place, 0, count) {
+    match map.choose(placement, 0, count) {
         Ok(chosen) => assert_eq!(rt; Ok(chosen.as_slice()), wanted),
         Err(short) => assert_eq!(rt; Err(short), wanted),
     }
@@ -87,13 +87,13 @@ fn see_chosen(
 fn see_run(
     rt: &impl Abort,
     map: &LiveMap,
-    place: &Placement,
+    placement: &Placement,
     count: u32,
     wanted: Result<u32, RunRefusal>,
 )
     requires { (1 ≤ count) × (count ≤ 32) }
 {
-    assert_eq!(rt; map.choose_run(place, 0, count), wanted);
+    assert_eq!(rt; map.choose_run(placement, 0, count), wanted);
 }
 
 // ---- hidden blocks
@@ -143,11 +143,11 @@ fn on_disk(alloc: Global, station: &mut MemStation) -> Result<(u8, (bool, bool, 
 }
 
 /// Sees that of blocks 0, 2, 3 and 5, which are live, block 3 is hidden.
-fn see_hidden(rt: &impl Abort, map: &LiveMap, place: &Placement) {
+fn see_hidden(rt: &impl Abort, map: &LiveMap, placement: &Placement) {
     let found = (told(map, 3), map.has_run(3));
     assert_eq!(rt; found, ((false, true, 5), false));
-    see_chosen(rt, map, place, 4, Ok(&[1, 3, 4, 6]));
-    see_run(rt, map, place, 2, Ok(3));
+    see_chosen(rt, map, placement, 4, Ok(&[1, 3, 4, 6]));
+    see_run(rt, map, placement, 2, Ok(3));
 }
 
 /// Makes four blocks live, and hides block 3, once. Tells whether that was done, and done again.
@@ -177,10 +177,10 @@ fn hide_and_free(
     alloc: Global,
     map: &mut LiveMap,
     station: &mut MemStation,
-    place: &Placement,
+    placement: &Placement,
 ) -> Result<(), Fail> {
     assert_eq!(rt; hide_third(map, station)?, (true, false));
-    see_hidden(rt, map, place);
+    see_hidden(rt, map, placement);
     assert_eq!(rt; on_disk(alloc, station)?, (0x2d, (true, true, 4)));
     let freed = free_third(map, station)?;
     assert_eq!(rt; freed, ((true, true, 4), true, (false, false, 5), 0x25));
@@ -188,16 +188,16 @@ fn hide_and_free(
 }
 
 /// The same, on a disk never written.
-fn hide_on_disk(rt: &impl Abort, alloc: Global, place: &Placement) -> Result<(), Fail> {
+fn hide_on_disk(rt: &impl Abort, alloc: Global, placement: &Placement) -> Result<(), Fail> {
     let mut station = MemStation::new(alloc, Vec::new(alloc));
     let mut map = LiveMap::load(alloc, &mut station, &disk(8))?;
-    hide_and_free(rt, alloc, &mut map, &mut station, place)
+    hide_and_free(rt, alloc, &mut map, &mut station, placement)
 }
 
 #[test]
 fn a_hidden_block_is_free_and_stays_on_the_disk(rt: HostRuntime) -> Result<(), Fail> {
-    let place = low(rt.alloc())?;
-    hide_on_disk(&rt, rt.alloc(), &place)
+    let placement = low(rt.alloc())?;
+    hide_on_disk(&rt, rt.alloc(), &placement)
 }
 
 // ---- refusals
@@ -235,39 +235,39 @@ fn small(alloc: Global, live: &[u32]) -> Result<LiveMap, Fail> {
 }
 
 /// Sees what is refused where three blocks are free, each alone.
-fn see_refusals(rt: &impl Abort, map: &LiveMap, place: &Placement) {
-    see_chosen(rt, map, place, 4, Err(Short { free: 3, wanted: 4 }));
-    see_chosen(rt, map, place, 3, Ok(&[1, 3, 5]));
+fn see_refusals(rt: &impl Abort, map: &LiveMap, placement: &Placement) {
+    see_chosen(rt, map, placement, 4, Err(Short { free: 3, wanted: 4 }));
+    see_chosen(rt, map, placement, 3, Ok(&[1, 3, 5]));
     let short = RunRefusal::Short { free: 3, wanted: 4 };
-    see_run(rt, map, place, 4, Err(short));
+    see_run(rt, map, placement, 4, Err(short));
     let no_run = RunRefusal::NoRun { free: 3, wanted: 2 };
-    see_run(rt, map, place, 2, Err(no_run));
-    see_run(rt, map, place, 1, Ok(1));
+    see_run(rt, map, placement, 2, Err(no_run));
+    see_run(rt, map, placement, 1, Ok(1));
     assert_eq!(rt; (map.has_run(1), map.has_run(2)), (true, false));
 }
 
 #[test]
 fn refusals_have_their_numbers(rt: HostRuntime) -> Result<(), Fail> {
     let map = small(rt.alloc(), &[0, 2, 4, 6, 7])?;
-    let place = low(rt.alloc())?;
-    see_refusals(&rt, &map, &place);
+    let placement = low(rt.alloc())?;
+    see_refusals(&rt, &map, &placement);
     Ok(())
 }
 
 /// Sees how often a rank is asked for where blocks 1 to 7 are free.
-fn see_asked(rt: &impl Abort, fresh: &LiveMap, place: &Placement, calls: &Cell<u32>) {
-    see_chosen(rt, fresh, place, 3, Ok(&[1, 2, 3]));
+fn see_asked(rt: &impl Abort, fresh: &LiveMap, placement: &Placement, calls: &Cell<u32>) {
+    see_chosen(rt, fresh, placement, 3, Ok(&[1, 2, 3]));
     let chosen = calls.get();
     calls.set(0);
-    see_run(rt, fresh, place, 2, Ok(1));
+    see_run(rt, fresh, placement, 2, Ok(1));
     assert_eq!(rt; (chosen, calls.get()), (7, 6));
 }
 
 /// The same, by a placement that counts.
 fn count_asked(rt: &impl Abort, alloc: Global, fresh: &LiveMap) -> Result<(), Fail> {
     let calls = Rc::new(alloc, Cell::new(0u32))?;
-    let place = counting_near(alloc, calls.clone()?)?;
-    see_asked(rt, fresh, &place, &calls);
+    let placement = counting_near(alloc, calls.clone()?)?;
+    see_asked(rt, fresh, &placement, &calls);
     Ok(())
 }
 
@@ -278,18 +278,18 @@ fn choosing_asks_for_each_rank_once(rt: HostRuntime) -> Result<(), Fail> {
 }
 
 /// Sees that more blocks than the seven that are free are refused, with no rank asked for.
-fn see_too_few(rt: &impl Abort, fresh: &LiveMap, place: &Placement, calls: &Cell<u32>) {
-    see_chosen(rt, fresh, place, 8, Err(Short { free: 7, wanted: 8 }));
+fn see_too_few(rt: &impl Abort, fresh: &LiveMap, placement: &Placement, calls: &Cell<u32>) {
+    see_chosen(rt, fresh, placement, 8, Err(Short { free: 7, wanted: 8 }));
     let short = RunRefusal::Short { free: 7, wanted: 8 };
-    see_run(rt, fresh, place, 8, Err(short));
+    see_run(rt, fresh, placement, 8, Err(short));
     assert_eq!(rt; calls.get(), 0);
 }
 
 /// The same, by a placement that counts.
 fn count_too_few(rt: &impl Abort, alloc: Global, fresh: &LiveMap) -> Result<(), Fail> {
     let calls = Rc::new(alloc, Cell::new(0u32))?;
-    let place = counting_low(alloc, calls.clone()?)?;
-    see_too_few(rt, fresh, &place, &calls);
+    let placement = counting_low(alloc, calls.clone()?)?;
+    see_too_few(rt, fresh, &placement, &calls);
     Ok(())
 }
 
@@ -300,17 +300,17 @@ fn too_few_blocks_ask_for_no_rank(rt: HostRuntime) -> Result<(), Fail> {
 }
 
 /// The first of the 32 blocks that are chosen for this hint.
-fn first_chosen(map: &LiveMap, place: &Placement, hint: u32) -> Option<u32> {
-    let chosen = map.choose(place, hint, 32).ok()?;
+fn first_chosen(map: &LiveMap, placement: &Placement, hint: u32) -> Option<u32> {
+    let chosen = map.choose(placement, hint, 32).ok()?;
     chosen.as_slice().first().copied()
 }
 
 /// Sees what is chosen of the largest disk's blocks, which are all free.
-fn see_large(rt: &impl Abort, map: &LiveMap, place: &Placement) {
+fn see_large(rt: &impl Abort, map: &LiveMap, placement: &Placement) {
     let found = (
         map.free_count(),
-        first_chosen(map, place, 1_000_000),
-        map.choose_run(place, LAST, 32),
+        first_chosen(map, placement, 1_000_000),
+        map.choose_run(placement, LAST, 32),
         map.has_run(32),
     );
     let wanted = (1_048_576, Some(1_000_000), Ok(1_048_544), true);
@@ -318,17 +318,17 @@ fn see_large(rt: &impl Abort, map: &LiveMap, place: &Placement) {
 }
 
 /// Loads the largest disk, and sees that.
-fn load_large(rt: &impl Abort, alloc: Global, place: &Placement) -> Result<(), Fail> {
+fn load_large(rt: &impl Abort, alloc: Global, placement: &Placement) -> Result<(), Fail> {
     assert!(rt; lawful(&LARGE));
     let mut station = MemStation::new(alloc, Vec::new(alloc));
     let map = LiveMap::load(alloc, &mut station, &LARGE)?;
     assert_eq!(rt; (station.calls(), station.write_calls()), (256, 0));
-    see_large(rt, &map, place);
+    see_large(rt, &map, placement);
     Ok(())
 }
 
 #[test]
 fn the_largest_disk(rt: HostRuntime) -> Result<(), Fail> {
-    let place = near(rt.alloc())?;
-    load_large(&rt, rt.alloc(), &place)
+    let placement = near(rt.alloc())?;
+    load_large(&rt, rt.alloc(), &placement)
 }

@@ -12,7 +12,7 @@ use tsd_model::PlaceKind;
 
 /// The placement from the lowest.
 pub fn low(alloc: Global) -> Result<Placement, AllocError>
-    ensures { IfOk result (λ place. place.kind ≡ Low) }
+    ensures { IfOk result (λ placement. placement.kind ≡ Low) }
 {
     let ranks = Box::new(
         alloc,
@@ -25,7 +25,7 @@ pub fn low(alloc: Global) -> Result<Placement, AllocError>
 
 /// The placement near the hint.
 pub fn near(alloc: Global) -> Result<Placement, AllocError>
-    ensures { IfOk result (λ place. place.kind ≡ Near) }
+    ensures { IfOk result (λ placement. placement.kind ≡ Near) }
 {
     let ranks = Box::new(
         alloc,

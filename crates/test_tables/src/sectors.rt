@@ -4,7 +4,7 @@ ghost use Rattle.std.specs.Prelude.{◌+◌, ◌≤◌, length};
 
 use std::process::Abort;
 
-/// Sees that these bytes stand in a sector, from a place on.
+/// Sees that these bytes stand in a sector, from an offset on.
 pub fn see_bytes(rt: &impl Abort, sector: &[u8; 512], start: usize, bytes: &[u8])
     requires { start + length bytes.now ≤ 512 }
 {

@@ -353,7 +353,7 @@ fn copies_change_apart(rt: HostRuntime) {
     run_fresh(&rt, rt.alloc(), (1, 16, 64), table.as_slice());
 }
 
-/// The bytes 0 to 255, over and over, from a place to another.
+/// The bytes 0 to 255, over and over, from one offset to another.
 fn part(rt: &impl Abort, first: u32, last: u32) -> Data {
     let mut bytes = Data::new();
     for place in first..last {
@@ -362,7 +362,7 @@ fn part(rt: &impl Abort, first: u32, last: u32) -> Data {
     bytes
 }
 
-/// Asserts that a part of the file goes from the first place to the last.
+/// Asserts that a part of the file goes from the first offset to the last.
 fn reads(rt: &impl Abort, site: &mut InodeSite, first: u32, last: u32) {
     let mut bytes = Data::new();
     let answered = site.read_part(&path_of(rt, b"/a"), first as u64, &mut bytes);

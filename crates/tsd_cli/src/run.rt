@@ -218,7 +218,7 @@ fn serve<S: Source, O: Write, E: Write>(
             });
         }
     };
-    let ended = place(rt, target, &meant, input, output, errors)?;
+    let ended = with_placements(rt, target, &meant, input, output, errors)?;
     let is_told = matches!(ended.cause, Cause::OneFile(..));
     Ok(match ended.status {
         MirrorStatus::Ended(Status::Usage) if is_told => ended,
@@ -245,7 +245,7 @@ fn all_meant(
 }
 
 /// Makes the placements and serves.
-fn place<S: Source, O: Write, E: Write>(
+fn with_placements<S: Source, O: Write, E: Write>(
     rt: &HostRuntime,
     target: Target,
     command: &Vec<String>,

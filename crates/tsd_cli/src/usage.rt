@@ -109,7 +109,7 @@ enum Operand {
     Cap,
 
     /// The order in which free blocks are taken.
-    Place,
+    Placement,
 }
 
 impl Operand {
@@ -127,7 +127,7 @@ impl Operand {
             Operand::Kind => "KIND",
             Operand::Root => "ROOT",
             Operand::Cap => "CAP",
-            Operand::Place => "PLACE",
+            Operand::Placement => "PLACE",
         }
     }
 
@@ -144,7 +144,7 @@ impl Operand {
     fn takes(self, word: &str, blocks: u32) -> bool {
         match self {
             Operand::Kind => matches!(word, "inode" | "chain"),
-            Operand::Place => matches!(word, "low" | "near" | "spread" | "zone"),
+            Operand::Placement => matches!(word, "low" | "near" | "spread" | "zone"),
             Operand::ReadCap | Operand::WriteCap | Operand::Cap => has_digits(word, CAP_DIGITS),
             Operand::Seed => has_digits(word, SEED_DIGITS),
             _ => match parse_number(word.as_bytes()) {
@@ -183,7 +183,7 @@ impl fmt::Display for Operand {
             Operand::Count => write!(f, "1 to {MAX_COUNT}"),
             Operand::Kind => f.write_str("inode or chain"),
             Operand::Root => f.write_str("the number of a block"),
-            Operand::Place => f.write_str("low, near, spread or zone"),
+            Operand::Placement => f.write_str("low, near, spread or zone"),
         }
     }
 }
@@ -201,7 +201,7 @@ fn operands_of(command: &str) -> Option<&'static [Operand]> {
             Operand::Sectors,
             Operand::ReadCap,
             Operand::WriteCap,
-            Operand::Place,
+            Operand::Placement,
         ]),
         "format" => Some(&[
             Operand::Blocks,
@@ -210,8 +210,13 @@ fn operands_of(command: &str) -> Option<&'static [Operand]> {
             Operand::Primaries,
             Operand::Seed,
         ]),
-        "run" | "serve" => Some(&[Operand::Place]),
-        "shell" => Some(&[Operand::Kind, Operand::Root, Operand::Cap, Operand::Place]),
+        "run" | "serve" => Some(&[Operand::Placement]),
+        "shell" => Some(&[
+            Operand::Kind,
+            Operand::Root,
+            Operand::Cap,
+            Operand::Placement,
+        ]),
         "copyfs" => Some(&[
             Operand::Kind,
             Operand::Root,
@@ -219,9 +224,9 @@ fn operands_of(command: &str) -> Option<&'static [Operand]> {
             Operand::Kind,
             Operand::Root,
             Operand::Cap,
-            Operand::Place,
+            Operand::Placement,
         ]),
-        "load" => Some(&[Operand::Seed, Operand::Count, Operand::Place]),
+        "load" => Some(&[Operand::Seed, Operand::Count, Operand::Placement]),
         "check" | "upgrade" | "audit" | "verify" => Some(&[]),
         _ => None,
     }

@@ -33,7 +33,7 @@ impl Core {
     pub fn apply<D: Device>(
         &mut self,
         dev: &mut D,
-        place: &Placement,
+        placement: &Placement,
         request: &Request,
     ) -> Result<Reply, Failed>
         requires ready { IsCoreReady self.old }
@@ -41,11 +41,11 @@ impl Core {
         ensures ready { OnOk result (IsCoreReady self.new) }
         ensures at { D.told → OnOk result (IsCoreAt self.new (D.view dev.new)) }
         ensures form { IfOk result HasForm }
-        ensures given { D.told → IfOk result (λ r. IsAnswer place.now.kind (state_on self.old (D.view dev.old).reads)
+        ensures given { D.told → IfOk result (λ r. IsAnswer placement.now.kind (state_on self.old (D.view dev.old).reads)
             request.now r (state_on self.new (D.view dev.new).reads)) }
 
         // What memory tells of the answer holds for every device.
-        ensures told { IfOk result (λ r. IsToldAnswer place.now.kind self.old request.now r self.new) }
+        ensures told { IfOk result (λ r. IsToldAnswer placement.now.kind self.old request.now r self.new) }
 
         // What a rule refuses is answered so, and what asks nothing of the device is answered, by every device.
         ensures refusal { IfSome (told_verdict self.old request.now) (λ rule. result ≡ Ok (reply.Refused rule)) }
@@ -59,7 +59,7 @@ impl Core {
         // A read, a list, a count, and an open or a close of a session write nothing. The data of all blocks but the
         // one that is written and new ones stays, and so does what lies behind the image.
         ensures rests { D.told → writes_nothing request.now ≡ true → Rests (D.view dev.old) (D.view dev.new) }
-        ensures data_kept { D.told → KeepsData self.old.volume.tables.geometry (bytes_given place.now.kind
+        ensures data_kept { D.told → KeepsData self.old.volume.tables.geometry (bytes_given placement.now.kind
             (told_world self.old) request.now) (D.view dev.old) (D.view dev.new) result }
 
         // Where it needn't wait, it commits one batch and writes nothing else. What is owed then is said exactly, and
@@ -70,14 +70,14 @@ impl Core {
         ensures owes { IfOk result (λ r. is_refusal r ≡ false → owed self.new.volume.tables ≡ owed_then
             self.old.volume request.now) }
         ensures grown { makes_blocks request.now ≡ true → IfOk result (λ r. is_refusal r ≡ false → HasGrown
-            place.now.kind request.now self.old.volume self.new.volume) }
+            placement.now.kind request.now self.old.volume self.new.volume) }
 
         ensures size { SameSize self.old self.new }
         ensures spent { OnErr result (self.new.volume.is_spent ≡ true) }
         ensures sent { D.told → (D.view dev.new).sent ≡ (D.view dev.old).sent }
 
         // A crash at any moment leaves the world before or the world after.
-        ensures any_moment { D.told → LeavesEither (D.view dev.old) (D.view dev.new) (next_world place.now.kind
+        ensures any_moment { D.told → LeavesEither (D.view dev.old) (D.view dev.new) (next_world placement.now.kind
             (state_on self.old (D.view dev.old).reads) request.now) }
 
         ensures debt { D.told → is_sweep request.now ≡ false → LeavesDebt (D.view dev.old) (D.view dev.new)
@@ -92,19 +92,19 @@ impl Core {
         ensures works { Works (D.view dev.old) (D.view dev.new) }
         ensures faults { CountsFault result (D.view dev.old).faults (D.view dev.new).faults }
     {
-        self.judge(dev, place, request)
+        self.judge(dev, placement, request)
     }
 
     /// The verdict on a request, and the request where it is granted.
     fn judge<D: Device>(
         &mut self,
         dev: &mut D,
-        place: &Placement,
+        placement: &Placement,
         request: &Request,
     ) -> Result<Reply, Failed>
         requires ready { IsCoreReady self.old }
         requires at { D.told → IsCoreAt self.old (D.view dev.old) }
-        ensures applied { IsApplied D.told place.now.kind request.now self.old self.new (D.view dev.old)
+        ensures applied { IsApplied D.told placement.now.kind request.now self.old self.new (D.view dev.old)
             (D.view dev.new) result }
         ensures asks_nothing { IfOk result (λ r. (is_refusal r || asks_nothing request.now) ≡ true
             → dev.new ≡ dev.old) }
@@ -114,7 +114,7 @@ impl Core {
             Err(rule) => refused(rule),
             Ok(granted) => {
                 self.raise(request, &granted);
-                self.carry_out(dev, place, request)
+                self.carry_out(dev, placement, request)
             }
         }
     }

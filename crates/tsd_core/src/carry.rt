@@ -18,13 +18,13 @@ impl Core {
     pub(crate) fn carry_out<D: Device>(
         &mut self,
         dev: &mut D,
-        place: &Placement,
+        placement: &Placement,
         request: &Request,
     ) -> Result<Reply, Failed>
         requires granted { IsRaised (told_world self.old) request.now self.old.grants.sessions }
         requires ready { IsCoreReady self.old }
         requires at { D.told → IsCoreAt self.old (D.view dev.old) }
-        ensures carried_out { IsCarriedOut D.told place.now.kind request.now self.old self.new (D.view dev.old)
+        ensures carried_out { IsCarriedOut D.told placement.now.kind request.now self.old self.new (D.view dev.old)
             (D.view dev.new) result }
         ensures asks_nothing { asks_nothing request.now ≡ true → dev.new ≡ dev.old }
         ensures answered { asks_nothing request.now ≡ true → IsOk result }
@@ -48,13 +48,13 @@ impl Core {
                 hint,
                 count,
                 ..
-            } => self.alloc(dev, place, *source, hint, *count),
+            } => self.alloc(dev, placement, *source, hint, *count),
             Request::Contig {
                 source,
                 hint,
                 count,
                 ..
-            } => self.contig(dev, place, *source, hint, *count),
+            } => self.contig(dev, placement, *source, hint, *count),
         }
     }
 

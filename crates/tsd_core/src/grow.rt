@@ -36,7 +36,7 @@ impl Core {
     pub(crate) fn alloc<D: Device>(
         &mut self,
         dev: &mut D,
-        place: &Placement,
+        placement: &Placement,
         source: u32,
         hint: &Hint,
         count: u32,
@@ -49,10 +49,10 @@ impl Core {
         requires ready { IsCoreReady self.old }
         requires at { D.told → IsCoreAt self.old (D.view dev.old) }
         ensures { (session : ℕ) (shown : AnyShown)
-            → IsCarriedOut D.told place.now.kind (ask.Alloc session source shown hint.now count) self.old self.new
+            → IsCarriedOut D.told placement.now.kind (ask.Alloc session source shown hint.now count) self.old self.new
             (D.view dev.old) (D.view dev.new) result }
     {
-        match self.volume.choose(place, hint_block(hint), count) {
+        match self.volume.choose(placement, hint_block(hint), count) {
             Ok(blocks) => self.grow(dev, source, blocks),
             Err(short) => Ok(Reply::Refused(Rule::Full {
                 free: short.free,
@@ -66,7 +66,7 @@ impl Core {
     pub(crate) fn contig<D: Device>(
         &mut self,
         dev: &mut D,
-        place: &Placement,
+        placement: &Placement,
         source: u32,
         hint: &Hint,
         count: u32,
@@ -80,10 +80,10 @@ impl Core {
         requires ready { IsCoreReady self.old }
         requires at { D.told → IsCoreAt self.old (D.view dev.old) }
         ensures { (session : ℕ) (shown : AnyShown)
-            → IsCarriedOut D.told place.now.kind (ask.Contig session source shown hint.now count) self.old self.new
+            → IsCarriedOut D.told placement.now.kind (ask.Contig session source shown hint.now count) self.old self.new
             (D.view dev.old) (D.view dev.new) result }
     {
-        match self.volume.choose_run(place, hint_block(hint), count) {
+        match self.volume.choose_run(placement, hint_block(hint), count) {
             Ok(first) => self.grow(dev, source, run_of(first, count)),
             Err(RunRefusal::Short { free, wanted }) => Ok(Reply::Refused(Rule::Full {
                 free,

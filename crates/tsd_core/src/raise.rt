@@ -42,10 +42,10 @@ impl Core {
 }
 
 /// The first or the second need of a request.
-fn need_at(request: &Request, place: usize) -> Option<Need>
-    ensures { result ≡ slice_get (needs request.now) place }
+fn need_at(request: &Request, placement: usize) -> Option<Need>
+    ensures { result ≡ slice_get (needs request.now) placement }
 {
-    needs(request).as_slice().get(place).copied()
+    needs(request).as_slice().get(placement).copied()
 }
 
 fn raise_at(grants: &mut Grants, session: u32, need: Option<Need>, origins: &Origins)

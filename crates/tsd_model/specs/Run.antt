@@ -36,7 +36,7 @@ pub record IsAnswer (kind : PlaceKind) (s : State) (q : Request) (r : Reply) (no
 abbrev pub wants_now : List Bool → Bool
 wants_now wants = slice_index_or wants 0 false
 
--- The replies to the requests, in order. `wants` says at which places no memory was found; past its end memory was
+-- The replies to the requests, in order. `wants` says at which requests no memory was found; past its end memory was
 -- found.
 abbrev pub replies : PlaceKind → State → List Bool → List Request → List Reply
 replies kind s wants [] = []

@@ -7,15 +7,15 @@ use Rattle.tsd_model.specs.World.{World, is_live, all_blocks}
 use Rattle.tsd_model.specs.declared.requests.Level.{Level}
 use Rattle.tsd_model.specs.declared.requests.Level.TheVariants as level
 
--- at place b the level at block b
+-- at index b the level at block b
 abbrev pub Levels : Type 0
 Levels = List Level
 
--- at place o the levels that came from primary block o, their origin
+-- at index o the levels that came from primary block o, their origin
 abbrev pub Held : Type 0
 Held = List Levels
 
--- at place s - 1, for the sessions s from 1 to 64, what the session holds, if it is open
+-- at index s - 1, for the sessions s from 1 to 64, what the session holds, if it is open
 abbrev pub Sessions : Type 0
 Sessions = List (Option Held)
 
@@ -66,7 +66,7 @@ level_of v s b = greatest (map (λ levels. slice_index_or levels b level.Bare) (
 
 -- ---- changes
 
--- with this at the session's place; number 0 has none
+-- with this at the session's index; number 0 has none
 abbrev pub with_held : Sessions → ℕ → Option Held → Sessions
 with_held v s held = cond (s == 0) v (slice_set v (s - 1) held)
 

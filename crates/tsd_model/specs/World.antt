@@ -10,11 +10,11 @@ pub record World : Type 0 where
   pub geometry : Geometry
   -- 1, or 2 where capabilities are kept as digests
   pub version : ℕ
-  -- at place b the bytes of block b, where it is live
+  -- at index b the bytes of block b, where it is live
   pub blocks : List (Option (List ℕ))
   -- the pointers
   pub pairs : List (ℕ × ℕ)
-  -- at place b what is kept for primary block b
+  -- at index b what is kept for primary block b
   pub records : List Record
 
 -- the bytes of a block that is live; past the last block there is none

@@ -232,13 +232,13 @@ fn shell_lines<S: Source, P: Port>(
     ensures no_device_fault { result ≢ Status.DeviceFault → (P.view port.new).faults ≡ (P.view port.old).faults }
     ensures no_put_fault { result ≢ Status.PutFault → (P.view port.new).put_faults ≡ (P.view port.old).put_faults }
 {
-    let place = places.pick(shell.kind);
+    let placement = places.pick(shell.kind);
     match shell.layout {
         ShellKind::Inode => serve_inode_image(
-            alloc, shell.root, &shell.cap, place, source, port, INPUT_MAX,
+            alloc, shell.root, &shell.cap, placement, source, port, INPUT_MAX,
         ),
         ShellKind::Chain => serve_chain_image(
-            alloc, shell.root, &shell.cap, place, source, port, INPUT_MAX,
+            alloc, shell.root, &shell.cap, placement, source, port, INPUT_MAX,
         ),
     }
 }

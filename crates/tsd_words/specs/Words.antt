@@ -70,11 +70,11 @@ geometry_of blocks sectors slots primaries = do
 
 -- what BLOCKS SECTORS READCAP WRITECAP PLACE say
 unfoldable pub fresh_of : List ℕ → List ℕ → List ℕ → List ℕ → List ℕ → Option Fresh
-fresh_of blocks sectors read write place = do
+fresh_of blocks sectors read write placement = do
   g ← size_of blocks sectors
   r ← new_of read
   w ← new_of write
-  kind ← kind_of place
+  kind ← kind_of placement
   Some (record { geometry = g; caps = record { read = r; write = w }; kind = kind })
 
 -- what BLOCKS SECTORS SLOTS PRIMARIES SEED say
@@ -86,19 +86,19 @@ format_of blocks sectors slots primaries seed = do
 
 -- what SEED COUNT PLACE say: 1 to 200,000 requests
 unfoldable pub load_of : List ℕ → List ℕ → List ℕ → Option Load
-load_of seed count place = do
+load_of seed count placement = do
   s ← seed_of seed
   n ← num_of count
-  kind ← kind_of place
+  kind ← kind_of placement
   cond (nat_le 1 n && nat_le n 200000) (Some (record { seed = s; count = n; kind = kind })) None
 
 -- what KIND ROOT CAP PLACE say
 unfoldable pub shell_of : List ℕ → List ℕ → List ℕ → List ℕ → Option Shell
-shell_of layout root cap place = do
+shell_of layout root cap placement = do
   l ← layout_of layout
   a ← num_of root
   c ← new_of cap
-  kind ← kind_of place
+  kind ← kind_of placement
   Some (record { layout = l; root = a; cap = c; kind = kind })
 
 -- what KIND ROOT CAP say
@@ -111,10 +111,10 @@ root_of layout root cap = do
 
 -- what KIND ROOT CAP KIND ROOT CAP PLACE say: the tree that is copied, and where to
 unfoldable pub copy_of : List ℕ → List ℕ → List ℕ → List ℕ → List ℕ → List ℕ → List ℕ → Option CopyFs
-copy_of layout root cap to_layout to_root to_cap place = do
+copy_of layout root cap to_layout to_root to_cap placement = do
   f ← root_of layout root cap
   g ← root_of to_layout to_root to_cap
-  kind ← kind_of place
+  kind ← kind_of placement
   Some (record { from = f; into = g; kind = kind })
 
 -- check; upgrade; audit; verify
@@ -127,9 +127,9 @@ alone_of name =
 
 -- run PLACE; serve PLACE
 unfoldable pub served_of : List ℕ → List ℕ → Option Command
-served_of name place =
-    cond (bytes_eq name (codes "run")) (option_map (λ kind. command.Run kind) (kind_of place))
-    (cond (bytes_eq name (codes "serve")) (option_map (λ kind. command.Serve kind) (kind_of place)) None)
+served_of name placement =
+    cond (bytes_eq name (codes "run")) (option_map (λ kind. command.Run kind) (kind_of placement))
+    (cond (bytes_eq name (codes "serve")) (option_map (λ kind. command.Serve kind) (kind_of placement)) None)
 
 -- fresh BLOCKS SECTORS READCAP WRITECAP PLACE; format BLOCKS SECTORS SLOTS PRIMARIES SEED
 unfoldable pub made_of : List ℕ → List ℕ → List ℕ → List ℕ → List ℕ → List ℕ → Option Command
@@ -139,30 +139,30 @@ made_of name a b c d e =
 
 -- load SEED COUNT PLACE
 unfoldable pub loaded_of : List ℕ → List ℕ → List ℕ → List ℕ → Option Command
-loaded_of name seed count place =
-    cond (bytes_eq name (codes "load")) (option_map (λ load. command.Load load) (load_of seed count place)) None
+loaded_of name seed count placement =
+    cond (bytes_eq name (codes "load")) (option_map (λ load. command.Load load) (load_of seed count placement)) None
 
 -- shell KIND ROOT CAP PLACE
 unfoldable pub shelled_of : List ℕ → List ℕ → List ℕ → List ℕ → List ℕ → Option Command
-shelled_of name layout root cap place =
-    cond (bytes_eq name (codes "shell")) (option_map (λ shell. command.Shell shell) (shell_of layout root cap place))
+shelled_of name layout root cap placement =
+    cond (bytes_eq name (codes "shell")) (option_map (λ shell. command.Shell shell) (shell_of layout root cap placement))
     None
 
 -- copyfs KIND ROOT CAP KIND ROOT CAP PLACE
 unfoldable pub copied_of : List ℕ → List ℕ → List ℕ → List ℕ → List ℕ → List ℕ → List ℕ → List ℕ → Option Command
-copied_of name layout root cap to_layout to_root to_cap place =
+copied_of name layout root cap to_layout to_root to_cap placement =
     cond (bytes_eq name (codes "copyfs")) (option_map (λ copy. command.CopyFs copy)
-    (copy_of layout root cap to_layout to_root to_cap place)) None
+    (copy_of layout root cap to_layout to_root to_cap placement)) None
 
 -- the command that the words spell
 abbrev pub command_of : List (List ℕ) → Option Command
 command_of (name ∷ []) = alone_of name
-command_of (name ∷ place ∷ []) = served_of name place
-command_of (name ∷ seed ∷ count ∷ place ∷ []) = loaded_of name seed count place
-command_of (name ∷ layout ∷ root ∷ cap ∷ place ∷ []) = shelled_of name layout root cap place
+command_of (name ∷ placement ∷ []) = served_of name placement
+command_of (name ∷ seed ∷ count ∷ placement ∷ []) = loaded_of name seed count placement
+command_of (name ∷ layout ∷ root ∷ cap ∷ placement ∷ []) = shelled_of name layout root cap placement
 command_of (name ∷ a ∷ b ∷ c ∷ d ∷ e ∷ []) = made_of name a b c d e
-command_of (name ∷ layout ∷ root ∷ cap ∷ to_layout ∷ to_root ∷ to_cap ∷ place ∷ []) =
-    copied_of name layout root cap to_layout to_root to_cap place
+command_of (name ∷ layout ∷ root ∷ cap ∷ to_layout ∷ to_root ∷ to_cap ∷ placement ∷ []) =
+    copied_of name layout root cap to_layout to_root to_cap placement
 command_of ws = None
 
 -- its numbers are within their limits

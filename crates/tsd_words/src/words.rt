@@ -23,15 +23,20 @@ pub fn command(words: &Vec<String>) -> Option<Command>
 {
     match words.as_slice() {
         [name] => alone(bytes(name)),
-        [name, place] => served(bytes(name), bytes(place)),
-        [name, seed, count, place] => loaded(bytes(name), bytes(seed), bytes(count), bytes(place)),
-        [name, layout, root, cap, place] => {
+        [name, placement] => served(bytes(name), bytes(placement)),
+        [name, seed, count, placement] => loaded(
+            bytes(name),
+            bytes(seed),
+            bytes(count),
+            bytes(placement),
+        ),
+        [name, layout, root, cap, placement] => {
             shelled(
                 bytes(name),
                 bytes(layout),
                 bytes(root),
                 bytes(cap),
-                bytes(place),
+                bytes(placement),
             )
         }
         [name, first, second, third, fourth, fifth] => made(
@@ -42,7 +47,16 @@ pub fn command(words: &Vec<String>) -> Option<Command>
             bytes(fourth),
             bytes(fifth),
         ),
-        [name, layout, root, cap, to_layout, to_root, to_cap, place] => copied(
+        [
+            name,
+            layout,
+            root,
+            cap,
+            to_layout,
+            to_root,
+            to_cap,
+            placement,
+        ] => copied(
             bytes(name),
             bytes(layout),
             bytes(root),
@@ -50,7 +64,7 @@ pub fn command(words: &Vec<String>) -> Option<Command>
             bytes(to_layout),
             bytes(to_root),
             bytes(to_cap),
-            bytes(place),
+            bytes(placement),
         ),
         _ => None,
     }
@@ -84,14 +98,14 @@ fn alone(name: &[u8]) -> Option<Command>
 
 /// `run PLACE` and `serve PLACE`.
 #[tactic(auto, unfolding(crate::specs::Words::served_of))]
-fn served(name: &[u8], place: &[u8]) -> Option<Command>
-    ensures value { result ≡ served_of name.now place.now }
+fn served(name: &[u8], placement: &[u8]) -> Option<Command>
+    ensures value { result ≡ served_of name.now placement.now }
     ensures limits { IfSome result IsInLimits }
 {
     if name == b"run".as_slice() {
-        Some(Command::Run(kind(place)?))
+        Some(Command::Run(kind(placement)?))
     } else if name == b"serve".as_slice() {
-        Some(Command::Serve(kind(place)?))
+        Some(Command::Serve(kind(placement)?))
     } else {
         None
     }
@@ -99,12 +113,12 @@ fn served(name: &[u8], place: &[u8]) -> Option<Command>
 
 /// `load SEED COUNT PLACE`.
 #[tactic(auto, unfolding(crate::specs::Words::loaded_of))]
-fn loaded(name: &[u8], seed: &[u8], count: &[u8], place: &[u8]) -> Option<Command>
-    ensures value { result ≡ loaded_of name.now seed.now count.now place.now }
+fn loaded(name: &[u8], seed: &[u8], count: &[u8], placement: &[u8]) -> Option<Command>
+    ensures value { result ≡ loaded_of name.now seed.now count.now placement.now }
     ensures limits { IfSome result IsInLimits }
 {
     if name == b"load".as_slice() {
-        Some(Command::Load(load(seed, count, place)?))
+        Some(Command::Load(load(seed, count, placement)?))
     } else {
         None
     }
@@ -112,12 +126,12 @@ fn loaded(name: &[u8], seed: &[u8], count: &[u8], place: &[u8]) -> Option<Comman
 
 /// `shell KIND ROOT CAP PLACE`.
 #[tactic(auto, unfolding(crate::specs::Words::shelled_of))]
-fn shelled(name: &[u8], layout: &[u8], root: &[u8], cap: &[u8], place: &[u8]) -> Option<Command>
-    ensures value { result ≡ shelled_of name.now layout.now root.now cap.now place.now }
+fn shelled(name: &[u8], layout: &[u8], root: &[u8], cap: &[u8], placement: &[u8]) -> Option<Command>
+    ensures value { result ≡ shelled_of name.now layout.now root.now cap.now placement.now }
     ensures limits { IfSome result IsInLimits }
 {
     if name == b"shell".as_slice() {
-        Some(Command::Shell(shell(layout, root, cap, place)?))
+        Some(Command::Shell(shell(layout, root, cap, placement)?))
     } else {
         None
     }
@@ -155,14 +169,14 @@ fn copied(
     to_layout: &[u8],
     to_root: &[u8],
     to_cap: &[u8],
-    place: &[u8],
+    placement: &[u8],
 ) -> Option<Command>
     ensures value { result ≡ copied_of name.now layout.now root.now cap.now to_layout.now to_root.now to_cap.now
-        place.now }
+        placement.now }
     ensures limits { IfSome result IsInLimits }
 {
     if name == b"copyfs".as_slice() {
-        Some(Command::CopyFs(copy(layout, root, cap, to_layout, to_root, to_cap, place)?))
+        Some(Command::CopyFs(copy(layout, root, cap, to_layout, to_root, to_cap, placement)?))
     } else {
         None
     }
@@ -170,13 +184,13 @@ fn copied(
 
 /// What follows `load`.
 #[tactic(auto, unfolding(crate::specs::Words::load_of))]
-fn load(seed: &[u8], count: &[u8], place: &[u8]) -> Option<Load>
-    ensures value { result ≡ load_of seed.now count.now place.now }
+fn load(seed: &[u8], count: &[u8], placement: &[u8]) -> Option<Load>
+    ensures value { result ≡ load_of seed.now count.now placement.now }
     ensures limits { IfSome result (λ l. (1 ≤ l.count) × (l.count ≤ 200000)) }
 {
     let seed = parse_seed(seed)?;
     let count = parse_number(count)?;
-    let kind = kind(place)?;
+    let kind = kind(placement)?;
     if 1 <= count && count <= LOAD_MAX {
         Some(Load { seed, count, kind })
     } else {
@@ -186,13 +200,13 @@ fn load(seed: &[u8], count: &[u8], place: &[u8]) -> Option<Load>
 
 /// What follows `shell`.
 #[tactic(auto, unfolding(crate::specs::Words::shell_of))]
-fn shell(layout: &[u8], root: &[u8], cap: &[u8], place: &[u8]) -> Option<Shell>
-    ensures { result ≡ shell_of layout.now root.now cap.now place.now }
+fn shell(layout: &[u8], root: &[u8], cap: &[u8], placement: &[u8]) -> Option<Shell>
+    ensures { result ≡ shell_of layout.now root.now cap.now placement.now }
 {
     let layout = parse_layout(layout)?;
     let root = parse_number(root)?;
     let cap = parse_cap(cap)?;
-    let kind = kind(place)?;
+    let kind = kind(placement)?;
     Some(Shell {
         layout,
         root,
@@ -210,13 +224,13 @@ fn copy(
     to_layout: &[u8],
     to_root: &[u8],
     to_cap: &[u8],
-    place: &[u8],
+    placement: &[u8],
 ) -> Option<CopyFs>
-    ensures { result ≡ copy_of layout.now root.now cap.now to_layout.now to_root.now to_cap.now place.now }
+    ensures { result ≡ copy_of layout.now root.now cap.now to_layout.now to_root.now to_cap.now placement.now }
 {
     let from = parse_root(layout, root, cap)?;
     let into = parse_root(to_layout, to_root, to_cap)?;
-    let kind = kind(place)?;
+    let kind = kind(placement)?;
     Some(CopyFs { from, into, kind })
 }
 
@@ -233,15 +247,21 @@ fn parse_root(layout: &[u8], root: &[u8], cap: &[u8]) -> Option<TreeRoot>
 
 /// What follows `fresh`.
 #[tactic(auto, unfolding(crate::specs::Words::fresh_of))]
-fn fresh(blocks: &[u8], sectors: &[u8], read: &[u8], write: &[u8], place: &[u8]) -> Option<Fresh>
-    ensures value { result ≡ fresh_of blocks.now sectors.now read.now write.now place.now }
+fn fresh(
+    blocks: &[u8],
+    sectors: &[u8],
+    read: &[u8],
+    write: &[u8],
+    placement: &[u8],
+) -> Option<Fresh>
+    ensures value { result ≡ fresh_of blocks.now sectors.now read.now write.now placement.now }
     ensures lawful { IfSome result (λ c. IsLawful c.geometry) }
     ensures single { IfSome result (λ c. c.geometry.primaries ≡ 1) }
 {
     let geometry = size(blocks, sectors)?;
     let read = parse_cap(read)?;
     let write = parse_cap(write)?;
-    let kind = kind(place)?;
+    let kind = kind(placement)?;
     Some(Fresh {
         geometry,
         caps: CapPair { read, write },
@@ -324,16 +344,16 @@ fn is_table(blocks: u32, slots: u32, primaries: u32) -> bool
 
 /// The placement of a name.
 #[tactic(auto, unfolding(crate::specs::Words::kind_of))]
-fn kind(place: &[u8]) -> Option<PlaceKind>
-    ensures { result ≡ kind_of place.now }
+fn kind(placement: &[u8]) -> Option<PlaceKind>
+    ensures { result ≡ kind_of placement.now }
 {
-    if place == b"low".as_slice() {
+    if placement == b"low".as_slice() {
         Some(PlaceKind::Low)
-    } else if place == b"near".as_slice() {
+    } else if placement == b"near".as_slice() {
         Some(PlaceKind::Near)
-    } else if place == b"spread".as_slice() {
+    } else if placement == b"spread".as_slice() {
         Some(PlaceKind::Spread)
-    } else if place == b"zone".as_slice() {
+    } else if placement == b"zone".as_slice() {
         Some(PlaceKind::Zone)
     } else {
         None

@@ -121,31 +121,36 @@ impl Volume {
 
     /// So many free blocks, those of least rank, in the order of their ranks. `Short` comes exactly where fewer are
     /// free.
-    pub fn choose(&self, place: &Placement, hint: u32, count: u32) -> Result<BlockList, Short>
+    pub fn choose(&self, placement: &Placement, hint: u32, count: u32) -> Result<BlockList, Short>
         requires count { (1 ≤ count) × (count ≤ 32) }
         requires ready { IsVolumeReady self.now }
-        ensures chosen { IfOk result (λ blocks. blocks ≡ chosen place.now.kind (told_by self.now) (hint_is.At hint)
+        ensures chosen { IfOk result (λ blocks. blocks ≡ chosen placement.now.kind (told_by self.now) (hint_is.At hint)
             count) }
         ensures counted { IfOk result (λ blocks. length blocks ≡ count) }
         ensures enough { OnOk result (count ≤ free_count (told_by self.now)) }
         ensures refused { IfErr result (λ s. IsShort (told_by self.now) count s.free s.wanted) }
     {
         let _size = self.live.geometry();
-        self.live.choose(place, hint, count)
+        self.live.choose(placement, hint, count)
     }
 
     /// The first block of a run of so many free blocks: of all such runs, the one whose first block has the least rank.
     /// `Short` comes exactly where fewer blocks are free, `NoRun` exactly where enough are and no run is that long.
-    pub fn choose_run(&self, place: &Placement, hint: u32, count: u32) -> Result<u32, RunRefusal>
+    pub fn choose_run(
+        &self,
+        placement: &Placement,
+        hint: u32,
+        count: u32,
+    ) -> Result<u32, RunRefusal>
         requires count { (1 ≤ count) × (count ≤ 32) }
         requires ready { IsVolumeReady self.now }
-        ensures chosen { IfOk result (λ first. chosen_run place.now.kind (told_by self.now) (hint_is.At hint) count
+        ensures chosen { IfOk result (λ first. chosen_run placement.now.kind (told_by self.now) (hint_is.At hint) count
             ≡ Some first) }
         ensures enough { OnOk result (count ≤ free_count (told_by self.now)) }
         ensures refused { IfErr result (IsRunRefusal (told_by self.now) count) }
     {
         let _size = self.live.geometry();
-        self.live.choose_run(place, hint, count)
+        self.live.choose_run(placement, hint, count)
     }
 
     /// The level that a shown capability attains at a primary block.

@@ -55,7 +55,7 @@ fn put_one(
     ensures pairs { length (pairs pointers.new) ≡ length (pairs pointers.old) + 1 }
     ensures shown { HidesNone live.old → HidesNone live.new }
 {
-    // Both maps have a place for each block.
+    // Both maps have an entry for each block.
     let _size = live.geometry();
     let slot = pointers.add(source, block).unwrap();
     put_patch(batch, &slot);

@@ -7,7 +7,7 @@ ghost use Rattle.image_device.specs.Calls.{Uses};
 ghost use Rattle.image_device.specs.Counts.{CountsFault};
 ghost use Rattle.image_device.specs.Image.{zeros};
 ghost use Rattle.image_device.specs.Runs.{IsConfined};
-ghost use Rattle.image_layout.specs.Places.{data_sector};
+ghost use Rattle.image_layout.specs.Offsets.{data_sector};
 ghost use Rattle.intent_journal.specs.Batch.{has_home};
 ghost use Rattle.intent_journal.specs.Records.{patches_of};
 ghost use Rattle.volume_laws.specs.Zeroed.{is_part, is_data, AreMissed};

@@ -10,9 +10,9 @@ use Rattle.image_device.specs.View.{View}
 use Rattle.image_device.specs.Runs.{LeavesOnly, IsFirm}
 use Rattle.image_device.proofs.Moments.{weakened}
 use Rattle.image_layout.specs.Areas.{format_gate}
-use Rattle.image_layout.specs.Places.{data_sector}
+use Rattle.image_layout.specs.Offsets.{data_sector}
 use Rattle.image_layout.specs.Image.{Image}
-use Rattle.image_layout.specs.declared.place.Patch.{Patch}
+use Rattle.image_layout.specs.declared.offset.Patch.{Patch}
 use Rattle.intent_journal.specs.Home.{home, overlaid, is_journal, AgreeBut}
 use Rattle.intent_journal.specs.Records.{Record}
 use Rattle.intent_journal.specs.Ring.{IsRingAt}

@@ -3,7 +3,7 @@ use Rattle.std.proofs.Common.{◌≡◌, ℕ, ◌+◌, ◌≤◌, List, length, 
 use Rattle.std.specs.Prelude.{OnOk}
 use Rattle.image_device.specs.View.{View}
 use Rattle.image_device.specs.Calls.{Uses}
-use Rattle.image_layout.specs.declared.place.Patch.{Patch}
+use Rattle.image_layout.specs.declared.offset.Patch.{Patch}
 use Rattle.intent_journal.specs.Records.{Record}
 use Rattle.intent_journal.specs.Ring.{committed, checkpoint_writes, commit_writes}
 use Rattle.intent_journal.proofs.Costs as journal

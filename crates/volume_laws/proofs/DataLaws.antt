@@ -13,8 +13,8 @@ use Rattle.image_device.proofs.Outcomes.{on_ok}
 use Rattle.image_device.proofs.Sets.{or_false}
 use Rattle.image_layout.specs.Areas.{data_start}
 use Rattle.image_layout.specs.Image.{Image}
-use Rattle.image_layout.specs.Places.{data_sector}
-use Rattle.image_layout.specs.declared.place.Patch.{Patch}
+use Rattle.image_layout.specs.Offsets.{data_sector}
+use Rattle.image_layout.specs.declared.offset.Patch.{Patch}
 use Rattle.intent_journal.specs.Crash.{IsBefore, IsBeforeOrAfter}
 use Rattle.intent_journal.specs.Home.{home, overlaid, is_journal, AgreeBut}
 use Rattle.intent_journal.specs.Ring.{IsRingAt}

@@ -12,7 +12,7 @@ use Rattle.image_device.specs.Image.{put_at}
 use Rattle.image_layout.specs.Areas.{header_sector, format_gate, bitmap_start, slots_start}
 use Rattle.image_layout.specs.Header.{IsHeaderReading}
 use Rattle.image_layout.specs.Image.{Image, is_open}
-use Rattle.image_layout.specs.declared.place.Patch.{Patch}
+use Rattle.image_layout.specs.declared.offset.Patch.{Patch}
 use Rattle.intent_journal.proofs.Overlays.{put_elsewhere}
 use Rattle.pointer_table.proofs.LoadingLaws.{stored_elsewhere}
 use Rattle.ref_counts.proofs.StoredLaws.{same_sectors as same_counts}

@@ -14,7 +14,7 @@ use Rattle.tsd_model.specs.World.{World, has_number}
 use Rattle.image_device.specs.Image.{put_at}
 use Rattle.image_layout.specs.Areas.{counts_start, bitmap_start, slots_start, data_start}
 use Rattle.image_layout.specs.Image.{Image}
-use Rattle.image_layout.specs.declared.place.Patch.{Patch}
+use Rattle.image_layout.specs.declared.offset.Patch.{Patch}
 use Rattle.intent_journal.specs.Home.{overlaid}
 use Rattle.intent_journal.proofs.Overlays.{put_elsewhere}
 use Rattle.pointer_table.specs.Table.{Table as Pointers, pairs, IsTable}

@@ -9,7 +9,7 @@ use Rattle.tsd_model.specs.Step.{with_new_blocks}
 use Rattle.image_layout.specs.Areas.{header_sector, format_gate}
 use Rattle.image_layout.specs.Header.{IsHeaderReading}
 use Rattle.image_layout.specs.Image.{is_open}
-use Rattle.image_layout.specs.declared.place.Patch.{Patch}
+use Rattle.image_layout.specs.declared.offset.Patch.{Patch}
 use Rattle.intent_journal.specs.Home.{overlaid}
 use Rattle.pointer_table.specs.Table.{pairs, IsTable}
 use Rattle.pointer_table.proofs.SlotLaws.{rising-pairs_in}

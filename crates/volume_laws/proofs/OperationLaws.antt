@@ -9,7 +9,7 @@ use Rattle.image_device.specs.Runs.{LeavesOnly, IsFirm}
 use Rattle.image_device.specs.View.{View, IsSound}
 use Rattle.image_device.specs.declared.device.Failed.{Failed}
 use Rattle.image_device.proofs.Moments.{weakened, joined}
-use Rattle.image_layout.specs.declared.place.Patch.{Patch}
+use Rattle.image_layout.specs.declared.offset.Patch.{Patch}
 use Rattle.intent_journal.specs.Crash.{IsBeforeOrAfter}
 use Rattle.intent_journal.specs.Home.{home, overlaid, is_journal, AgreeBut}
 use Rattle.intent_journal.specs.Records.{Record}

@@ -8,7 +8,7 @@ use Rattle.image_device.specs.Calls.{Uses}
 use Rattle.image_device.specs.View.{View}
 use Rattle.image_device.specs.Runs.{LeavesOnly, IsFirm}
 use Rattle.image_device.proofs.Outcomes.{on_ok}
-use Rattle.image_layout.specs.declared.place.Patch.{Patch}
+use Rattle.image_layout.specs.declared.offset.Patch.{Patch}
 use Rattle.intent_journal.specs.Crash.{IsBeforeOrAfter}
 use Rattle.intent_journal.specs.Home.{home, overlaid, is_journal, AgreeBut}
 use Rattle.intent_journal.specs.Records.{Record}

@@ -15,7 +15,7 @@ use Rattle.image_device.specs.Image.{put_at}
 use Rattle.image_layout.specs.Areas.{header_sector, format_gate, counts_start, bitmap_start, slots_start, data_start}
 use Rattle.image_layout.specs.Header.{IsHeaderReading}
 use Rattle.image_layout.specs.Image.{Image, is_open}
-use Rattle.image_layout.specs.declared.place.Patch.{Patch}
+use Rattle.image_layout.specs.declared.offset.Patch.{Patch}
 use Rattle.intent_journal.specs.Batch.{with_patch}
 use Rattle.intent_journal.specs.Home.{overlaid}
 use Rattle.intent_journal.proofs.Overlays.{put_elsewhere}

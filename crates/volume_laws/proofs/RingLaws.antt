@@ -7,7 +7,7 @@ use Rattle.image_device.specs.Calls.{Uses}
 use Rattle.image_device.specs.View.{View}
 use Rattle.image_device.specs.declared.device.Failed.{Failed}
 use Rattle.image_layout.specs.Ring.{records, bodies}
-use Rattle.image_layout.specs.declared.place.Patch.{Patch}
+use Rattle.image_layout.specs.declared.offset.Patch.{Patch}
 use Rattle.intent_journal.specs.Records.{Record, patches_of}
 use Rattle.intent_journal.specs.Ring.{committed, commit_writes, checkpoint_writes, is_full_for}
 use Rattle.volume_laws.specs.Rings.{HasBatch, HasBatches, CommitsOnce, batch_writes}

@@ -9,7 +9,7 @@ use Rattle.image_device.specs.Image.{put_at}
 use Rattle.image_layout.specs.Areas.{counts_start, bitmap_start, format_gate, data_start}
 use Rattle.image_layout.specs.Image.{Image}
 use Rattle.image_layout.specs.declared.header.Header.{Header}
-use Rattle.image_layout.specs.declared.place.Patch.{Patch}
+use Rattle.image_layout.specs.declared.offset.Patch.{Patch}
 use Rattle.intent_journal.specs.Batch.{IsBatch, with_patch}
 use Rattle.intent_journal.specs.Home.{overlaid}
 use Rattle.intent_journal.proofs.Uses.{overlaid_with_patch}

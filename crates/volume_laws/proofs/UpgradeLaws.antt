@@ -9,7 +9,7 @@ use Rattle.image_layout.specs.Areas.{header_sector, format_gate, caps_start}
 use Rattle.image_layout.specs.Header.{IsHeaderReading}
 use Rattle.image_layout.specs.Image.{Image, is_open}
 use Rattle.image_layout.specs.declared.header.Header.{Header}
-use Rattle.image_layout.specs.declared.place.Patch.{Patch}
+use Rattle.image_layout.specs.declared.offset.Patch.{Patch}
 use Rattle.intent_journal.specs.Home.{overlaid}
 use Rattle.intent_journal.proofs.Overlays.{put_here, put_elsewhere}
 use Rattle.pointer_table.specs.Table.{Table as Pointers}

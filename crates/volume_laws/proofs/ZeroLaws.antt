@@ -7,7 +7,7 @@ use Rattle.tsd_model.specs.declared.geometry.Geometry.{Geometry}
 use Rattle.tsd_model.specs.World.{has_number}
 use Rattle.image_device.specs.Calls.{Uses}
 use Rattle.image_device.specs.View.{View}
-use Rattle.image_layout.specs.Places.{data_sector}
+use Rattle.image_layout.specs.Offsets.{data_sector}
 use Rattle.volume_laws.specs.Zeroed.{is_part, is_data}
 
 same_number : (m k : ℕ) → m ≡ k → (m == k) ≡ true

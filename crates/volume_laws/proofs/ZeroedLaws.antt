@@ -9,9 +9,9 @@ use Rattle.image_device.specs.View.{View}
 use Rattle.image_device.specs.Runs.{LeavesOnly, IsConfined}
 use Rattle.image_device.proofs.Moments.{weakened, joined}
 use Rattle.image_layout.specs.Areas.{header_sector, format_gate, data_start}
-use Rattle.image_layout.specs.Places.{data_sector}
+use Rattle.image_layout.specs.Offsets.{data_sector}
 use Rattle.image_layout.specs.Image.{Image, sector_bytes}
-use Rattle.image_layout.specs.declared.place.Patch.{Patch}
+use Rattle.image_layout.specs.declared.offset.Patch.{Patch}
 use Rattle.intent_journal.specs.Crash.{IsBefore, IsBeforeOrAfter}
 use Rattle.intent_journal.specs.Home.{home, is_journal}
 use Rattle.intent_journal.specs.Batch.{has_home}

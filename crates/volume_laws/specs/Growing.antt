@@ -8,7 +8,7 @@ use Rattle.tsd_model.specs.Step.{with_new_blocks}
 use Rattle.tsd_model.specs.World.{has_number}
 use Rattle.image_layout.specs.Areas.{counts_start, data_start}
 use Rattle.image_layout.specs.Image.{Image}
-use Rattle.image_layout.specs.declared.place.Patch.{Patch}
+use Rattle.image_layout.specs.declared.offset.Patch.{Patch}
 use Rattle.intent_journal.specs.Home.{overlaid}
 use Rattle.pointer_table.specs.Table.{Table as Pointers, pairs, IsTable}
 use Rattle.pointer_table.specs.Sectors.{IsStored as AreSlots}

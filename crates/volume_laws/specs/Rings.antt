@@ -3,7 +3,7 @@ use Rattle.std.specs.Prelude.{◌≡◌, ◌⊎◌, ℕ, zero, suc, ◌+◌, ◌
 use Rattle.tsd_model.specs.declared.geometry.Geometry.{Geometry}
 use Rattle.image_device.specs.View.{View}
 use Rattle.image_device.specs.declared.device.Failed.{Failed}
-use Rattle.image_layout.specs.declared.place.Patch.{Patch}
+use Rattle.image_layout.specs.declared.offset.Patch.{Patch}
 use Rattle.intent_journal.specs.Records.{Record, patches_of}
 use Rattle.intent_journal.specs.Ring.{committed, is_full_for, checkpoint_writes}
 use Rattle.volume_laws.specs.Volume.{Volume}

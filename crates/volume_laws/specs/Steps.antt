@@ -4,7 +4,7 @@ use Rattle.tsd_model.specs.Pairs.{holds, without_pair}
 use Rattle.tsd_model.specs.World.{has_number, is_live}
 use Rattle.disk_laws.specs.Reclaiming.{all_apart}
 use Rattle.graph_laws.specs.Steps.{IsStep}
-use Rattle.image_layout.specs.declared.place.Patch.{Patch}
+use Rattle.image_layout.specs.declared.offset.Patch.{Patch}
 use Rattle.pointer_table.specs.Table.{Table as Pointers}
 use Rattle.ref_counts.specs.Table.{Table as Counts}
 use Rattle.image_world.specs.Sound.{AreSound}

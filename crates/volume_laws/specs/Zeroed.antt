@@ -5,8 +5,8 @@ use Rattle.tsd_model.specs.declared.geometry.Geometry.{Geometry}
 use Rattle.tsd_model.specs.World.{has_number}
 use Rattle.image_device.specs.Image.{zeros}
 use Rattle.image_device.specs.View.{View}
-use Rattle.image_layout.specs.Places.{data_sector}
-use Rattle.image_layout.specs.declared.place.Patch.{Patch}
+use Rattle.image_layout.specs.Offsets.{data_sector}
+use Rattle.image_layout.specs.declared.offset.Patch.{Patch}
 use Rattle.intent_journal.specs.Batch.{has_home}
 use Rattle.intent_journal.specs.Home.{home}
 use Rattle.volume_laws.specs.Volume.{Volume, IsVolumeAt}

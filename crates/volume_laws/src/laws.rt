@@ -1,7 +1,7 @@
 //! What follows of the definitions.
 
 ghost use Rattle.std.specs.Prelude.{◌≡◌, ◌+◌, ◌≤◌, cond, List, length};
-ghost use Rattle.image_layout.specs.declared.place.Patch.{Patch};
+ghost use Rattle.image_layout.specs.declared.offset.Patch.{Patch};
 ghost use Rattle.image_world.specs.Tables.{Tables};
 ghost use Rattle.intent_journal.specs.Records.{Record};
 ghost use Rattle.intent_journal.specs.Ring.{committed, commit_writes, checkpoint_writes};

@@ -15,7 +15,7 @@ pub loop-block-preserved : goal.loop-block-preserved
 loop-block-preserved c =
     let added = IfOk-at_ok (λ _. c.push.new.self ≡ c.loop-block.caps ++ record { read = c.next_cap-read.result; write = c.next_cap-write.result } ∷ []) c.unwrap.ensures c.push.ensures.ok in
     record {
-      pairs = pairs_more c.args.seed.now c.loop-block.block c.loop-block.words c.next_cap-read.new.words c.next_cap-write.new.words c.loop-block.invariant.words c.next_cap-read.ensures.place
+      pairs = pairs_more c.args.seed.now c.loop-block.block c.loop-block.words c.next_cap-read.new.words c.next_cap-write.new.words c.loop-block.invariant.words c.next_cap-read.ensures.position
           c.loop-block.caps c.push.new.self c.next_cap-read.result c.next_cap-write.result c.loop-block.invariant.pairs c.next_cap-read.ensures.value c.next_cap-write.ensures.value added;
-      words = words_more c.args.seed.now c.loop-block.block c.loop-block.words c.next_cap-read.new.words c.next_cap-write.new.words c.loop-block.invariant.words c.next_cap-read.ensures.place c.next_cap-write.ensures.place;
+      words = words_more c.args.seed.now c.loop-block.block c.loop-block.words c.next_cap-read.new.words c.next_cap-write.new.words c.loop-block.invariant.words c.next_cap-read.ensures.position c.next_cap-write.ensures.position;
     }

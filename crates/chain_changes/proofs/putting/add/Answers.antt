@@ -98,12 +98,12 @@ bounds-as_slice-0 g c =
 
 pub directory_with-entered-requires : goal.directory_with-entered-requires
 directory_with-entered-requires g c =
-    let place = c.count-behind.ensures.value in
+    let position = c.count-behind.ensures.value in
     let room = c.requires.room in
     record {
       named = let long = ap length c.as_slice.ensures.value in let few = c.as_slice.ensures.fits in omega (arith, long, few);
-      within = omega (arith, place);
-      fits = subst (λ k. k < entries_room (block_len_of (cluster_in c.args.page.now.cluster))) (sym place) room;
+      within = omega (arith, position);
+      fits = subst (λ k. k < entries_room (block_len_of (cluster_in c.args.page.now.cluster))) (sym position) room;
     }
 
 pub write_block-requires : goal.write_block-requires

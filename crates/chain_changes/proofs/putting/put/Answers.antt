@@ -15,20 +15,20 @@ use Rattle.fs_client.proofs.AgainLaws.{answers_again, changes_again}
 use Rattle.chain_layout.specs.Block.{cluster_of, block_len_of}
 use Rattle.chain_layout.specs.Held.{cluster_in, entries_in}
 use Rattle.chain_reading.specs.Asking.{MayAsk, mounted_by}
-use Rattle.chain_reading.specs.Finding.{IsPlaceWithin}
-use Rattle.chain_changes.specs.Places.{StandsAtPlace}
+use Rattle.chain_reading.specs.Finding.{IsLookupWithin}
+use Rattle.chain_changes.specs.Lookups.{IsLookupOf}
 use Rattle.chain_changes.proofs.PlacedLaws.{entries_used, new_count, new_entry, refused_full, refused_lost, refused_since, name_of_path}
 use Rattle.chain_changes.proofs.AgainLaws.{may_ask_again}
 use Rattle.chain_changes.proofs.putting.put.Goals as goal
 
-pub find_place-requires : goal.find_place-requires
-find_place-requires g c = record { may = c.requires.may; refusal = λ e. cc }
+pub look_up-requires : goal.look_up-requires
+look_up-requires g c = record { may = c.requires.may; refusal = λ e. cc }
 
 pub returns-in-Err : goal.returns-in-Err
 returns-in-Err g c =
     let told = g.K.Blocks.told in
     let first = g.K.Blocks.view c.args.disk.now in
-    let mid = g.K.Blocks.view c.find_place.new.disk in
+    let mid = g.K.Blocks.view c.look_up.new.disk in
     let me = c.args.client.now in
     let path = c.args.path.now in
     let body = c.args.bytes.now in
@@ -46,7 +46,7 @@ pub replace-requires : goal.replace-requires
 replace-requires g c =
     let told = g.K.Blocks.told in
     let first = g.K.Blocks.view c.args.disk.now in
-    let mid = g.K.Blocks.view c.find_place.new.disk in
+    let mid = g.K.Blocks.view c.look_up.new.disk in
     let me = c.args.client.now in
     let path = c.args.path.now in
     let body = c.args.bytes.now in
@@ -59,8 +59,8 @@ replace-requires g c =
     let same = λ (t : told). (e.looks.looked t).0.world in
     record {
       may = may_ask_again told me first mid c.in-Ok.found e.looks c.requires.may;
-      found = λ t. subst (StandsAtPlace me mid n) c.in-Taken.is (e.found t);
-      within = subst IsPlaceWithin c.in-Taken.is e.within;
+      found = λ t. subst (IsLookupOf me mid n) c.in-Taken.is (e.found t);
+      within = subst IsLookupWithin c.in-Taken.is e.within;
       named = name_of_path path n e.path c.requires.named;
     }
 
@@ -68,7 +68,7 @@ pub returns-then-count-ge-NAMES_MAX : goal.returns-then-count-ge-NAMES_MAX
 returns-then-count-ge-NAMES_MAX g c =
     let told = g.K.Blocks.told in
     let first = g.K.Blocks.view c.args.disk.now in
-    let mid = g.K.Blocks.view c.find_place.new.disk in
+    let mid = g.K.Blocks.view c.look_up.new.disk in
     let me = c.args.client.now in
     let path = c.args.path.now in
     let body = c.args.bytes.now in
@@ -83,7 +83,7 @@ returns-then-count-ge-NAMES_MAX g c =
     let primary : told → me.root < mid.world.geometry.primaries = λ t. subst (λ v. me.root < v.geometry.primaries) (sym (same t)) (subst (λ k. me.root < k.primaries) (sym (g.met.K.Blocks.sound c.args.disk.now t c.requires.may.ready.unspent).geometry) c.requires.may.ready.primary) in
     let may : MayAsk told me mid = may_ask_again told me first mid c.in-Ok.found e.looks c.requires.may in
     let named = name_of_path path n e.path c.requires.named in
-    let at = λ (t : told). subst (StandsAtPlace me mid n) c.in-Free.is (e.found t) in
+    let at = λ (t : told). subst (IsLookupOf me mid n) c.in-Free.is (e.found t) in
     let refuses : told → refused_on f first a ≡ Some no.DirFull = λ t.
     ap (λ p. refused_on f first (ask.Put p body)) e.path ∙ (sym (refused_since f first mid b (same t))
     ∙ refused_full me mid n (at t).chains (at t).under body (new_entry me mid n c.in-Free.page (may.valid t) (may.tree t) (primary t) named c.in-Free.count (at t))
@@ -97,7 +97,7 @@ pub add-requires : goal.add-requires
 add-requires g c =
     let told = g.K.Blocks.told in
     let first = g.K.Blocks.view c.args.disk.now in
-    let mid = g.K.Blocks.view c.find_place.new.disk in
+    let mid = g.K.Blocks.view c.look_up.new.disk in
     let me = c.args.client.now in
     let path = c.args.path.now in
     let body = c.args.bytes.now in
@@ -114,7 +114,7 @@ add-requires g c =
     let test : nat_lt (cluster_of (cluster_in page.cluster)).used (entries_room (block_len_of (cluster_in page.cluster))) ≡ true = sym c.has_room.ensures ∙ c.if-has_room.true in
     record {
       may = may_ask_again told me first mid c.in-Ok.found e.looks c.requires.may;
-      found = λ t. subst (StandsAtPlace me mid n) c.in-Free.is (e.found t);
+      found = λ t. subst (IsLookupOf me mid n) c.in-Free.is (e.found t);
       few = omega (arith, fewer);
       room = tested (length (entries_in page.cluster)) (cluster_of (cluster_in page.cluster)).used (entries_room (block_len_of (cluster_in page.cluster))) used test;
       named = name_of_path path n e.path c.requires.named;
@@ -127,7 +127,7 @@ pub extend-requires : goal.extend-requires
 extend-requires g c =
     let told = g.K.Blocks.told in
     let first = g.K.Blocks.view c.args.disk.now in
-    let mid = g.K.Blocks.view c.find_place.new.disk in
+    let mid = g.K.Blocks.view c.look_up.new.disk in
     let me = c.args.client.now in
     let path = c.args.path.now in
     let body = c.args.bytes.now in
@@ -144,7 +144,7 @@ extend-requires g c =
     let test : nat_lt (cluster_of (cluster_in page.cluster)).used (entries_room (block_len_of (cluster_in page.cluster))) ≡ false = sym c.has_room.ensures ∙ c.if-has_room.false in
     record {
       may = may_ask_again told me first mid c.in-Ok.found e.looks c.requires.may;
-      found = λ t. subst (StandsAtPlace me mid n) c.in-Free.is (e.found t);
+      found = λ t. subst (IsLookupOf me mid n) c.in-Free.is (e.found t);
       few = omega (arith, fewer);
       full = tested (length (entries_in page.cluster)) (cluster_of (cluster_in page.cluster)).used (entries_room (block_len_of (cluster_in page.cluster))) used test;
       named = name_of_path path n e.path c.requires.named;
@@ -157,7 +157,7 @@ pub returns-in-Taken : goal.returns-in-Taken
 returns-in-Taken g c =
     let told = g.K.Blocks.told in
     let first = g.K.Blocks.view c.args.disk.now in
-    let mid = g.K.Blocks.view c.find_place.new.disk in
+    let mid = g.K.Blocks.view c.look_up.new.disk in
     let me = c.args.client.now in
     let path = c.args.path.now in
     let body = c.args.bytes.now in
@@ -180,7 +180,7 @@ pub returns-then-has_room : goal.returns-then-has_room
 returns-then-has_room g c =
     let told = g.K.Blocks.told in
     let first = g.K.Blocks.view c.args.disk.now in
-    let mid = g.K.Blocks.view c.find_place.new.disk in
+    let mid = g.K.Blocks.view c.look_up.new.disk in
     let me = c.args.client.now in
     let path = c.args.path.now in
     let body = c.args.bytes.now in
@@ -203,7 +203,7 @@ pub returns-else-has_room : goal.returns-else-has_room
 returns-else-has_room g c =
     let told = g.K.Blocks.told in
     let first = g.K.Blocks.view c.args.disk.now in
-    let mid = g.K.Blocks.view c.find_place.new.disk in
+    let mid = g.K.Blocks.view c.look_up.new.disk in
     let me = c.args.client.now in
     let path = c.args.path.now in
     let body = c.args.bytes.now in

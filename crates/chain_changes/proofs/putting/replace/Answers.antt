@@ -43,13 +43,13 @@ new_file-requires g c =
     let a = ask.Put (n ∷ []) body in
     let P = IsEitherTree (mounted_by me) old a in
     let primary : told → me.root < old.world.geometry.primaries = λ t. subst (λ k. me.root < k.primaries) (sym (g.met.K.Blocks.sound c.args.disk.now t c.requires.may.ready.unspent).geometry) c.requires.may.ready.primary in
-    let place = c.args.place in
+    let position = c.args.position in
     let first = c.args.first in
-    let x : told → Putting me old n page = λ t. putting_over me old n page (c.requires.may.valid t) (c.requires.may.tree t) (primary t) c.requires.named place first (c.requires.found t) in
+    let x : told → Putting me old n page = λ t. putting_over me old n page (c.requires.may.valid t) (c.requires.may.tree t) (primary t) c.requires.named position first (c.requires.found t) in
     let want = clusters_for old.world.geometry (length body) + 0 in
     let refused : told → refused_on (mounted_by me) old a ≡ no_room_in old.world want want = λ t.
     let known = is_known told me old t c.requires.may (g.met.K.Blocks.sound c.args.disk.now t c.requires.may.ready.unspent) in
-    let o = over_entry me old n page (c.requires.may.valid t) (c.requires.may.tree t) (primary t) c.requires.named known place first (c.requires.found t) in
+    let o = over_entry me old n page (c.requires.may.valid t) (c.requires.may.tree t) (primary t) c.requires.named known position first (c.requires.found t) in
     refused_over me old n (c.requires.found t).chains (c.requires.found t).under body o.0 o.1 in
     record {
       unspent = c.requires.may.ready.unspent;
@@ -74,13 +74,13 @@ returns-in-Err g c =
     let a = ask.Put (n ∷ []) body in
     let P = IsEitherTree (mounted_by me) old a in
     let primary : told → me.root < old.world.geometry.primaries = λ t. subst (λ k. me.root < k.primaries) (sym (g.met.K.Blocks.sound c.args.disk.now t c.requires.may.ready.unspent).geometry) c.requires.may.ready.primary in
-    let place = c.args.place in
+    let position = c.args.position in
     let first = c.args.first in
-    let x : told → Putting me old n page = λ t. putting_over me old n page (c.requires.may.valid t) (c.requires.may.tree t) (primary t) c.requires.named place first (c.requires.found t) in
+    let x : told → Putting me old n page = λ t. putting_over me old n page (c.requires.may.valid t) (c.requires.may.tree t) (primary t) c.requires.named position first (c.requires.found t) in
     let want = clusters_for old.world.geometry (length body) + 0 in
     let refused : told → refused_on (mounted_by me) old a ≡ no_room_in old.world want want = λ t.
     let known = is_known told me old t c.requires.may (g.met.K.Blocks.sound c.args.disk.now t c.requires.may.ready.unspent) in
-    let o = over_entry me old n page (c.requires.may.valid t) (c.requires.may.tree t) (primary t) c.requires.named known place first (c.requires.found t) in
+    let o = over_entry me old n page (c.requires.may.valid t) (c.requires.may.tree t) (primary t) c.requires.named known position first (c.requires.found t) in
     refused_over me old n (c.requires.found t).chains (c.requires.found t).under body o.0 o.1 in
     let new = g.K.Blocks.view c.new_file.new.disk in
     let e = c.in-Err.ensures in
@@ -122,13 +122,13 @@ write_block-requires g c =
     let a = ask.Put (n ∷ []) body in
     let P = IsEitherTree (mounted_by me) old a in
     let primary : told → me.root < old.world.geometry.primaries = λ t. subst (λ k. me.root < k.primaries) (sym (g.met.K.Blocks.sound c.args.disk.now t c.requires.may.ready.unspent).geometry) c.requires.may.ready.primary in
-    let place = c.args.place in
+    let position = c.args.position in
     let first = c.args.first in
-    let x : told → Putting me old n page = λ t. putting_over me old n page (c.requires.may.valid t) (c.requires.may.tree t) (primary t) c.requires.named place first (c.requires.found t) in
+    let x : told → Putting me old n page = λ t. putting_over me old n page (c.requires.may.valid t) (c.requires.may.tree t) (primary t) c.requires.named position first (c.requires.found t) in
     let want = clusters_for old.world.geometry (length body) + 0 in
     let refused : told → refused_on (mounted_by me) old a ≡ no_room_in old.world want want = λ t.
     let known = is_known told me old t c.requires.may (g.met.K.Blocks.sound c.args.disk.now t c.requires.may.ready.unspent) in
-    let o = over_entry me old n page (c.requires.may.valid t) (c.requires.may.tree t) (primary t) c.requires.named known place first (c.requires.found t) in
+    let o = over_entry me old n page (c.requires.may.valid t) (c.requires.may.tree t) (primary t) c.requires.named known position first (c.requires.found t) in
     refused_over me old n (c.requires.found t).chains (c.requires.found t).under body o.0 o.1 in
     let mid = g.K.Blocks.view c.new_file.new.disk in
     let e = c.in-Ok.ensures in
@@ -139,17 +139,17 @@ write_block-requires g c =
     let wr_bytes = c.directory_with-entered.result in
     let b = slice_index_or blocks 0 0 in
     let next = (cluster_of (cluster_in page.cluster)).next in
-    let at : told → IsEntry n (entries_in page.cluster) place first = λ t. (the_taken me old n page (c.requires.may.valid t) (c.requires.may.tree t) (primary t) c.requires.named place first (c.requires.found t)).entry in
+    let at : told → IsEntry n (entries_in page.cluster) position first = λ t. (the_taken me old n page (c.requires.may.valid t) (c.requires.may.tree t) (primary t) c.requires.named position first (c.requires.found t)).entry in
     let is : (t : told) → c.directory_with-entered.result ≡ directory_bytes next ((at t).front ++ (record { name = n; block = b } ∷ (at t).back)) = λ t.
     c.directory_with-entered.ensures
-    ∙ (ap (λ m. directory_bytes next (listed_at place (record { name = m; block = slice_index_or c.as_slice-2.result.now 0 0 }) (entries_in page.cluster))) c.as_slice.ensures.value
-    ∙ (ap (λ bs. directory_bytes next (listed_at place (record { name = n; block = slice_index_or bs 0 0 }) (entries_in page.cluster))) c.as_slice-2.ensures.value
-    ∙ set_bytes next n b (entries_in page.cluster) place first (at t))) in
+    ∙ (ap (λ m. directory_bytes next (listed_at position (record { name = m; block = slice_index_or c.as_slice-2.result.now 0 0 }) (entries_in page.cluster))) c.as_slice.ensures.value
+    ∙ (ap (λ bs. directory_bytes next (listed_at position (record { name = n; block = slice_index_or bs 0 0 }) (entries_in page.cluster))) c.as_slice-2.ensures.value
+    ∙ set_bytes next n b (entries_in page.cluster) position first (at t))) in
     record {
       unspent = e.runs.unspent.0;
       valid = now;
       may = λ t. (e.made t).may d (x t).may;
-      fits = λ t. subst (λ bs. length bs ≤ block_len mid.world.geometry) (sym (is t)) (set_fits me old n page (x t) body blocks mid (e.made t) (e.room t) e.linkable e.some place first (at t));
+      fits = λ t. subst (λ bs. length bs ≤ block_len mid.world.geometry) (sym (is t)) (set_fits me old n page (x t) body blocks mid (e.made t) (e.room t) e.linkable e.some position first (at t));
     }
 
 pub returns-in-Err-write_block : goal.returns-in-Err-write_block
@@ -164,13 +164,13 @@ returns-in-Err-write_block g c =
     let a = ask.Put (n ∷ []) body in
     let P = IsEitherTree (mounted_by me) old a in
     let primary : told → me.root < old.world.geometry.primaries = λ t. subst (λ k. me.root < k.primaries) (sym (g.met.K.Blocks.sound c.args.disk.now t c.requires.may.ready.unspent).geometry) c.requires.may.ready.primary in
-    let place = c.args.place in
+    let position = c.args.position in
     let first = c.args.first in
-    let x : told → Putting me old n page = λ t. putting_over me old n page (c.requires.may.valid t) (c.requires.may.tree t) (primary t) c.requires.named place first (c.requires.found t) in
+    let x : told → Putting me old n page = λ t. putting_over me old n page (c.requires.may.valid t) (c.requires.may.tree t) (primary t) c.requires.named position first (c.requires.found t) in
     let want = clusters_for old.world.geometry (length body) + 0 in
     let refused : told → refused_on (mounted_by me) old a ≡ no_room_in old.world want want = λ t.
     let known = is_known told me old t c.requires.may (g.met.K.Blocks.sound c.args.disk.now t c.requires.may.ready.unspent) in
-    let o = over_entry me old n page (c.requires.may.valid t) (c.requires.may.tree t) (primary t) c.requires.named known place first (c.requires.found t) in
+    let o = over_entry me old n page (c.requires.may.valid t) (c.requires.may.tree t) (primary t) c.requires.named known position first (c.requires.found t) in
     refused_over me old n (c.requires.found t).chains (c.requires.found t).under body o.0 o.1 in
     let mid = g.K.Blocks.view c.new_file.new.disk in
     let e = c.in-Ok.ensures in
@@ -181,16 +181,16 @@ returns-in-Err-write_block g c =
     let wr_bytes = c.directory_with-entered.result in
     let b = slice_index_or blocks 0 0 in
     let next = (cluster_of (cluster_in page.cluster)).next in
-    let at : told → IsEntry n (entries_in page.cluster) place first = λ t. (the_taken me old n page (c.requires.may.valid t) (c.requires.may.tree t) (primary t) c.requires.named place first (c.requires.found t)).entry in
+    let at : told → IsEntry n (entries_in page.cluster) position first = λ t. (the_taken me old n page (c.requires.may.valid t) (c.requires.may.tree t) (primary t) c.requires.named position first (c.requires.found t)).entry in
     let is : (t : told) → c.directory_with-entered.result ≡ directory_bytes next ((at t).front ++ (record { name = n; block = b } ∷ (at t).back)) = λ t.
     c.directory_with-entered.ensures
-    ∙ (ap (λ m. directory_bytes next (listed_at place (record { name = m; block = slice_index_or c.as_slice-2.result.now 0 0 }) (entries_in page.cluster))) c.as_slice.ensures.value
-    ∙ (ap (λ bs. directory_bytes next (listed_at place (record { name = n; block = slice_index_or bs 0 0 }) (entries_in page.cluster))) c.as_slice-2.ensures.value
-    ∙ set_bytes next n b (entries_in page.cluster) place first (at t))) in
+    ∙ (ap (λ m. directory_bytes next (listed_at position (record { name = m; block = slice_index_or c.as_slice-2.result.now 0 0 }) (entries_in page.cluster))) c.as_slice.ensures.value
+    ∙ (ap (λ bs. directory_bytes next (listed_at position (record { name = n; block = slice_index_or bs 0 0 }) (entries_in page.cluster))) c.as_slice-2.ensures.value
+    ∙ set_bytes next n b (entries_in page.cluster) position first (at t))) in
     let stop : (t : told) → (v : World) → (v ≡ mid.world) ⊎ ((v ≡ written mid.world d wr_bytes) × Leads mid.world (write_by me d wr_bytes) (written mid.world d wr_bytes)) → IsEitherTree (mounted_by me) old a v = λ t.
     subst (λ bs. (v : World) → (v ≡ mid.world) ⊎ ((v ≡ written mid.world d bs) × Leads mid.world (write_by me d bs) (written mid.world d bs)) → IsEitherTree (mounted_by me) old a v) (sym (is t))
     (stop_either me old n page (x t) blocks mid.world (e.made t).making body (directory_bytes next ((at t).front ++ (record { name = n; block = b } ∷ (at t).back))) (This_loose d first)
-    (λ leads. (set_lets me old n page (x t) body blocks mid (e.made t) (e.room t) e.linkable e.some place first (at t) (granted t) leads).decided)) in
+    (λ leads. (set_lets me old n page (x t) body blocks mid (e.made t) (e.room t) e.linkable e.some position first (at t) (granted t) leads).decided)) in
     let wr = g.K.Blocks.view c.write_block.new.disk in
     let h = c.in-Err-write_block.ensures in
     let r = c.in-Err-write_block.refusal in
@@ -211,13 +211,13 @@ drop_pointer-requires g c =
     let a = ask.Put (n ∷ []) body in
     let P = IsEitherTree (mounted_by me) old a in
     let primary : told → me.root < old.world.geometry.primaries = λ t. subst (λ k. me.root < k.primaries) (sym (g.met.K.Blocks.sound c.args.disk.now t c.requires.may.ready.unspent).geometry) c.requires.may.ready.primary in
-    let place = c.args.place in
+    let position = c.args.position in
     let first = c.args.first in
-    let x : told → Putting me old n page = λ t. putting_over me old n page (c.requires.may.valid t) (c.requires.may.tree t) (primary t) c.requires.named place first (c.requires.found t) in
+    let x : told → Putting me old n page = λ t. putting_over me old n page (c.requires.may.valid t) (c.requires.may.tree t) (primary t) c.requires.named position first (c.requires.found t) in
     let want = clusters_for old.world.geometry (length body) + 0 in
     let refused : told → refused_on (mounted_by me) old a ≡ no_room_in old.world want want = λ t.
     let known = is_known told me old t c.requires.may (g.met.K.Blocks.sound c.args.disk.now t c.requires.may.ready.unspent) in
-    let o = over_entry me old n page (c.requires.may.valid t) (c.requires.may.tree t) (primary t) c.requires.named known place first (c.requires.found t) in
+    let o = over_entry me old n page (c.requires.may.valid t) (c.requires.may.tree t) (primary t) c.requires.named known position first (c.requires.found t) in
     refused_over me old n (c.requires.found t).chains (c.requires.found t).under body o.0 o.1 in
     let mid = g.K.Blocks.view c.new_file.new.disk in
     let e = c.in-Ok.ensures in
@@ -228,18 +228,18 @@ drop_pointer-requires g c =
     let wr_bytes = c.directory_with-entered.result in
     let b = slice_index_or blocks 0 0 in
     let next = (cluster_of (cluster_in page.cluster)).next in
-    let at : told → IsEntry n (entries_in page.cluster) place first = λ t. (the_taken me old n page (c.requires.may.valid t) (c.requires.may.tree t) (primary t) c.requires.named place first (c.requires.found t)).entry in
+    let at : told → IsEntry n (entries_in page.cluster) position first = λ t. (the_taken me old n page (c.requires.may.valid t) (c.requires.may.tree t) (primary t) c.requires.named position first (c.requires.found t)).entry in
     let is : (t : told) → c.directory_with-entered.result ≡ directory_bytes next ((at t).front ++ (record { name = n; block = b } ∷ (at t).back)) = λ t.
     c.directory_with-entered.ensures
-    ∙ (ap (λ m. directory_bytes next (listed_at place (record { name = m; block = slice_index_or c.as_slice-2.result.now 0 0 }) (entries_in page.cluster))) c.as_slice.ensures.value
-    ∙ (ap (λ bs. directory_bytes next (listed_at place (record { name = n; block = slice_index_or bs 0 0 }) (entries_in page.cluster))) c.as_slice-2.ensures.value
-    ∙ set_bytes next n b (entries_in page.cluster) place first (at t))) in
+    ∙ (ap (λ m. directory_bytes next (listed_at position (record { name = m; block = slice_index_or c.as_slice-2.result.now 0 0 }) (entries_in page.cluster))) c.as_slice.ensures.value
+    ∙ (ap (λ bs. directory_bytes next (listed_at position (record { name = n; block = slice_index_or bs 0 0 }) (entries_in page.cluster))) c.as_slice-2.ensures.value
+    ∙ set_bytes next n b (entries_in page.cluster) position first (at t))) in
     let wr = g.K.Blocks.view c.write_block.new.disk in
     let h = c.in-Ok-write_block.ensures in
     let went : (t : told) → Went me mid wr (write_by me d (directory_bytes next ((at t).front ++ (record { name = n; block = b } ∷ (at t).back)))) d (written mid.world d (directory_bytes next ((at t).front ++ (record { name = n; block = b } ∷ (at t).back)))) = λ t.
     subst (λ bs. Went me mid wr (write_by me d bs) d (written mid.world d bs)) (is t) (h.steps.went t) in
     let lets : told → LetsGo me old a wr.world d first = λ t. subst (λ v. LetsGo me old a v d first) (sym (went t).world)
-    (set_lets me old n page (x t) body blocks mid (e.made t) (e.room t) e.linkable e.some place first (at t) (granted t) (went t).leads) in
+    (set_lets me old n page (x t) body blocks mid (e.made t) (e.room t) e.linkable e.some position first (at t) (granted t) (went t).leads) in
     record {
       unspent = h.steps.unspent.0;
       valid = λ t. (went t).valid;
@@ -260,13 +260,13 @@ returns-in-Ok-drop_pointer g c =
     let a = ask.Put (n ∷ []) body in
     let P = IsEitherTree (mounted_by me) old a in
     let primary : told → me.root < old.world.geometry.primaries = λ t. subst (λ k. me.root < k.primaries) (sym (g.met.K.Blocks.sound c.args.disk.now t c.requires.may.ready.unspent).geometry) c.requires.may.ready.primary in
-    let place = c.args.place in
+    let position = c.args.position in
     let first = c.args.first in
-    let x : told → Putting me old n page = λ t. putting_over me old n page (c.requires.may.valid t) (c.requires.may.tree t) (primary t) c.requires.named place first (c.requires.found t) in
+    let x : told → Putting me old n page = λ t. putting_over me old n page (c.requires.may.valid t) (c.requires.may.tree t) (primary t) c.requires.named position first (c.requires.found t) in
     let want = clusters_for old.world.geometry (length body) + 0 in
     let refused : told → refused_on (mounted_by me) old a ≡ no_room_in old.world want want = λ t.
     let known = is_known told me old t c.requires.may (g.met.K.Blocks.sound c.args.disk.now t c.requires.may.ready.unspent) in
-    let o = over_entry me old n page (c.requires.may.valid t) (c.requires.may.tree t) (primary t) c.requires.named known place first (c.requires.found t) in
+    let o = over_entry me old n page (c.requires.may.valid t) (c.requires.may.tree t) (primary t) c.requires.named known position first (c.requires.found t) in
     refused_over me old n (c.requires.found t).chains (c.requires.found t).under body o.0 o.1 in
     let mid = g.K.Blocks.view c.new_file.new.disk in
     let e = c.in-Ok.ensures in
@@ -277,29 +277,29 @@ returns-in-Ok-drop_pointer g c =
     let wr_bytes = c.directory_with-entered.result in
     let b = slice_index_or blocks 0 0 in
     let next = (cluster_of (cluster_in page.cluster)).next in
-    let at : told → IsEntry n (entries_in page.cluster) place first = λ t. (the_taken me old n page (c.requires.may.valid t) (c.requires.may.tree t) (primary t) c.requires.named place first (c.requires.found t)).entry in
+    let at : told → IsEntry n (entries_in page.cluster) position first = λ t. (the_taken me old n page (c.requires.may.valid t) (c.requires.may.tree t) (primary t) c.requires.named position first (c.requires.found t)).entry in
     let is : (t : told) → c.directory_with-entered.result ≡ directory_bytes next ((at t).front ++ (record { name = n; block = b } ∷ (at t).back)) = λ t.
     c.directory_with-entered.ensures
-    ∙ (ap (λ m. directory_bytes next (listed_at place (record { name = m; block = slice_index_or c.as_slice-2.result.now 0 0 }) (entries_in page.cluster))) c.as_slice.ensures.value
-    ∙ (ap (λ bs. directory_bytes next (listed_at place (record { name = n; block = slice_index_or bs 0 0 }) (entries_in page.cluster))) c.as_slice-2.ensures.value
-    ∙ set_bytes next n b (entries_in page.cluster) place first (at t))) in
+    ∙ (ap (λ m. directory_bytes next (listed_at position (record { name = m; block = slice_index_or c.as_slice-2.result.now 0 0 }) (entries_in page.cluster))) c.as_slice.ensures.value
+    ∙ (ap (λ bs. directory_bytes next (listed_at position (record { name = n; block = slice_index_or bs 0 0 }) (entries_in page.cluster))) c.as_slice-2.ensures.value
+    ∙ set_bytes next n b (entries_in page.cluster) position first (at t))) in
     let stop : (t : told) → (v : World) → (v ≡ mid.world) ⊎ ((v ≡ written mid.world d wr_bytes) × Leads mid.world (write_by me d wr_bytes) (written mid.world d wr_bytes)) → IsEitherTree (mounted_by me) old a v = λ t.
     subst (λ bs. (v : World) → (v ≡ mid.world) ⊎ ((v ≡ written mid.world d bs) × Leads mid.world (write_by me d bs) (written mid.world d bs)) → IsEitherTree (mounted_by me) old a v) (sym (is t))
     (stop_either me old n page (x t) blocks mid.world (e.made t).making body (directory_bytes next ((at t).front ++ (record { name = n; block = b } ∷ (at t).back))) (This_loose d first)
-    (λ leads. (set_lets me old n page (x t) body blocks mid (e.made t) (e.room t) e.linkable e.some place first (at t) (granted t) leads).decided)) in
+    (λ leads. (set_lets me old n page (x t) body blocks mid (e.made t) (e.room t) e.linkable e.some position first (at t) (granted t) leads).decided)) in
     let wr = g.K.Blocks.view c.write_block.new.disk in
     let h = c.in-Ok-write_block.ensures in
     let went : (t : told) → Went me mid wr (write_by me d (directory_bytes next ((at t).front ++ (record { name = n; block = b } ∷ (at t).back)))) d (written mid.world d (directory_bytes next ((at t).front ++ (record { name = n; block = b } ∷ (at t).back)))) = λ t.
     subst (λ bs. Went me mid wr (write_by me d bs) d (written mid.world d bs)) (is t) (h.steps.went t) in
     let lets : told → LetsGo me old a wr.world d first = λ t. subst (λ v. LetsGo me old a v d first) (sym (went t).world)
-    (set_lets me old n page (x t) body blocks mid (e.made t) (e.room t) e.linkable e.some place first (at t) (granted t) (went t).leads) in
+    (set_lets me old n page (x t) body blocks mid (e.made t) (e.room t) e.linkable e.some position first (at t) (granted t) (went t).leads) in
     let so_far : Runs {X = Unit {0}} told old wr P (Ok tt) = then_runs told old mid wr P blocks (Ok tt) before (runs_step told me mid wr (write_by me d wr_bytes) d (written mid.world d wr_bytes) P (Ok tt) now stop h.steps) in
     let fin = g.K.Blocks.view c.drop_pointer.new.disk in
     let j = c.in-Ok-drop_pointer.ensures in
     let gone = c.in-Ok-drop_pointer._gone in
     let kept : told → KeepsRoom (need_on (mounted_by me) old a) old.world fin.world = λ t.
     let known = is_known told me old t c.requires.may (g.met.K.Blocks.sound c.args.disk.now t c.requires.may.ready.unspent) in
-    let o = over_entry me old n page (c.requires.may.valid t) (c.requires.may.tree t) (primary t) c.requires.named known place first (c.requires.found t) in
+    let o = over_entry me old n page (c.requires.may.valid t) (c.requires.may.tree t) (primary t) c.requires.named known position first (c.requires.found t) in
     subst (λ k. KeepsRoom k old.world fin.world) (sym (needed_over me old n (c.requires.found t).chains (c.requires.found t).under body o.0 o.1))
     (no_more_room (need want want) old.world wr.world fin.world
     (no_more_room (need want want) old.world mid.world wr.world (file_takes me old mid d 0 body blocks (c.requires.may.valid t).valid (e.made t))
@@ -324,13 +324,13 @@ returns-in-Err-drop_pointer g c =
     let a = ask.Put (n ∷ []) body in
     let P = IsEitherTree (mounted_by me) old a in
     let primary : told → me.root < old.world.geometry.primaries = λ t. subst (λ k. me.root < k.primaries) (sym (g.met.K.Blocks.sound c.args.disk.now t c.requires.may.ready.unspent).geometry) c.requires.may.ready.primary in
-    let place = c.args.place in
+    let position = c.args.position in
     let first = c.args.first in
-    let x : told → Putting me old n page = λ t. putting_over me old n page (c.requires.may.valid t) (c.requires.may.tree t) (primary t) c.requires.named place first (c.requires.found t) in
+    let x : told → Putting me old n page = λ t. putting_over me old n page (c.requires.may.valid t) (c.requires.may.tree t) (primary t) c.requires.named position first (c.requires.found t) in
     let want = clusters_for old.world.geometry (length body) + 0 in
     let refused : told → refused_on (mounted_by me) old a ≡ no_room_in old.world want want = λ t.
     let known = is_known told me old t c.requires.may (g.met.K.Blocks.sound c.args.disk.now t c.requires.may.ready.unspent) in
-    let o = over_entry me old n page (c.requires.may.valid t) (c.requires.may.tree t) (primary t) c.requires.named known place first (c.requires.found t) in
+    let o = over_entry me old n page (c.requires.may.valid t) (c.requires.may.tree t) (primary t) c.requires.named known position first (c.requires.found t) in
     refused_over me old n (c.requires.found t).chains (c.requires.found t).under body o.0 o.1 in
     let mid = g.K.Blocks.view c.new_file.new.disk in
     let e = c.in-Ok.ensures in
@@ -341,22 +341,22 @@ returns-in-Err-drop_pointer g c =
     let wr_bytes = c.directory_with-entered.result in
     let b = slice_index_or blocks 0 0 in
     let next = (cluster_of (cluster_in page.cluster)).next in
-    let at : told → IsEntry n (entries_in page.cluster) place first = λ t. (the_taken me old n page (c.requires.may.valid t) (c.requires.may.tree t) (primary t) c.requires.named place first (c.requires.found t)).entry in
+    let at : told → IsEntry n (entries_in page.cluster) position first = λ t. (the_taken me old n page (c.requires.may.valid t) (c.requires.may.tree t) (primary t) c.requires.named position first (c.requires.found t)).entry in
     let is : (t : told) → c.directory_with-entered.result ≡ directory_bytes next ((at t).front ++ (record { name = n; block = b } ∷ (at t).back)) = λ t.
     c.directory_with-entered.ensures
-    ∙ (ap (λ m. directory_bytes next (listed_at place (record { name = m; block = slice_index_or c.as_slice-2.result.now 0 0 }) (entries_in page.cluster))) c.as_slice.ensures.value
-    ∙ (ap (λ bs. directory_bytes next (listed_at place (record { name = n; block = slice_index_or bs 0 0 }) (entries_in page.cluster))) c.as_slice-2.ensures.value
-    ∙ set_bytes next n b (entries_in page.cluster) place first (at t))) in
+    ∙ (ap (λ m. directory_bytes next (listed_at position (record { name = m; block = slice_index_or c.as_slice-2.result.now 0 0 }) (entries_in page.cluster))) c.as_slice.ensures.value
+    ∙ (ap (λ bs. directory_bytes next (listed_at position (record { name = n; block = slice_index_or bs 0 0 }) (entries_in page.cluster))) c.as_slice-2.ensures.value
+    ∙ set_bytes next n b (entries_in page.cluster) position first (at t))) in
     let stop : (t : told) → (v : World) → (v ≡ mid.world) ⊎ ((v ≡ written mid.world d wr_bytes) × Leads mid.world (write_by me d wr_bytes) (written mid.world d wr_bytes)) → IsEitherTree (mounted_by me) old a v = λ t.
     subst (λ bs. (v : World) → (v ≡ mid.world) ⊎ ((v ≡ written mid.world d bs) × Leads mid.world (write_by me d bs) (written mid.world d bs)) → IsEitherTree (mounted_by me) old a v) (sym (is t))
     (stop_either me old n page (x t) blocks mid.world (e.made t).making body (directory_bytes next ((at t).front ++ (record { name = n; block = b } ∷ (at t).back))) (This_loose d first)
-    (λ leads. (set_lets me old n page (x t) body blocks mid (e.made t) (e.room t) e.linkable e.some place first (at t) (granted t) leads).decided)) in
+    (λ leads. (set_lets me old n page (x t) body blocks mid (e.made t) (e.room t) e.linkable e.some position first (at t) (granted t) leads).decided)) in
     let wr = g.K.Blocks.view c.write_block.new.disk in
     let h = c.in-Ok-write_block.ensures in
     let went : (t : told) → Went me mid wr (write_by me d (directory_bytes next ((at t).front ++ (record { name = n; block = b } ∷ (at t).back)))) d (written mid.world d (directory_bytes next ((at t).front ++ (record { name = n; block = b } ∷ (at t).back)))) = λ t.
     subst (λ bs. Went me mid wr (write_by me d bs) d (written mid.world d bs)) (is t) (h.steps.went t) in
     let lets : told → LetsGo me old a wr.world d first = λ t. subst (λ v. LetsGo me old a v d first) (sym (went t).world)
-    (set_lets me old n page (x t) body blocks mid (e.made t) (e.room t) e.linkable e.some place first (at t) (granted t) (went t).leads) in
+    (set_lets me old n page (x t) body blocks mid (e.made t) (e.room t) e.linkable e.some position first (at t) (granted t) (went t).leads) in
     let so_far : Runs {X = Unit {0}} told old wr P (Ok tt) = then_runs told old mid wr P blocks (Ok tt) before (runs_step told me mid wr (write_by me d wr_bytes) d (written mid.world d wr_bytes) P (Ok tt) now stop h.steps) in
     let fin = g.K.Blocks.view c.drop_pointer.new.disk in
     let j = c.in-Err-drop_pointer.ensures in

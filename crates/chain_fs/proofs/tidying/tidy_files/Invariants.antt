@@ -5,5 +5,5 @@ abbrev pub ghost-tidy_file : goal.ghost-tidy_file
 ghost-tidy_file g a = g.kept
 
 -- the files before this place are tidied
-abbrev pub invariant-loop-place : goal.invariant-loop-place
-invariant-loop-place g l = PageGoing g.K.Blocks.told l.client g.kept (g.K.Blocks.view l.fn.disk) (g.K.Blocks.view l.disk) l.page l.place
+abbrev pub invariant-loop-position : goal.invariant-loop-position
+invariant-loop-position g l = PageGoing g.K.Blocks.told l.client g.kept (g.K.Blocks.view l.fn.disk) (g.K.Blocks.view l.disk) l.page l.position

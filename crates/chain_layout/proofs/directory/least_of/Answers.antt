@@ -9,16 +9,16 @@ pub returns : goal.returns
 returns c =
     let n = c.args.after.now in
     let xs = c.args.list.now in
-    let i = c.loop-place.place in
-    let none : c.args.count - i ≡ 0 = omega (arith, c.loop-place-test.false) in
-    sym (c.loop-place.invariant ∙ (ap (λ k. lesser c.loop-place.least (least_above n (entry_names (entries k (drop (32 * i) xs))))) none ∙ lesser-none c.loop-place.least))
+    let i = c.loop-position.position in
+    let none : c.args.count - i ≡ 0 = omega (arith, c.loop-position-test.false) in
+    sym (c.loop-position.invariant ∙ (ap (λ k. lesser c.loop-position.least (least_above n (entry_names (entries k (drop (32 * i) xs))))) none ∙ lesser-none c.loop-position.least))
 
-pub loop-place-preserved : goal.loop-place-preserved
-loop-place-preserved c =
+pub loop-position-preserved : goal.loop-position-preserved
+loop-position-preserved c =
     let n = c.args.after.now in
     let xs = c.args.list.now in
-    let i = c.loop-place.place in
+    let i = c.loop-position.position in
     let later = least_above n (entry_names (entries (c.args.count - (i + 1)) (drop (32 * (i + 1)) xs))) in
-    let now = c.lesser-least.ensures ∙ ap (lesser c.loop-place.least) (c.next_name.ensures ∙ one_above n xs (32 * i)) in
-    c.loop-place.invariant ∙ (ap (lesser c.loop-place.least) (least_goes_on xs c.args.count i (omega arith) n)
-    ∙ (sym (lesser-assoc c.loop-place.least (if_above n (name_in xs i)) later) ∙ ap (λ m. lesser m later) (sym now)))
+    let now = c.lesser-least.ensures ∙ ap (lesser c.loop-position.least) (c.next_name.ensures ∙ one_above n xs (32 * i)) in
+    c.loop-position.invariant ∙ (ap (lesser c.loop-position.least) (least_goes_on xs c.args.count i (omega arith) n)
+    ∙ (sym (lesser-assoc c.loop-position.least (if_above n (name_in xs i)) later) ∙ ap (λ m. lesser m later) (sym now)))

@@ -7,9 +7,9 @@ use Rattle.chain_layout.proofs.distinct.are_shared.Goals as goal
 pub returns-then-is_among : goal.returns-then-is_among
 returns-then-is_among c =
     let test = is_among (entry_names (entries c.args.other_count c.args.others.now)) in
-    sym (c.loop-place.invariant ∙ any_stops c.args.list.now c.args.count c.loop-place.place (omega arith) test (ap test (sym c.name_at.ensures.value) ∙ (sym c.is_among.ensures ∙ c.if-is_among.true)))
+    sym (c.loop-position.invariant ∙ any_stops c.args.list.now c.args.count c.loop-position.position (omega arith) test (ap test (sym c.name_at.ensures.value) ∙ (sym c.is_among.ensures ∙ c.if-is_among.true)))
 
-pub loop-place-preserved : goal.loop-place-preserved
-loop-place-preserved c =
+pub loop-position-preserved : goal.loop-position-preserved
+loop-position-preserved c =
     let test = is_among (entry_names (entries c.args.other_count c.args.others.now)) in
-    c.loop-place.invariant ∙ any_goes_on c.args.list.now c.args.count c.loop-place.place (omega arith) test (ap test (sym c.name_at.ensures.value) ∙ (sym c.is_among.ensures ∙ c.if-is_among.false))
+    c.loop-position.invariant ∙ any_goes_on c.args.list.now c.args.count c.loop-position.position (omega arith) test (ap test (sym c.name_at.ensures.value) ∙ (sym c.is_among.ensures ∙ c.if-is_among.false))

@@ -5,5 +5,5 @@ use Rattle.chain_layout.specs.Listed.{is_among}
 use Rattle.chain_layout.proofs.distinct.is_among.Given as goal
 
 -- the name isn't that of an entry before this one
-abbrev pub invariant-loop-place : goal.invariant-loop-place
-invariant-loop-place l = is_among (entry_names (entries l.count l.list)) l.name ≡ is_among (entry_names (entries (l.count - l.place) (drop (32 * l.place) l.list))) l.name
+abbrev pub invariant-loop-position : goal.invariant-loop-position
+invariant-loop-position l = is_among (entry_names (entries l.count l.list)) l.name ≡ is_among (entry_names (entries (l.count - l.position) (drop (32 * l.position) l.list))) l.name

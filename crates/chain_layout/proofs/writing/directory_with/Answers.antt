@@ -16,9 +16,9 @@ returns c =
     let next = (cluster_of d.cluster).next in
     let e : Entry = record { name = c.args.name.now; block = c.args.block } in
     let behind = c.min-next_place.result in
-    let used = c.args.place + 1 + (count - behind) in
+    let used = c.args.position + 1 + (count - behind) in
     let linked = c.next.ensures.value ∙ ap (λ k. (cluster_of k).next) c.cluster-2.ensures in
-    with_written next used c.args.place behind count e (entries_in d) c.head-bytes.result c.add.new.into c.add_entry.new.into c.add-2.new.into c.parts.result.0.now c.parts.result.1.now
+    with_written next used c.args.position behind count e (entries_in d) c.head-bytes.result c.add.new.into c.add_entry.new.into c.add-2.new.into c.parts.result.0.now c.parts.result.1.now
     c.count-count.ensures.value (omega (arith, c.requires.within, c.count-count.ensures.value)) c.min-next_place.ensures refl
     (c.head-bytes.ensures.value ∙ ap (λ n. cluster_bytes n used []) linked) c.add.ensures c.add_entry.ensures c.add-2.ensures
-    (c.parts.ensures.before ∙ ap (λ es. flat_map entry_bytes (take c.args.place es)) list) (c.parts.ensures.behind ∙ ap (λ es. flat_map entry_bytes (drop behind es)) list)
+    (c.parts.ensures.before ∙ ap (λ es. flat_map entry_bytes (take c.args.position es)) list) (c.parts.ensures.behind ∙ ap (λ es. flat_map entry_bytes (drop behind es)) list)

@@ -14,9 +14,9 @@ returns c =
     let list : entries count c.body.result.now ≡ entries_in d =
     same_list count (cluster_of d.cluster).used c.body.result.now (cluster_of d.cluster).body c.count-count.ensures.value (c.body.ensures.value ∙ ap (λ k. (cluster_of k).body) c.cluster.ensures) in
     let next = (cluster_of d.cluster).next in
-    let place = c.args.place in
+    let position = c.args.position in
     let linked = c.next.ensures.value ∙ ap (λ k. (cluster_of k).next) c.cluster-2.ensures in
-    without_written next (count - 1) place count (entries_in d) c.head-bytes.result c.add.new.into c.add-2.new.into c.parts.result.0.now c.parts.result.1.now
+    without_written next (count - 1) position count (entries_in d) c.head-bytes.result c.add.new.into c.add-2.new.into c.parts.result.0.now c.parts.result.1.now
     c.count-count.ensures.value (omega (arith, c.requires, c.count-count.ensures.value)) refl
     (c.head-bytes.ensures.value ∙ ap (λ n. cluster_bytes n (count - 1) []) linked) c.add.ensures c.add-2.ensures
-    (c.parts.ensures.before ∙ ap (λ es. flat_map entry_bytes (take place es)) list) (c.parts.ensures.behind ∙ ap (λ es. flat_map entry_bytes (drop (place + 1) es)) list)
+    (c.parts.ensures.before ∙ ap (λ es. flat_map entry_bytes (take position es)) list) (c.parts.ensures.behind ∙ ap (λ es. flat_map entry_bytes (drop (position + 1) es)) list)

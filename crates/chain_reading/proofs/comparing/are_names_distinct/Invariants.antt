@@ -3,5 +3,5 @@ use Rattle.chain_reading.proofs.PageLaws.{Comparing}
 use Rattle.chain_reading.proofs.comparing.are_names_distinct.Given as goal
 
 -- the names of the clusters before this one stand once
-abbrev pub invariant-loop-place : goal.invariant-loop-place
-invariant-loop-place g l = Comparing g.K.Blocks.told l.client (g.K.Blocks.view l.fn.disk) (g.K.Blocks.view l.disk) l.fn.client.root l.place l.block are_distinct
+abbrev pub invariant-loop-position : goal.invariant-loop-position
+invariant-loop-position g l = Comparing g.K.Blocks.told l.client (g.K.Blocks.view l.fn.disk) (g.K.Blocks.view l.disk) l.fn.client.root l.position l.block are_distinct

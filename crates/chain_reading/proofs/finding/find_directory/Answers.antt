@@ -17,5 +17,5 @@ returns-in-Ok-clause-refused g c = λ t ne.
     let path : c.args.path.now ≡ n ∷ parts.0 = sym c.as_slice.ensures.value ∙ parts.1 in
     let looks = c.in-Ok.ensures.looks in
     ap (no_directory_found (tree_of me old)) path
-    ∙ (place_no_dir g.K.Blocks.told me old new t c.requires.may (g.met.K.Blocks.sound c.args.disk.now t c.requires.may.ready.unspent) (looks.looked t).0 looks.stays.0 n c.in-Ok.place (λ ls ps ahead. c.in-Ok.ensures.found t ls ps ahead) parts.0
+    ∙ (place_no_dir g.K.Blocks.told me old new t c.requires.may (g.met.K.Blocks.sound c.args.disk.now t c.requires.may.ready.unspent) (looks.looked t).0 looks.stays.0 n c.in-Ok.position (λ ls ps ahead. c.in-Ok.ensures.found t ls ps ahead) parts.0
     ∙ ap (λ e. Some e) (sym c.no_way.ensures))

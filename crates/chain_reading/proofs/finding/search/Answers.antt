@@ -5,7 +5,7 @@ use Rattle.chain_layout.specs.Listed.{has_name}
 use Rattle.chain_layout.specs.Block.{cluster_of}
 use Rattle.chain_layout.specs.Held.{cluster_in, entries_in}
 use Rattle.fs_client.proofs.LookLaws.{no_look, then_looks, looks_as, looks_refused}
-use Rattle.chain_reading.specs.declared.finding.Place.TheVariants.{Taken, Free}
+use Rattle.chain_reading.specs.declared.finding.Lookup.TheVariants.{Taken, Free}
 use Rattle.chain_reading.specs.Standing.{IsPage}
 use Rattle.chain_reading.specs.Finding.{IsRoomiest}
 use Rattle.chain_reading.proofs.WalkLaws.{link_of}
@@ -46,7 +46,7 @@ returns-in-Err-clause-looks g c =
 pub block-first-requires : goal.block-first-requires
 block-first-requires g c =
     let es = entries_in c.in-Ok.page.cluster in
-    place_within c.args.name.now es c.in-Some.place (sym (c.place.ensures ∙ ap (λ n. position_from (has_name n) 0 es) c.as_slice.ensures.value) ∙ c.in-Some.is)
+    place_within c.args.name.now es c.in-Some.position (sym (c.position.ensures ∙ ap (λ n. position_from (has_name n) 0 es) c.as_slice.ensures.value) ∙ c.in-Some.is)
 
 pub returns-in-Some-clause-found : goal.returns-in-Some-clause-found
 returns-in-Some-clause-found g c = λ t ls ps ahead.
@@ -55,13 +55,13 @@ returns-in-Some-clause-found g c = λ t ls ps ahead.
     let new = g.K.Blocks.view c.read_page.new.disk in
     let inv = c.loop-turn.invariant in
     let es = entries_in c.in-Ok.page.cluster in
-    search_finds c.args.client.now first cur new ls ps c.loop-turn.turn c.loop-turn.block c.args.name.now c.loop-turn.count c.loop-turn.best c.in-Ok.page c.in-Some.place c.block-first.result (inv.searched t ls ps ahead) (inv.looks.looked t).0 (c.in-Ok.ensures.looks.looked t).0 c.in-Ok.ensures.looks.stays.0
-    (c.in-Ok.ensures.page t) (c.in-Ok.ensures.held t) (sym (c.place.ensures ∙ ap (λ n. position_from (has_name n) 0 es) c.as_slice.ensures.value) ∙ c.in-Some.is) c.block-first.ensures
+    search_finds c.args.client.now first cur new ls ps c.loop-turn.turn c.loop-turn.block c.args.name.now c.loop-turn.count c.loop-turn.best c.in-Ok.page c.in-Some.position c.block-first.result (inv.searched t ls ps ahead) (inv.looks.looked t).0 (c.in-Ok.ensures.looks.looked t).0 c.in-Ok.ensures.looks.stays.0
+    (c.in-Ok.ensures.page t) (c.in-Ok.ensures.held t) (sym (c.position.ensures ∙ ap (λ n. position_from (has_name n) 0 es) c.as_slice.ensures.value) ∙ c.in-Some.is) c.block-first.ensures
 
 pub returns-in-Some-clause-within : goal.returns-in-Some-clause-within
 returns-in-Some-clause-within g c =
     let es = entries_in c.in-Ok.page.cluster in
-    place_within c.args.name.now es c.in-Some.place (sym (c.place.ensures ∙ ap (λ n. position_from (has_name n) 0 es) c.as_slice.ensures.value) ∙ c.in-Some.is)
+    place_within c.args.name.now es c.in-Some.position (sym (c.position.ensures ∙ ap (λ n. position_from (has_name n) 0 es) c.as_slice.ensures.value) ∙ c.in-Some.is)
 
 pub returns-in-Some-clause-looks : goal.returns-in-Some-clause-looks
 returns-in-Some-clause-looks g c =
@@ -69,7 +69,7 @@ returns-in-Some-clause-looks g c =
     let first = g.K.Blocks.view c.args.disk.now in
     let cur = g.K.Blocks.view c.loop-turn.disk in
     let new = g.K.Blocks.view c.read_page.new.disk in
-    let answer = Taken c.in-Ok.page c.in-Some.place c.block-first.result in
+    let answer = Taken c.in-Ok.page c.in-Some.position c.block-first.result in
     then_looks told first cur new tt (Ok answer) c.loop-turn.invariant.looks (looks_as told cur new c.in-Ok.page answer c.in-Ok.ensures.looks)
 
 pub returns-in-None-clause-found : goal.returns-in-None-clause-found
@@ -86,7 +86,7 @@ returns-in-None-clause-found g c = λ t ls ps ahead.
     let own = own_entries cur.world c.loop-turn.block len cl es same read.read.says read.entries in
     let new = g.K.Blocks.view c.read_page.new.disk in
     let found = search_ends c.args.client.now cur len ls ps c.loop-turn.turn c.loop-turn.block c.args.name.now c.loop-turn.count c.count-count.result c.loop-turn.best cl es (inv.searched t ls ps ahead) read.read.says own
-    (sym (c.place.ensures ∙ ap (λ n. position_from (has_name n) 0 es) c.as_slice.ensures.value) ∙ is_none_of c.place.result c.in_default.not-Some) c.count-count.ensures.value
+    (sym (c.position.ensures ∙ ap (λ n. position_from (has_name n) 0 es) c.as_slice.ensures.value) ∙ is_none_of c.position.result c.in_default.not-Some) c.count-count.ensures.value
     page (ap (λ k. link_of k cl) read.block) (subst (λ k. IsPage cur.world k page) (sym read.block) read) new (inv.looks.looked t).0.valid (c.in-Ok.ensures.looks.looked t).0 c.in-Ok.ensures.looks.stays.0 (c.in-Ok.ensures.held t)
     (sym (c.next-next.ensures.value ∙ ap (λ k. (cluster_of k).next) c.cluster.ensures) ∙ c.in-None.is) in
     (found.0, found.1, subst (IsRoomiest c.args.client.now new ls) (sym c.better-page.ensures) found.2)
@@ -119,7 +119,7 @@ loop-turn-preserved g c =
           let same = ap (λ w. block_len w.geometry) (sym (inv.looks.looked t).0.world) in
           let own = own_entries cur.world b len cl es same read.read.says read.entries in
           let on = search_on c.args.client.now cur len ls ps c.loop-turn.turn b c.args.name.now c.loop-turn.count c.count-count.result c.loop-turn.best cl es (inv.searched t ls ps ahead) read.read.says own
-          (sym (c.place.ensures ∙ ap (λ n. position_from (has_name n) 0 es) c.as_slice.ensures.value) ∙ is_none_of c.place.result c.in_default.not-Some) c.count-count.ensures.value
+          (sym (c.position.ensures ∙ ap (λ n. position_from (has_name n) 0 es) c.as_slice.ensures.value) ∙ is_none_of c.position.result c.in_default.not-Some) c.count-count.ensures.value
           page (ap (λ k. link_of k cl) read.block) (subst (λ k. IsPage cur.world k page) (sym read.block) read) new (inv.looks.looked t).0.valid (c.in-Ok.ensures.looks.looked t).0 c.in-Ok.ensures.looks.stays.0 (c.in-Ok.ensures.held t)
           c.in-Some-next.next (sym (c.next-next.ensures.value ∙ ap (λ k. (cluster_of k).next) c.cluster.ensures) ∙ c.in-Some-next.is) in
           subst (λ p. IsSearched c.args.client.now new len ls ps (c.loop-turn.turn + 1) c.in-Some-next.next c.args.name.now (c.loop-turn.count + c.count-count.result) (Some p)) (sym c.better-page.ensures) on;

@@ -4,5 +4,5 @@ use Rattle.chain_reading.proofs.LoopLaws.{Visiting}
 use Rattle.chain_reading.proofs.looking.are_files_right.Given as goal
 
 -- the files so far are right, and in the set
-abbrev pub invariant-loop-place : goal.invariant-loop-place
-invariant-loop-place g l = Visiting g.K.Blocks.told l.client (g.K.Blocks.view l.fn.disk) (g.K.Blocks.view l.disk) (entry_blocks (entries_in l.page)) l.place l.fn.seen l.seen
+abbrev pub invariant-loop-position : goal.invariant-loop-position
+invariant-loop-position g l = Visiting g.K.Blocks.told l.client (g.K.Blocks.view l.fn.disk) (g.K.Blocks.view l.disk) (entry_blocks (entries_in l.page)) l.position l.fn.seen l.seen

@@ -9,8 +9,8 @@ use Rattle.fs_client.proofs.LookLaws.{no_look, then_looks, looks_as, looks_refus
 use Rattle.chain_reading.proofs.ListLaws.{look_starts, look_on, look_ends, page_there, least_more, own_entries, least_of}
 use Rattle.chain_reading.proofs.reading.least_above.Goals as goal
 
-pub loop-place-init : goal.loop-place-init
-loop-place-init g c =
+pub loop-position-init : goal.loop-position-init
+loop-position-init g c =
     let first = g.K.Blocks.view c.args.disk.now in
     record {
       looks = no_look g.K.Blocks.told first c.requires.unspent (λ t. g.met.K.Blocks.sound c.args.disk.now t c.requires.unspent) c.requires.valid;
@@ -20,25 +20,25 @@ loop-place-init g c =
 pub read_page-requires-clause-there : goal.read_page-requires-clause-there
 read_page-requires-clause-there g c = λ t.
     let first = g.K.Blocks.view c.args.disk.now in
-    let cur = g.K.Blocks.view c.loop-place.disk in
-    let inv = c.loop-place.invariant in
+    let cur = g.K.Blocks.view c.loop-position.disk in
+    let inv = c.loop-position.invariant in
     let all = c.requires.directory t in
     let seen = inv.seen t all.0 all.1 all.2 in
-    page_there c.args.client.now cur (block_len first.world.geometry) all.0 all.1 seen.qs c.loop-place.place c.loop-place.block seen.looking (ap (λ w. block_len w.geometry) (sym (inv.looks.looked t).0.world))
+    page_there c.args.client.now cur (block_len first.world.geometry) all.0 all.1 seen.qs c.loop-position.position c.loop-position.block seen.looking (ap (λ w. block_len w.geometry) (sym (inv.looks.looked t).0.world))
 
 pub returns-in-Err-clause-looks : goal.returns-in-Err-clause-looks
 returns-in-Err-clause-looks g c =
     let told = g.K.Blocks.told in
     let first = g.K.Blocks.view c.args.disk.now in
-    let cur = g.K.Blocks.view c.loop-place.disk in
+    let cur = g.K.Blocks.view c.loop-position.disk in
     let new = g.K.Blocks.view c.read_page.new.disk in
-    then_looks told first cur new tt (Err c.in-Err.refusal) c.loop-place.invariant.looks (looks_refused told cur new c.in-Err.refusal c.in-Err.ensures.looks)
+    then_looks told first cur new tt (Err c.in-Err.refusal) c.loop-position.invariant.looks (looks_refused told cur new c.in-Err.refusal c.in-Err.ensures.looks)
 
 pub returns-in-None-clause-least : goal.returns-in-None-clause-least
 returns-in-None-clause-least g c = λ t ls ps ahead.
     let first = g.K.Blocks.view c.args.disk.now in
-    let cur = g.K.Blocks.view c.loop-place.disk in
-    let inv = c.loop-place.invariant in
+    let cur = g.K.Blocks.view c.loop-position.disk in
+    let inv = c.loop-position.invariant in
     let page = c.in-Ok.page in
     let read = c.in-Ok.ensures.page t in
     let cl = cluster_of (cluster_in page.cluster) in
@@ -46,29 +46,29 @@ returns-in-None-clause-least g c = λ t ls ps ahead.
     let seen = inv.seen t ls ps ahead in
     let len = block_len first.world.geometry in
     let same = ap (λ w. block_len w.geometry) (sym (inv.looks.looked t).0.world) in
-    let own = own_entries cur.world c.loop-place.block len cl es same read.read.says read.entries in
-    least_more c.args.after.now seen.qs c.loop-place.block es c.loop-place.least c.least_above.result c.lesser-least.result seen.is (c.least_above.ensures ∙ ap (λ n. least_above n (entry_names es)) c.as_slice.ensures.value) c.lesser-least.ensures
-    ∙ ap (λ xs. least_of c.args.after.now xs) (sym (look_ends c.args.client.now cur len ls ps seen.qs c.loop-place.place c.loop-place.block seen.looking cl es read.read.says own (sym (c.next.ensures.value ∙ ap (λ k. (cluster_of k).next) c.cluster.ensures) ∙ c.in-None.is)))
+    let own = own_entries cur.world c.loop-position.block len cl es same read.read.says read.entries in
+    least_more c.args.after.now seen.qs c.loop-position.block es c.loop-position.least c.least_above.result c.lesser-least.result seen.is (c.least_above.ensures ∙ ap (λ n. least_above n (entry_names es)) c.as_slice.ensures.value) c.lesser-least.ensures
+    ∙ ap (λ xs. least_of c.args.after.now xs) (sym (look_ends c.args.client.now cur len ls ps seen.qs c.loop-position.position c.loop-position.block seen.looking cl es read.read.says own (sym (c.next.ensures.value ∙ ap (λ k. (cluster_of k).next) c.cluster.ensures) ∙ c.in-None.is)))
 
 pub returns-in-None-clause-looks : goal.returns-in-None-clause-looks
 returns-in-None-clause-looks g c =
     let told = g.K.Blocks.told in
     let first = g.K.Blocks.view c.args.disk.now in
-    let cur = g.K.Blocks.view c.loop-place.disk in
+    let cur = g.K.Blocks.view c.loop-position.disk in
     let new = g.K.Blocks.view c.read_page.new.disk in
-    then_looks told first cur new tt (Ok c.lesser-least.result) c.loop-place.invariant.looks (looks_as told cur new c.in-Ok.page c.lesser-least.result c.in-Ok.ensures.looks)
+    then_looks told first cur new tt (Ok c.lesser-least.result) c.loop-position.invariant.looks (looks_as told cur new c.in-Ok.page c.lesser-least.result c.in-Ok.ensures.looks)
 
-pub loop-place-preserved : goal.loop-place-preserved
-loop-place-preserved g c =
+pub loop-position-preserved : goal.loop-position-preserved
+loop-position-preserved g c =
     let told = g.K.Blocks.told in
     let first = g.K.Blocks.view c.args.disk.now in
-    let cur = g.K.Blocks.view c.loop-place.disk in
+    let cur = g.K.Blocks.view c.loop-position.disk in
     let new = g.K.Blocks.view c.read_page.new.disk in
-    let inv = c.loop-place.invariant in
+    let inv = c.loop-position.invariant in
     let page = c.in-Ok.page in
     let cl = cluster_of (cluster_in page.cluster) in
     let es = entries_in page.cluster in
-    let b = c.loop-place.block in
+    let b = c.loop-position.block in
     let len = block_len first.world.geometry in
     record {
       looks = then_looks told first cur new tt (Ok tt) inv.looks (looks_as told cur new page tt c.in-Ok.ensures.looks);
@@ -79,8 +79,8 @@ loop-place-preserved g c =
           let own = own_entries cur.world b len cl es same read.read.says read.entries in
           record {
             qs = seen.qs ++ placed b es;
-            looking = look_on c.args.client.now cur len ls ps seen.qs c.loop-place.place b seen.looking cl es read.read.says own new c.in-Some.next (sym (c.next.ensures.value ∙ ap (λ k. (cluster_of k).next) c.cluster.ensures) ∙ c.in-Some.is)
+            looking = look_on c.args.client.now cur len ls ps seen.qs c.loop-position.position b seen.looking cl es read.read.says own new c.in-Some.next (sym (c.next.ensures.value ∙ ap (λ k. (cluster_of k).next) c.cluster.ensures) ∙ c.in-Some.is)
                 (c.in-Ok.ensures.looks.looked t).0 c.in-Ok.ensures.looks.stays.0 (c.in-Ok.ensures.held t);
-            is = least_more c.args.after.now seen.qs b es c.loop-place.least c.least_above.result c.lesser-least.result seen.is (c.least_above.ensures ∙ ap (λ n. least_above n (entry_names es)) c.as_slice.ensures.value) c.lesser-least.ensures;
+            is = least_more c.args.after.now seen.qs b es c.loop-position.least c.least_above.result c.lesser-least.result seen.is (c.least_above.ensures ∙ ap (λ n. least_above n (entry_names es)) c.as_slice.ensures.value) c.lesser-least.ensures;
           };
     }

@@ -7,8 +7,8 @@ use Rattle.chain_reading.proofs.SizeLaws.{count_part}
 use Rattle.chain_reading.proofs.CopyLaws.{copy_starts, copy_on, copy_ends, copy_full}
 use Rattle.chain_reading.proofs.reading.read_chain.Goals as goal
 
-pub loop-place-init : goal.loop-place-init
-loop-place-init g c =
+pub loop-position-init : goal.loop-position-init
+loop-position-init g c =
     let first = g.K.Blocks.view c.args.disk.now in
     record {
       looks = no_look g.K.Blocks.told first c.requires.unspent (λ t. g.met.K.Blocks.sound c.args.disk.now t c.requires.unspent) c.requires.valid;
@@ -18,66 +18,66 @@ loop-place-init g c =
 
 pub read_part-requires-clause-there : goal.read_part-requires-clause-there
 read_part-requires-clause-there g c = λ t.
-    let inv = c.loop-place.invariant in
+    let inv = c.loop-position.invariant in
     let file = c.requires.file t in
-    count_part c.args.client.now (g.K.Blocks.view c.args.disk.now) (g.K.Blocks.view c.loop-place.disk) c.args.first c.loop-place.place c.loop-place.block c.loop-place.before file.0 (inv.looks.looked t).0 file.1 (inv.copied t file.0 file.1).counted
+    count_part c.args.client.now (g.K.Blocks.view c.args.disk.now) (g.K.Blocks.view c.loop-position.disk) c.args.first c.loop-position.position c.loop-position.block c.loop-position.before file.0 (inv.looks.looked t).0 file.1 (inv.copied t file.0 file.1).counted
 
 pub returns-in-Err-clause-looks : goal.returns-in-Err-clause-looks
 returns-in-Err-clause-looks g c =
     let told = g.K.Blocks.told in
     let first = g.K.Blocks.view c.args.disk.now in
-    let cur = g.K.Blocks.view c.loop-place.disk in
+    let cur = g.K.Blocks.view c.loop-position.disk in
     let new = g.K.Blocks.view c.read_part.new.disk in
-    then_looks told first cur new tt (Err c.in-Err.refusal) c.loop-place.invariant.looks (looks_refused told cur new c.in-Err.refusal c.in-Err.ensures.looks)
+    then_looks told first cur new tt (Err c.in-Err.refusal) c.loop-position.invariant.looks (looks_refused told cur new c.in-Err.refusal c.in-Err.ensures.looks)
 
 pub returns-then-len-eq-DATA_MAX-clause-bytes : goal.returns-then-len-eq-DATA_MAX-clause-bytes
 returns-then-len-eq-DATA_MAX-clause-bytes g c = λ t ls file.
-    let cur = g.K.Blocks.view c.loop-place.disk in
-    let into = c.loop-place.into in
+    let cur = g.K.Blocks.view c.loop-position.disk in
+    let into = c.loop-position.into in
     let cl = cluster_of (part_cluster c.in-Ok.part.cluster) in
-    copy_full c.args.client.now cur ls c.loop-place.place c.loop-place.block c.loop-place.before c.args.start (length c.bytes-in-loop-place.result.now) into c.add_part.new.into cl (c.loop-place.invariant.copied t ls file) (c.in-Ok.ensures.part t).read.says
-    (ap length c.bytes-in-loop-place.ensures.value) (c.add_part.ensures ∙ ap (λ xs. into ++ take (4096 - length into) (drop (c.args.start - c.loop-place.before) xs)) c.bytes.ensures.value)
+    copy_full c.args.client.now cur ls c.loop-position.position c.loop-position.block c.loop-position.before c.args.start (length c.bytes-in-loop-position.result.now) into c.add_part.new.into cl (c.loop-position.invariant.copied t ls file) (c.in-Ok.ensures.part t).read.says
+    (ap length c.bytes-in-loop-position.ensures.value) (c.add_part.ensures ∙ ap (λ xs. into ++ take (4096 - length into) (drop (c.args.start - c.loop-position.before) xs)) c.bytes.ensures.value)
     (sym c.len.ensures.value ∙ c.if-len-eq-DATA_MAX.true)
 
 pub returns-then-len-eq-DATA_MAX-clause-looks : goal.returns-then-len-eq-DATA_MAX-clause-looks
 returns-then-len-eq-DATA_MAX-clause-looks g c =
     let told = g.K.Blocks.told in
     let first = g.K.Blocks.view c.args.disk.now in
-    let cur = g.K.Blocks.view c.loop-place.disk in
+    let cur = g.K.Blocks.view c.loop-position.disk in
     let new = g.K.Blocks.view c.read_part.new.disk in
-    then_looks told first cur new tt (Ok tt) c.loop-place.invariant.looks (looks_as told cur new c.in-Ok.part tt c.in-Ok.ensures.looks)
+    then_looks told first cur new tt (Ok tt) c.loop-position.invariant.looks (looks_as told cur new c.in-Ok.part tt c.in-Ok.ensures.looks)
 
 pub returns-in-None-clause-bytes : goal.returns-in-None-clause-bytes
 returns-in-None-clause-bytes g c = λ t ls file.
-    let cur = g.K.Blocks.view c.loop-place.disk in
-    let into = c.loop-place.into in
+    let cur = g.K.Blocks.view c.loop-position.disk in
+    let into = c.loop-position.into in
     let cl = cluster_of (part_cluster c.in-Ok.part.cluster) in
-    copy_ends c.args.client.now cur ls c.loop-place.place c.loop-place.block c.loop-place.before c.args.start (length c.bytes-in-loop-place.result.now) into c.add_part.new.into cl (c.loop-place.invariant.copied t ls file) (c.in-Ok.ensures.part t).read.says
-    (ap length c.bytes-in-loop-place.ensures.value) (c.add_part.ensures ∙ ap (λ xs. into ++ take (4096 - length into) (drop (c.args.start - c.loop-place.before) xs)) c.bytes.ensures.value)
+    copy_ends c.args.client.now cur ls c.loop-position.position c.loop-position.block c.loop-position.before c.args.start (length c.bytes-in-loop-position.result.now) into c.add_part.new.into cl (c.loop-position.invariant.copied t ls file) (c.in-Ok.ensures.part t).read.says
+    (ap length c.bytes-in-loop-position.ensures.value) (c.add_part.ensures ∙ ap (λ xs. into ++ take (4096 - length into) (drop (c.args.start - c.loop-position.before) xs)) c.bytes.ensures.value)
     (sym (c.next.ensures.value ∙ ap (λ k. (cluster_of k).next) c.cluster.ensures) ∙ c.in-None.is)
 
 pub returns-in-None-clause-looks : goal.returns-in-None-clause-looks
 returns-in-None-clause-looks g c =
     let told = g.K.Blocks.told in
     let first = g.K.Blocks.view c.args.disk.now in
-    let cur = g.K.Blocks.view c.loop-place.disk in
+    let cur = g.K.Blocks.view c.loop-position.disk in
     let new = g.K.Blocks.view c.read_part.new.disk in
-    then_looks told first cur new tt (Ok tt) c.loop-place.invariant.looks (looks_as told cur new c.in-Ok.part tt c.in-Ok.ensures.looks)
+    then_looks told first cur new tt (Ok tt) c.loop-position.invariant.looks (looks_as told cur new c.in-Ok.part tt c.in-Ok.ensures.looks)
 
-pub loop-place-preserved : goal.loop-place-preserved
-loop-place-preserved g c =
+pub loop-position-preserved : goal.loop-position-preserved
+loop-position-preserved g c =
     let told = g.K.Blocks.told in
     let first = g.K.Blocks.view c.args.disk.now in
-    let cur = g.K.Blocks.view c.loop-place.disk in
+    let cur = g.K.Blocks.view c.loop-position.disk in
     let new = g.K.Blocks.view c.read_part.new.disk in
     let part = c.in-Ok.part in
-    let into = c.loop-place.into in
+    let into = c.loop-position.into in
     let cl = cluster_of (part_cluster part.cluster) in
-    let inv = c.loop-place.invariant in
+    let inv = c.loop-position.invariant in
     record {
       looks = then_looks told first cur new tt (Ok tt) inv.looks (looks_as told cur new part tt c.in-Ok.ensures.looks);
-      copied = λ t ls file. copy_on c.args.client.now cur ls c.loop-place.place c.loop-place.block c.loop-place.before c.args.start (length c.bytes-in-loop-place.result.now) into c.add_part.new.into cl (inv.copied t ls file) (c.in-Ok.ensures.part t).read.says
-          (ap length c.bytes-in-loop-place.ensures.value) (c.add_part.ensures ∙ ap (λ xs. into ++ take (4096 - length into) (drop (c.args.start - c.loop-place.before) xs)) c.bytes.ensures.value)
+      copied = λ t ls file. copy_on c.args.client.now cur ls c.loop-position.position c.loop-position.block c.loop-position.before c.args.start (length c.bytes-in-loop-position.result.now) into c.add_part.new.into cl (inv.copied t ls file) (c.in-Ok.ensures.part t).read.says
+          (ap length c.bytes-in-loop-position.ensures.value) (c.add_part.ensures ∙ ap (λ xs. into ++ take (4096 - length into) (drop (c.args.start - c.loop-position.before) xs)) c.bytes.ensures.value)
           new c.in-Some.next (sym (c.next.ensures.value ∙ ap (λ k. (cluster_of k).next) c.cluster.ensures) ∙ c.in-Some.is) (c.in-Ok.ensures.looks.looked t).0 c.in-Ok.ensures.looks.stays.0 (c.in-Ok.ensures.held t);
-      few = omega (arith, inv.few, c.bytes-in-loop-place.ensures.small);
+      few = omega (arith, inv.few, c.bytes-in-loop-position.ensures.small);
     }

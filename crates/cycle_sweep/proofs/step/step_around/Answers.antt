@@ -7,7 +7,7 @@ use Rattle.cycle_sweep.proofs.step.step_around.Goals as goal
 
 -- each block is in one part or the other
 pub returns-clause-stuck : goal.returns-clause-stuck
-returns-clause-stuck c = λ none b live out. elim (cases_lt b c.min-place.result) [
+returns-clause-stuck c = λ none b live out. elim (cases_lt b c.min-position.result) [
   | inl before ↦ c.step_within.ensures.stuck none b (omega arith) before live out
   | inr behind ↦
       let below : b < length (graph_of c.args.pointers.now c.args.live.now).blocks = live_below (graph_of c.args.pointers.now c.args.live.now).blocks b live in

@@ -8,13 +8,13 @@ none_more i = omega arith
 
 pub returns-then-not-is_below-clause-value : goal.returns-then-not-is_below-clause-value
 returns-then-not-is_below-clause-value c =
-    let other = c.trimmed-other.ensures.value ∙ entry_at c.args.list.now (32 * c.args.place) (omega arith) in
-    sym (skips_at c.args.name.now c.args.list.now c.args.amount c.args.place (omega arith) c.trimmed-other.result.now other ∙ ap (λ t. c.args.place + cond t 0 1) (sym c.is_below.ensures ∙ c.if-not-is_below.true))
+    let other = c.trimmed-other.ensures.value ∙ entry_at c.args.list.now (32 * c.args.position) (omega arith) in
+    sym (skips_at c.args.name.now c.args.list.now c.args.amount c.args.position (omega arith) c.trimmed-other.result.now other ∙ ap (λ t. c.args.position + cond t 0 1) (sym c.is_below.ensures ∙ c.if-not-is_below.true))
 
 pub returns-else-not-is_below-clause-value : goal.returns-else-not-is_below-clause-value
 returns-else-not-is_below-clause-value c =
-    let other = c.trimmed-other.ensures.value ∙ entry_at c.args.list.now (32 * c.args.place) (omega arith) in
-    sym (skips_at c.args.name.now c.args.list.now c.args.amount c.args.place (omega arith) c.trimmed-other.result.now other ∙ (ap (λ t. c.args.place + cond t 0 1) (sym c.is_below.ensures ∙ c.if-not-is_below.false) ∙ none_more c.args.place))
+    let other = c.trimmed-other.ensures.value ∙ entry_at c.args.list.now (32 * c.args.position) (omega arith) in
+    sym (skips_at c.args.name.now c.args.list.now c.args.amount c.args.position (omega arith) c.trimmed-other.result.now other ∙ (ap (λ t. c.args.position + cond t 0 1) (sym c.is_below.ensures ∙ c.if-not-is_below.false) ∙ none_more c.args.position))
 
-pub returns-else-place-amount-clause-value : goal.returns-else-place-amount-clause-value
-returns-else-place-amount-clause-value c = sym (skips_none c.args.name.now c.args.list.now c.args.amount c.args.place (omega arith))
+pub returns-else-position-amount-clause-value : goal.returns-else-position-amount-clause-value
+returns-else-position-amount-clause-value c = sym (skips_none c.args.name.now c.args.list.now c.args.amount c.args.position (omega arith))

@@ -8,4 +8,4 @@ use Rattle.grant_table.proofs.grants.drop_from_each.Goals as goal
 pub returns : goal.returns
 returns c =
     let f : Held → Held = λ h. slice_set h c.args.origin (replicate (length (slice_index_or h c.args.origin [])) level.Bare) in
-    changed_all None (option_map f) c.args.held.now c.loop-place.held c.loop-place.place (omega arith) (omega arith) c.loop-place.invariant.done
+    changed_all None (option_map f) c.args.held.now c.loop-position.held c.loop-position.position (omega arith) (omega arith) c.loop-position.invariant.done

@@ -38,7 +38,7 @@ returns-in-Ok-clause-ran g c =
     let new = g.P.Device.view c.serve_image.new.port in
     let took = taking g.S.Source.told g.S.Source.taken g.S.Source.left_bytes g.S.Source.ended c.args.source.now c.serve_image.new.source in
     let geometry = c.args.geometry.now in
-    ran_formatted c.serve_image.result g.R.Replies.voice g.R.Protocol.spelling c.args.place.now.kind (single_world geometry c.args.caps.now) c.args.limit took g.P.Device.told _ _ old mid new
+    ran_formatted c.serve_image.result g.R.Replies.voice g.R.Protocol.spelling c.args.placement.now.kind (single_world geometry c.args.caps.now) c.args.limit took g.P.Device.told _ _ old mid new
     (spoken_counted disk_rules g.R.Replies.voice (λ s q r t given. given.1) g.met.R.Replies.apart)
     (formatted_here g c)
     c.serve_image.ensures.read
@@ -50,7 +50,7 @@ returns-in-Err-clause-ran g c =
     let new = g.P.Device.view c.format.new.dev in
     let took = taking g.S.Source.told g.S.Source.taken g.S.Source.left_bytes g.S.Source.ended c.args.source.now c.args.source.now in
     let geometry = c.args.geometry.now in
-    ran_unformatted g.R.Replies.voice g.R.Protocol.spelling c.args.place.now.kind (single_world geometry c.args.caps.now) c.args.limit took (moments g.P.Device.told g.P.Device.view c.args.port.now c.format.new.dev)
+    ran_unformatted g.R.Replies.voice g.R.Protocol.spelling c.args.placement.now.kind (single_world geometry c.args.caps.now) c.args.limit took (moments g.P.Device.told g.P.Device.view c.args.port.now c.format.new.dev)
     (spoken_counted disk_rules g.R.Replies.voice (λ s q r t given. given.1) g.met.R.Replies.apart)
     (record { taken = λ tells. sym (append-nil _); left = λ tells. refl })
     refl
@@ -60,7 +60,7 @@ returns-in-Err-clause-ran g c =
 
 pub returns-in-Ok-clause-prompt : goal.returns-in-Ok-clause-prompt
 returns-in-Ok-clause-prompt g c told =
-    prompt_formatted c.serve_image.result g.R.Replies.voice c.args.place.now.kind (single_world c.args.geometry.now c.args.caps.now) (IsOfPort g.P.Device.view)
+    prompt_formatted c.serve_image.result g.R.Replies.voice c.args.placement.now.kind (single_world c.args.geometry.now c.args.caps.now) (IsOfPort g.P.Device.view)
     (g.P.Device.view c.args.port.now) (g.P.Device.view c.format.new.dev) (g.P.Device.view c.serve_image.new.port) (formatted_here g c told) (c.serve_image.ensures.prompt told)
 
 pub returns-in-Err-clause-prompt : goal.returns-in-Err-clause-prompt

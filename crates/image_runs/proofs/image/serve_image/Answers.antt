@@ -42,10 +42,10 @@ returns-in-Ok-clause-ran g c =
       came_in = ran.came_in;
       asked = ran.asked;
       these = inr ran.these;
-      final = placed_on c.args.place.now.kind c.serve_core.new.core new.reads;
+      final = placed_on c.args.placement.now.kind c.serve_core.new.core new.reads;
       ends = λ told.
-          ends_opened c.serve_core.result g.R.Replies.voice c.args.place.now.kind old mid new ran.asked _ _ _ (spoken_counted disk_rules g.R.Replies.voice (λ s q r t given. given.1) g.met.R.Replies.apart)
-          (placed_at c.args.place.now.kind c.in-Ok.core mid.reads _ (c.in-Ok.ensures.state told)) (c.in-Ok.ensures.settled told)
+          ends_opened c.serve_core.result g.R.Replies.voice c.args.placement.now.kind old mid new ran.asked _ _ _ (spoken_counted disk_rules g.R.Replies.voice (λ s q r t given. given.1) g.met.R.Replies.apart)
+          (placed_at c.args.placement.now.kind c.in-Ok.core mid.reads _ (c.in-Ok.ensures.state told)) (c.in-Ok.ensures.settled told)
           (record {
             sent = c.open_core.ensures.sent told;
             any_moment = c.open_core.ensures.any_moment told;
@@ -94,9 +94,9 @@ returns-in-Err-clause-ran g c =
       came_in = record { taken = λ tells. sym (append-nil _); left = λ tells. refl };
       asked = [];
       these = inl (record { why = c.in-Err.ensures.stops; untouched = refl; none = refl; sent = c.open_core.ensures.sent; alike = c.open_core.ensures.any_moment });
-      final = start_of c.args.place.now.kind old.reads;
+      final = start_of c.args.placement.now.kind old.reads;
       ends = λ told.
-          ends_unopened c.in-Err.why g.R.Replies.voice c.args.place.now.kind old (g.P.Device.view c.open_core.new.dev) (spoken_counted disk_rules g.R.Replies.voice (λ s q r t given. given.1) g.met.R.Replies.apart)
+          ends_unopened c.in-Err.why g.R.Replies.voice c.args.placement.now.kind old (g.P.Device.view c.open_core.new.dev) (spoken_counted disk_rules g.R.Replies.voice (λ s q r t given. given.1) g.met.R.Replies.apart)
           c.in-Err.ensures.stops
           (record {
             sent = c.open_core.ensures.sent told;
@@ -152,7 +152,7 @@ returns-in-Ok-clause-prompt g c told =
       sent = c.open_core.ensures.sent told;
       writes = λ quiet. omega (arith, c.open_core.ensures.unwritten told quiet);
       prompt = subst (λ (s : Placed). Promptly c.serve_core.result (spoken disk_rules g.R.Replies.voice) disk_work (IsOfPort g.P.Device.view) s (mark mid) (mark new))
-          (placed_at c.args.place.now.kind c.in-Ok.core mid.reads _ (c.in-Ok.ensures.state told)) (c.serve_core.ensures.prompt told);
+          (placed_at c.args.placement.now.kind c.in-Ok.core mid.reads _ (c.in-Ok.ensures.state told)) (c.serve_core.ensures.prompt told);
     }
 
 pub returns-in-Err-clause-prompt : goal.returns-in-Err-clause-prompt

@@ -13,11 +13,11 @@ invariant-loop-number g l =
     record {
       ready : IsCoreReady l.core;
       at : g.D.Device.told → IsCoreAt l.core now;
-      applied : g.D.Device.told → HasApplied l.place.kind l.load.seed (world_of start.reads) l.number (state_on l.core now.reads) l.tally.granted l.tally.refused;
+      applied : g.D.Device.told → HasApplied l.placement.kind l.load.seed (world_of start.reads) l.number (state_on l.core now.reads) l.tally.granted l.tally.refused;
       one : l.tally.granted + l.tally.refused ≡ l.number;
       draws : l.draws ≡ load_of l.load.seed (told_world l.initial.core).geometry l.number;
       sent : g.D.Device.told → now.sent ≡ start.sent;
-      moments : g.D.Device.told → LeavesRun l.place.kind l.load.seed l.number start now;
+      moments : g.D.Device.told → LeavesRun l.placement.kind l.load.seed l.number start now;
       works : Works start now;
       faults : now.faults ≡ start.faults;
     }

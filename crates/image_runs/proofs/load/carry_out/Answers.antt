@@ -16,11 +16,11 @@ pub returns-in-Ok-clause-loaded : goal.returns-in-Ok-clause-loaded
 returns-in-Ok-clause-loaded g c told =
     let old = g.D.Device.view c.args.dev.now in
     let mid = g.D.Device.view c.open_volume.new.dev in
-    loaded_on c.args.place.now.kind c.args.load.now.seed old.reads mid.reads c.args.load.now.count (g.D.Device.view c.run.new.dev) c.run.result (c.in-Ok.ensures.read told) (c.in-Ok.ensures.done told) (c.run.ensures.loaded told)
+    loaded_on c.args.placement.now.kind c.args.load.now.seed old.reads mid.reads c.args.load.now.count (g.D.Device.view c.run.new.dev) c.run.result (c.in-Ok.ensures.read told) (c.in-Ok.ensures.done told) (c.run.ensures.loaded told)
 
 pub returns-in-Ok-clause-summary : goal.returns-in-Ok-clause-summary
 returns-in-Ok-clause-summary g c told =
-    subst (λ (w : World). IfOk c.run.result (λ s. IsSummary c.args.place.now.kind c.args.load.now.seed w c.args.load.now.count s)) (c.in-Ok.ensures.done told) (c.run.ensures.summary told)
+    subst (λ (w : World). IfOk c.run.result (λ s. IsSummary c.args.placement.now.kind c.args.load.now.seed w c.args.load.now.count s)) (c.in-Ok.ensures.done told) (c.run.ensures.summary told)
 
 pub returns-in-Ok-clause-judged : goal.returns-in-Ok-clause-judged
 returns-in-Ok-clause-judged g c told = judged_on (g.D.Device.view c.args.dev.now).reads c.run.result c.run.ensures.stops
@@ -30,12 +30,12 @@ returns-in-Ok-clause-stops g c = unopened_on (g.D.Device.view c.args.dev.now).re
 
 pub returns-in-Ok-clause-any_moment : goal.returns-in-Ok-clause-any_moment
 returns-in-Ok-clause-any_moment g c told firm =
-    load_moments c.args.place.now.kind c.args.load.now.seed c.args.load.now.count (g.D.Device.view c.args.dev.now) (g.D.Device.view c.open_volume.new.dev) (g.D.Device.view c.run.new.dev)
+    load_moments c.args.placement.now.kind c.args.load.now.seed c.args.load.now.count (g.D.Device.view c.args.dev.now) (g.D.Device.view c.open_volume.new.dev) (g.D.Device.view c.run.new.dev)
     (c.in-Ok.ensures.read told) (c.in-Ok.ensures.done told) (c.open_volume.ensures.sent told) (c.open_volume.ensures.any_moment told firm) (c.run.ensures.any_moment told)
 
 pub returns-in-Ok-clause-no_memory : goal.returns-in-Ok-clause-no_memory
 returns-in-Ok-clause-no_memory g c told =
-    starved_alike c.args.place.now.kind c.args.load.now.seed (g.D.Device.view c.args.dev.now) (g.D.Device.view c.open_volume.new.dev) (g.D.Device.view c.run.new.dev) c.run.result
+    starved_alike c.args.placement.now.kind c.args.load.now.seed (g.D.Device.view c.args.dev.now) (g.D.Device.view c.open_volume.new.dev) (g.D.Device.view c.run.new.dev) c.run.result
     (c.in-Ok.ensures.read told) (c.in-Ok.ensures.done told) (c.open_volume.ensures.sent told) (c.open_volume.ensures.any_moment told) (c.run.ensures.no_memory told)
 
 pub returns-in-Err-clause-any_moment : goal.returns-in-Err-clause-any_moment

@@ -12,7 +12,7 @@ pub returns-in-Ok-put_all-clause-loaded : goal.returns-in-Ok-put_all-clause-load
 returns-in-Ok-put_all-clause-loaded g c told =
     let old = g.P.Device.view c.args.port.now in
     let mid = g.P.Device.view c.carry_out.new.dev in
-    let kind = c.args.place.now.kind in
+    let kind = c.args.placement.now.kind in
     let text = c.as_slice.ensures.value ∙ c.load_line.ensures ∙ line_is kind c.args.load.now.seed old.reads c.args.load.now.count c.in-Ok.summary (c.in-Ok.ensures.summary told) in (
       loaded_still kind c.args.load.now.seed old.reads c.args.load.now.count mid (g.P.Device.view c.put_all.new.port) (c.in-Ok.ensures.loaded told) (c.put_all.ensures.reads told) (c.put_all.ensures.loose told),
       c.in-Ok-put_all.ensures.sent told ∙ ap (λ (b : List ℕ). b ++ c.as_slice.result.now) (c.carry_out.ensures.sent told) ∙ ap (λ (t : List ℕ). old.sent ++ t) text,
@@ -23,7 +23,7 @@ returns-in-Err-put_all-clause-loaded g c told =
     let old = g.P.Device.view c.args.port.now in
     let mid = g.P.Device.view c.carry_out.new.dev in
     let new = g.P.Device.view c.put_all.new.port in
-    let kind = c.args.place.now.kind in
+    let kind = c.args.placement.now.kind in
     let text = c.as_slice.ensures.value ∙ c.load_line.ensures ∙ line_is kind c.args.load.now.seed old.reads c.args.load.now.count c.in-Ok.summary (c.in-Ok.ensures.summary told) in (
       loaded_still kind c.args.load.now.seed old.reads c.args.load.now.count mid new (c.in-Ok.ensures.loaded told) (c.put_all.ensures.reads told) (c.put_all.ensures.loose told),
       subst (λ (t : List ℕ). ProperFrontWasSent old.sent t new.sent) text (cut_from old.sent mid.sent c.as_slice.result.now new.sent (c.carry_out.ensures.sent told) (c.in-Err-put_all.ensures.part told)),
@@ -34,7 +34,7 @@ returns-in-Ok-put_all-clause-any_moment g c told firm =
     let old = g.P.Device.view c.args.port.now in
     let mid = g.P.Device.view c.carry_out.new.dev in
     let new = g.P.Device.view c.put_all.new.port in
-    let kind = c.args.place.now.kind in
+    let kind = c.args.placement.now.kind in
     let text = c.as_slice.ensures.value ∙ c.load_line.ensures ∙ line_is kind c.args.load.now.seed old.reads c.args.load.now.count c.in-Ok.summary (c.in-Ok.ensures.summary told) in
     line_moments kind c.args.load.now.seed c.args.load.now.count old mid new (c.in-Ok.ensures.loaded told) (c.carry_out.ensures.sent told) (c.carry_out.ensures.any_moment told firm)
     (subst (λ (t : List ℕ). LeavesOnly mid new (IsLeftInPut t mid)) text (c.put_all.ensures.any_moment told))
@@ -44,14 +44,14 @@ returns-in-Err-put_all-clause-any_moment g c told firm =
     let old = g.P.Device.view c.args.port.now in
     let mid = g.P.Device.view c.carry_out.new.dev in
     let new = g.P.Device.view c.put_all.new.port in
-    let kind = c.args.place.now.kind in
+    let kind = c.args.placement.now.kind in
     let text = c.as_slice.ensures.value ∙ c.load_line.ensures ∙ line_is kind c.args.load.now.seed old.reads c.args.load.now.count c.in-Ok.summary (c.in-Ok.ensures.summary told) in
     line_moments kind c.args.load.now.seed c.args.load.now.count old mid new (c.in-Ok.ensures.loaded told) (c.carry_out.ensures.sent told) (c.carry_out.ensures.any_moment told firm)
     (subst (λ (t : List ℕ). LeavesOnly mid new (IsLeftInPut t mid)) text (c.put_all.ensures.any_moment told))
 
 pub returns-in-Err-clause-loaded : goal.returns-in-Err-clause-loaded
 returns-in-Err-clause-loaded g c told =
-    not_loaded c.in-Err.why c.args.place.now.kind c.args.load.now.seed c.args.load.now.count (g.P.Device.view c.args.port.now) (g.P.Device.view c.carry_out.new.dev) c.in-Err.ensures.stops
+    not_loaded c.in-Err.why c.args.placement.now.kind c.args.load.now.seed c.args.load.now.count (g.P.Device.view c.args.port.now) (g.P.Device.view c.carry_out.new.dev) c.in-Err.ensures.stops
     (c.in-Err.ensures.judged told) (c.carry_out.ensures.sent told)
 
 pub returns-in-Err-clause-any_moment : goal.returns-in-Err-clause-any_moment

@@ -11,11 +11,11 @@ pub returns-clause-ran : goal.returns-clause-ran
 returns-clause-ran g c =
     let old = g.P.Device.view c.args.port.now in
     let new = g.P.Device.view c.serve.new.port in
-    let start = placed_on c.args.place.now.kind c.args.core.now old.reads in
-    let kind = c.args.place.now.kind in
+    let start = placed_on c.args.placement.now.kind c.args.core.now old.reads in
+    let kind = c.args.placement.now.kind in
     let took = taking g.S.Source.told g.S.Source.taken g.S.Source.left_bytes g.S.Source.ended c.args.source.now c.serve.new.source in
     let port = moments g.P.Device.told g.P.Device.view c.args.port.now c.serve.new.port in
-    let here = ran_here c.serve.result g.R.Replies.voice g.R.Protocol.spelling start c.serve.new.server.place.now.kind (state_on c.serve.new.server.core.now new.reads) c.args.limit took (due c.args.core.now.volume) port c.serve.ensures.ran in
+    let here = ran_here c.serve.result g.R.Replies.voice g.R.Protocol.spelling start c.serve.new.server.placement.now.kind (state_on c.serve.new.server.core.now new.reads) c.args.limit took (due c.args.core.now.volume) port c.serve.ensures.ran in
     subst
     (λ (d : Core). Ran c.serve.result (spoken disk_rules g.R.Replies.voice) disk_work g.R.Protocol.spelling start (placed_on kind d new.reads) c.args.limit took (due c.args.core.now.volume) port)
     (sym (c.core-1.given.1 (sym c.serve.ensures.lender))) here

@@ -5,19 +5,19 @@ pub returns-in-Ok-Done : goal.returns-in-Ok-Done
 returns-in-Ok-Done g c =
     let view = g.D.Device.view in
     let e = c.in-Ok-Done.ensures in
-    begun_done g.D.Device.told g.K.Started.start (g.L.Places.kind c.args.place.now) c.args.core.now c.apply.new.core (view c.args.dev.now) (view c.apply.new.dev) c.requires.none c.requires.at
+    begun_done g.D.Device.told g.K.Started.start (g.L.Placing.kind c.args.placement.now) c.args.core.now c.apply.new.core (view c.args.dev.now) (view c.apply.new.dev) c.requires.none c.requires.at
     e.sent e.any_moment e.works tt c.in-Ok-Done.field-0 c.in-Ok-Done.field-0-is e.ready e.at e.given e.told e.faults
 
 pub returns-in-Ok : goal.returns-in-Ok
 returns-in-Ok g c =
     let view = g.D.Device.view in
     let e = c.in-Ok.ensures in
-    begun_not g.D.Device.told g.K.Started.start (g.L.Places.kind c.args.place.now) c.args.core.now c.apply.new.core (view c.args.dev.now) (view c.apply.new.dev) c.requires.none c.requires.at
+    begun_not g.D.Device.told g.K.Started.start (g.L.Placing.kind c.args.placement.now) c.args.core.now c.apply.new.core (view c.args.dev.now) (view c.apply.new.dev) c.requires.none c.requires.at
     e.sent e.any_moment e.works e.faults
 
 pub returns-in-Err : goal.returns-in-Err
 returns-in-Err g c =
     let view = g.D.Device.view in
     let e = c.in-Err.ensures in
-    begun_fault g.D.Device.told g.K.Started.start (g.L.Places.kind c.args.place.now) c.args.core.now c.apply.new.core (view c.args.dev.now) (view c.apply.new.dev) c.requires.none c.requires.at
+    begun_fault g.D.Device.told g.K.Started.start (g.L.Placing.kind c.args.placement.now) c.args.core.now c.apply.new.core (view c.args.dev.now) (view c.apply.new.dev) c.requires.none c.requires.at
     e.sent e.any_moment e.works e.faults

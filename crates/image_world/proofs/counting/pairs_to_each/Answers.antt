@@ -34,20 +34,20 @@ loop-slot-preserved c = elim c.match-pair_in.branch [
       let now : w.index_mut.result.now ≡ get_or old target 0 = w.index_mut.ensures.value ∙ get_or_default_zero old target w.index_mut.result.now inside in
       let items : c.match-pair_in.found.items ≡ set old target (w.index_mut.result.now + 1) = ap (λ v. v.items) w.found-is in
       let all : length c.match-pair_in.found.items ≡ length old = ap length items ∙ length-set old target (w.index_mut.result.now + 1) in
-      let place : c.loop-slot.slot < length slots = inside_slots c.geometry-geometry.ensures c.pair_in.ensures.table.count c.loop-slot-test.true in
+      let position : c.loop-slot.slot < length slots = inside_slots c.geometry-geometry.ensures c.pair_in.ensures.table.count c.loop-slot-test.true in
       record {
         each = all ∙ c.loop-slot.invariant.each;
         found = λ b h. ap (λ xs. get_or xs b 0) items
-            ∙ found_more old slots c.loop-slot.slot w.in-Some.field-0-0 target (w.index_mut.result.now + 1) place held inside (ap (λ n. n + 1) now) c.loop-slot.invariant.found b (omega arith);
+            ∙ found_more old slots c.loop-slot.slot w.in-Some.field-0-0 target (w.index_mut.result.now + 1) position held inside (ap (λ n. n + 1) now) c.loop-slot.invariant.found b (omega arith);
       }
   | in_default w ↦
       let slots = c.args.pointers.now.slots in
-      let place : c.loop-slot.slot < length slots = inside_slots c.geometry-geometry.ensures c.pair_in.ensures.table.count c.loop-slot-test.true in
+      let position : c.loop-slot.slot < length slots = inside_slots c.geometry-geometry.ensures c.pair_in.ensures.table.count c.loop-slot-test.true in
       let items = ap (λ v. v.items) w.found-is in
       record {
         each = ap length items ∙ c.loop-slot.invariant.each;
         found = λ b h. ap (λ xs. get_or xs b 0) items
-            ∙ (c.loop-slot.invariant.found b (subst (λ xs. b < length xs) items h) ∙ sym (none_counted slots c.loop-slot.slot b place (sym c.pair_in.ensures.value ∙ w.in_default.is)));
+            ∙ (c.loop-slot.invariant.found b (subst (λ xs. b < length xs) items h) ∙ sym (none_counted slots c.loop-slot.slot b position (sym c.pair_in.ensures.value ∙ w.in_default.is)));
       }
 ]
 

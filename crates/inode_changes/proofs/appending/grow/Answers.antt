@@ -48,12 +48,12 @@ returns-then-is_too_big g c =
     let told = g.K.Blocks.told in
     let old = g.K.Blocks.view c.args.disk.now in
     let me = c.args.client.now in
-    let place = c.args.place.now in
+    let lookup = c.args.lookup.now in
     let file = c.args.file.now in
     let y = c.args.bytes.now in
     let big = is_big c.is_too_big.result c.amount.result c.len.result c.block_len.result (amount_said (inode_of file.inode)) (length y) (block_len_of file.inode) c.is_too_big.ensures c.amount.ensures c.len.ensures.value c.block_len.ensures.value in
     record {
-      answer = λ t path x. ask_refuses (mounted_by me) old old (ask.Append path y) (λ _ answer. answer ≡ done) no.TooBig (λ ne. big_refuses me old path place file x c.requires.is_file (c.requires.valid t) y (big ∙ c.if-is_too_big.true)) (λ ne. refl);
+      answer = λ t path x. ask_refuses (mounted_by me) old old (ask.Append path y) (λ _ answer. answer ≡ done) no.TooBig (λ ne. big_refuses me old path lookup file x c.requires.is_file (c.requires.valid t) y (big ∙ c.if-is_too_big.true)) (λ ne. refl);
       changes = λ path x. looks_change told (mounted_by me) old old (ask.Append path y) (Err no.TooBig) (λ t. (c.requires.valid t).valid)
           (looks_but_refuses told old old tt no.TooBig (λ d. cc) (no_look told old c.requires.unspent (λ t. g.met.K.Blocks.sound c.args.disk.now t c.requires.unspent) c.requires.valid));
     }
@@ -98,7 +98,7 @@ make_file-requires g c =
     let old = g.K.Blocks.view c.args.disk.now in
     let lb = g.K.Blocks.view c.last_bytes.new.disk in
     let me = c.args.client.now in
-    let place = c.args.place.now in
+    let lookup = c.args.lookup.now in
     let file = c.args.file.now in
     let y = c.args.bytes.now in
     let no_dir = c.requires.is_file in
@@ -109,18 +109,18 @@ make_file-requires g c =
     let content = c.grown-content.result in
     let h = c.grown-content.ensures in
     let path : told → Path = λ t. (c.requires.grows t).0 in
-    let x : (t : told) → Grows me lb (path t) place file = λ t. grows_still me old lb (path t) place file (e.looks.looked t).0 e.looks.stays.0 (c.requires.valid t) (c.requires.grows t).1 in
+    let x : (t : told) → Grows me lb (path t) lookup file = λ t. grows_still me old lb (path t) lookup file (e.looks.looked t).0 e.looks.stays.0 (c.requires.valid t) (c.requires.grows t).1 in
     let now : told → IsValidNow lb = λ t. (e.looks.looked t).0.valid in
     let front_is : told → front ≡ part (bytes_said lb.world (inode_of file.inode)) (block_len_of file.inode * (amount_said (inode_of file.inode) / block_len_of file.inode)) (amount_said (inode_of file.inode)) =
     λ t. e.front t ∙ ap (λ w. part (bytes_said w (inode_of file.inode)) (block_len_of file.inode * (amount_said (inode_of file.inode) / block_len_of file.inode)) (amount_said (inode_of file.inode))) (sym (e.looks.looked t).0.world) in
     record {
       unspent = e.looks.unspent.0;
       valid = now;
-      stage = λ t. stage_of me.root lb.world (path t) place (x t).grounds;
+      stage = λ t. stage_of me.root lb.world (path t) lookup (x t).grounds;
       may = λ t. (x t).may;
       room = has_room file.inode no_dir (subst (λ n. 16 ≤ n) value c.block_len.ensures.whole) front y content h e.few (subst (λ n. n ≤ 4096) value c.block_len.ensures.fits) (subst (λ n. n ≤ 4096) c.len.ensures.value c.len.ensures.fits) (big ∙ c.if-is_too_big.false);
-      suits = λ t. is_for me lb (path t) place file (x t) no_dir (now t) front y content h (front_is t);
-      of_files = λ t. of_files me lb (path t) place file (x t) no_dir (now t) front y content h (front_is t);
+      suits = λ t. is_for me lb (path t) lookup file (x t) no_dir (now t) front y content h (front_is t);
+      of_files = λ t. of_files me lb (path t) lookup file (x t) no_dir (now t) front y content h (front_is t);
     }
 
 pub returns-in-Err-make_file : goal.returns-in-Err-make_file
@@ -130,7 +130,7 @@ returns-in-Err-make_file g c =
     let lb = g.K.Blocks.view c.last_bytes.new.disk in
     let mk = g.K.Blocks.view c.make_file.new.disk in
     let me = c.args.client.now in
-    let place = c.args.place.now in
+    let lookup = c.args.lookup.now in
     let file = c.args.file.now in
     let y = c.args.bytes.now in
     let no_dir = c.requires.is_file in
@@ -139,7 +139,7 @@ returns-in-Err-make_file g c =
     let front = c.in-Ok.front in
     let content = c.grown-content.result in
     let h = c.grown-content.ensures in
-    let still : (t : told) (path : Path) → Grows me old path place file → Grows me lb path place file = λ t path x. grows_still me old lb path place file (e.looks.looked t).0 e.looks.stays.0 (c.requires.valid t) x in
+    let still : (t : told) (path : Path) → Grows me old path lookup file → Grows me lb path lookup file = λ t path x. grows_still me old lb path lookup file (e.looks.looked t).0 e.looks.stays.0 (c.requires.valid t) x in
     let now : told → IsValidNow lb = λ t. (e.looks.looked t).0.valid in
     let front_is : told → front ≡ part (bytes_said lb.world (inode_of file.inode)) (block_len_of file.inode * (amount_said (inode_of file.inode) / block_len_of file.inode)) (amount_said (inode_of file.inode)) =
     λ t. e.front t ∙ ap (λ w. part (bytes_said w (inode_of file.inode)) (block_len_of file.inode * (amount_said (inode_of file.inode) / block_len_of file.inode)) (amount_said (inode_of file.inode))) (sym (e.looks.looked t).0.world) in
@@ -148,7 +148,7 @@ returns-in-Err-make_file g c =
     record {
       answer = λ t path x. answers_again (mounted_by me) old lb (ask.Append path y) (e.looks.looked t).0.world mk (Err r) (λ _ answer. answer ≡ done)
           (ask_refuses (mounted_by me) lb mk (ask.Append path y) (λ _ answer. answer ≡ done) r
-          (λ ne. room_is me lb path place file (still t path x) no_dir (now t) front y content h (front_is t) c.requires.some (big ∙ c.if-is_too_big.false) ∙ m.full t ne)
+          (λ ne. room_is me lb path lookup file (still t path x) no_dir (now t) front y content h (front_is t) c.requires.some (big ∙ c.if-is_too_big.false) ∙ m.full t ne)
           (λ ne. m.same t ne));
       changes = λ path x. changes_again told (mounted_by me) old lb mk (ask.Append path y) front (Err r) (λ t. (c.requires.valid t).valid) e.looks
           (changes_of told (mounted_by me) refl lb mk (ask.Append path y) (Err r) (λ t. tt) (λ t. (tt, λ ne. leaves_same (mounted_by me) lb mk (m.same t ne) (m.runs.unspent.1 ne)))
@@ -163,7 +163,7 @@ enter-requires g c =
     let lb = g.K.Blocks.view c.last_bytes.new.disk in
     let mk = g.K.Blocks.view c.make_file.new.disk in
     let me = c.args.client.now in
-    let place = c.args.place.now in
+    let lookup = c.args.lookup.now in
     let file = c.args.file.now in
     let y = c.args.bytes.now in
     let no_dir = c.requires.is_file in
@@ -172,27 +172,27 @@ enter-requires g c =
     let front = c.in-Ok.front in
     let content = c.grown-content.result in
     let h = c.grown-content.ensures in
-    let still : (t : told) (path : Path) → Grows me old path place file → Grows me lb path place file = λ t path x. grows_still me old lb path place file (e.looks.looked t).0 e.looks.stays.0 (c.requires.valid t) x in
+    let still : (t : told) (path : Path) → Grows me old path lookup file → Grows me lb path lookup file = λ t path x. grows_still me old lb path lookup file (e.looks.looked t).0 e.looks.stays.0 (c.requires.valid t) x in
     let now : told → IsValidNow lb = λ t. (e.looks.looked t).0.valid in
     let front_is : told → front ≡ part (bytes_said lb.world (inode_of file.inode)) (block_len_of file.inode * (amount_said (inode_of file.inode) / block_len_of file.inode)) (amount_said (inode_of file.inode)) =
     λ t. e.front t ∙ ap (λ w. part (bytes_said w (inode_of file.inode)) (block_len_of file.inode * (amount_said (inode_of file.inode) / block_len_of file.inode)) (amount_said (inode_of file.inode))) (sym (e.looks.looked t).0.world) in
     let new = c.in-Ok-make_file.new in
     let m = c.in-Ok-make_file.ensures in
     let path : told → Path = λ t. (c.requires.grows t).0 in
-    let x : (t : told) → Grows me lb (path t) place file = λ t. still t (path t) (c.requires.grows t).1 in
+    let x : (t : told) → Grows me lb (path t) lookup file = λ t. still t (path t) (c.requires.grows t).1 in
     record {
       unspent = m.runs.unspent.0;
       valid = λ t. (m.runs.valid t).0;
       dir = c.requires.dir;
       short = c.requires.short;
       room = c.requires.room;
-      may = λ t. m.may t place.directory.block (x t).may;
+      may = λ t. m.may t lookup.directory.block (x t).may;
       made = λ t. (
         lb.world,
         path t,
         a_file (bytes_in (at (tree_of me lb) (path t)) ++ y),
         (x t).grounds,
-        subst (λ xs. IsMadeInode me.root lb.world place.directory.block new (a_file xs) mk.world) (made_bytes me lb (path t) place file (x t) no_dir (now t) front y content h (front_is t)) (m.made t),
+        subst (λ xs. IsMadeInode me.root lb.world lookup.directory.block new (a_file xs) mk.world) (made_bytes me lb (path t) lookup file (x t) no_dir (now t) front y content h (front_is t)) (m.made t),
       );
     }
 
@@ -203,7 +203,7 @@ returns-in-Ok-enter g c =
     let lb = g.K.Blocks.view c.last_bytes.new.disk in
     let mk = g.K.Blocks.view c.make_file.new.disk in
     let me = c.args.client.now in
-    let place = c.args.place.now in
+    let lookup = c.args.lookup.now in
     let file = c.args.file.now in
     let y = c.args.bytes.now in
     let no_dir = c.requires.is_file in
@@ -212,7 +212,7 @@ returns-in-Ok-enter g c =
     let front = c.in-Ok.front in
     let content = c.grown-content.result in
     let h = c.grown-content.ensures in
-    let still : (t : told) (path : Path) → Grows me old path place file → Grows me lb path place file = λ t path x. grows_still me old lb path place file (e.looks.looked t).0 e.looks.stays.0 (c.requires.valid t) x in
+    let still : (t : told) (path : Path) → Grows me old path lookup file → Grows me lb path lookup file = λ t path x. grows_still me old lb path lookup file (e.looks.looked t).0 e.looks.stays.0 (c.requires.valid t) x in
     let now : told → IsValidNow lb = λ t. (e.looks.looked t).0.valid in
     let front_is : told → front ≡ part (bytes_said lb.world (inode_of file.inode)) (block_len_of file.inode * (amount_said (inode_of file.inode) / block_len_of file.inode)) (amount_said (inode_of file.inode)) =
     λ t. e.front t ∙ ap (λ w. part (bytes_said w (inode_of file.inode)) (block_len_of file.inode * (amount_said (inode_of file.inode) / block_len_of file.inode)) (amount_said (inode_of file.inode))) (sym (e.looks.looked t).0.world) in
@@ -220,12 +220,12 @@ returns-in-Ok-enter g c =
     let new = c.in-Ok-make_file.new in
     let m = c.in-Ok-make_file.ensures in
     let n = c.in-Ok-enter.ensures in
-    let made : (t : told) (path : Path) (x : Grows me old path place file) → IsMadeInode me.root lb.world place.directory.block new (a_file (bytes_in (at (tree_of me lb) path) ++ y)) mk.world =
-    λ t path x. subst (λ xs. IsMadeInode me.root lb.world place.directory.block new (a_file xs) mk.world) (made_bytes me lb path place file (still t path x) no_dir (now t) front y content h (front_is t)) (m.made t) in
-    let none : (t : told) (path : Path) (x : Grows me old path place file) → ◌≡◌ {A = Option FsRefusal} (refused_on (mounted_by me) lb (ask.Append path y)) None =
-    λ t path x. room_is me lb path place file (still t path x) no_dir (now t) front y content h (front_is t) c.requires.some (big ∙ c.if-is_too_big.false) ∙ m.room t in
-    let kept : (t : told) (path : Path) (x : Grows me old path place file) → KeepsRoom (need_on (mounted_by me) lb (ask.Append path y)) lb.world fin.world = λ t path x.
-    subst (λ w. KeepsRoom w lb.world fin.world) (sym (need_is me lb path place file (still t path x) no_dir (now t) front y content h (front_is t) c.requires.some))
+    let made : (t : told) (path : Path) (x : Grows me old path lookup file) → IsMadeInode me.root lb.world lookup.directory.block new (a_file (bytes_in (at (tree_of me lb) path) ++ y)) mk.world =
+    λ t path x. subst (λ xs. IsMadeInode me.root lb.world lookup.directory.block new (a_file xs) mk.world) (made_bytes me lb path lookup file (still t path x) no_dir (now t) front y content h (front_is t)) (m.made t) in
+    let none : (t : told) (path : Path) (x : Grows me old path lookup file) → ◌≡◌ {A = Option FsRefusal} (refused_on (mounted_by me) lb (ask.Append path y)) None =
+    λ t path x. room_is me lb path lookup file (still t path x) no_dir (now t) front y content h (front_is t) c.requires.some (big ∙ c.if-is_too_big.false) ∙ m.room t in
+    let kept : (t : told) (path : Path) (x : Grows me old path lookup file) → KeepsRoom (need_on (mounted_by me) lb (ask.Append path y)) lb.world fin.world = λ t path x.
+    subst (λ w. KeepsRoom w lb.world fin.world) (sym (need_is me lb path lookup file (still t path x) no_dir (now t) front y content h (front_is t) c.requires.some))
     (no_more_room (need (1 + new_count content) (1 + all_count content)) lb.world mk.world fin.world (m.keeps t) (n.keeps t)) in
     record {
       answer = λ t path x. answers_again (mounted_by me) old lb (ask.Append path y) (e.looks.looked t).0.world fin (Ok tt) (λ _ answer. answer ≡ done)
@@ -239,7 +239,7 @@ returns-in-Ok-enter g c =
           ))
           (then_runs told lb mk fin (IsEitherTree (mounted_by me) lb (ask.Append path y)) new (Ok tt)
           (runs_more told lb mk (IsAside me.root lb.world) (IsEitherTree (mounted_by me) lb (ask.Append path y)) (Ok new) (λ t w k. either_aside me lb (ask.Append path y) w k) m.runs)
-          (runs_more told mk fin (EntersOrNot me.root place new mk.world) (IsEitherTree (mounted_by me) lb (ask.Append path y)) (Ok tt)
+          (runs_more told mk fin (EntersOrNot me.root lookup new mk.world) (IsEitherTree (mounted_by me) lb (ask.Append path y)) (Ok tt)
           (λ t w k. either_entered me lb (ask.Append path y) path (none t path (x t)) refl w (a_file (bytes_in (at (tree_of me lb) path) ++ y)) refl
           (k lb.world path (a_file (bytes_in (at (tree_of me lb) path) ++ y)) (still t path (x t)).grounds (made t path (x t)))) n.runs)));
     }
@@ -251,7 +251,7 @@ returns-in-Err-enter g c =
     let lb = g.K.Blocks.view c.last_bytes.new.disk in
     let mk = g.K.Blocks.view c.make_file.new.disk in
     let me = c.args.client.now in
-    let place = c.args.place.now in
+    let lookup = c.args.lookup.now in
     let file = c.args.file.now in
     let y = c.args.bytes.now in
     let no_dir = c.requires.is_file in
@@ -260,7 +260,7 @@ returns-in-Err-enter g c =
     let front = c.in-Ok.front in
     let content = c.grown-content.result in
     let h = c.grown-content.ensures in
-    let still : (t : told) (path : Path) → Grows me old path place file → Grows me lb path place file = λ t path x. grows_still me old lb path place file (e.looks.looked t).0 e.looks.stays.0 (c.requires.valid t) x in
+    let still : (t : told) (path : Path) → Grows me old path lookup file → Grows me lb path lookup file = λ t path x. grows_still me old lb path lookup file (e.looks.looked t).0 e.looks.stays.0 (c.requires.valid t) x in
     let now : told → IsValidNow lb = λ t. (e.looks.looked t).0.valid in
     let front_is : told → front ≡ part (bytes_said lb.world (inode_of file.inode)) (block_len_of file.inode * (amount_said (inode_of file.inode) / block_len_of file.inode)) (amount_said (inode_of file.inode)) =
     λ t. e.front t ∙ ap (λ w. part (bytes_said w (inode_of file.inode)) (block_len_of file.inode * (amount_said (inode_of file.inode) / block_len_of file.inode)) (amount_said (inode_of file.inode))) (sym (e.looks.looked t).0.world) in
@@ -269,17 +269,17 @@ returns-in-Err-enter g c =
     let m = c.in-Ok-make_file.ensures in
     let r = c.in-Err-enter.refusal in
     let n = c.in-Err-enter.ensures in
-    let made : (t : told) (path : Path) (x : Grows me old path place file) → IsMadeInode me.root lb.world place.directory.block new (a_file (bytes_in (at (tree_of me lb) path) ++ y)) mk.world =
-    λ t path x. subst (λ xs. IsMadeInode me.root lb.world place.directory.block new (a_file xs) mk.world) (made_bytes me lb path place file (still t path x) no_dir (now t) front y content h (front_is t)) (m.made t) in
-    let none : (t : told) (path : Path) (x : Grows me old path place file) → ◌≡◌ {A = Option FsRefusal} (refused_on (mounted_by me) lb (ask.Append path y)) None =
-    λ t path x. room_is me lb path place file (still t path x) no_dir (now t) front y content h (front_is t) c.requires.some (big ∙ c.if-is_too_big.false) ∙ m.room t in
+    let made : (t : told) (path : Path) (x : Grows me old path lookup file) → IsMadeInode me.root lb.world lookup.directory.block new (a_file (bytes_in (at (tree_of me lb) path) ++ y)) mk.world =
+    λ t path x. subst (λ xs. IsMadeInode me.root lb.world lookup.directory.block new (a_file xs) mk.world) (made_bytes me lb path lookup file (still t path x) no_dir (now t) front y content h (front_is t)) (m.made t) in
+    let none : (t : told) (path : Path) (x : Grows me old path lookup file) → ◌≡◌ {A = Option FsRefusal} (refused_on (mounted_by me) lb (ask.Append path y)) None =
+    λ t path x. room_is me lb path lookup file (still t path x) no_dir (now t) front y content h (front_is t) c.requires.some (big ∙ c.if-is_too_big.false) ∙ m.room t in
     record {
       answer = λ t path x. ask_refuses (mounted_by me) old fin (ask.Append path y) (λ _ answer. answer ≡ done) r (λ ne. absurd (ne (n.only t))) (λ ne. absurd (ne (n.only t)));
       changes = λ path x. changes_again told (mounted_by me) old lb fin (ask.Append path y) front (Err r) (λ t. (c.requires.valid t).valid) e.looks
           (changes_of told (mounted_by me) refl lb fin (ask.Append path y) (Err r) (λ t. tt) (λ t. (tt, λ ne. absurd (ne (n.only t))))
           (then_runs told lb mk fin (IsEitherTree (mounted_by me) lb (ask.Append path y)) new (Err r)
           (runs_more told lb mk (IsAside me.root lb.world) (IsEitherTree (mounted_by me) lb (ask.Append path y)) (Ok new) (λ t w k. either_aside me lb (ask.Append path y) w k) m.runs)
-          (runs_more told mk fin (EntersOrNot me.root place new mk.world) (IsEitherTree (mounted_by me) lb (ask.Append path y)) (Err r)
+          (runs_more told mk fin (EntersOrNot me.root lookup new mk.world) (IsEitherTree (mounted_by me) lb (ask.Append path y)) (Err r)
           (λ t w k. either_entered me lb (ask.Append path y) path (none t path (x t)) refl w (a_file (bytes_in (at (tree_of me lb) path) ++ y)) refl
           (k lb.world path (a_file (bytes_in (at (tree_of me lb) path) ++ y)) (still t path (x t)).grounds (made t path (x t)))) n.runs)));
     }

@@ -86,12 +86,12 @@ returns-in-Ok g c =
     let whole : 16 ≤ len = subst (λ n. 16 ≤ n) c.block_len.ensures.value c.block_len.ensures.whole in
     let some : 0 < len = omega (arith, whole) in
     let last = last_is i c.requires.is_file whole (subst (λ n. 1 ≤ n) rest (some_rest (c.amount.result % c.block_len.result) c.if-len-eq0.false)) in
-    let place : c.count.result - 1 ≡ size / len = omega (arith, last, c.count.ensures.value) in
+    let lookup : c.count.result - 1 ≡ size / len = omega (arith, last, c.count.ensures.value) in
     record {
       few = subst (λ n. length c.first_bytes.result ≤ n) rest c.first_bytes.ensures.fits;
       front = λ t.
           let s = c.requires.stands t in
-          let there : contents old.world (slice_index blocks (size / len)) ≡ Some c.in-Ok.bytes = ap (λ n. contents old.world (slice_index blocks n)) (sym place) ∙ (ap (contents old.world) (sym c.named.ensures) ∙ c.in-Ok.ensures.bytes t) in
+          let there : contents old.world (slice_index blocks (size / len)) ≡ Some c.in-Ok.bytes = ap (λ n. contents old.world (slice_index blocks n)) (sym lookup) ∙ (ap (contents old.world) (sym c.named.ensures) ∙ c.in-Ok.ensures.bytes t) in
           let full = block_full old.world (slice_index blocks (size / len)) c.in-Ok.bytes (c.requires.valid t).valid there in
           let less : size % len < len = mod-lt size some in
           let fits : size % len ≤ length c.in-Ok.bytes = omega (arith, full, s.1.whole, less) in

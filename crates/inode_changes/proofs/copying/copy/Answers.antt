@@ -10,7 +10,7 @@ use Rattle.fs_client.proofs.AskLaws.{ask_refuses}
 use Rattle.fs_client.proofs.AgainLaws.{answers_again, changes_again}
 use Rattle.inode_walks.specs.Asking.{mounted_by}
 use Rattle.inode_changes.proofs.PlaceLaws.{said_place, there_at}
-use Rattle.fs_client.specs.Changing.{no_place_found}
+use Rattle.fs_client.specs.Changing.{lookup_refusal}
 use Rattle.inode_walks.proofs.FurtherLaws.{child_there}
 use Rattle.inode_changes.specs.Copying.{Copies}
 use Rattle.inode_changes.proofs.CopyLaws.{asks_still, copies_now, lost_refuses, place_refuses, taken_refuses, full_refuses}
@@ -35,14 +35,14 @@ returns-in-Err g c =
       changes = looks_change told (mounted_by me) first mid a (Err r) (λ t. (c.requires.may.valid t).valid) (looks_refused told first mid r e.looks);
     }
 
-pub find_place-requires : goal.find_place-requires
-find_place-requires g c = record {
+pub look_up-requires : goal.look_up-requires
+look_up-requires g c = record {
   may = asks_still g.K.Blocks.told c.args.client.now (g.K.Blocks.view c.args.disk.now) (g.K.Blocks.view c.find_file.new.disk) c.in-Ok.file c.in-Ok.ensures.looks c.requires.may;
   refusal = λ e. cc;
 }
 
-pub returns-in-Err-find_place : goal.returns-in-Err-find_place
-returns-in-Err-find_place g c =
+pub returns-in-Err-look_up : goal.returns-in-Err-look_up
+returns-in-Err-look_up g c =
     let told = g.K.Blocks.told in
     let first = g.K.Blocks.view c.args.disk.now in
     let mid = g.K.Blocks.view c.find_file.new.disk in
@@ -50,14 +50,14 @@ returns-in-Err-find_place g c =
     let path = c.args.path.now in
     let new = c.args.new.now in
     let a = ask.Copy path new in
-    let v = g.K.Blocks.view c.find_place.new.disk in
+    let v = g.K.Blocks.view c.look_up.new.disk in
     let file = c.in-Ok.file in
     let f = c.in-Ok.ensures in
-    let e = c.in-Err-find_place.ensures in
-    let r = c.in-Err-find_place.refusal in
+    let e = c.in-Err-look_up.ensures in
+    let r = c.in-Err-look_up.refusal in
     record {
       answer = λ t. ask_refuses (mounted_by me) first v a (λ _ answer. answer ≡ done) r
-          (λ ne. place_refuses me first path new (c.requires.may.tree t) (f.none t) r (ap (λ w. no_place_found (inode_tree w me.root) new no.Exists) (sym (f.looks.looked t).0.world) ∙ e.refused t ne))
+          (λ ne. place_refuses me first path new (c.requires.may.tree t) (f.none t) r (ap (λ w. lookup_refusal (inode_tree w me.root) new no.Exists) (sym (f.looks.looked t).0.world) ∙ e.refused t ne))
           (λ ne. ((e.looks.looked t).1 ne).world ∙ (f.looks.looked t).0.world);
       changes = looks_change told (mounted_by me) first v a (Err r) (λ t. (c.requires.may.valid t).valid) (looks_refused told first v r (then_looks told first mid v file (Err r) f.looks e.looks));
     }
@@ -71,27 +71,27 @@ returns-in-Some g c =
     let path = c.args.path.now in
     let new = c.args.new.now in
     let a = ask.Copy path new in
-    let v = g.K.Blocks.view c.find_place.new.disk in
+    let v = g.K.Blocks.view c.look_up.new.disk in
     let file = c.in-Ok.file in
     let f = c.in-Ok.ensures in
-    let place = c.in-Ok-find_place.place in
-    let e = c.in-Ok-find_place.ensures in
-    let looks = then_looks told first mid v file (Ok place) f.looks e.looks in
+    let lookup = c.in-Ok-look_up.lookup in
+    let e = c.in-Ok-look_up.ensures in
+    let looks = then_looks told first mid v file (Ok lookup) f.looks e.looks in
     let same : told → v.world ≡ first.world = λ t. (looks.looked t).0.world in
     let b = c.in-Some._taken in
     record {
       answer = λ t.
           let i = e.found t in
-          let there = child_there me v i.above.more place.directory i.above.stands place.name.now b (said_place me v new place e.dir i b c.in-Some.is) in
+          let there = child_there me v i.above.more lookup.directory i.above.stands lookup.name.now b (said_place me v new lookup e.dir i b c.in-Some.is) in
           ask_refuses (mounted_by me) first v a (λ _ answer. answer ≡ done) no.Exists
-          (λ ne. taken_refuses me first path new (c.requires.may.tree t) (f.none t) (ap (λ w. no_place_found (inode_tree w me.root) new no.Exists) (sym (f.looks.looked t).0.world) ∙ e.none t)
-          (ap (λ w. is_there (at (inode_tree w me.root) new)) (sym (same t)) ∙ there_at me v new place e.dir i b c.in-Some.is there))
+          (λ ne. taken_refuses me first path new (c.requires.may.tree t) (f.none t) (ap (λ w. lookup_refusal (inode_tree w me.root) new no.Exists) (sym (f.looks.looked t).0.world) ∙ e.none t)
+          (ap (λ w. is_there (at (inode_tree w me.root) new)) (sym (same t)) ∙ there_at me v new lookup e.dir i b c.in-Some.is there))
           (λ ne. same t);
-      changes = looks_change told (mounted_by me) first v a (Err no.Exists) (λ t. (c.requires.may.valid t).valid) (looks_but_refuses told first v place no.Exists (λ d. cc) looks);
+      changes = looks_change told (mounted_by me) first v a (Err no.Exists) (λ t. (c.requires.may.valid t).valid) (looks_but_refuses told first v lookup no.Exists (λ d. cc) looks);
     }
 
 pub check_entry-requires : goal.check_entry-requires
-check_entry-requires g c = c.in-Ok-find_place.ensures.dir
+check_entry-requires g c = c.in-Ok-look_up.ensures.dir
 
 pub returns-in-Err-check_entry : goal.returns-in-Err-check_entry
 returns-in-Err-check_entry g c =
@@ -102,14 +102,14 @@ returns-in-Err-check_entry g c =
     let path = c.args.path.now in
     let new = c.args.new.now in
     let a = ask.Copy path new in
-    let v = g.K.Blocks.view c.find_place.new.disk in
+    let v = g.K.Blocks.view c.look_up.new.disk in
     let file = c.in-Ok.file in
     let f = c.in-Ok.ensures in
-    let place = c.in-Ok-find_place.place in
-    let e = c.in-Ok-find_place.ensures in
-    let looks = then_looks told first mid v file (Ok place) f.looks e.looks in
+    let lookup = c.in-Ok-look_up.lookup in
+    let e = c.in-Ok-look_up.ensures in
+    let looks = then_looks told first mid v file (Ok lookup) f.looks e.looks in
     let same : told → v.world ≡ first.world = λ t. (looks.looked t).0.world in
-    let copies : told → Copies me v path file new place = λ t. copies_now me first mid v path file new place (c.requires.may.tree t)
+    let copies : told → Copies me v path file new lookup = λ t. copies_now me first mid v path file new lookup (c.requires.may.tree t)
     (subst (λ x. me.root < x.primaries) (sym (g.met.K.Blocks.sound c.args.disk.now t c.requires.may.ready.unspent).geometry) c.requires.may.ready.primary) c.requires.new_named
     (f.looks.looked t).0 (f.found t) (f.none t) (e.looks.looked t).0 e.looks.stays.0 (e.found t) c.in-None.is (e.none t) in
     let r = c.in-Err-check_entry.refusal in
@@ -117,8 +117,8 @@ returns-in-Err-check_entry g c =
     let other : r ≡ no.Device → ⊥ = λ k. never (sym h.only ∙ k) in
     record {
       answer = λ t. answers_again (mounted_by me) first v a (same t) v (Err r) (λ _ answer. answer ≡ done)
-          (ask_refuses (mounted_by me) v v a (λ _ answer. answer ≡ done) r (λ ne. full_refuses me v path file new place (copies t) e.dir (looks.looked t).0.valid h.full ∙ ap (λ x. Some x) (sym h.only)) (λ ne. refl));
-      changes = looks_change told (mounted_by me) first v a (Err r) (λ t. (c.requires.may.valid t).valid) (looks_but_refuses told first v place r other looks);
+          (ask_refuses (mounted_by me) v v a (λ _ answer. answer ≡ done) r (λ ne. full_refuses me v path file new lookup (copies t) e.dir (looks.looked t).0.valid h.full ∙ ap (λ x. Some x) (sym h.only)) (λ ne. refl));
+      changes = looks_change told (mounted_by me) first v a (Err r) (λ t. (c.requires.may.valid t).valid) (looks_but_refuses told first v lookup r other looks);
     }
   where
     never : no.DirFull ≡ no.Device → ⊥
@@ -133,14 +133,14 @@ copy_to-requires g c =
     let path = c.args.path.now in
     let new = c.args.new.now in
     let a = ask.Copy path new in
-    let v = g.K.Blocks.view c.find_place.new.disk in
+    let v = g.K.Blocks.view c.look_up.new.disk in
     let file = c.in-Ok.file in
     let f = c.in-Ok.ensures in
-    let place = c.in-Ok-find_place.place in
-    let e = c.in-Ok-find_place.ensures in
-    let looks = then_looks told first mid v file (Ok place) f.looks e.looks in
+    let lookup = c.in-Ok-look_up.lookup in
+    let e = c.in-Ok-look_up.ensures in
+    let looks = then_looks told first mid v file (Ok lookup) f.looks e.looks in
     let same : told → v.world ≡ first.world = λ t. (looks.looked t).0.world in
-    let copies : told → Copies me v path file new place = λ t. copies_now me first mid v path file new place (c.requires.may.tree t)
+    let copies : told → Copies me v path file new lookup = λ t. copies_now me first mid v path file new lookup (c.requires.may.tree t)
     (subst (λ x. me.root < x.primaries) (sym (g.met.K.Blocks.sound c.args.disk.now t c.requires.may.ready.unspent).geometry) c.requires.may.ready.primary) c.requires.new_named
     (f.looks.looked t).0 (f.found t) (f.none t) (e.looks.looked t).0 e.looks.stays.0 (e.found t) c.in-None.is (e.none t) in
     record {
@@ -162,14 +162,14 @@ returns g c =
     let path = c.args.path.now in
     let new = c.args.new.now in
     let a = ask.Copy path new in
-    let v = g.K.Blocks.view c.find_place.new.disk in
+    let v = g.K.Blocks.view c.look_up.new.disk in
     let file = c.in-Ok.file in
     let f = c.in-Ok.ensures in
-    let place = c.in-Ok-find_place.place in
-    let e = c.in-Ok-find_place.ensures in
-    let looks = then_looks told first mid v file (Ok place) f.looks e.looks in
+    let lookup = c.in-Ok-look_up.lookup in
+    let e = c.in-Ok-look_up.ensures in
+    let looks = then_looks told first mid v file (Ok lookup) f.looks e.looks in
     let same : told → v.world ≡ first.world = λ t. (looks.looked t).0.world in
-    let copies : told → Copies me v path file new place = λ t. copies_now me first mid v path file new place (c.requires.may.tree t)
+    let copies : told → Copies me v path file new lookup = λ t. copies_now me first mid v path file new lookup (c.requires.may.tree t)
     (subst (λ x. me.root < x.primaries) (sym (g.met.K.Blocks.sound c.args.disk.now t c.requires.may.ready.unspent).geometry) c.requires.may.ready.primary) c.requires.new_named
     (f.looks.looked t).0 (f.found t) (f.none t) (e.looks.looked t).0 e.looks.stays.0 (e.found t) c.in-None.is (e.none t) in
     let end = g.K.Blocks.view c.copy_to.new.disk in
@@ -177,5 +177,5 @@ returns g c =
     let h = c.copy_to.ensures in
     record {
       answer = λ t. answers_again (mounted_by me) first v a (same t) end result (λ _ answer. answer ≡ done) (h.answer t path new (copies t));
-      changes = changes_again told (mounted_by me) first v end a place result (λ t. (c.requires.may.valid t).valid) looks (h.changes path new copies);
+      changes = changes_again told (mounted_by me) first v end a lookup result (λ t. (c.requires.may.valid t).valid) looks (h.changes path new copies);
     }

@@ -14,9 +14,9 @@ returns-in-None g c =
     let told = g.K.Blocks.told in
     let old = g.K.Blocks.view c.args.disk.now in
     let me = c.args.client.now in
-    let place = c.args.place.now in
+    let lookup = c.args.lookup.now in
     record {
-      no_dir = λ t path i. nothing_no_dir (at (tree_of me old) path) (none_at me old path place c.requires.dir i c.in-None.is);
+      no_dir = λ t path i. nothing_no_dir (at (tree_of me old) path) (none_at me old path lookup c.requires.dir i c.in-None.is);
       only = λ t. tt;
       is_dir = λ t. tt;
       looks = no_look told old c.requires.unspent (λ t. g.met.K.Blocks.sound c.args.disk.now t c.requires.unspent) c.requires.valid;
@@ -26,18 +26,18 @@ pub read_inode-requires : goal.read_inode-requires
 read_inode-requires g c =
     let old = g.K.Blocks.view c.args.disk.now in
     let me = c.args.client.now in
-    let place = c.args.place.now in
+    let lookup = c.args.lookup.now in
     let b = c.in-Some.block in
     record {
       unspent = c.requires.unspent;
       valid = c.requires.valid;
       may = λ t.
           let f = c.requires.found t in
-          may_read me old f.1.above.more place.directory f.1.above.stands place.name.now b (said_place me old f.0 place c.requires.dir f.1 b c.in-Some.is) (c.requires.valid t)
+          may_read me old f.1.above.more lookup.directory f.1.above.stands lookup.name.now b (said_place me old f.0 lookup c.requires.dir f.1 b c.in-Some.is) (c.requires.valid t)
           (record { number = f.1.above.stands.may.number; begun = f.1.above.stands.may.begun });
       inode = λ t.
           let f = c.requires.found t in
-          has_inode me old f.1.above.more place.directory f.1.above.stands place.name.now b (said_place me old f.0 place c.requires.dir f.1 b c.in-Some.is);
+          has_inode me old f.1.above.more lookup.directory f.1.above.stands lookup.name.now b (said_place me old f.0 lookup c.requires.dir f.1 b c.in-Some.is);
     }
 
 pub returns-in-Err : goal.returns-in-Err
@@ -60,13 +60,13 @@ returns-then-is_directory g c =
     let old = g.K.Blocks.view c.args.disk.now in
     let rd = g.K.Blocks.view c.read_inode.new.disk in
     let me = c.args.client.now in
-    let place = c.args.place.now in
+    let lookup = c.args.lookup.now in
     let b = c.in-Some.block in
     let f = c.in-Ok.ensures in
     record {
       no_dir = λ t. tt;
       only = λ t ne. refl;
-      is_dir = λ t ne path i. kind_at me old path place c.requires.dir i b c.in-Some.is (inode_of c.in-Ok.old.inode) (f.says t) ∙ (sym c.is_directory.ensures ∙ c.if-is_directory.true);
+      is_dir = λ t ne path i. kind_at me old path lookup c.requires.dir i b c.in-Some.is (inode_of c.in-Ok.old.inode) (f.says t) ∙ (sym c.is_directory.ensures ∙ c.if-is_directory.true);
       looks = looks_but_refuses told old rd c.in-Ok.old no.IsDir (λ d. cc) f.looks;
     }
 
@@ -76,11 +76,11 @@ returns g c =
     let old = g.K.Blocks.view c.args.disk.now in
     let rd = g.K.Blocks.view c.read_inode.new.disk in
     let me = c.args.client.now in
-    let place = c.args.place.now in
+    let lookup = c.args.lookup.now in
     let b = c.in-Some.block in
     let f = c.in-Ok.ensures in
     record {
-      no_dir = λ t path i. kind_at me old path place c.requires.dir i b c.in-Some.is (inode_of c.in-Ok.old.inode) (f.says t) ∙ (sym c.is_directory.ensures ∙ c.if-is_directory.false);
+      no_dir = λ t path i. kind_at me old path lookup c.requires.dir i b c.in-Some.is (inode_of c.in-Ok.old.inode) (f.says t) ∙ (sym c.is_directory.ensures ∙ c.if-is_directory.false);
       only = λ t. tt;
       is_dir = λ t. tt;
       looks = looks_as told old rd c.in-Ok.old tt f.looks;

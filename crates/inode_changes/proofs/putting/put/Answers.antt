@@ -16,14 +16,14 @@ use Rattle.inode_changes.proofs.GrowLaws.{root_is_dir}
 use Rattle.inode_changes.proofs.PutLaws.{put_lost, put_dir, puts_now}
 use Rattle.inode_changes.proofs.putting.put.Goals as goal
 
-pub find_place-requires : goal.find_place-requires
-find_place-requires g c = record { may = c.requires.may; refusal = λ e. cc }
+pub look_up-requires : goal.look_up-requires
+look_up-requires g c = record { may = c.requires.may; refusal = λ e. cc }
 
 pub returns-in-Err : goal.returns-in-Err
 returns-in-Err g c =
     let told = g.K.Blocks.told in
     let first = g.K.Blocks.view c.args.disk.now in
-    let mid = g.K.Blocks.view c.find_place.new.disk in
+    let mid = g.K.Blocks.view c.look_up.new.disk in
     let me = c.args.client.now in
     let path = c.args.path.now in
     let e = c.in-Err.ensures in
@@ -51,7 +51,7 @@ pub returns-in-Err-check_old : goal.returns-in-Err-check_old
 returns-in-Err-check_old g c =
     let told = g.K.Blocks.told in
     let first = g.K.Blocks.view c.args.disk.now in
-    let mid = g.K.Blocks.view c.find_place.new.disk in
+    let mid = g.K.Blocks.view c.look_up.new.disk in
     let rd = g.K.Blocks.view c.check_old.new.disk in
     let me = c.args.client.now in
     let path = c.args.path.now in
@@ -65,17 +65,17 @@ returns-in-Err-check_old g c =
           (λ ne. put_dir first.world.geometry t0 (free_count first.world) (length first.world.pairs) (need_of kind.Inode first.world me.root t0 a) (root_is_dir first.world me.root (c.requires.may.tree t)) c.args.bytes.now path (e.none t)
           (ap (λ w. is_dir (at (inode_tree w me.root) path)) (sym (e.looks.looked t).0.world) ∙ k.is_dir t ne path (e.found t)) ∙ ap (λ x. Some x) (sym (k.only t ne)))
           (λ ne. ((k.looks.looked t).1 ne).world ∙ (e.looks.looked t).0.world);
-      changes = looks_change told (mounted_by me) first rd a (Err r) (λ t. (c.requires.may.valid t).valid) (then_looks told first mid rd c.in-Ok.place (Err r) e.looks (looks_refused told mid rd r k.looks));
+      changes = looks_change told (mounted_by me) first rd a (Err r) (λ t. (c.requires.may.valid t).valid) (then_looks told first mid rd c.in-Ok.lookup (Err r) e.looks (looks_refused told mid rd r k.looks));
     }
 
 pub store-requires : goal.store-requires
 store-requires g c =
     let first = g.K.Blocks.view c.args.disk.now in
-    let mid = g.K.Blocks.view c.find_place.new.disk in
+    let mid = g.K.Blocks.view c.look_up.new.disk in
     let rd = g.K.Blocks.view c.check_old.new.disk in
     let me = c.args.client.now in
     let path = c.args.path.now in
-    let place = c.in-Ok.place in
+    let lookup = c.in-Ok.lookup in
     let e = c.in-Ok.ensures in
     let k = c.in-Ok-check_old.ensures in
     record {
@@ -85,7 +85,7 @@ store-requires g c =
       short = e.short;
       puts = λ t. (
         path,
-        puts_now me first mid rd path place (subst (λ x. me.root < x.primaries) (sym (g.met.K.Blocks.sound c.args.disk.now t c.requires.may.ready.unspent).geometry) c.requires.may.ready.primary)
+        puts_now me first mid rd path lookup (subst (λ x. me.root < x.primaries) (sym (g.met.K.Blocks.sound c.args.disk.now t c.requires.may.ready.unspent).geometry) c.requires.may.ready.primary)
             (c.requires.may.tree t) c.requires.named (e.none t) (e.looks.looked t).0 (e.found t) (k.looks.looked t).0 k.looks.stays.0 (k.no_dir t path (e.found t)),
       );
     }
@@ -94,43 +94,43 @@ pub returns-in-Ok-store : goal.returns-in-Ok-store
 returns-in-Ok-store g c =
     let told = g.K.Blocks.told in
     let first = g.K.Blocks.view c.args.disk.now in
-    let mid = g.K.Blocks.view c.find_place.new.disk in
+    let mid = g.K.Blocks.view c.look_up.new.disk in
     let rd = g.K.Blocks.view c.check_old.new.disk in
     let new = g.K.Blocks.view c.store.new.disk in
     let me = c.args.client.now in
     let path = c.args.path.now in
-    let place = c.in-Ok.place in
+    let lookup = c.in-Ok.lookup in
     let e = c.in-Ok.ensures in
     let k = c.in-Ok-check_old.ensures in
     let h = c.in-Ok-store.ensures in
     let a = ask.Put path c.args.bytes.now in
     let same : told → rd.world ≡ first.world = λ t. (k.looks.looked t).0.world ∙ (e.looks.looked t).0.world in
-    let puts : told → PutsFile me rd path place = λ t. puts_now me first mid rd path place (subst (λ x. me.root < x.primaries) (sym (g.met.K.Blocks.sound c.args.disk.now t c.requires.may.ready.unspent).geometry) c.requires.may.ready.primary)
+    let puts : told → PutsFile me rd path lookup = λ t. puts_now me first mid rd path lookup (subst (λ x. me.root < x.primaries) (sym (g.met.K.Blocks.sound c.args.disk.now t c.requires.may.ready.unspent).geometry) c.requires.may.ready.primary)
     (c.requires.may.tree t) c.requires.named (e.none t) (e.looks.looked t).0 (e.found t) (k.looks.looked t).0 k.looks.stays.0 (k.no_dir t path (e.found t)) in
     record {
       answer = λ t. answers_again (mounted_by me) first rd a (same t) new (Ok tt) (λ _ answer. answer ≡ done) (h.answer t path (puts t));
-      changes = changes_again told (mounted_by me) first rd new a tt (Ok tt) (λ t. (c.requires.may.valid t).valid) (then_looks told first mid rd place (Ok tt) e.looks k.looks) (h.changes path puts);
+      changes = changes_again told (mounted_by me) first rd new a tt (Ok tt) (λ t. (c.requires.may.valid t).valid) (then_looks told first mid rd lookup (Ok tt) e.looks k.looks) (h.changes path puts);
     }
 
 pub returns-in-Err-store : goal.returns-in-Err-store
 returns-in-Err-store g c =
     let told = g.K.Blocks.told in
     let first = g.K.Blocks.view c.args.disk.now in
-    let mid = g.K.Blocks.view c.find_place.new.disk in
+    let mid = g.K.Blocks.view c.look_up.new.disk in
     let rd = g.K.Blocks.view c.check_old.new.disk in
     let new = g.K.Blocks.view c.store.new.disk in
     let me = c.args.client.now in
     let path = c.args.path.now in
-    let place = c.in-Ok.place in
+    let lookup = c.in-Ok.lookup in
     let e = c.in-Ok.ensures in
     let k = c.in-Ok-check_old.ensures in
     let h = c.in-Err-store.ensures in
     let r = c.in-Err-store.refusal in
     let a = ask.Put path c.args.bytes.now in
     let same : told → rd.world ≡ first.world = λ t. (k.looks.looked t).0.world ∙ (e.looks.looked t).0.world in
-    let puts : told → PutsFile me rd path place = λ t. puts_now me first mid rd path place (subst (λ x. me.root < x.primaries) (sym (g.met.K.Blocks.sound c.args.disk.now t c.requires.may.ready.unspent).geometry) c.requires.may.ready.primary)
+    let puts : told → PutsFile me rd path lookup = λ t. puts_now me first mid rd path lookup (subst (λ x. me.root < x.primaries) (sym (g.met.K.Blocks.sound c.args.disk.now t c.requires.may.ready.unspent).geometry) c.requires.may.ready.primary)
     (c.requires.may.tree t) c.requires.named (e.none t) (e.looks.looked t).0 (e.found t) (k.looks.looked t).0 k.looks.stays.0 (k.no_dir t path (e.found t)) in
     record {
       answer = λ t. answers_again (mounted_by me) first rd a (same t) new (Err r) (λ _ answer. answer ≡ done) (h.answer t path (puts t));
-      changes = changes_again told (mounted_by me) first rd new a tt (Err r) (λ t. (c.requires.may.valid t).valid) (then_looks told first mid rd place (Ok tt) e.looks k.looks) (h.changes path puts);
+      changes = changes_again told (mounted_by me) first rd new a tt (Err r) (λ t. (c.requires.may.valid t).valid) (then_looks told first mid rd lookup (Ok tt) e.looks k.looks) (h.changes path puts);
     }

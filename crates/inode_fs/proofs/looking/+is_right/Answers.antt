@@ -110,8 +110,8 @@ pub returns-then-not-is_directory-clause-looks : goal.returns-then-not-is_direct
 returns-then-not-is_directory-clause-looks g t c =
     then_looks g.K.Blocks.told (g.K.Blocks.view c.args.disk.now) (g.K.Blocks.view c.look_at.new.disk) (g.K.Blocks.view c.is_file_right.new.disk) _ c.is_file_right.result c.in-Ok-Some.ensures.looks c.is_file_right.ensures.looks
 
-pub loop-place-init : goal.loop-place-init
-loop-place-init g t c =
+pub loop-position-init : goal.loop-position-init
+loop-position-init g t c =
     let old = g.K.Blocks.view c.args.disk.now in
     let new = g.K.Blocks.view c.look_at.new.disk in
     let looks = c.in-Ok-Some.ensures.looks in
@@ -125,33 +125,33 @@ loop-place-init g t c =
     }
 
 pub named-requires : goal.named-requires
-named-requires g t c = subst (λ n. c.loop-place.place < n) c.count-place-end.ensures.value c.loop-place-test.true
+named-requires g t c = subst (λ n. c.loop-position.position < n) c.count-position-end.ensures.value c.loop-position-test.true
 
 pub overflow_sub-levels : goal.overflow_sub-levels
 overflow_sub-levels g t c = omega (arith, c.if-levels-eq0.false)
 
 pub is_right-requires : goal.is_right-requires
 is_right-requires g t c κs within =
-    let may : g.K.Blocks.told → MayWrite c.args.client.now (g.K.Blocks.view c.loop-place.disk) c.named.result =
-    λ told. subst (MayWrite c.args.client.now (g.K.Blocks.view c.loop-place.disk)) (sym c.named.ensures)
-    (c.loop-place.invariant.may told _ (place_in (blocks_said (inode_of c.in-Ok-Some.seen.found.inode)) c.loop-place.place (subst (λ n. c.loop-place.place < n) c.count-place-end.ensures.value c.loop-place-test.true))) in
+    let may : g.K.Blocks.told → MayWrite c.args.client.now (g.K.Blocks.view c.loop-position.disk) c.named.result =
+    λ told. subst (MayWrite c.args.client.now (g.K.Blocks.view c.loop-position.disk)) (sym c.named.ensures)
+    (c.loop-position.invariant.may told _ (place_in (blocks_said (inode_of c.in-Ok-Some.seen.found.inode)) c.loop-position.position (subst (λ n. c.loop-position.position < n) c.count-position-end.ensures.value c.loop-position-test.true))) in
     let less : c.args.levels - 1 < t = omega (arith, c.decreases, c.if-levels-eq0.false) in
-    (less, (within, (c.loop-place.invariant.looks.unspent.0, ((λ told. (c.loop-place.invariant.looks.looked told).0.valid), (may, c.loop-place.invariant.noted)))))
+    (less, (within, (c.loop-position.invariant.looks.unspent.0, ((λ told. (c.loop-position.invariant.looks.looked told).0.valid), (may, c.loop-position.invariant.noted)))))
 
 pub returns-in-Ok-false-clause-comes : goal.returns-in-Ok-false-clause-comes
 returns-in-Ok-false-clause-comes g t c = λ told s agrees.
     let old = g.K.Blocks.view c.args.disk.now in
-    let cur = g.K.Blocks.view c.loop-place.disk in
+    let cur = g.K.Blocks.view c.loop-position.disk in
     let i = inode_of c.in-Ok-Some.seen.found.inode in
     let b = c.args.block in
-    let inv = c.loop-place.invariant in
+    let inv = c.loop-position.invariant in
     subst (λ o. Comes c.is_right.new.marks o false)
     (sym (come_dir c.args.is_entry old.world b s i (subst (IsSeenAt c.args.client.now (g.K.Blocks.view c.args.disk.now) (g.K.Blocks.view c.look_at.new.disk) c.args.block) c.in-Ok-Some.field-0-is (c.in-Ok-Some.ensures.seen told)).0.is c.args.levels (c.args.levels - 1) (omega (arith, c.if-levels-eq0.false))
     (not_come c.args.marks.now s b agrees (sym c.is_inode.ensures ∙ c.if-is_inode.false) (sym c.is_data_block.ensures ∙ c.if-is_data_block.false))
     (sym c.is_directory.ensures ∙ c.if-not-is_directory.false)))
-    (each_stops (come_from old.world (c.args.levels - 1)) (blocks_said i) c.loop-place.place c.mark_inode.new.self c.loop-place.marks (inv.comes told) c.is_right.new.marks
-    (subst (λ n. c.loop-place.place < n) c.count-place-end.ensures.value c.loop-place-test.true)
-    (told_as cur old (c.args.levels - 1) c.named.result _ c.is_right.new.marks c.loop-place.marks c.in-Ok-false.field-0 false (inv.looks.looked told).0.world c.named.ensures c.in-Ok-false.field-0-test (c.in-Ok-false.ensures.comes told))
+    (each_stops (come_from old.world (c.args.levels - 1)) (blocks_said i) c.loop-position.position c.mark_inode.new.self c.loop-position.marks (inv.comes told) c.is_right.new.marks
+    (subst (λ n. c.loop-position.position < n) c.count-position-end.ensures.value c.loop-position-test.true)
+    (told_as cur old (c.args.levels - 1) c.named.result _ c.is_right.new.marks c.loop-position.marks c.in-Ok-false.field-0 false (inv.looks.looked told).0.world c.named.ensures c.in-Ok-false.field-0-test (c.in-Ok-false.ensures.comes told))
     (with_inode s b)
     (agrees_inode c.args.marks.now c.mark_inode.new.self s b c.in-Ok-Some.seen.has_others (on_disk old b (c.requires.valid told) (c.requires.may told).live) agrees c.mark_inode.ensures))
 
@@ -160,38 +160,38 @@ returns-in-Ok-false-clause-noted g t c = c.in-Ok-false.ensures.noted
 
 pub returns-in-Ok-false-clause-looks : goal.returns-in-Ok-false-clause-looks
 returns-in-Ok-false-clause-looks g t c =
-    let cur = g.K.Blocks.view c.loop-place.disk in
+    let cur = g.K.Blocks.view c.loop-position.disk in
     let new = g.K.Blocks.view c.is_right.new.disk in
-    then_looks g.K.Blocks.told (g.K.Blocks.view c.args.disk.now) cur new tt (Ok false) c.loop-place.invariant.looks (looks_as g.K.Blocks.told cur new c.in-Ok-false.field-0 false c.in-Ok-false.ensures.looks)
+    then_looks g.K.Blocks.told (g.K.Blocks.view c.args.disk.now) cur new tt (Ok false) c.loop-position.invariant.looks (looks_as g.K.Blocks.told cur new c.in-Ok-false.field-0 false c.in-Ok-false.ensures.looks)
 
 pub returns-in-Err-is_right-clause-only : goal.returns-in-Err-is_right-clause-only
 returns-in-Err-is_right-clause-only g t c = c.in-Err-is_right.ensures.only
 
 pub returns-in-Err-is_right-clause-looks : goal.returns-in-Err-is_right-clause-looks
 returns-in-Err-is_right-clause-looks g t c =
-    let cur = g.K.Blocks.view c.loop-place.disk in
+    let cur = g.K.Blocks.view c.loop-position.disk in
     let new = g.K.Blocks.view c.is_right.new.disk in
-    then_looks g.K.Blocks.told (g.K.Blocks.view c.args.disk.now) cur new tt (Err c.in-Err-is_right.refusal) c.loop-place.invariant.looks (looks_refused g.K.Blocks.told cur new c.in-Err-is_right.refusal c.in-Err-is_right.ensures.looks)
+    then_looks g.K.Blocks.told (g.K.Blocks.view c.args.disk.now) cur new tt (Err c.in-Err-is_right.refusal) c.loop-position.invariant.looks (looks_refused g.K.Blocks.told cur new c.in-Err-is_right.refusal c.in-Err-is_right.ensures.looks)
 
-pub loop-place-smaller : goal.loop-place-smaller
-loop-place-smaller g t c = omega (arith, c.loop-place-test.true)
+pub loop-position-smaller : goal.loop-position-smaller
+loop-position-smaller g t c = omega (arith, c.loop-position-test.true)
 
-pub loop-place-preserved : goal.loop-place-preserved
-loop-place-preserved g t c =
+pub loop-position-preserved : goal.loop-position-preserved
+loop-position-preserved g t c =
     let told = g.K.Blocks.told in
     let old = g.K.Blocks.view c.args.disk.now in
-    let cur = g.K.Blocks.view c.loop-place.disk in
+    let cur = g.K.Blocks.view c.loop-position.disk in
     let new = g.K.Blocks.view c.is_right.new.disk in
     let bs = blocks_said (inode_of c.in-Ok-Some.seen.found.inode) in
-    let inv = c.loop-place.invariant in
+    let inv = c.loop-position.invariant in
     let e = c.in-Ok-true.ensures in
     record {
       looks = then_looks told old cur new tt (Ok tt) inv.looks (looks_as told cur new c.in-Ok-true.field-0 tt e.looks);
       may = λ u. may_still c.args.client.now cur new bs told c.in-Ok-true.field-0 u e.looks (inv.looks.looked u).0.valid (inv.may u);
       noted = e.noted;
-      comes = λ u. each_on (come_from old.world (c.args.levels - 1)) bs c.loop-place.place c.mark_inode.new.self c.loop-place.marks (inv.comes u) c.is_right.new.marks
-          (subst (λ n. c.loop-place.place < n) c.count-place-end.ensures.value c.loop-place-test.true)
-          (told_as cur old (c.args.levels - 1) c.named.result _ c.is_right.new.marks c.loop-place.marks c.in-Ok-true.field-0 true (inv.looks.looked u).0.world c.named.ensures c.in-Ok-true.field-0-test (e.comes u));
+      comes = λ u. each_on (come_from old.world (c.args.levels - 1)) bs c.loop-position.position c.mark_inode.new.self c.loop-position.marks (inv.comes u) c.is_right.new.marks
+          (subst (λ n. c.loop-position.position < n) c.count-position-end.ensures.value c.loop-position-test.true)
+          (told_as cur old (c.args.levels - 1) c.named.result _ c.is_right.new.marks c.loop-position.marks c.in-Ok-true.field-0 true (inv.looks.looked u).0.world c.named.ensures c.in-Ok-true.field-0-test (e.comes u));
     }
 
 pub returns-clause-comes : goal.returns-clause-comes
@@ -199,17 +199,17 @@ returns-clause-comes g t c = λ told s agrees.
     let old = g.K.Blocks.view c.args.disk.now in
     let i = inode_of c.in-Ok-Some.seen.found.inode in
     let b = c.args.block in
-    subst (λ o. Comes c.loop-place.marks o true)
+    subst (λ o. Comes c.loop-position.marks o true)
     (sym (come_dir c.args.is_entry old.world b s i (subst (IsSeenAt c.args.client.now (g.K.Blocks.view c.args.disk.now) (g.K.Blocks.view c.look_at.new.disk) c.args.block) c.in-Ok-Some.field-0-is (c.in-Ok-Some.ensures.seen told)).0.is c.args.levels (c.args.levels - 1) (omega (arith, c.if-levels-eq0.false))
     (not_come c.args.marks.now s b agrees (sym c.is_inode.ensures ∙ c.if-is_inode.false) (sym c.is_data_block.ensures ∙ c.if-is_data_block.false))
     (sym c.is_directory.ensures ∙ c.if-not-is_directory.false)))
-    (each_ends (come_from old.world (c.args.levels - 1)) (blocks_said i) c.loop-place.place c.mark_inode.new.self c.loop-place.marks (c.loop-place.invariant.comes told)
-    (subst (λ n. n ≤ c.loop-place.place) c.count-place-end.ensures.value c.loop-place-test.false)
+    (each_ends (come_from old.world (c.args.levels - 1)) (blocks_said i) c.loop-position.position c.mark_inode.new.self c.loop-position.marks (c.loop-position.invariant.comes told)
+    (subst (λ n. n ≤ c.loop-position.position) c.count-position-end.ensures.value c.loop-position-test.false)
     (with_inode s b)
     (agrees_inode c.args.marks.now c.mark_inode.new.self s b c.in-Ok-Some.seen.has_others (on_disk old b (c.requires.valid told) (c.requires.may told).live) agrees c.mark_inode.ensures))
 
 pub returns-clause-noted : goal.returns-clause-noted
-returns-clause-noted g t c = c.loop-place.invariant.noted
+returns-clause-noted g t c = c.loop-position.invariant.noted
 
 pub returns-clause-looks : goal.returns-clause-looks
-returns-clause-looks g t c = looks_as g.K.Blocks.told (g.K.Blocks.view c.args.disk.now) (g.K.Blocks.view c.loop-place.disk) tt true c.loop-place.invariant.looks
+returns-clause-looks g t c = looks_as g.K.Blocks.told (g.K.Blocks.view c.args.disk.now) (g.K.Blocks.view c.loop-position.disk) tt true c.loop-position.invariant.looks

@@ -9,7 +9,7 @@ abbrev pub decreases-is_right : goal.decreases-is_right
 decreases-is_right g l = l.levels
 
 -- the entries so far are right
-abbrev pub invariant-loop-place : goal.invariant-loop-place
-invariant-loop-place g l =
+abbrev pub invariant-loop-position : goal.invariant-loop-position
+invariant-loop-position g l =
     Looping g.K.Blocks.told l.client (g.K.Blocks.view l.fn.disk) (g.K.Blocks.view l.disk) (blocks_said (inode_of l.seen.found.inode))
-    (come_each (come_from (g.K.Blocks.view l.fn.disk).world (l.levels - 1))) l.place l.initial.marks l.marks
+    (come_each (come_from (g.K.Blocks.view l.fn.disk).world (l.levels - 1))) l.position l.initial.marks l.marks

@@ -3,7 +3,7 @@ use Rattle.std.specs.List.{slice_get}
 use Rattle.image_device.specs.Calls.{Uses}
 use Rattle.image_device.specs.Runs.{IsConfined}
 use Rattle.image_layout.specs.Ring.{body_sector}
-use Rattle.image_layout.specs.declared.place.Patch.{Patch}
+use Rattle.image_layout.specs.declared.offset.Patch.{Patch}
 use Rattle.intent_journal.specs.Closing.{is_body_of}
 use Rattle.intent_journal.proofs.commit.write_bodies.Given as goal
 

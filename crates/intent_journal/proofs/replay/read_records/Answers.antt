@@ -3,7 +3,7 @@ use Rattle.std.proofs.lemmas.Result.{err_from_is_err_and}
 use Rattle.std.specs.Prelude.{IsErrOf, Err}
 use Rattle.intent_journal.specs.declared.ring.ReplayFault.TheVariants.{BadDescriptor}
 use Rattle.image_device.specs.Image.{Image}
-use Rattle.image_layout.specs.declared.place.Patch.{Patch}
+use Rattle.image_layout.specs.declared.offset.Patch.{Patch}
 use Rattle.intent_journal.specs.Descriptor.{is_valid}
 use Rattle.intent_journal.specs.Records.{is_open_gate, descriptor_of, record_at}
 use Rattle.image_device.proofs.Moments.{uses_and}

@@ -10,4 +10,4 @@ invariant-loop-items l = record {
 }
 
 abbrev pub decreases-loop-items : goal.decreases-loop-items
-decreases-loop-items l = l.place + 1 - vec_len l.items
+decreases-loop-items l = l.position + 1 - vec_len l.items

@@ -9,38 +9,38 @@ use Rattle.pointer_table.proofs.threading.by_bucket.Goals.{in-Some, in_default}
 use Rattle.pointer_table.proofs.threading.by_bucket.Goals as goal
 
 pub add-requires-clause-threads : goal.add-requires-clause-threads
-add-requires-clause-threads c = c.loop-place.invariant.threads.threads
+add-requires-clause-threads c = c.loop-position.invariant.threads.threads
 
 pub add-requires-clause-absent : goal.add-requires-clause-absent
 add-requires-clause-absent c k here =
-    let place = c.loop-place.place in
-    let old = raws_held c.args.slots.now place k (c.in-Some.source, c.in-Some.target) here in
+    let position = c.loop-position.position in
+    let old = raws_held c.args.slots.now position k (c.in-Some.source, c.in-Some.target) here in
     let low = old.0 in
-    let same = c.requires.table.apart k place (c.in-Some.source, c.in-Some.target) old.1 (sym c.pair_at.ensures ∙ c.in-Some.is) in
+    let same = c.requires.table.apart k position (c.in-Some.source, c.in-Some.target) old.1 (sym c.pair_at.ensures ∙ c.in-Some.is) in
     omega arith
 
-pub loop-place-preserved : goal.loop-place-preserved
-loop-place-preserved c =
+pub loop-position-preserved : goal.loop-position-preserved
+loop-position-preserved c =
     let raws = c.args.slots.now in
-    let place = c.loop-place.place in
-    let so_far = c.loop-place.invariant in
+    let position = c.loop-position.position in
+    let so_far = c.loop-position.invariant in
     elim c.match-pair_at.branch [
       | in-Some w ↦ record {
         threads =
-            subst (IsThreadedBy way.Bucket (slot_at (slots_in (take (place + 1) raws)))) (sym w.threads-is)
+            subst (IsThreadedBy way.Bucket (slot_at (slots_in (take (position + 1) raws)))) (sym w.threads-is)
             (record {
               way_is = w.add.ensures.way ∙ so_far.threads.way_is;
               some = (let groups = w.add.ensures.groups in let some = so_far.threads.some in omega arith);
-              threads = w.add.ensures.threads (slot_at (slots_in (take (place + 1) raws)))
-                  (raws_more raws place (w.in-Some.source, w.in-Some.target) (sym c.pair_at.ensures ∙ w.in-Some.is));
+              threads = w.add.ensures.threads (slot_at (slots_in (take (position + 1) raws)))
+                  (raws_more raws position (w.in-Some.source, w.in-Some.target) (sym c.pair_at.ensures ∙ w.in-Some.is));
             });
         slots = ap (λ (t : Threads). length t.next) w.threads-is ∙ (w.add.ensures.slots ∙ so_far.slots);
       }
       | in_default w ↦ record {
         threads =
-            subst (IsThreadedBy way.Bucket (slot_at (slots_in (take (place + 1) raws)))) (sym w.threads-is)
-            (threaded_same way.Bucket (slot_at (slots_in (take place raws))) (slot_at (slots_in (take (place + 1) raws))) c.loop-place.threads
-            (raws_same raws place (sym c.pair_at.ensures ∙ w.in_default.is)) so_far.threads);
+            subst (IsThreadedBy way.Bucket (slot_at (slots_in (take (position + 1) raws)))) (sym w.threads-is)
+            (threaded_same way.Bucket (slot_at (slots_in (take position raws))) (slot_at (slots_in (take (position + 1) raws))) c.loop-position.threads
+            (raws_same raws position (sym c.pair_at.ensures ∙ w.in_default.is)) so_far.threads);
         slots = ap (λ (t : Threads). length t.next) w.threads-is ∙ so_far.slots;
       }
     ]

@@ -22,6 +22,6 @@ returns g c =
     let core_is : c.core-1.given.0 ≡ d.core.now = c.core-1.given.1 (sym c.new-blocks.ensures.core ∙ sym (ap (λ n. n.0) p.looks.runs.counts.lenders)) in
     let dev_is : c.dev-1.given.0 ≡ d.dev.now = c.dev-1.given.1 (sym c.new-blocks.ensures.dev ∙ sym (ap (λ n. n.1) p.looks.runs.counts.lenders)) in
     rw (core_is, dev_is, ← c.new-blocks.ensures.core_now, ← c.new-blocks.ensures.dev_now, p.same)
-    (looked g.K.Started.start f ask_it ask_it (ap (λ t. cond t ask_it ask.Bad) c.requires.named) l (d.core.ghost_name, d.dev.ghost_name) (g.L.Places.kind b.place.now) (g.L.Places.kind d.place.now) b.core.now d.core.now v (g.D.Device.view d.dev.now)
+    (looked g.K.Started.start f ask_it ask_it (ap (λ t. cond t ask_it ask.Bad) c.requires.named) l (d.core.ghost_name, d.dev.ghost_name) (g.L.Placing.kind b.placement.now) (g.L.Placing.kind d.placement.now) b.core.now d.core.now v (g.D.Device.view d.dev.now)
     g.D.Device.told (λ x. TellsNext c.args.after.now x) c.name_after.result ready keeps d.ready d.at
     p.answer p.looks)

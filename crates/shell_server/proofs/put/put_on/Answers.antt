@@ -15,7 +15,7 @@ returns g c =
     let f = g.F.Files.view c.args.files.now in
     let ask_it = ask.Put c.args.path.now c.args.bytes.now in
     let l : ℕ × ℕ = (b.core.ghost_name, b.dev.ghost_name) in
-    let kind = g.L.Places.kind b.place.now in
+    let kind = g.L.Placing.kind b.placement.now in
     let v = g.D.Device.view b.dev.now in
     let p = c.put.ensures in
     let ready : AreReady f b.core.now = rw c.new-blocks.ensures.core_now c.requires.ready in
@@ -23,7 +23,7 @@ returns g c =
     let core_is : c.core-1.given.0 ≡ d.core.now = c.core-1.given.1 (sym c.new-blocks.ensures.core ∙ sym (ap (λ n. n.0) p.changes.counts.lenders)) in
     let dev_is : c.dev-1.given.0 ≡ d.dev.now = c.dev-1.given.1 (sym c.new-blocks.ensures.dev ∙ sym (ap (λ n. n.1) p.changes.counts.lenders)) in
     rw (core_is, dev_is, ← c.new-blocks.ensures.core_now, ← c.new-blocks.ensures.dev_now, p.same)
-    (carried g.K.Started.start f ask_it ask_it (ap (λ t. cond t ask_it ask.Bad) c.requires.named) refl l (d.core.ghost_name, d.dev.ghost_name) kind (g.L.Places.kind d.place.now) b.core.now d.core.now v (g.D.Device.view d.dev.now)
+    (carried g.K.Started.start f ask_it ask_it (ap (λ t. cond t ask_it ask.Bad) c.requires.named) refl l (d.core.ghost_name, d.dev.ghost_name) kind (g.L.Placing.kind d.placement.now) b.core.now d.core.now v (g.D.Device.view d.dev.now)
     (put_of_change f (core_view l kind b.core.now v) c.args.path.now c.args.bytes.now)
     (put_unmounted f (core_view l kind b.core.now v) c.args.path.now c.args.bytes.now)
     g.D.Device.told c.put.result ready keeps d.ready d.at

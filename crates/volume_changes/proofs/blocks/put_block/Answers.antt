@@ -2,7 +2,7 @@ use Rattle.std.proofs.Common.{◌≡◌, ◌<◌, length, ap, arith, List}
 use Rattle.tsd_model.specs.Geometry.{block_len}
 use Rattle.tsd_model.specs.Step.{filled}
 use Rattle.image_layout.specs.Ring.{bodies}
-use Rattle.image_layout.specs.declared.place.Patch.{Patch}
+use Rattle.image_layout.specs.declared.offset.Patch.{Patch}
 use Rattle.intent_journal.specs.Batch.{with_patch}
 use Rattle.volume_laws.proofs.BlockLaws.{filled_part, laid_none, laid_more, laid_written, put_ok, length-with_patch, sectors_most}
 use Rattle.volume_changes.proofs.blocks.put_block.Goals as goal

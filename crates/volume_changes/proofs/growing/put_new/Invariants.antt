@@ -1,5 +1,5 @@
 use Rattle.std.proofs.Common.{◌≡◌, ◌≤◌, ◌*◌, List, [], length, drop}
-use Rattle.image_layout.specs.declared.place.Patch.{Patch}
+use Rattle.image_layout.specs.declared.offset.Patch.{Patch}
 use Rattle.volume_laws.specs.Growing.{Parts, parts_of, PartsFit, HasRoom, HidesNone, IsGrown}
 use Rattle.volume_changes.proofs.growing.put_new.Given as goal
 

@@ -1,6 +1,6 @@
 use Rattle.std.proofs.Common.{◌≡◌, sym, ◌∙◌, ap, subst, arith}
 use Rattle.tsd_model.specs.declared.geometry.Geometry.{Geometry}
-use Rattle.image_layout.specs.declared.place.Patch.{Patch}
+use Rattle.image_layout.specs.declared.offset.Patch.{Patch}
 use Rattle.pointer_table.specs.Table.{Table as Pointers}
 use Rattle.ref_counts.specs.Changes.{KeepsStored as KeepsCounts}
 use Rattle.image_device.specs.Image.{Image, put_at}

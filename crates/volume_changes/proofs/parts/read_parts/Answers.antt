@@ -5,7 +5,7 @@ use Rattle.tsd_model.specs.Geometry.{IsLawful}
 use Rattle.image_device.proofs.Resting.{rests_joined}
 use Rattle.image_device.proofs.Moments.{uses_and}
 use Rattle.image_layout.specs.Image.{Image, sector_bytes}
-use Rattle.image_layout.specs.Places.{data_sector}
+use Rattle.image_layout.specs.Offsets.{data_sector}
 use Rattle.intent_journal.specs.Home.{home}
 use Rattle.volume_changes.proofs.parts.read_parts.Goals as goal
 

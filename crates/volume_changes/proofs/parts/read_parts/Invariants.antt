@@ -1,7 +1,7 @@
 use Rattle.std.proofs.Common.{◌≡◌, ◌*◌, length}
 use Rattle.image_device.specs.Calls.{Rests, Uses}
 use Rattle.image_layout.specs.Image.{sector_bytes}
-use Rattle.image_layout.specs.Places.{data_sector}
+use Rattle.image_layout.specs.Offsets.{data_sector}
 use Rattle.intent_journal.specs.Home.{home}
 use Rattle.volume_changes.proofs.parts.read_parts.Given as goal
 

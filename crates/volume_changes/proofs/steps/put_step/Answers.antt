@@ -4,7 +4,7 @@ use Rattle.tsd_model.specs.declared.geometry.Geometry.{Geometry}
 use Rattle.image_device.specs.Image.{put_at}
 use Rattle.image_layout.specs.Areas.{bitmap_start, slots_start}
 use Rattle.image_layout.specs.Image.{Image}
-use Rattle.image_layout.specs.declared.place.Patch.{Patch}
+use Rattle.image_layout.specs.declared.offset.Patch.{Patch}
 use Rattle.intent_journal.specs.Batch.{with_patch}
 use Rattle.block_alloc.specs.LiveMap.{LiveMap}
 use Rattle.block_alloc.specs.Stored.{IsStoredAt, IsStored, sector_of}

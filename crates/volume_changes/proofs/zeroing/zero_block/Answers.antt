@@ -1,7 +1,7 @@
 use Rattle.std.proofs.Common.{◌≢◌, ◌+◌, inl, inr, ◌∙◌, ap, sym, arith}
 use Rattle.std.proofs.lemmas.Bool.{cases_eq}
 use Rattle.image_device.proofs.Confined.{confined_write}
-use Rattle.image_layout.specs.Places.{data_sector}
+use Rattle.image_layout.specs.Offsets.{data_sector}
 use Rattle.volume_laws.specs.Zeroed.{is_part}
 use Rattle.volume_laws.proofs.ZeroLaws.{part_is, data_apart, uses_more}
 use Rattle.volume_changes.proofs.zeroing.zero_block.Goals as goal

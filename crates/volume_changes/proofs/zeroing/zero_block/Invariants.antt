@@ -2,7 +2,7 @@ use Rattle.std.proofs.Common.{◌≡◌, ◌<◌, ℕ}
 use Rattle.image_device.specs.Calls.{Uses}
 use Rattle.image_device.specs.Image.{zeros}
 use Rattle.image_device.specs.Runs.{IsConfined}
-use Rattle.image_layout.specs.Places.{data_sector}
+use Rattle.image_layout.specs.Offsets.{data_sector}
 use Rattle.volume_laws.specs.Zeroed.{is_part}
 use Rattle.volume_changes.proofs.zeroing.zero_block.Given as goal
 

@@ -2,7 +2,7 @@ use Rattle.std.proofs.Common.{◌≡◌, ◌+◌, ◌-◌, ◌*◌, false, inl, 
 use Rattle.std.specs.Prelude.{slice_index}
 use Rattle.std.proofs.lemmas.Bool.{cases_eq, cases_Bool, cases_lt}
 use Rattle.image_device.proofs.Confined.{confined_joined, confined_wider}
-use Rattle.image_layout.specs.Places.{data_sector}
+use Rattle.image_layout.specs.Offsets.{data_sector}
 use Rattle.volume_laws.specs.Zeroed.{is_part, is_data}
 use Rattle.volume_laws.proofs.ZeroLaws.{at_number, number_at, data_wider, uses_more}
 use Rattle.image_layout.proofs.ThingLaws.{parts_apart}

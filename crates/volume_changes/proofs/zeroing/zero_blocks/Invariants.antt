@@ -3,7 +3,7 @@ use Rattle.std.specs.Prelude.{slice_index}
 use Rattle.image_device.specs.Calls.{Uses}
 use Rattle.image_device.specs.Image.{zeros}
 use Rattle.image_device.specs.Runs.{IsConfined}
-use Rattle.image_layout.specs.Places.{data_sector}
+use Rattle.image_layout.specs.Offsets.{data_sector}
 use Rattle.volume_laws.specs.Zeroed.{is_data}
 use Rattle.volume_changes.proofs.zeroing.zero_blocks.Given as goal
 

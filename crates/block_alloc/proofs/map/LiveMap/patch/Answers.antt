@@ -18,21 +18,21 @@ returns-clause-bytes c =
     ∙ ap (λ m. bitmap_sector_bytes m.live first) c.self.view_is
 
 -- the sector stands where the format has it
-at_place : (c : goal.After-sector_from) → c.bit_place.result.sector ≡ bitmap_start c.args.self.now.geometry + c.args.block / 4096
+at_place : (c : goal.After-sector_from) → c.bit_offset.result.sector ≡ bitmap_start c.args.self.now.geometry + c.args.block / 4096
 at_place c =
     let part : c.args.block / 8 / 512 ≡ c.args.block / 4096 = omega arith in
-    ap (λ p. p.sector) c.bit_place.ensures.value
+    ap (λ p. p.sector) c.bit_offset.ensures.value
     ∙ (ap (λ g. bitmap_start g + c.args.block / 8 / 512) (c.of.ensures ∙ ap (λ m. m.geometry) c.self.view_is)
     ∙ ap (λ n. bitmap_start c.args.self.now.geometry + n) part)
 
 pub returns-clause-here : goal.returns-clause-here
 returns-clause-here c = λ x b h same.
-    let m = c.args.self.now in let sector = c.bit_place.result.sector in
+    let m = c.args.self.now in let sector = c.bit_offset.result.sector in
     let P : List ℕ → Type 0 = λ bytes. IsStoredAt m.live m.geometry (put_at sector bytes x) b in
     subst P (sym (returns-clause-bytes c)) (stored_here m.live m.geometry x sector (c.args.block / 4096) b (at_place c) same)
 
 pub returns-clause-stored : goal.returns-clause-stored
 returns-clause-stored c = λ x others.
-    let m = c.args.self.now in let sector = c.bit_place.result.sector in
+    let m = c.args.self.now in let sector = c.bit_offset.result.sector in
     let P : List ℕ → Type 0 = λ bytes. IsStored m.live m.geometry (put_at sector bytes x) in
     subst P (sym (returns-clause-bytes c)) (stored_all m.live m.geometry x sector (c.args.block / 4096) (at_place c) others)

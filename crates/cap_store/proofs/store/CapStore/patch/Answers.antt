@@ -23,8 +23,8 @@ module _ (c : goal.After-bytes_of_part) where
   part : c.args.block / c.per_sector.result ≡ part_of now.version c.args.block
   part = ap (λ n. c.args.block / n) c.per_sector.ensures ∙ ap (λ (s : Store). part_of s.version c.args.block) c.self.view_is
 
-  place : sector ≡ sector_of now.version c.args.block
-  place = ap (λ n. 132 + n) part ∙ sym (place_is c.args.block now.version whole.version inside)
+  position : sector ≡ sector_of now.version c.args.block
+  position = ap (λ n. 132 + n) part ∙ sym (place_is c.args.block now.version whole.version inside)
 
   bytes_are : c.bytes_of_part.result ≡ caps_sector_bytes now.version now.records (part_of now.version c.args.block)
   bytes_are =
@@ -35,8 +35,8 @@ module _ (c : goal.After-bytes_of_part) where
 
 pub returns-clause-stored : goal.returns-clause-stored
 returns-clause-stored c x =
-    stored_all (now c).version (now c).records x c.args.block (sector c) c.bytes_of_part.result (whole c).version (few c) (whole c).kept (inside c) (place c) (bytes_are c)
+    stored_all (now c).version (now c).records x c.args.block (sector c) c.bytes_of_part.result (whole c).version (few c) (whole c).kept (inside c) (position c) (bytes_are c)
 
 pub returns-clause-more : goal.returns-clause-more
 returns-clause-more c some x =
-    more (now c).version (now c).records x c.args.block (sector c) c.bytes_of_part.result (whole c).version (few c) (whole c).kept (inside c) (place c) (bytes_are c) some
+    more (now c).version (now c).records x c.args.block (sector c) c.bytes_of_part.result (whole c).version (few c) (whole c).kept (inside c) (position c) (bytes_are c) some

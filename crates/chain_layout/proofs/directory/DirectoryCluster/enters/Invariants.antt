@@ -6,5 +6,5 @@ use Rattle.chain_layout.specs.Held.{entries_in}
 use Rattle.chain_layout.proofs.directory.DirectoryCluster.enters.Given as goal
 
 -- the block isn't among those before this place
-abbrev pub invariant-loop-place : goal.invariant-loop-place
-invariant-loop-place l = has_number (entry_blocks (entries_in l.self)) l.block ≡ has_number (drop l.place (entry_blocks (entries_in l.self))) l.block
+abbrev pub invariant-loop-position : goal.invariant-loop-position
+invariant-loop-position l = has_number (entry_blocks (entries_in l.self)) l.block ≡ has_number (drop l.position (entry_blocks (entries_in l.self))) l.block

@@ -15,5 +15,5 @@ pub returns : goal.returns
 returns c =
     let d = c.args.self.now in
     let n = length-entries (cluster_of d.cluster).used (cluster_of d.cluster).body in
-    name_there (cluster_of d.cluster).used c.args.place (cluster_of d.cluster).body (omega (arith, n, c.requires))
-    ∙ ap (λ m. Some m) (sym (c.name_at.ensures.value ∙ ap (λ b. name_in b c.args.place) c.body.ensures.value))
+    name_there (cluster_of d.cluster).used c.args.position (cluster_of d.cluster).body (omega (arith, n, c.requires))
+    ∙ ap (λ m. Some m) (sym (c.name_at.ensures.value ∙ ap (λ b. name_in b c.args.position) c.body.ensures.value))

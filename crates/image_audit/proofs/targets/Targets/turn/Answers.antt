@@ -8,7 +8,7 @@ returns-then-self-len-clause-rest c = new_page (told_by c.args.volume.now).pairs
 
 pub returns-else-self-len-clause-rest : goal.returns-else-self-len-clause-rest
 returns-else-self-len-clause-rest c =
-    let place = c.requires.page.place in
+    let position = c.requires.page.position in
     let other = c.if-self-len.false in
     let len = c.len.ensures.value in
-    old_page (told_by c.args.volume.now).pairs c.args.self.now (omega (arith, place, other, len)) c.requires.page
+    old_page (told_by c.args.volume.now).pairs c.args.self.now (omega (arith, position, other, len)) c.requires.page

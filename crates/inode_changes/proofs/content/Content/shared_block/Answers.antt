@@ -12,4 +12,4 @@ number_at-requires c =
 pub returns : goal.returns
 returns c =
     let many = length-blocks Regular 0 (shared_count c.args.self.now) c.args.self.now.shared.now in
-    c.number_at.ensures ∙ block_at Regular 0 (shared_count c.args.self.now) c.args.place c.args.self.now.shared.now (omega (arith, many, c.requires))
+    c.number_at.ensures ∙ block_at Regular 0 (shared_count c.args.self.now) c.args.position c.args.self.now.shared.now (omega (arith, many, c.requires))

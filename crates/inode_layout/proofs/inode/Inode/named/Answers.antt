@@ -9,16 +9,16 @@ pub overflow_mul-item_bytes : goal.overflow_mul-item_bytes
 overflow_mul-item_bytes c =
     let i = c.args.self.now in
     let count = length-blocks i.kind i.amount i.count (body_of i) in
-    let within = item_within i.kind i.count c.args.place (length i.bytes) (omega (arith, c.requires, count)) i.fits in
-    let same = ap (λ k. k * c.args.place) c.item_bytes.ensures in
+    let within = item_within i.kind i.count c.args.position (length i.bytes) (omega (arith, c.requires, count)) i.fits in
+    let same = ap (λ k. k * c.args.position) c.item_bytes.ensures in
     omega (arith, within, same, c.body.ensures.fits)
 
 pub number_at-requires : goal.number_at-requires
 number_at-requires c =
     let i = c.args.self.now in
     let count = length-blocks i.kind i.amount i.count (body_of i) in
-    let within = item_within i.kind i.count c.args.place (length i.bytes) (omega (arith, c.requires, count)) i.fits in
-    let same = ap (λ k. k * c.args.place) c.item_bytes.ensures in
+    let within = item_within i.kind i.count c.args.position (length i.bytes) (omega (arith, c.requires, count)) i.fits in
+    let same = ap (λ k. k * c.args.position) c.item_bytes.ensures in
     omega (arith, within, same, c.body.ensures.whole)
 
 pub returns : goal.returns
@@ -26,6 +26,6 @@ returns c =
     let i = c.args.self.now in
     let count = length-blocks i.kind i.amount i.count (body_of i) in
     c.number_at.ensures
-    ∙ (ap (λ b. little_number 4 (drop (c.item_bytes.result * c.args.place) b)) c.body.ensures.value
-    ∙ (ap (λ k. little_number 4 (drop (k * c.args.place) (body_of i))) c.item_bytes.ensures
-    ∙ block_at i.kind i.amount i.count c.args.place (body_of i) (omega (arith, c.requires, count))))
+    ∙ (ap (λ b. little_number 4 (drop (c.item_bytes.result * c.args.position) b)) c.body.ensures.value
+    ∙ (ap (λ k. little_number 4 (drop (k * c.args.position) (body_of i))) c.item_bytes.ensures
+    ∙ block_at i.kind i.amount i.count c.args.position (body_of i) (omega (arith, c.requires, count))))

@@ -6,5 +6,5 @@ use Rattle.inode_layout.specs.Said.{blocks_said}
 use Rattle.inode_layout.proofs.inode.Inode.names.Given as goal
 
 -- the block isn't among those before this place
-abbrev pub invariant-loop-place : goal.invariant-loop-place
-invariant-loop-place l = has_number (blocks_said (inode_of l.self)) l.block ≡ has_number (drop l.place (blocks_said (inode_of l.self))) l.block
+abbrev pub invariant-loop-position : goal.invariant-loop-position
+invariant-loop-position l = has_number (blocks_said (inode_of l.self)) l.block ≡ has_number (drop l.position (blocks_said (inode_of l.self))) l.block

@@ -1,6 +1,6 @@
 use Rattle.std.proofs.Common.{◌≡◌, inl, ◌<◌, List, length, sym, ◌∙◌, ap, arith, length-set, position, Some, None}
 use Rattle.image_device.specs.Image.{IsSector}
-use Rattle.image_layout.specs.declared.place.Patch.{Patch}
+use Rattle.image_layout.specs.declared.offset.Patch.{Patch}
 use Rattle.image_layout.specs.Ring.{bodies}
 use Rattle.intent_journal.proofs.Bools.{equal_numbers, still_room}
 use Rattle.intent_journal.proofs.Puts.{has_its_home, put_held, put_new, batch_held, batch_new}

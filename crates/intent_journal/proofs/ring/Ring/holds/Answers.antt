@@ -1,5 +1,5 @@
 use Rattle.std.proofs.Common.{sym, ◌∙◌, ap, List}
-use Rattle.image_layout.specs.declared.place.Patch.{Patch}
+use Rattle.image_layout.specs.declared.offset.Patch.{Patch}
 use Rattle.intent_journal.specs.Batch.{has_home}
 use Rattle.intent_journal.specs.Records.{patches_of}
 use Rattle.intent_journal.proofs.Parts.{patches_parted}

@@ -1,5 +1,5 @@
 use Rattle.std.proofs.Common.{◌≡◌, ◌+◌, ◌≤◌, ◌∷◌, [], ◌++◌, List, length, ℕ, sym, ◌∙◌, ap, arith, subst, lit<}
-use Rattle.image_layout.specs.declared.place.Patch.{Patch}
+use Rattle.image_layout.specs.declared.offset.Patch.{Patch}
 use Rattle.image_layout.specs.Ring.{bodies, records}
 use Rattle.intent_journal.specs.Parts.{ArePatchesOfRing, parted}
 use Rattle.intent_journal.specs.Records.{patches_of}

@@ -14,5 +14,5 @@ returns-in_default c =
 pub returns : goal.returns
 returns c =
     let t = c.args.self.now.by_target in
-    source_some (slots_in c.args.slots.now) t.way (length t.heads) c.args.target c.args.start c.rank.result c.in-Some.place c.source_in.result
+    source_some (slots_in c.args.slots.now) t.way (length t.heads) c.args.target c.args.start c.rank.result c.in-Some.position c.source_in.result
     c.requires.targets.way_is c.rank.ensures c.in-Some.ensures c.source_in.ensures

@@ -14,5 +14,5 @@ returns-in_default c =
 pub returns : goal.returns
 returns c =
     let t = c.args.self.now.by_source in
-    target_some (slots_in c.args.slots.now) t.way (length t.heads) c.args.source c.args.start c.rank.result c.in-Some.place c.target_in.result
+    target_some (slots_in c.args.slots.now) t.way (length t.heads) c.args.source c.args.start c.rank.result c.in-Some.position c.target_in.result
     c.requires.sources.way_is c.rank.ensures c.in-Some.ensures c.target_in.ensures

@@ -9,12 +9,12 @@ unset_link-requires-clause-inside c =
     let inside = c.requires in
     omega arith
 
-pub returns-else-place-len : goal.returns-else-place-len
-returns-else-place-len c =
+pub returns-else-position-len : goal.returns-else-position-len
+returns-else-position-len c =
     let l = c.self.inside in
     let all = ap length (sym c.self.view_is) ∙ length_links l.in_row l.count l.items.items c.self.invariant.within in
     let inside = c.requires in
     let len = l.items.ok.0 in
     c.unset_link.ensures
-    ∙ (get_unset l.in_row l.count l.items.items c.args.place (omega arith) (omega arith)
-    ∙ ap (λ (xs : List ℕ). get_or xs c.args.place 0) c.self.view_is)
+    ∙ (get_unset l.in_row l.count l.items.items c.args.position (omega arith) (omega arith)
+    ∙ ap (λ (xs : List ℕ). get_or xs c.args.position 0) c.self.view_is)

@@ -12,5 +12,5 @@ touch-requires-clause-inside c =
 pub returns : goal.returns
 returns c =
     let l = c.self.inside in
-    set_touched l.in_row l.count c.touch.new.items.items c.args.place c.args.link c.touch.ensures.touched
-    ∙ ap (λ (xs : List ℕ). set xs c.args.place c.args.link) (c.touch.ensures.same ∙ c.self.view_is)
+    set_touched l.in_row l.count c.touch.new.items.items c.args.position c.args.link c.touch.ensures.touched
+    ∙ ap (λ (xs : List ℕ). set xs c.args.position c.args.link) (c.touch.ensures.same ∙ c.self.view_is)

@@ -11,5 +11,5 @@ returns c =
     let a = c.args.source in
     let b = c.args.target in
     c.is_some.ensures
-    ∙ (has_is (slots_in c.deref.result.now) a b c.place_of.result c.place_of.ensures
+    ∙ (has_is (slots_in c.deref.result.now) a b c.position_of.result c.position_of.ensures
     ∙ (ap (λ raws. holds (pairs_in (slots_in raws)) a b) c.deref.ensures.value ∙ ap (λ t. holds (pairs t) a b) c.self.view_is))

@@ -11,10 +11,10 @@ use Rattle.pointer_table.proofs.table.PointerTable.remove.Goals as goal
 pub returns-in-Some-clause-absent : goal.returns-in-Some-clause-absent
 returns-in-Some-clause-absent c =
     let t = c.args.self.now in
-    let place = c.in-Some.place in
-    let found : slot_at t.slots place ≡ Some (c.args.source, c.args.target) =
-    sym (ap (λ (u : Table). slot_at u.slots place) c.self.view_is) ∙ (sym (ap (λ raws. slot_at (slots_in raws) place) c.deref.ensures.value) ∙ c.in-Some.ensures) in
-    (λ never. absurd (cc), λ absent. absurd (both_ways (holds (pairs t) c.args.source c.args.target) absent (holds_from_slot t.slots place c.args.source c.args.target found)))
+    let position = c.in-Some.position in
+    let found : slot_at t.slots position ≡ Some (c.args.source, c.args.target) =
+    sym (ap (λ (u : Table). slot_at u.slots position) c.self.view_is) ∙ (sym (ap (λ raws. slot_at (slots_in raws) position) c.deref.ensures.value) ∙ c.in-Some.ensures) in
+    (λ never. absurd (cc), λ absent. absurd (both_ways (holds (pairs t) c.args.source c.args.target) absent (holds_from_slot t.slots position c.args.source c.args.target found)))
 
 pub returns-in-Some-clause-pairs : goal.returns-in-Some-clause-pairs
 returns-in-Some-clause-pairs c =

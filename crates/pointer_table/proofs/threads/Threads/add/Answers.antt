@@ -14,16 +14,16 @@ returns c =
     record {
       threads = λ now more.
           put_fields (slot_at (slots_in c.args.slots.now)) now t.way u.way t.heads t.next u.heads u.next
-          c.args.place of c.rank.result (c.args.source, c.args.target) before
-          c.requires.threads more c.requires.absent c.ranges.target.fits c.requires.place c.requires.link c.requires.group
+          c.args.position of c.rank.result (c.args.source, c.args.target) before
+          c.requires.threads more c.requires.absent c.ranges.target.fits c.requires.position c.requires.link c.requires.group
           c.group-of.ensures c.rank.ensures c.before-before.ensures
           (c.keep_end.ensures.heads ∙ c.put-link.ensures.heads) (c.keep_end.ensures.next ∙ c.put-link.ensures.next)
           (c.keep_end.ensures.way ∙ c.put-link.ensures.way);
       way = c.keep_end.ensures.way ∙ c.put-link.ensures.way;
-      groups = heads_as_many t.heads u.heads of before c.args.place (c.keep_end.ensures.heads ∙ c.put-link.ensures.heads);
-      slots = next_as_many_put t.next u.next c.args.place (after t.heads t.next of before) before c.args.place
+      groups = heads_as_many t.heads u.heads of before c.args.position (c.keep_end.ensures.heads ∙ c.put-link.ensures.heads);
+      slots = next_as_many_put t.next u.next c.args.position (after t.heads t.next of before) before c.args.position
           (c.keep_end.ensures.next ∙ c.put-link.ensures.next);
       empties =
-          put_others (slot_at (slots_in c.args.slots.now)) (group t.way (length t.heads)) of c.rank.result t.next u.next c.args.place (after t.heads t.next of before)
-          c.args.place before c.before-before.ensures (c.keep_end.ensures.next ∙ c.put-link.ensures.next);
+          put_others (slot_at (slots_in c.args.slots.now)) (group t.way (length t.heads)) of c.rank.result t.next u.next c.args.position (after t.heads t.next of before)
+          c.args.position before c.before-before.ensures (c.keep_end.ensures.next ∙ c.put-link.ensures.next);
     }

@@ -11,13 +11,13 @@ returns c =
     record {
       threads = λ held now more least threads.
           put_fields held now t.way u.way t.heads t.next u.heads u.next
-          c.args.place of (rank (c.args.source, c.args.target)) (c.args.source, c.args.target) None
-          threads more (λ k same. let low = least k (c.args.source, c.args.target) same in omega arith) c.ranges.target.fits c.requires.place c.requires.link c.requires.group
+          c.args.position of (rank (c.args.source, c.args.target)) (c.args.source, c.args.target) None
+          threads more (λ k same. let low = least k (c.args.source, c.args.target) same in omega arith) c.ranges.target.fits c.requires.position c.requires.link c.requires.group
           c.group-of.ensures refl (λ j f m. let low = least j f m.here in omega arith)
           (c.keep_end.ensures.heads ∙ c.put-link.ensures.heads) (c.keep_end.ensures.next ∙ c.put-link.ensures.next)
           (c.keep_end.ensures.way ∙ c.put-link.ensures.way);
       way = c.keep_end.ensures.way ∙ c.put-link.ensures.way;
-      groups = heads_as_many t.heads u.heads of None c.args.place (c.keep_end.ensures.heads ∙ c.put-link.ensures.heads);
-      slots = next_as_many_put t.next u.next c.args.place (after t.heads t.next of None) None c.args.place
+      groups = heads_as_many t.heads u.heads of None c.args.position (c.keep_end.ensures.heads ∙ c.put-link.ensures.heads);
+      slots = next_as_many_put t.next u.next c.args.position (after t.heads t.next of None) None c.args.position
           (c.keep_end.ensures.next ∙ c.put-link.ensures.next);
     }

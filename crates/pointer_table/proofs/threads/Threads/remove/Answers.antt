@@ -13,7 +13,7 @@ returns c =
     record {
       threads = λ left less.
           cut_fields left (slot_at (slots_in c.args.slots.now)) t.way u.way t.heads t.next u.heads u.next
-          c.args.place c.group-of.result c.rank.result c.after-link.result (c.args.source, c.args.target) before
+          c.args.position c.group-of.result c.rank.result c.after-link.result (c.args.source, c.args.target) before
           c.requires.threads less c.group-of.ensures c.rank.ensures c.before-before.ensures c.after-link.ensures
           (c.keep_end.ensures.heads ∙ c.set_after.ensures.heads) (c.keep_end.ensures.next ∙ c.set_after.ensures.next)
           (c.keep_end.ensures.way ∙ c.set_after.ensures.way);

@@ -1,5 +1,5 @@
 use Rattle.std.proofs.Common.{◌≡◌, ◌-◌, ◌/◌, length, ◌∙◌, ap, subst, arith}
-use Rattle.image_layout.specs.declared.place.Place.{Place}
+use Rattle.image_layout.specs.declared.position.Place.{Place}
 use Rattle.ref_counts.specs.Table.{Table}
 use Rattle.ref_counts.specs.Stored.{sector_of, counts_sector_bytes, part_of}
 use Rattle.ref_counts.proofs.Sectors.{AllFit, more, stored_all}
@@ -15,21 +15,21 @@ module _ (c : goal.After-bytes_of_part) where
   fits : AllFit c.args.self.now.counts
   fits = subst AllFit counts_are c.bytes_of_part.ensures.fits
 
-  place : c.count_place-place.result.sector ≡ sector_of c.args.self.now.geometry c.args.block
-  place = ap (λ (p : Place). p.sector) c.count_place-place.ensures.value
+  position : c.count_offset-position.result.sector ≡ sector_of c.args.self.now.geometry c.args.block
+  position = ap (λ (p : Place). p.sector) c.count_offset-position.ensures.value
 
   bytes_are : c.bytes_of_part.result ≡ counts_sector_bytes c.args.self.now.counts (part_of c.args.block)
   bytes_are =
-      let part : c.count_place-place.result.sector - 134 ≡ c.args.block / 128 = omega (arith, place) in
-      c.bytes_of_part.ensures.bytes ∙ ap (λ l. counts_sector_bytes l (c.count_place-place.result.sector - 134)) counts_are ∙ ap (counts_sector_bytes c.args.self.now.counts) part
+      let part : c.count_offset-position.result.sector - 134 ≡ c.args.block / 128 = omega (arith, position) in
+      c.bytes_of_part.ensures.bytes ∙ ap (λ l. counts_sector_bytes l (c.count_offset-position.result.sector - 134)) counts_are ∙ ap (counts_sector_bytes c.args.self.now.counts) part
 
 pub returns-clause-bytes : goal.returns-clause-bytes
 returns-clause-bytes c = bytes_are c
 
 pub returns-clause-stored : goal.returns-clause-stored
 returns-clause-stored c x =
-    stored_all c.args.self.now.counts c.args.self.now.geometry x c.args.block c.count_place-place.result.sector c.bytes_of_part.result (each c) (fits c) (place c) (bytes_are c)
+    stored_all c.args.self.now.counts c.args.self.now.geometry x c.args.block c.count_offset-position.result.sector c.bytes_of_part.result (each c) (fits c) (position c) (bytes_are c)
 
 pub returns-clause-more : goal.returns-clause-more
 returns-clause-more c some x =
-    more c.args.self.now.counts c.args.self.now.geometry x c.args.block c.count_place-place.result.sector c.bytes_of_part.result (each c) (fits c) (place c) (bytes_are c) some
+    more c.args.self.now.counts c.args.self.now.geometry x c.args.block c.count_offset-position.result.sector c.bytes_of_part.result (each c) (fits c) (position c) (bytes_are c) some

@@ -23,7 +23,7 @@ before P c d same p = subst P same p
 
 pub run_of-requires-clause-fits : goal.run_of-requires-clause-fits
 run_of-requires-clause-fits g c =
-    let kind = c.args.place.now.kind in
+    let kind = c.args.placement.now.kind in
     let known : IsKnown c.self.inside.volume = subst (λ (x : Core). IsKnown x.volume) (sym c.self.view_is) c.requires.known in
     let t = told_by c.self.inside.volume in
     let e = picked kind t c.args.hint.now c.hint_block.result c.args.count c.in-Ok.first c.hint_block.ensures c.in-Ok.ensures.chosen in
@@ -31,7 +31,7 @@ run_of-requires-clause-fits g c =
 
 pub grow-requires-clause-new : goal.grow-requires-clause-new
 grow-requires-clause-new g c =
-    let kind = c.args.place.now.kind in
+    let kind = c.args.placement.now.kind in
     let t = told_by c.self.inside.volume in
     let e = picked kind t c.args.hint.now c.hint_block.result c.args.count c.in-Ok.first c.hint_block.ensures c.in-Ok.ensures.chosen in
     before (λ (x : Core). AreToBeTaken (told_world x) c.run_of.result) (record { volume = c.self.inside.volume; grants = c.self.inside.grants }) c.args.self.now c.self.view_is
@@ -42,7 +42,7 @@ grow-requires-clause-room g c = omega (arith, c.requires.room, ap length c.run_o
 
 pub returns-in-Ok : goal.returns-in-Ok
 returns-in-Ok g c = λ session shown.
-    let kind = c.args.place.now.kind in
+    let kind = c.args.placement.now.kind in
     let t = told_by c.self.inside.volume in
     let e = picked kind t c.args.hint.now c.hint_block.result c.args.count c.in-Ok.first c.hint_block.ensures c.in-Ok.ensures.chosen in
     let run : c.run_of.result ≡ run_at (chosen_run kind t c.args.hint.now c.args.count) c.args.count = c.run_of.ensures ∙ ap (λ o. run_at o c.args.count) (sym e) in

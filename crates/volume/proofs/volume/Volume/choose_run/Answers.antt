@@ -44,7 +44,7 @@ returns-clause-chosen g c =
     let still : i.is_sweeping ≡ false = ap (λ (w : Volume). w.tables.is_sweeping) c.self.view_is ∙ c.requires.ready.1 in
     let ahead = v.ahead (ap (λ (w : Volume). w.is_ready) c.self.view_is ∙ c.requires.ready.0) in
     let told = map_of t v.sound still i.live i.ahead refl v.hidden ahead (c.geometry-size.ensures.table.each_unhidden ∙ ap (λ g. g.blocks) v.live) in
-    same_chosen c.choose_run.result i.live.unhidden (blank_of t) (told_by c.args.self.now) c.args.place.now.kind c.args.hint c.args.count told (ap told_by c.self.view_is) c.choose_run.ensures.chosen
+    same_chosen c.choose_run.result i.live.unhidden (blank_of t) (told_by c.args.self.now) c.args.placement.now.kind c.args.hint c.args.count told (ap told_by c.self.view_is) c.choose_run.ensures.chosen
 
 pub returns-clause-enough : goal.returns-clause-enough
 returns-clause-enough g c =

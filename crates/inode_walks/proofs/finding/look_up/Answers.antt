@@ -2,7 +2,7 @@ use Rattle.std.proofs.Common.{◌≡◌, ◌∷◌, ◌++◌, [], ◌∙◌, sym
 use Rattle.fs_client.proofs.LookLaws.{no_look, looks_as, looks_refused, looks_but_refuses}
 use Rattle.inode_walks.specs.Asking.{tree_of}
 use Rattle.inode_walks.proofs.FoundLaws.{last_of, no_name, place_lost, place_is}
-use Rattle.inode_walks.proofs.finding.find_place.Goals as goal
+use Rattle.inode_walks.proofs.finding.look_up.Goals as goal
 
 pub find_directory-requires : goal.find_directory-requires
 find_directory-requires g c = record { may = c.requires.may }

@@ -17,7 +17,7 @@ use tsd_model::{Reply, Request};
 
 /// In which order free blocks are taken. A type with a fact about its device can't stand beside stored closures, so it
 /// knows them by this trait alone.
-pub trait Places {
+pub trait Placing {
     /// The kind of placement.
     ghost kind: { Self → PlaceKind };
 
@@ -44,7 +44,7 @@ pub trait Places {
         ensures faults { CountsFault result (D.view dev.old).faults (D.view dev.new).faults };
 }
 
-impl Places for Placement {
+impl Placing for Placement {
     ghost kind = { λ p. p.kind };
 
     fn apply<D: Device>(

@@ -1,7 +1,7 @@
 use Rattle.std.proofs.Common.{◌≡◌, ◌*◌, ◌+◌, ℕ, sym, ◌∙◌, ap, arith}
 use Rattle.fs_fields.proofs.PadLaws.{entry_at}
 use Rattle.fs_fields.proofs.EntryLaws.{place_stops, place_goes_on}
-use Rattle.fs_fields.proofs.entries.place_of.Goals as goal
+use Rattle.fs_fields.proofs.entries.position_of.Goals as goal
 
 none_more : (i : ℕ) → i + 0 ≡ i
 none_more i = omega arith
