@@ -8,3 +8,4 @@ mod Pushes
 mod Cells
 mod Images
 mod PutAll
+pub mod Parts

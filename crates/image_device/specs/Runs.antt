@@ -34,3 +34,7 @@ pub record PutsAll {T E : Type 0} (told : Type 0) (text : List ℕ) (old new : V
   pub any_moment : told → LeavesOnly old new (IsLeftInPut text old)
   pub puts : Puts old new
   pub faults : CountsFault result old.put_faults new.put_faults
+
+-- A crash at any moment leaves this part of what was read as it was.
+abbrev pub LeavesPart : (Image → Image) → View → View → Type 0
+LeavesPart part old new = LeavesOnly old new (λ x f. part x ≡ part old.reads)

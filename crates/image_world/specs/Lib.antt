@@ -15,3 +15,4 @@ pub mod Loaded
 pub mod Loading
 pub mod Tests
 pub mod Testing
+pub mod Behind
