@@ -1,10 +1,9 @@
 -- A part of what is read stays, from call to call.
 use Rattle.std.proofs.Common.{◌≡◌, Bool, List, ℕ, ◌∙◌, ap}
-use Rattle.std.specs.Prelude.{Result}
 use Rattle.image_device.specs.Image.{Image}
 use Rattle.image_device.specs.View.{View, IsLeftInPut, IsLeftWithin, IsSound}
 use Rattle.image_device.specs.Calls.{Rests}
-use Rattle.image_device.specs.Runs.{LeavesOnly, LeavesPart, IsConfined, IsFirm, PutsAll}
+use Rattle.image_device.specs.Runs.{LeavesOnly, LeavesPart, IsConfined, IsFirm}
 use Rattle.image_device.proofs.Moments.{ends_in, firm_image, joined, rested, started, weakened}
 
 -- nothing was called
@@ -28,9 +27,9 @@ part_rests part v new sound firm rests =
     rested v new (λ x f. part x ≡ part v.reads) sound rests (λ x f now. ap part (firm_image v firm x f now))
 
 -- a text was put
-pub part_put : {T E : Type 0} (part : Image → Image) (text : List ℕ) (old new : View) (result : Result T E) → IsFirm old
-    → LeavesOnly old new (IsLeftInPut text old) → LeavesPart part old new
-part_put part text old new result firm leaves =
+pub part_put : (part : Image → Image) (text : List ℕ) (old new : View) → IsFirm old → LeavesOnly old new (IsLeftInPut text old)
+    → LeavesPart part old new
+part_put part text old new firm leaves =
     weakened old new (IsLeftInPut text old) (λ x f. part x ≡ part old.reads) leaves
     (λ x f left. ap part (λ i n. left.0.agrees n (firm n) i))
 
