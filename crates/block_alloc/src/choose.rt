@@ -106,7 +106,8 @@ impl LiveMap {
         count: u32,
     ) -> Result<u32, RunRefusal>
         requires { (1 ≤ count) × (count ≤ 32) }
-        ensures chosen { IfOk result (λ first. chosen_run placement.now.kind self.now.unhidden hint count ≡ Some first) }
+        ensures chosen { IfOk result (λ first. chosen_run placement.now.kind self.now.unhidden hint count
+            ≡ Some first) }
         ensures enough { OnOk result (count ≤ free_count self.now.unhidden) }
         ensures refused { IfErr result (IsRunRefusal self.now.unhidden count) }
     {

@@ -110,7 +110,8 @@ pub fn directory_with(old: &DirectoryCluster, position: usize, name: &[u8], bloc
 /// The cluster of the directory without the entry at a position.
 pub fn directory_without(old: &DirectoryCluster, position: usize) -> Data
     requires { position < length (entries_in old.now) }
-    ensures { result ≡ directory_bytes (cluster_of (cluster_in old.now)).next (unlisted_at position (entries_in old.now)) }
+    ensures { result ≡ directory_bytes (cluster_of (cluster_in old.now)).next
+        (unlisted_at position (entries_in old.now)) }
 {
     let count = old.count();
     let (before, behind) = parts(old.cluster().body(), count, position, position + 1);

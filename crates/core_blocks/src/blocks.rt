@@ -49,8 +49,8 @@ impl<'a, D: Device, L: Placing> Blocks for CoreBlocks<'a, D, L> {
     ghost view = { λ b. core_view (b.core.ghost_name, b.dev.ghost_name) (L.kind b.placement.now) b.core.now
         (D.view b.dev.now) };
 
-    ghost sound = { λ b told unspent. core_sound (b.core.ghost_name, b.dev.ghost_name) (L.kind b.placement.now) b.core.now
-        (D.view b.dev.now) (D.sound b.dev.now told) (b.at told unspent) };
+    ghost sound = { λ b told unspent. core_sound (b.core.ghost_name, b.dev.ghost_name) (L.kind b.placement.now)
+        b.core.now (D.view b.dev.now) (D.sound b.dev.now told) (b.at told unspent) };
 
     fn geometry(&self) -> Geometry {
         self.core.geometry()

@@ -3,8 +3,8 @@
 //! What it stands on: `tsd_model`, and of that the definitions alone, and the lemmas of `disk_laws`.
 //!
 //! What it promises: each law is a clause of a function that takes nothing and does nothing. It holds for every world
-//! that it names, and asks no more of it than it uses, mostly an entry for each block and pairs that ascend: so it holds
-//! of what tables know, which have no bytes.
+//! that it names, and asks no more of it than it uses, mostly an entry for each block and pairs that ascend: so it
+//! holds of what tables know, which have no bytes.
 #![tactic(auto)]
 
 pub mod ahead;

@@ -5,8 +5,8 @@ use Rattle.std.specs.Int.{bit_at}
 use Rattle.byteorder.specs.Endian.{little_from}
 use Rattle.tsd_model.specs.declared.geometry.Geometry.{Geometry}
 use Rattle.image_layout.specs.declared.offset.Offset.{Offset}
-use Rattle.image_layout.specs.Offsets.{further, count_offset, bit_offset, bit_of, slot_offset, cap_offset, digest_offset}
-use Rattle.image_layout.specs.Offsets.{data_sector}
+use Rattle.image_layout.specs.Offsets.{further, count_offset, bit_offset, bit_of, slot_offset, cap_offset}
+use Rattle.image_layout.specs.Offsets.{data_sector, digest_offset}
 
 -- the 512 bytes of each sector
 abbrev pub Image : Type 0

@@ -106,8 +106,8 @@ fn carry_out<D: Device>(
     dev: &mut D,
 ) -> Result<Summary, Status>
     requires few { load.now.count ≤ 200000 }
-    ensures loaded { D.told → OnOk result (IsLoadDone placement.now.kind load.now.seed (D.view dev.old).reads load.now.count
-        (D.view dev.new)) }
+    ensures loaded { D.told → OnOk result (IsLoadDone placement.now.kind load.now.seed (D.view dev.old).reads
+        load.now.count (D.view dev.new)) }
     ensures summary { D.told
         → IfOk result (λ s. IsSummary placement.now.kind load.now.seed (world_of (D.view dev.old).reads) load.now.count
         s) }
@@ -150,8 +150,8 @@ fn run<D: Device>(
     requires at { D.told → IsCoreAt core.old (D.view dev.old) }
     requires start { D.told → state_on core.old (D.view dev.old).reads ≡ at_rest (world_of (D.view dev.old).reads) }
     requires draws { draws.old ≡ load_of load.now.seed (told_world core.old).geometry 0 }
-    ensures loaded { D.told → OnOk result (IsLoadDone placement.now.kind load.now.seed (D.view dev.old).reads load.now.count
-        (D.view dev.new)) }
+    ensures loaded { D.told → OnOk result (IsLoadDone placement.now.kind load.now.seed (D.view dev.old).reads
+        load.now.count (D.view dev.new)) }
     ensures summary { D.told
         → IfOk result (λ s. IsSummary placement.now.kind load.now.seed (world_of (D.view dev.old).reads) load.now.count
         s) }

@@ -18,7 +18,8 @@ use tsd_core::Core;
 use tsd_model::Request;
 use tsd_words::Status;
 
-/// Serves the requests of an input by a core until it ends, as `serving::serve` does. Free blocks are taken by `placement`.
+/// Serves the requests of an input by a core until it ends, as `serving::serve` does. Free blocks are taken by
+/// `placement`.
 pub fn serve_core<S: Source, P: Port, R: Protocol<Request = Request> + Replies>(
     core: &mut Core,
     placement: &Placement,
@@ -39,7 +40,8 @@ pub fn serve_core<S: Source, P: Port, R: Protocol<Request = Request> + Replies>(
     // Each request was answered promptly; where the input was cut short, nothing is done behind the last answer and
     // what is behind an answer.
     ensures prompt { P.told → Promptly result (spoken disk_rules R.voice) disk_work (IsOfPort P.view)
-        (placed_on placement.now.kind core.old (P.view port.old).reads) (mark (P.view port.old)) (mark (P.view port.new)) }
+        (placed_on placement.now.kind core.old (P.view port.old).reads) (mark (P.view port.old))
+        (mark (P.view port.new)) }
     // Unless the device failed, the core may be used again; else it is spent.
     ensures ready { result ≢ Status.DeviceFault → IsCoreReady core.new }
     ensures at { result ≢ Status.DeviceFault → P.told → IsCoreAt core.new (P.view port.new) }

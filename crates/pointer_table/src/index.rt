@@ -124,9 +124,9 @@ impl Index {
         }
     }
 
-    /// A slot from which the walk to a pair's position among those of its source is short: a guess, so a wrong one costs
-    /// time alone. Up from the head of the source and down from the target two searches take turns, and the first that
-    /// finds one ends both.
+    /// A slot from which the walk to a pair's position among those of its source is short: a guess, so a wrong one
+    /// costs time alone. Up from the head of the source and down from the target two searches take turns, and the first
+    /// that finds one ends both.
     fn near_target(&self, slots: &[RawSlot], source: u32, target: u32) -> u32
         requires { IsIndex (slot_at (slots_in slots.now)) self.now }
     {

@@ -22,7 +22,8 @@ model_rules stands = record {
   stands = λ s x. stands x s.state.world;
 }
 
--- These are the texts of the model's replies, for some requests at which no memory was found, and this is its state then.
+-- These are the texts of the model's replies, for some requests at which no memory was found, and this is its state
+-- then.
 pub record IsModelRun (v : Voice) (s : Placed) (qs : List Request) (answers : List (List ℕ)) (t : Placed) : Type 0 where
   pub wants : List Bool
   pub each : length wants ≡ length qs

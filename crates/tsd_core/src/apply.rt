@@ -41,8 +41,8 @@ impl Core {
         ensures ready { OnOk result (IsCoreReady self.new) }
         ensures at { D.told → OnOk result (IsCoreAt self.new (D.view dev.new)) }
         ensures form { IfOk result HasForm }
-        ensures given { D.told → IfOk result (λ r. IsAnswer placement.now.kind (state_on self.old (D.view dev.old).reads)
-            request.now r (state_on self.new (D.view dev.new).reads)) }
+        ensures given { D.told → IfOk result (λ r. IsAnswer placement.now.kind
+            (state_on self.old (D.view dev.old).reads) request.now r (state_on self.new (D.view dev.new).reads)) }
 
         // What memory tells of the answer holds for every device.
         ensures told { IfOk result (λ r. IsToldAnswer placement.now.kind self.old request.now r self.new) }

@@ -145,8 +145,8 @@ loaded_of name seed count placement =
 -- shell KIND ROOT CAP PLACE
 unfoldable pub shelled_of : List ℕ → List ℕ → List ℕ → List ℕ → List ℕ → Option Command
 shelled_of name layout root cap placement =
-    cond (bytes_eq name (codes "shell")) (option_map (λ shell. command.Shell shell) (shell_of layout root cap placement))
-    None
+    cond (bytes_eq name (codes "shell"))
+    (option_map (λ shell. command.Shell shell) (shell_of layout root cap placement)) None
 
 -- copyfs KIND ROOT CAP KIND ROOT CAP PLACE
 unfoldable pub copied_of : List ℕ → List ℕ → List ℕ → List ℕ → List ℕ → List ℕ → List ℕ → List ℕ → Option Command
