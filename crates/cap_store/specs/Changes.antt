@@ -1,7 +1,7 @@
 -- What a change of a store leaves, in memory and on the disk.
 use Rattle.std.specs.Prelude.{ℕ, ◌==◌, ◌||◌, Bool}
 use Rattle.image_device.specs.Image.{Image, put_at}
-use Rattle.image_layout.specs.declared.position.Patch.{Patch}
+use Rattle.image_layout.specs.declared.offset.Patch.{Patch}
 use Rattle.cap_store.specs.Store.{Store}
 use Rattle.cap_store.specs.Stored.{caps_sector_bytes, part_of, sector_of, IsStored, IsStoredBut}
 

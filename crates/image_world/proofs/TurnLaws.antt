@@ -9,7 +9,7 @@ use Rattle.image_layout.specs.Areas.{header_sector, format_gate, sweep_flag, dat
 use Rattle.image_layout.specs.Header.{IsHeaderReading}
 use Rattle.image_layout.specs.Offsets.{data_sector}
 use Rattle.image_layout.specs.Image.{Image, is_open, data_bytes, gate_bytes}
-use Rattle.image_layout.specs.declared.position.Patch.{Patch}
+use Rattle.image_layout.specs.declared.offset.Patch.{Patch}
 use Rattle.intent_journal.specs.Crash.{IsAfter}
 use Rattle.intent_journal.specs.Home.{home, overlaid, is_journal, AgreeBut}
 use Rattle.intent_journal.proofs.Overlays.{put_here, put_elsewhere}

@@ -10,7 +10,7 @@ use Rattle.disk_laws.proofs.DoomLaws.{settle_is_valid}
 use Rattle.graph_laws.proofs.SweepLaws.{sweeps_to_valid}
 use Rattle.image_device.specs.Image.{IsSector, put_at}
 use Rattle.image_layout.specs.Image.{Image}
-use Rattle.image_layout.specs.declared.position.Patch.{Patch}
+use Rattle.image_layout.specs.declared.offset.Patch.{Patch}
 use Rattle.intent_journal.specs.Batch.{IsBatch}
 use Rattle.intent_journal.specs.Home.{home, overlaid}
 use Rattle.intent_journal.specs.Records.{Record, patches_of, open_records}

@@ -2,7 +2,7 @@
 use Rattle.std.specs.Prelude.{◌≡◌, ℕ, ◌≤◌, List}
 use Rattle.image_layout.specs.Areas.{format_gate, data_start}
 use Rattle.image_layout.specs.Image.{Image}
-use Rattle.image_layout.specs.declared.position.Patch.{Patch}
+use Rattle.image_layout.specs.declared.offset.Patch.{Patch}
 use Rattle.intent_journal.specs.Home.{home, overlaid, is_journal, AgreeBut}
 use Rattle.image_world.specs.Faults.{HasJournal, IsGood}
 use Rattle.image_world.specs.Raw.{world_with, left_of, data_on, raw_of}

@@ -5,7 +5,7 @@ use Rattle.std.specs.Prelude.{is_some}
 use Rattle.std.proofs.lemmas.Bool.{both_ways}
 use Rattle.tsd_model.specs.declared.geometry.Geometry.{Geometry}
 use Rattle.image_device.specs.Image.{Image, put_at}
-use Rattle.image_layout.specs.declared.position.Patch.{Patch}
+use Rattle.image_layout.specs.declared.offset.Patch.{Patch}
 use Rattle.pointer_table.specs.Changes.{IsChange}
 use Rattle.pointer_table.specs.Sectors.{sector_of, slot_sector_bytes, IsStored}
 use Rattle.pointer_table.proofs.SectorLaws.{stored_kept}

@@ -20,7 +20,7 @@ use Rattle.pointer_table.specs.Repeats.{IsRepeatedIn, IsLeastOfAll}
 use Rattle.pointer_table.specs.Slots.{slot_at}
 use Rattle.pointer_table.specs.Table.{Table, pairs, MayBeHeld, IsTable, ArePairs}
 use Rattle.tsd_model.proofs.PairLaws.{length-with_new_pair}
-use Rattle.image_layout.specs.declared.position.Patch.{Patch}
+use Rattle.image_layout.specs.declared.offset.Patch.{Patch}
 use Rattle.pointer_table.specs.Changes.{IsChange}
 use Rattle.pointer_table.proofs.RawLaws.{slots_in-set}
 use Rattle.image_layout.specs.Areas.{slots_start}

@@ -1,7 +1,7 @@
 -- What a change of a table leaves, in memory and on the disk.
 use Rattle.std.specs.Prelude.{◌≡◌, ℕ, ◌/◌, ◌<◌, ◌≤◌, slice_set, Option}
 use Rattle.image_device.specs.Image.{Image, IsSector, put_at}
-use Rattle.image_layout.specs.declared.position.Patch.{Patch}
+use Rattle.image_layout.specs.declared.offset.Patch.{Patch}
 use Rattle.image_layout.specs.Areas.{slots_start, data_start}
 use Rattle.pointer_table.specs.Slots.{slot_at}
 use Rattle.pointer_table.specs.Table.{Table}

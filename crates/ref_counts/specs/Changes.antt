@@ -1,7 +1,7 @@
 -- What a change of a table leaves, in memory and on the disk.
 use Rattle.std.specs.Prelude.{ℕ, ◌==◌, ◌||◌, Bool}
 use Rattle.image_device.specs.Image.{Image, put_at}
-use Rattle.image_layout.specs.declared.position.Patch.{Patch}
+use Rattle.image_layout.specs.declared.offset.Patch.{Patch}
 use Rattle.ref_counts.specs.Table.{Table}
 use Rattle.ref_counts.specs.Stored.{counts_sector_bytes, part_of, sector_of, IsStored, IsStoredBut}
 

@@ -9,7 +9,7 @@ use Rattle.graph_laws.specs.Graph.{HasGraphOf}
 use Rattle.graph_laws.proofs.SameGraphLaws.{free_count_by_graph}
 use Rattle.image_device.specs.Calls.{Uses}
 use Rattle.image_device.specs.View.{View}
-use Rattle.image_layout.specs.declared.placement.Patch.{Patch}
+use Rattle.image_layout.specs.declared.offset.Patch.{Patch}
 use Rattle.intent_journal.specs.Records.{Record}
 use Rattle.intent_journal.specs.Ring.{committed, commit_writes, checkpoint_writes}
 use Rattle.image_world.specs.Debt.{graph_in, owed}

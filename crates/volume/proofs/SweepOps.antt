@@ -8,7 +8,7 @@ use Rattle.tsd_model.specs.Reach.{reach, swept}
 use Rattle.tsd_model.specs.World.{World, free_count, has_number}
 use Rattle.image_layout.specs.Areas.{sweep_flag}
 use Rattle.image_layout.specs.Image.{gate_bytes}
-use Rattle.image_layout.specs.declared.placement.Patch.{Patch}
+use Rattle.image_layout.specs.declared.offset.Patch.{Patch}
 use Rattle.intent_journal.specs.Batch.{with_patch}
 use Rattle.pointer_table.specs.declared.out_step.OutStep.{OutStep}
 use Rattle.cycle_sweep.specs.Sweep.{MaySweep, AreSweptBy}

@@ -7,7 +7,7 @@ use Rattle.image_device.specs.Calls.{Uses}
 use Rattle.image_device.specs.View.{View, IsSound}
 use Rattle.image_device.specs.declared.device.Failed.{Failed}
 use Rattle.image_layout.specs.declared.header.Header.{Header}
-use Rattle.image_layout.specs.declared.placement.Patch.{Patch}
+use Rattle.image_layout.specs.declared.offset.Patch.{Patch}
 use Rattle.intent_journal.specs.Ring.{committed, commit_writes}
 use Rattle.pointer_table.specs.Table.{Table as Pointers}
 use Rattle.pointer_table.specs.declared.out_step.OutStep.{OutStep}

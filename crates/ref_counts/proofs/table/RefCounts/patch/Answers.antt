@@ -1,5 +1,5 @@
 use Rattle.std.proofs.Common.{◌≡◌, ◌-◌, ◌/◌, length, ◌∙◌, ap, subst, arith}
-use Rattle.image_layout.specs.declared.position.Place.{Place}
+use Rattle.image_layout.specs.declared.offset.Offset.{Offset}
 use Rattle.ref_counts.specs.Table.{Table}
 use Rattle.ref_counts.specs.Stored.{sector_of, counts_sector_bytes, part_of}
 use Rattle.ref_counts.proofs.Sectors.{AllFit, more, stored_all}
@@ -16,7 +16,7 @@ module _ (c : goal.After-bytes_of_part) where
   fits = subst AllFit counts_are c.bytes_of_part.ensures.fits
 
   position : c.count_offset-position.result.sector ≡ sector_of c.args.self.now.geometry c.args.block
-  position = ap (λ (p : Place). p.sector) c.count_offset-position.ensures.value
+  position = ap (λ (p : Offset). p.sector) c.count_offset-position.ensures.value
 
   bytes_are : c.bytes_of_part.result ≡ counts_sector_bytes c.args.self.now.counts (part_of c.args.block)
   bytes_are =

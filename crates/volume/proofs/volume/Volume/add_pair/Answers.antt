@@ -6,7 +6,7 @@ use Rattle.tsd_model.specs.declared.geometry.Geometry.{Geometry}
 use Rattle.tsd_model.specs.Pairs.{holds}
 use Rattle.tsd_model.specs.World.{is_live}
 use Rattle.tsd_model.specs.Step.{with_pointer}
-use Rattle.image_layout.specs.declared.placement.Patch.{Patch}
+use Rattle.image_layout.specs.declared.offset.Patch.{Patch}
 use Rattle.pointer_table.specs.Slots.{pairs_in}
 use Rattle.pointer_table.specs.Table.{MayBeHeld}
 use Rattle.pointer_table.specs.Table.{Table as Pointers}

@@ -17,7 +17,7 @@ use Rattle.image_world.specs.Changes.{upgraded_tables}
 use Rattle.image_world.specs.Sound.{AreSound}
 use Rattle.image_world.specs.Tables.{Tables}
 use Rattle.image_world.specs.Turns.{Turns}
-use Rattle.image_layout.specs.declared.placement.Patch.{Patch}
+use Rattle.image_layout.specs.declared.offset.Patch.{Patch}
 use Rattle.volume_laws.specs.Volume.{Volume, tables_in}
 use Rattle.volume_laws.proofs.RingLaws.{commits_once}
 use Rattle.volume_laws.proofs.Ops.{any_bytes, IsOp, op_told}

@@ -6,7 +6,7 @@ use Rattle.tsd_model.specs.Records.{kept}
 use Rattle.tsd_model.specs.Step.{with_caps}
 use Rattle.tsd_model.specs.declared.caps.CapPair.{CapPair}
 use Rattle.image_layout.specs.declared.header.Header.{Header}
-use Rattle.image_layout.specs.declared.placement.Patch.{Patch}
+use Rattle.image_layout.specs.declared.offset.Patch.{Patch}
 use Rattle.intent_journal.specs.Batch.{with_patch}
 use Rattle.pointer_table.specs.Table.{Table as Pointers}
 use Rattle.ref_counts.specs.Table.{Table as Counts}

@@ -3,7 +3,7 @@ use Rattle.tsd_model.specs.declared.geometry.Geometry.{Geometry}
 use Rattle.tsd_model.specs.World.{has_number}
 use Rattle.image_device.specs.Image.{zeros}
 use Rattle.image_device.specs.Runs.{IsConfined}
-use Rattle.image_layout.specs.Placing.{data_sector}
+use Rattle.image_layout.specs.Offsets.{data_sector}
 use Rattle.volume_laws.specs.Volume.{Volume}
 use Rattle.volume_laws.specs.Zeroed.{is_data}
 use Rattle.volume_laws.proofs.DataLaws.{data_confined}
