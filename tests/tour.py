@@ -1,4 +1,4 @@
-"""The tour of README, pasted into a shell as it stands, in a fresh folder with a `tsd` that runs the program."""
+"""What the documents offer to try, pasted into a shell as it stands, in a fresh folder with a `tsd` that runs the program."""
 
 from __future__ import annotations
 
@@ -11,23 +11,25 @@ from parts import Context, Result, compared, failed, skipped
 
 NAME = "tour"
 MOST_SECONDS = 120
-# What the tour's blocks use beside the program.
+# Pages, and the section of each that has such blocks.
+SECTIONS = (("README.md", "A tour"), ("docs/FILES.md", "Try it"), ("docs/AUDIT.md", "Try it"))
+# What the blocks use beside the program.
 TOOLS = ("bash", "timeout", "yes", "tail", "od", "awk")
-# A block of the tour and the one below it, which has what it prints.
+# A block and the one below it, which has what it prints.
 BLOCKS = re.compile(r"^```sh\n(?P<text>.*?)^```\n\s*^```\n(?P<printed>.*?)^```$", re.MULTILINE | re.DOTALL)
 
 
 class Block(NamedTuple):
-    """What is pasted, and what README says that it prints."""
+    """What is pasted, and what the page says that it prints."""
 
     line: int
     text: str
     printed: str
 
 
-def blocks_of(page: str) -> List[Block]:
-    """The blocks of the tour, in order."""
-    start = page.index("\n## A tour\n")
+def blocks_of(page: str, section: str) -> List[Block]:
+    """The blocks of a section, in order."""
+    start = page.index(f"\n## {section}\n")
     end = page.find("\n## ", start + 1)
     return [Block(page.count("\n", 0, start + found.start()) + 1, found["text"], found["printed"])
             for found in BLOCKS.finditer(page[start:end])]
@@ -40,24 +42,32 @@ def pasted(blocks: List[Block]) -> str:
 
 def mark(block: Block) -> str:
     """The line that is printed after a block."""
-    return f"-- end of the block in line {block.line} of README.md --"
+    return f"-- end of the block in line {block.line} --"
 
 
-def run(context: Context) -> Iterator[Result]:
-    """A result for each block."""
-    missing = [tool for tool in TOOLS if shutil.which(tool) is None]
-    if missing:
-        yield skipped("README", f"there is no {', no '.join(missing)}")
-        return
-    blocks = blocks_of((context.top / "README.md").read_text())
+def tried(context: Context, page: str, section: str) -> Iterator[Result]:
+    """A result for each block of a section."""
+    blocks = blocks_of((context.top / page).read_text(), section)
     if not blocks:
-        yield failed("README", "no block of its tour was found")
+        yield failed(page, f"no block of *{section}* was found")
         return
-    (context.folder / "tsd").symlink_to(context.program)
-    done = subprocess.run(["bash", "-c", pasted(blocks)], cwd=context.folder, stdin=subprocess.DEVNULL,
+    folder = context.folder / page.replace("/", "-")
+    folder.mkdir()
+    (folder / "tsd").symlink_to(context.program)
+    done = subprocess.run(["bash", "-c", pasted(blocks)], cwd=folder, stdin=subprocess.DEVNULL,
                           stdout=subprocess.PIPE, stderr=subprocess.PIPE, timeout=MOST_SECONDS)
     rest = done.stdout.decode(errors="replace")
     for block in blocks:
         printed, _, rest = rest.partition(f"\n{mark(block)}\n")
         first = block.text.strip().splitlines()[-1]
-        yield compared(f"line {block.line}: {first}", block.printed, printed)
+        yield compared(f"{page}, line {block.line}: {first}", block.printed, printed)
+
+
+def run(context: Context) -> Iterator[Result]:
+    """A result for each block of each page."""
+    missing = [tool for tool in TOOLS if shutil.which(tool) is None]
+    if missing:
+        yield skipped("the pages", f"there is no {', no '.join(missing)}")
+        return
+    for page, section in SECTIONS:
+        yield from tried(context, page, section)
