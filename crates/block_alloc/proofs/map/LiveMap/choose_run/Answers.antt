@@ -8,7 +8,7 @@ use Rattle.block_alloc.proofs.map.LiveMap.choose_run.Goals as goal
 
 pub returns-in-None-clause-refused : goal.returns-in-None-clause-refused
 returns-in-None-clause-refused g c =
-    let rank = rank_of c.args.byte_index.now.kind c.args.hint in let starts = runs c.args.self.now.unhidden c.args.count in
+    let rank = rank_of c.args.placement.now.kind c.args.hint in let starts = runs c.args.self.now.unhidden c.args.count in
     record {
       free_is = c.free_count-free.ensures;
       wanted_is = refl;

@@ -8,4 +8,4 @@ pub returns-then-is_full : goal.returns-then-is_full
 returns-then-is_full g c =
     let least = c.least_within-least.result in
     let full : length least.kept.items ≡ c.args.wanted = c.is_full.ensures c.if-is_full.true ∙ c.least_within-least.ensures.wanted in
-    enough_within (rank_of c.args.byte_index.now.kind c.args.hint) c.args.self.now.unhidden c.args.run c.args.wanted (Some c.in-Some.ceiling) least.kept.items full c.least_within-least.ensures.kept
+    enough_within (rank_of c.args.placement.now.kind c.args.hint) c.args.self.now.unhidden c.args.run c.args.wanted (Some c.in-Some.ceiling) least.kept.items full c.least_within-least.ensures.kept

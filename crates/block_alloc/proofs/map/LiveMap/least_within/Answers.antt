@@ -9,7 +9,7 @@ pub loop-group-preserved : goal.loop-group-preserved
 loop-group-preserved g c =
     let live = c.args.self.now.unhidden in
     let group = c.loop-group.group - 1 in
-    let rank = rank_of c.args.byte_index.now.kind c.args.hint in
+    let rank = rank_of c.args.placement.now.kind c.args.hint in
     let best = c.best_of-best.result in
     let end : c.loop-group.group ≡ group + 1 = omega (arith, c.loop-group-test.true) in
     let next : 256 * c.loop-group.group ≡ 256 * group + 256 = omega (arith, end) in

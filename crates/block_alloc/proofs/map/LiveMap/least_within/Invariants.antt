@@ -7,5 +7,5 @@ use Rattle.block_alloc.proofs.map.LiveMap.least_within.Given as goal
 abbrev pub invariant-loop-group : goal.invariant-loop-group
 invariant-loop-group g l = record {
   wanted : l.least.wanted ≡ l.wanted;
-  kept : IsKeptFrom (rank_of l.byte_index.kind l.hint) l.self.unhidden l.run l.ceiling l.wanted (256 * l.group) l.least.kept.items;
+  kept : IsKeptFrom (rank_of l.placement.kind l.hint) l.self.unhidden l.run l.ceiling l.wanted (256 * l.group) l.least.kept.items;
 }

@@ -12,7 +12,7 @@ pub loop-block-preserved-then-is_within : goal.loop-block-preserved-then-is_with
 loop-block-preserved-then-is_within g c =
     let live = c.args.self.now.unhidden in
     let block = c.loop-block.block - 1 in
-    let rank = rank_of c.args.byte_index.now.kind c.args.hint in
+    let rank = rank_of c.args.placement.now.kind c.args.hint in
     let next : c.loop-block.block ≡ block + 1 = omega (arith, c.loop-block-test.true) in
     let each : length live ≡ c.geometry-blocks.result.blocks = c.geometry-blocks.ensures.table.each_unhidden ∙ ap (λ m. m.blocks) (sym c.geometry-blocks.ensures.value) in
     let within : block < length live = omega (arith, each, next, c.loop-block.auto.block, c.min-end.ensures) in
@@ -30,14 +30,14 @@ loop-block-preserved-then-is_within g c =
 
 pub returns-clause-kept : goal.returns-clause-kept
 returns-clause-kept g c = λ before.
-    let rank = rank_of c.args.byte_index.now.kind c.args.hint in
+    let rank = rank_of c.args.placement.now.kind c.args.hint in
     let here : c.loop-block.block ≡ 256 * c.args.group = omega (arith, c.loop-block-test.false, c.loop-block.invariant.low) in
     subst (λ n. IsKeptFrom rank c.args.self.now.unhidden c.args.run c.args.ceiling c.args.least.now.wanted n c.loop-block.least.kept.items) here (c.loop-block.invariant.kept before)
 
 -- no block of a full group is free
 pub returns-then-is_full-clause-kept : goal.returns-then-is_full-clause-kept
 returns-then-is_full-clause-kept g c = λ before.
-    let rank = rank_of c.args.byte_index.now.kind c.args.hint in
+    let rank = rank_of c.args.placement.now.kind c.args.hint in
     let live = c.args.self.now.unhidden in
     let end : 256 * (c.args.group + 1) ≡ 256 * c.args.group + 256 = omega arith in
     kept_by rank live c.args.run c.args.least.now.wanted (256 * c.args.group) c.args.ceiling 256 c.args.least.now.kept.items
