@@ -4,7 +4,7 @@ ghost use Rattle.std.specs.Prelude.{◌≡◌, ◌↔◌, ◌<◌, ◌≤◌, �
 ghost use Rattle.std.specs.Prelude.{IsTrue, true};
 ghost use Rattle.image_device.specs.Counts.{CountsFault};
 ghost use Rattle.image_device.specs.Image.{Image};
-ghost use Rattle.image_device.specs.Runs.{LeavesOnly};
+ghost use Rattle.image_device.specs.Runs.{LeavesOnly, LeavesPart};
 ghost use Rattle.tsd_model.specs.ReplyForm.{HasForm};
 ghost use Rattle.tsd_model.specs.declared.requests.Request.{Request as Asked};
 ghost use Rattle.tsd_model.specs.declared.replies.Reply.{Reply as Answered};
@@ -40,6 +40,9 @@ pub trait Handler {
     /// Nothing is left to be done on a disk that reads so.
     ghost is_closed: { Image → Type 0 };
 
+    /// What of an image no request touches.
+    ghost aside: { Self → Image → Image };
+
     /// The name of the reference through which it holds its disk, where it borrows that.
     ghost lender: { Self → ℕ };
 
@@ -49,6 +52,7 @@ pub trait Handler {
         requires ready { is_ready self.old }
         requires at { D.told → FitsDevice (holds self.old) (D.view dev.old) }
         ensures lender { lender self.new ≡ lender self.old }
+        ensures aside { aside self.new ≡ aside self.old }
         ensures ready { OnOk result (is_ready self.new) }
         ensures at { D.told → OnOk result (FitsDevice (holds self.new) (D.view dev.new)) }
         ensures spent { OnErr result (is_spent self.new) }
@@ -73,6 +77,8 @@ pub trait Handler {
             ≤ (D.view dev.old).writes + work.before_answer (state self.old (D.view dev.old).reads)
             (work.debt (D.view dev.old).reads) request.now) }
         ensures refused { IfOk result (λ r. is_refusal r ≡ true → dev.new ≡ dev.old) }
+        // Also where it failed, a crash at any moment leaves what no request touches as it was.
+        ensures aside_kept { D.told → LeavesPart (aside self.old) (D.view dev.old) (D.view dev.new) }
         ensures works { CountsRise (D.view dev.old) (D.view dev.new) }
         ensures faults { CountsFault result (D.view dev.old).faults (D.view dev.new).faults };
 
@@ -82,6 +88,7 @@ pub trait Handler {
         requires ready { is_ready self.old }
         requires at { D.told → FitsDevice (holds self.old) (D.view dev.old) }
         ensures lender { lender self.new ≡ lender self.old }
+        ensures aside { aside self.new ≡ aside self.old }
         ensures ready { OnOk result (is_ready self.new) }
         ensures at { D.told → OnOk result (FitsDevice (holds self.new) (D.view dev.new)) }
         ensures spent { OnErr result (is_spent self.new) }
@@ -101,6 +108,8 @@ pub trait Handler {
         ensures most { D.told → (D.view dev.new).writes ≤ used (due self.old (D.view dev.old).reads)
             (D.view dev.old) }
         ensures behind { (D.view dev.new).writes ≤ (D.view dev.old).writes + work.behind_answer }
+        // Also where it failed, a crash at any moment leaves what no request touches as it was.
+        ensures aside_kept { D.told → LeavesPart (aside self.old) (D.view dev.old) (D.view dev.new) }
         ensures works { CountsRise (D.view dev.old) (D.view dev.new) }
         ensures faults { CountsFault result (D.view dev.old).faults (D.view dev.new).faults };
 
@@ -110,6 +119,7 @@ pub trait Handler {
         requires ready { is_ready self.old }
         requires at { D.told → FitsDevice (holds self.old) (D.view dev.old) }
         ensures lender { lender self.new ≡ lender self.old }
+        ensures aside { aside self.new ≡ aside self.old }
         ensures ready { OnOk result (is_ready self.new) }
         ensures at { D.told → OnOk result (FitsDevice (holds self.new) (D.view dev.new)) }
         ensures spent { OnErr result (is_spent self.new) }
@@ -125,6 +135,8 @@ pub trait Handler {
             ≤ used (due self.old (D.view dev.old).reads) (D.view dev.old)) }
         ensures most { D.told → (D.view dev.new).writes ≤ used (due self.old (D.view dev.old).reads)
             (D.view dev.old) }
+        // Also where it failed, a crash at any moment leaves what no request touches as it was.
+        ensures aside_kept { D.told → LeavesPart (aside self.old) (D.view dev.old) (D.view dev.new) }
         ensures works { CountsRise (D.view dev.old) (D.view dev.new) }
         ensures faults { CountsFault result (D.view dev.old).faults (D.view dev.new).faults };
 

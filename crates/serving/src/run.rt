@@ -2,6 +2,7 @@
 
 ghost use Rattle.std.specs.Prelude.{◌≡◌, ◌≢◌, ◌≤◌, [], ℕ, List};
 ghost use Rattle.image_device.specs.Counts.{Rose};
+ghost use Rattle.image_device.specs.Runs.{LeavesPart};
 ghost use Rattle.serving.specs.Handling.{FitsDevice};
 ghost use Rattle.serving.specs.Prompt.{IsOfPort, Promptly, mark};
 ghost use Rattle.serving.specs.Ran.{EndsOnce, Ran, moments, taking};
@@ -40,6 +41,9 @@ pub fn serve<S: Source, P: Port, R: Protocol, H: Server<R>>(
     // what is behind an answer.
     ensures prompt { P.told → Promptly result H.service H.work (IsOfPort P.view) (H.state server.old
         (P.view port.old).reads) (mark (P.view port.old)) (mark (P.view port.new)) }
+    // However it ended, a crash at any moment leaves what no request touches as it was.
+    ensures aside_kept { P.told → LeavesPart (H.aside server.old) (P.view port.old) (P.view port.new) }
+    ensures aside { H.aside server.new ≡ H.aside server.old }
     ensures lender { H.lender server.new ≡ H.lender server.old }
     // Unless the device failed, the server may be used again; else it is spent.
     ensures ready { result ≢ Status.DeviceFault → H.is_ready server.new }

@@ -4,7 +4,7 @@ ghost use Rattle.std.specs.Prelude.{◌≡◌, ◌≢◌, ◌≤◌, ◌+◌, �
 ghost use Rattle.std.specs.Prelude.{Err, OnOk, OnErr, IfErr};
 ghost use Rattle.image_device.specs.Counts.{CountsFault, CountsFaultOf};
 ghost use Rattle.image_device.specs.Image.{Image};
-ghost use Rattle.image_device.specs.Runs.{LeavesOnly};
+ghost use Rattle.image_device.specs.Runs.{LeavesOnly, LeavesPart};
 ghost use Rattle.serving.specs.Handling.{FitsDevice, CountsRise};
 ghost use Rattle.serving.specs.Prompt.{IsOfPort, IsPrompt, mark};
 ghost use Rattle.serving.specs.Service.{Service, IsCounted, IsInAnswer, LeftBy};
@@ -41,6 +41,9 @@ pub trait Server<R: Protocol> {
     /// Nothing is left to be done on a disk that reads so.
     ghost is_closed: { Image → Type 0 };
 
+    /// What of an image no request touches.
+    ghost aside: { Self → Image → Image };
+
     /// The name of the reference through which it holds its disk, where it borrows that.
     ghost lender: { Self → ℕ };
 
@@ -50,6 +53,7 @@ pub trait Server<R: Protocol> {
         requires ready { is_ready self.old }
         requires at { P.told → FitsDevice (holds self.old) (P.view port.old) }
         ensures lender { lender self.new ≡ lender self.old }
+        ensures aside { aside self.new ≡ aside self.old }
         // Unless the device failed, it may be used again, also where the answer couldn't be sent whole; else it is
         // spent.
         ensures ready { result ≢ Err Status.DeviceFault → is_ready self.new }
@@ -78,6 +82,8 @@ pub trait Server<R: Protocol> {
         // What is done before the answer is sent has a bound, and what is done behind it.
         ensures prompt { P.told → OnOk result (IsPrompt service work (IsOfPort P.view)
             (state self.old (P.view port.old).reads) request.now (mark (P.view port.old)) (mark (P.view port.new))) }
+        // However it ended, a crash at any moment leaves what no request touches as it was.
+        ensures aside_kept { P.told → LeavesPart (aside self.old) (P.view port.old) (P.view port.new) }
         ensures stops { IfErr result (λ why. (why ≡ Status.DeviceFault) ⊎ (why ≡ Status.PutFault)) }
         ensures faults { CountsFaultOf Status.DeviceFault result (P.view port.old).faults (P.view port.new).faults }
         ensures put_faults { CountsFaultOf Status.PutFault result (P.view port.old).put_faults
@@ -89,6 +95,7 @@ pub trait Server<R: Protocol> {
         requires ready { is_ready self.old }
         requires at { D.told → FitsDevice (holds self.old) (D.view dev.old) }
         ensures lender { lender self.new ≡ lender self.old }
+        ensures aside { aside self.new ≡ aside self.old }
         ensures ready { OnOk result (is_ready self.new) }
         ensures at { D.told → OnOk result (FitsDevice (holds self.new) (D.view dev.new)) }
         ensures spent { OnErr result (is_spent self.new) }
@@ -102,6 +109,8 @@ pub trait Server<R: Protocol> {
             (λ x f. (work.debt x ≤ work.debt (D.view dev.old).reads) × (f ≡ (D.view dev.old).sent)) }
         ensures most { D.told → (D.view dev.new).writes ≤ used (due self.old (D.view dev.old).reads)
             (D.view dev.old) }
+        // Also where it failed, a crash at any moment leaves what no request touches as it was.
+        ensures aside_kept { D.told → LeavesPart (aside self.old) (D.view dev.old) (D.view dev.new) }
         ensures works { CountsRise (D.view dev.old) (D.view dev.new) }
         ensures faults { CountsFault result (D.view dev.old).faults (D.view dev.new).faults };
 

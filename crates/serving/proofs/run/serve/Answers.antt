@@ -1,5 +1,7 @@
 use Rattle.std.proofs.Common.{◌≡◌, inr, [], ◌++◌, refl, ◌∙◌, arith}
 use Rattle.std.specs.Prelude.{Result, Ok, Err}
+use Rattle.image_device.proofs.Parts.{part_stays}
+use Rattle.serving.proofs.Aside.{aside_then}
 use Rattle.serving.proofs.Inputs.{came_first, came_then, handed_first, asked_stopped}
 use Rattle.serving.proofs.Steps.{served_of, ends_now, goes_first, goes_next, ends_stopped, ends_done, ends_close_fault, ends_longer, prompt_done, prompt_stopped, ran_of}
 use Rattle.serving.specs.Prompt.{IsOfPort}
@@ -13,6 +15,8 @@ pub loop-request-init : goal.loop-request-init
 loop-request-init g c = record {
   limit = c.new-intake.ensures.limit;
   lender = refl;
+  aside = refl;
+  aside_kept = λ told. part_stays (g.H.Server.aside c.args.server.now) (g.P.Device.view c.args.port.now) (g.met.P.Device.sound c.args.port.now told) (c.requires.at told).0;
   ready = c.requires.ready;
   at = c.requires.at;
   once = omega (arith, c.new-intake.ensures.ends);
@@ -38,6 +42,8 @@ loop-request-preserved g c =
     record {
       limit = c.next.ensures.limit ∙ i.limit;
       lender = c.answer.ensures.lender ∙ i.lender;
+      aside = c.answer.ensures.aside ∙ i.aside;
+      aside_kept = λ told. aside_then (g.H.Server.aside c.args.server.now) (g.H.Server.aside c.loop-request.server) (g.P.Device.view c.args.port.now) (g.P.Device.view c.loop-request.port) (g.P.Device.view c.answer.new.port) (g.met.P.Device.sound c.loop-request.port told) i.aside (i.aside_kept told) (c.answer.ensures.aside_kept told);
       ready = c.answer.ensures.ready (ok_not_err c.answer.result _ _ c.in-Ok.is);
       at = c.answer.ensures.at (ok_not_err c.answer.result _ _ c.in-Ok.is);
       once = omega (arith, i.once, c.in-Request.ensures.later _ refl);
@@ -147,3 +153,18 @@ pub returns-in-TooLong-clause-prompt : goal.returns-in-TooLong-clause-prompt
 returns-in-TooLong-clause-prompt g c told =
     let was = c.loop-request.invariant.goes in
     prompt_done _ g.H.Server.service g.met.H.Server.counted g.H.Server.work (IsOfPort g.P.Device.view) _ _ (g.P.Device.view c.args.port.now) was.1 _ _ (g.P.Device.view c.loop-request.port) (g.P.Device.view c.loop-request.port) (was.4 told) refl (λ cut. refl)
+
+pub returns-in-Err-clause-aside_kept : goal.returns-in-Err-clause-aside_kept
+returns-in-Err-clause-aside_kept g c told =
+    let i = c.loop-request.invariant in
+    aside_then (g.H.Server.aside c.args.server.now) (g.H.Server.aside c.loop-request.server) (g.P.Device.view c.args.port.now) (g.P.Device.view c.loop-request.port) (g.P.Device.view c.answer.new.port) (g.met.P.Device.sound c.loop-request.port told) i.aside (i.aside_kept told) (c.answer.ensures.aside_kept told)
+
+pub returns-in-Ok-close-clause-aside_kept : goal.returns-in-Ok-close-clause-aside_kept
+returns-in-Ok-close-clause-aside_kept g c told =
+    let i = c.loop-request.invariant in
+    aside_then (g.H.Server.aside c.args.server.now) (g.H.Server.aside c.loop-request.server) (g.P.Device.view c.args.port.now) (g.P.Device.view c.loop-request.port) (g.P.Device.view c.close.new.dev) (g.met.P.Device.sound c.loop-request.port told) i.aside (i.aside_kept told) (c.close.ensures.aside_kept told)
+
+pub returns-in-Err-close-clause-aside_kept : goal.returns-in-Err-close-clause-aside_kept
+returns-in-Err-close-clause-aside_kept g c told =
+    let i = c.loop-request.invariant in
+    aside_then (g.H.Server.aside c.args.server.now) (g.H.Server.aside c.loop-request.server) (g.P.Device.view c.args.port.now) (g.P.Device.view c.loop-request.port) (g.P.Device.view c.close.new.dev) (g.met.P.Device.sound c.loop-request.port told) i.aside (i.aside_kept told) (c.close.ensures.aside_kept told)

@@ -1,4 +1,5 @@
 use Rattle.std.proofs.Common.{◌≡◌, ◌≤◌, ◌+◌, ℕ, List}
+use Rattle.image_device.specs.Runs.{LeavesPart}
 use Rattle.serving.specs.Goes.{Goes, Handed, ends_left, left_in}
 use Rattle.serving.specs.Handling.{FitsDevice}
 use Rattle.serving.specs.Prompt.{IsOfPort}
@@ -13,6 +14,8 @@ invariant-loop-request g l =
     record {
       limit : l.intake.limit ≡ l.limit;
       lender : g.H.Server.lender l.server ≡ g.H.Server.lender l.initial.server;
+      aside : g.H.Server.aside l.server ≡ g.H.Server.aside l.initial.server;
+      aside_kept : g.P.Device.told → LeavesPart (g.H.Server.aside l.initial.server) start (view l.port);
       ready : g.H.Server.is_ready l.server;
       at : g.P.Device.told → FitsDevice (g.H.Server.holds l.server) (view l.port);
       once : g.S.Source.ends l.source + ends_left l.intake ≤ g.S.Source.ends before + 1;

@@ -1,6 +1,7 @@
 use Rattle.std.proofs.Common.{◌≡◌, ◌+◌, ◌++◌, take, inl, inr, refl, sym, ◌∙◌, ap, subst, arith}
 use Rattle.image_device.specs.Runs.{LeavesOnly}
 use Rattle.image_device.proofs.Outcomes.{where_err, unless_err}
+use Rattle.serving.proofs.Aside.{aside_put, aside_then}
 use Rattle.serving.proofs.Answering.{any_applied, any_replied, any_settled, put_failed, all_put, debt_now, debt_replied, debt_settled}
 use Rattle.serving.specs.Prompt.{mark}
 use Rattle.serving.proofs.disk.AnyServer.answer.Goals as goal
@@ -93,3 +94,30 @@ returns-in-Ok-settle_some-clause-prompt g c told = record {
   before = λ bounded. omega (arith, c.put_reply.ensures.puts.writes, c.in-Ok.ensures.before told bounded);
   behind = c.settle_some.ensures.behind;
 }
+
+pub returns-then-is_err-clause-aside_kept : goal.returns-then-is_err-clause-aside_kept
+returns-then-is_err-clause-aside_kept g c told =
+    let v0 = g.P.Device.view c.args.port.now in
+    let v1 = g.P.Device.view c.apply.new.dev in
+    let v2 = g.P.Device.view c.put_reply.new.port in
+    aside_put (g.H.Handler.aside c.args.self.now) _ v0 v1 v2 (g.met.P.Device.sound c.apply.new.dev told) (c.in-Ok.ensures.at told).0 (c.apply.ensures.aside_kept told) (c.put_reply.ensures.any_moment told)
+
+pub returns-in-Ok-settle_some-clause-aside_kept : goal.returns-in-Ok-settle_some-clause-aside_kept
+returns-in-Ok-settle_some-clause-aside_kept g c told =
+    let v0 = g.P.Device.view c.args.port.now in
+    let v1 = g.P.Device.view c.apply.new.dev in
+    let v2 = g.P.Device.view c.put_reply.new.port in
+    let v3 = g.P.Device.view c.settle_some.new.dev in
+    aside_then (g.H.Handler.aside c.args.self.now) (g.H.Handler.aside c.apply.new.self) v0 v2 v3 (g.met.P.Device.sound c.put_reply.new.port told) c.apply.ensures.aside
+    (aside_put (g.H.Handler.aside c.args.self.now) _ v0 v1 v2 (g.met.P.Device.sound c.apply.new.dev told) (c.in-Ok.ensures.at told).0 (c.apply.ensures.aside_kept told) (c.put_reply.ensures.any_moment told))
+    (c.settle_some.ensures.aside_kept told)
+
+pub returns-in-Err-settle_some-clause-aside_kept : goal.returns-in-Err-settle_some-clause-aside_kept
+returns-in-Err-settle_some-clause-aside_kept g c told =
+    let v0 = g.P.Device.view c.args.port.now in
+    let v1 = g.P.Device.view c.apply.new.dev in
+    let v2 = g.P.Device.view c.put_reply.new.port in
+    let v3 = g.P.Device.view c.settle_some.new.dev in
+    aside_then (g.H.Handler.aside c.args.self.now) (g.H.Handler.aside c.apply.new.self) v0 v2 v3 (g.met.P.Device.sound c.put_reply.new.port told) c.apply.ensures.aside
+    (aside_put (g.H.Handler.aside c.args.self.now) _ v0 v1 v2 (g.met.P.Device.sound c.apply.new.dev told) (c.in-Ok.ensures.at told).0 (c.apply.ensures.aside_kept told) (c.put_reply.ensures.any_moment told))
+    (c.settle_some.ensures.aside_kept told)
