@@ -124,6 +124,19 @@ impl Index {
         }
     }
 
+    /// The slot that holds a pair, for a guess. Where a number below has no pair at all, the heads tell that without a
+    /// look into the bucket, which is seldom in the cache.
+    fn position_below(&self, slots: &[RawSlot], source: u32, target: u32) -> Option<u32>
+        requires { IsIndex (slot_at (slots_in slots.now)) self.now }
+    {
+        if self.by_source.head(source as usize) == NO_LINK
+            || self.by_target.head(target as usize) == NO_LINK
+        {
+            return None;
+        }
+        self.position_of(slots, source, target)
+    }
+
     /// A slot from which the walk to a pair's position among those of its source is short: a guess, so a wrong one
     /// costs time alone. Up from the head of the source and down from the target two searches take turns, and the first
     /// that finds one ends both.
@@ -141,7 +154,7 @@ impl Index {
             if !is_below(slots, link, limit) {
                 break;
             }
-            if let Some(position) = self.position_of(slots, source, target - step - 1) {
+            if let Some(position) = self.position_below(slots, source, target - step - 1) {
                 return position;
             }
             near = link;
@@ -165,7 +178,7 @@ impl Index {
             if !is_below(slots, link, limit) {
                 break;
             }
-            if let Some(position) = self.position_of(slots, source - step - 1, target) {
+            if let Some(position) = self.position_below(slots, source - step - 1, target) {
                 return position;
             }
             near = link;
