@@ -14,6 +14,7 @@ use Rattle.tsd_model.specs.declared.requests.Request.TheVariants as ask
 use Rattle.image_device.specs.View.{View, IsSound}
 use Rattle.image_device.specs.declared.device.Failed.{Failed}
 use Rattle.image_device.proofs.Moments.{leaves_both, weakened}
+use Rattle.image_device.proofs.Parts.{part_stays}
 use Rattle.intent_journal.specs.Home.{home}
 use Rattle.image_world.specs.Tables.{tables_of}
 use Rattle.disk_laws.specs.Bytes.{AreLike}
@@ -29,6 +30,7 @@ use Rattle.tsd_core.proofs.AnswerSeen.{refused_over, granted_over, starved_over,
 use Rattle.tsd_core.proofs.FormLaws.{refusal_fits}
 use Rattle.volume_laws.specs.Volume.{Volume, world_on}
 use Rattle.volume_laws.specs.Volume.{IsVolumeAt}
+use Rattle.image_world.specs.Behind.{behind}
 use Rattle.image_world.specs.Debt.{owed}
 use Rattle.volume_laws.specs.Moments.{LeavesEither, LeavesOwed, made}
 use Rattle.volume_laws.specs.Writes.{due}
@@ -39,6 +41,7 @@ use Rattle.tsd_core.specs.Applying.{IsToldAnswer, told_verdict, is_refusal, asks
 use Rattle.tsd_core.proofs.AtLaws.{at_volume, at_core, like_at}
 use Rattle.tsd_core.proofs.Likes.{like_itself}
 use Rattle.tsd_core.proofs.Operations.{then_ok, if_map, if_kept, and_ok, and_ok3}
+use Rattle.tsd_core.proofs.BehindLaws.{AreInside, leaves_behind, given_inside}
 use Rattle.tsd_core.proofs.Quiet.{still_stands, still_owes, rests_none}
 use Rattle.tsd_core.specs.Journal.{bytes_given, homes_of}
 use Rattle.volume_laws.proofs.DataLaws.{data_none}
@@ -116,6 +119,7 @@ refused_applied told kind q c v r ready known table sound at refusal = record {
   spent = tt;
   sent = λ t. refl;
   data_kept = λ t. data_none c.volume.tables.geometry (bytes_given kind (told_world c) q) v (reply.Refused r) (sound t) (at t).0;
+  behind = λ t. part_stays (behind c.volume.tables.geometry) v (sound t) (at t).0;
   once = λ b. record { ring = batch_none (homes_of c.volume.tables.geometry q) c.volume.ring; most = omega arith };
   owes = λ e. absurd (cc);
   grown = λ b e. absurd (cc);
@@ -273,6 +277,8 @@ granted_risen told kind q old new v w result ready known table at granted carrie
     let like : told → AreLike t (world_on v) = λ h. like_at old.volume v (there h) in
     let here : told → IsOver old.grants t (world_on v) = λ h. over old (world_on v) ready known table (like h) in
     let same : told → made_by t q ≡ made_in (state_on old v.reads) q = λ h. made_granted old q (world_on v) (here h) granted in
+    let inside : AreInside old.volume.tables.geometry (bytes_given kind t q) =
+    subst (λ (g : Geometry). AreInside g (bytes_given kind t q)) known.geometry (given_inside kind t old.grants.sessions q known.sized granted) in
     let next : told → world_after kind (world_on v) q ≡ next_world kind (state_on old v.reads) q = λ h. sym (ap (λ (o : Outcome). o.state.world) (step_over kind old.grants t (world_on v) q (here h) granted)) in
     record {
       ready = and_ok3 result (λ r kept a b like_new. record { volume = a; unspent = b; made = made_after kind old q (told_world new) new.grants ready.made like_new (same_blocks kind old q r new.grants kept) }) carried.kept does.ready op.unspent does.like;
@@ -287,6 +293,7 @@ granted_risen told kind q old new v w result ready known table at granted carrie
       spent = op.spent;
       sent = op.sent;
       data_kept = op.data_kept;
+      behind = λ h. leaves_behind result old.volume.tables.geometry (bytes_given kind t q) v w inside (op.data_kept h);
       once = does.once;
       owes = if_kept result (λ r form owes e. owes) carried.form does.owes;
       grown = λ b. if_kept result (λ r form grown e. grown) carried.form (does.grown b);

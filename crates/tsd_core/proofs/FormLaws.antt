@@ -42,7 +42,7 @@ below_numbers : (n : ℕ) → n ≤ 2 ^ 32 → (bs : List ℕ) → AllOf (λ b. 
 below_numbers n few [] h = tt
 below_numbers n few (b ∷ bs) h = (omega (arith, few, h.0), below_numbers n few bs h.1)
 
-free_below : (w : World) (b : ℕ) → is_free w b ≡ true → b < length w.blocks
+pub free_below : (w : World) (b : ℕ) → is_free w b ≡ true → b < length w.blocks
 free_below w b h = ltb_true (and_parts (nat_lt b (length w.blocks)) (not_live b) h).0
   where
     not_live : ℕ → Bool

@@ -5,6 +5,7 @@ pub mod AtLaws
 pub mod Choosing
 pub mod Rising
 pub mod Quiet
+pub mod BehindLaws
 pub mod Applied
 pub mod Settling
 pub mod PairCosts

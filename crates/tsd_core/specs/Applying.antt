@@ -26,7 +26,9 @@ use Rattle.tsd_core.specs.Seen.{writes_nothing}
 use Rattle.volume_laws.specs.Data.{KeepsData}
 use Rattle.volume_laws.specs.Rings.{CommitsOnce}
 use Rattle.image_world.specs.Debt.{owed}
+use Rattle.image_world.specs.Behind.{behind}
 use Rattle.image_device.specs.Calls.{Rests}
+use Rattle.image_device.specs.Runs.{LeavesPart}
 use Rattle.tsd_core.specs.Work.{made_in, cost_in, write_limit, LeavesDebt, SameSize}
 
 -- the same reply, or both are the bytes of a block
@@ -79,6 +81,7 @@ pub record IsApplied (told : Type 0) (kind : PlaceKind) (q : Request) (old new :
   pub spent : OnErr result (new.volume.is_spent ≡ true)
   pub sent : told → w.sent ≡ v.sent
   pub data_kept : told → KeepsData old.volume.tables.geometry (bytes_given kind (told_world old) q) v w result
+  pub behind : told → LeavesPart (behind old.volume.tables.geometry) v w
   pub once : waits old.volume q ≡ false
       → CommitsOnce (homes_of old.volume.tables.geometry q) old.volume new.volume v w result
   pub owes : IfOk result (λ r. is_refusal r ≡ false → owed new.volume.tables ≡ owed_then old.volume q)

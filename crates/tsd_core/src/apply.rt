@@ -15,6 +15,8 @@ ghost use Rattle.tsd_core.specs.Seen.{writes_nothing};
 ghost use Rattle.volume_laws.specs.Data.{KeepsData};
 ghost use Rattle.volume_laws.specs.Rings.{CommitsOnce};
 ghost use Rattle.image_device.specs.Calls.{Rests};
+ghost use Rattle.image_device.specs.Runs.{LeavesPart};
+ghost use Rattle.image_world.specs.Behind.{behind};
 ghost use Rattle.image_world.specs.Debt.{owed};
 ghost use Rattle.tsd_core.specs.Work.{made_in, cost_in, write_limit, LeavesDebt, SameSize};
 ghost use Rattle.tsd_core.specs.Applying.{IsToldAnswer, told_verdict, is_refusal, asks_nothing, next_world, IsApplied};
@@ -57,10 +59,14 @@ impl Core {
             → dev.new ≡ dev.old) }
 
         // A read, a list, a count, and an open or a close of a session write nothing. The data of all blocks but the
-        // one that is written and new ones stays, and so does what lies behind the image.
+        // one that is written and new ones stays.
         ensures rests { D.told → writes_nothing request.now ≡ true → Rests (D.view dev.old) (D.view dev.new) }
         ensures data_kept { D.told → KeepsData self.old.volume.tables.geometry (bytes_given placement.now.kind
             (told_world self.old) request.now) (D.view dev.old) (D.view dev.new) result }
+
+        // What lies behind the image stays, in each image that a crash leaves.
+        ensures behind { D.told → LeavesPart (behind self.old.volume.tables.geometry) (D.view dev.old)
+            (D.view dev.new) }
 
         // Where it needn't wait, it commits one batch and writes nothing else. What is owed then is said exactly, and
         // of new blocks when the journal is emptied for them.

@@ -3,6 +3,8 @@
 ghost use Rattle.std.specs.Prelude.{◌≡◌, [], length, ◌↔◌, ◌+◌, ◌-◌, ◌<◌, ◌≤◌, true, OnOk, OnErr};
 ghost use Rattle.std.specs.Prelude.{IfOk, IsTrue};
 ghost use Rattle.image_device.specs.Counts.{CountsFault};
+ghost use Rattle.image_device.specs.Runs.{LeavesPart};
+ghost use Rattle.image_world.specs.Behind.{behind};
 ghost use Rattle.image_world.specs.Debt.{debt, graph_in, owed};
 ghost use Rattle.tsd_model.specs.Doomed.{doomed};
 ghost use Rattle.volume_laws.specs.Data.{KeepsData};
@@ -33,6 +35,8 @@ impl Core {
         ensures sent { D.told → (D.view dev.new).sent ≡ (D.view dev.old).sent }
         ensures data_kept { D.told → KeepsData self.old.volume.tables.geometry [] (D.view dev.old) (D.view dev.new)
             result }
+        ensures behind { D.told → LeavesPart (behind self.old.volume.tables.geometry) (D.view dev.old)
+            (D.view dev.new) }
         ensures any_moment { D.told → LeavesWorld (D.view dev.old) (D.view dev.new) }
         ensures debt { D.told → LeavesNoDebt (D.view dev.old) (D.view dev.new) }
         ensures less { D.told → OnOk result (debt (D.view dev.new).reads ≤ debt (D.view dev.old).reads - 4) }
@@ -73,6 +77,8 @@ impl Core {
         ensures sent { D.told → (D.view dev.new).sent ≡ (D.view dev.old).sent }
         ensures data_kept { D.told → KeepsData self.old.volume.tables.geometry [] (D.view dev.old) (D.view dev.new)
             result }
+        ensures behind { D.told → LeavesPart (behind self.old.volume.tables.geometry) (D.view dev.old)
+            (D.view dev.new) }
         ensures any_moment { D.told → LeavesWorld (D.view dev.old) (D.view dev.new) }
         ensures debt { D.told → LeavesNoDebt (D.view dev.old) (D.view dev.new) }
         ensures paid { OnOk result ((D.view dev.new).writes + due self.new.volume ≤ (D.view dev.old).writes + due

@@ -12,7 +12,9 @@ use Rattle.tsd_core.proofs.Operations.{then_ok}
 use Rattle.tsd_core.proofs.Settling.{owes_no_more, owing_joined, ready_still, state_still, told_still, worlds_joined}
 use Rattle.volume_laws.specs.Data.{HasSameData, KeepsData}
 use Rattle.volume_laws.proofs.DataLaws.{data_then}
-use Rattle.image_device.specs.Runs.{LeavesOnly}
+use Rattle.image_device.specs.Runs.{LeavesOnly, LeavesPart}
+use Rattle.image_world.specs.Behind.{behind}
+use Rattle.tsd_core.proofs.BehindLaws.{leaves_behind}
 use Rattle.image_device.specs.declared.device.Failed.{Failed}
 use Rattle.image_device.specs.View.{View}
 use Rattle.tsd_model.specs.declared.geometry.Geometry.{Geometry}
@@ -141,3 +143,25 @@ returns-clause-data_kept g c told =
     let first = c.in_ok-settle_all.ensures.operation in
     kept_data c.empty_ring.result old c.args.self.now v w c.self.view_is
     (data_then c.self.inside.volume.tables.geometry c.settle_all.new.self.tables.geometry [] v m w _ c.empty_ring.result first.geometry (first.data_kept told) (c.empty_ring.ensures.operation.data_kept told))
+
+left_behind : (old was : Core) (v w : View) → old ≡ was → LeavesPart (behind old.volume.tables.geometry) v w → LeavesPart (behind was.volume.tables.geometry) v w
+left_behind old was v w same leaves = subst (λ (x : Core). LeavesPart (behind x.volume.tables.geometry) v w) same leaves
+
+pub returns-in_err-settle_all-clause-behind : goal.returns-in_err-settle_all-clause-behind
+returns-in_err-settle_all-clause-behind g c told =
+    let old : Core = record { volume = c.self.inside.volume; grants = c.self.inside.grants } in
+    let v = g.D.Device.view c.args.dev.now in
+    let m = g.D.Device.view c.settle_all.new.dev in
+    left_behind old c.args.self.now v m c.self.view_is
+    (leaves_behind c.settle_all.result old.volume.tables.geometry [] v m tt (c.settle_all.ensures.operation.data_kept told))
+
+pub returns-clause-behind : goal.returns-clause-behind
+returns-clause-behind g c told =
+    let old : Core = record { volume = c.self.inside.volume; grants = c.self.inside.grants } in
+    let v = g.D.Device.view c.args.dev.now in
+    let m = g.D.Device.view c.settle_all.new.dev in
+    let w = g.D.Device.view c.empty_ring.new.dev in
+    let first = c.in_ok-settle_all.ensures.operation in
+    left_behind old c.args.self.now v w c.self.view_is
+    (leaves_behind c.empty_ring.result old.volume.tables.geometry [] v w tt
+    (data_then old.volume.tables.geometry c.settle_all.new.self.tables.geometry [] v m w _ c.empty_ring.result first.geometry (first.data_kept told) (c.empty_ring.ensures.operation.data_kept told)))

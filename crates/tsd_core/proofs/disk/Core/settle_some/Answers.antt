@@ -7,6 +7,9 @@ use Rattle.tsd_core.specs.Core.{Core, IsCoreAt, told_world}
 use Rattle.tsd_core.proofs.AtLaws.{at_volume}
 use Rattle.tsd_core.proofs.Operations.{then_ok}
 use Rattle.tsd_core.proofs.Settling.{owes_no_more, owes_less, ready_still, state_still, told_still}
+use Rattle.image_device.specs.Runs.{LeavesPart}
+use Rattle.image_world.specs.Behind.{behind}
+use Rattle.tsd_core.proofs.BehindLaws.{leaves_behind}
 use Rattle.volume_laws.specs.Data.{KeepsData}
 use Rattle.volume_laws.specs.Rings.{HasBatches}
 use Rattle.tsd_model.specs.Doomed.{doomed}
@@ -86,3 +89,10 @@ returns-clause-few_blocks g c =
 
 pub returns-clause-ring : goal.returns-clause-ring
 returns-clause-ring g c = subst (λ (x : Core). OnOk c.settle_some.result (HasBatches 4 33 x.volume.ring c.settle_some.new.self.ring)) c.self.view_is c.settle_some.ensures.ring
+
+pub returns-clause-behind : goal.returns-clause-behind
+returns-clause-behind g c told =
+    let v = g.D.Device.view c.args.dev.now in
+    let w = g.D.Device.view c.settle_some.new.dev in
+    let size = c.self.inside.volume.tables.geometry in
+    subst (λ (x : Core). LeavesPart (behind x.volume.tables.geometry) v w) c.self.view_is (leaves_behind c.settle_some.result size [] v w tt (c.settle_some.ensures.operation.data_kept told))
