@@ -13,7 +13,7 @@ use Rattle.tsd_model.specs.Geometry.{IsLawful}
 use Rattle.tsd_model.specs.Pairs.{holds}
 use Rattle.pointer_table.specs.Indexed.{IsIndex, HasLinksAndHeads, IsPlaceOf}
 use Rattle.pointer_table.specs.Empties.{AreEmpties}
-use Rattle.pointer_table.specs.Order.{AreSmall}
+use Rattle.pointer_table.specs.Order.{AreSmall, ArePackable}
 use Rattle.pointer_table.specs.Raw.{slot_in, slots_in}
 use Rattle.pointer_table.specs.Reading.{AreWithinTo}
 use Rattle.pointer_table.specs.Slots.{slot_at, pairs_in}
@@ -202,6 +202,16 @@ small g slots lawful count within k e here =
     let few = lawful.blocks in
     let ends = within.each k e (let inside = some_inside slots k e here in omega arith) here in
     (omega arith, omega arith)
+
+-- and they can be packed
+pub packable : (g : Geometry) (slots : List (Option (ℕ × ℕ))) → IsLawful g → length slots ≡ g.slots → AreWithinTo g g.slots slots → ArePackable slots
+packable g slots lawful count within = record {
+  few = let most = lawful.slots in omega arith;
+  each = λ k e here.
+      let few = lawful.blocks in
+      let ends = within.each k e (let inside = some_inside slots k e here in omega arith) here in
+      (omega arith, omega arith);
+}
 
 -- ---- the patch of a changed slot
 

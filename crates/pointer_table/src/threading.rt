@@ -72,7 +72,7 @@ pub(crate) fn by_ends(
     ensures err { IfErr result (IsRefusal (slots_in slots.now)) }
 {
     let mut order = holders(alloc, slots)?;
-    sort_by_pair(slots, &mut order);
+    sort_by_pair(alloc, slots, &mut order)?;
     if let Some((source, target)) = least_repeated(slots, &order) {
         return Err(TableFault::Repeated { source, target });
     }
