@@ -78,13 +78,13 @@ headline (command.Serve kind) r source port none same sound did told = elim did 
 headline (command.Fresh fresh) r source port none same sound did told =
     let w = single_world fresh.geometry fresh.caps in
     record {
-      bytes = did.bytes;
-      came_in = did.came_in;
-      asked = did.asked;
-      are = elim did.these [ inl closed ↦ inl closed.none | inr by ↦ are_of r line_spelling did.bytes source.at_end did.asked by ];
-      any_moment = weakened port.old port.new _ _ (did.ends told).any_moment (λ x f left. elim left [
+      bytes = did.ran.bytes;
+      came_in = did.ran.came_in;
+      asked = did.ran.asked;
+      are = elim did.ran.these [ inl closed ↦ inl closed.none | inr by ↦ are_of r line_spelling did.ran.bytes source.at_end did.ran.asked by ];
+      any_moment = weakened port.old port.new _ _ (did.ran.ends told).any_moment (λ x f left. elim left [
         | inl made ↦ inl made
-        | inr acked ↦ inr (prefix_left line_voice fresh.kind w port.old.sent did.asked x f acked)
+        | inr acked ↦ inr (prefix_left line_voice fresh.kind w port.old.sent did.ran.asked x f acked)
       ]);
     }
 headline (command.Format words) r source port none same sound did told = tt

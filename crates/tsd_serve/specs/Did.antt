@@ -4,9 +4,11 @@ use Rattle.tsd_model.specs.declared.requests.PlaceKind.{PlaceKind}
 use Rattle.tsd_model.specs.declared.requests.Request.{Request}
 use Rattle.image_device.specs.Runs.{IsFirm, LeavesOnly}
 use Rattle.image_layout.specs.declared.fault.ImageFault.{ImageFault}
+use Rattle.image_world.specs.Behind.{LeavesBehind}
 use Rattle.recovery.specs.Opening.{IsForeign, IsSpared, IsUntouched, StandAlike}
 use Rattle.tsd_words.specs.declared.commands.CopyFs.{CopyFs}
 use Rattle.tsd_words.specs.declared.commands.Format.{Format}
+use Rattle.tsd_words.specs.declared.commands.Fresh.{Fresh}
 use Rattle.tsd_words.specs.declared.commands.Load.{Load}
 use Rattle.tsd_words.specs.declared.commands.Shell.{Shell}
 use Rattle.tsd_words.specs.declared.commands.Command.{Command}
@@ -21,6 +23,7 @@ use Rattle.serving.specs.Voice.{Voice}
 use Rattle.audit_runs.specs.Audit.{HasAudited, IsAuditing}
 use Rattle.audit_runs.specs.Verify.{VerifyRan}
 use Rattle.image_copy.specs.Copied.{HasCopied, IsCopyEnding, IsCopyJudged, IsLeftOfCopy, IsNotBegun}
+use Rattle.image_runs.specs.Behind.{LeavesSameBehind, LeavesSectorsBehind}
 use Rattle.image_runs.specs.Check.{HasChecked, IsSaying}
 use Rattle.image_runs.specs.Format.{HasFormatted, IsLeftOfFormat}
 use Rattle.image_runs.specs.Load.{HasLoaded, IsLeftOfLoad}
@@ -31,12 +34,19 @@ use Rattle.image_runs.specs.Opened.{IsJudged, IsNotImage}
 use Rattle.image_runs.specs.Served.{ImageRan}
 use Rattle.image_shell.specs.Served.{IsShellJudged, ShellRan}
 
--- What a command that opens an image leaves of one that stands for no world. Where it fails one of the first three
--- tests, of the format gate, the journal and the header, nothing was written, and the disk reads as before. Where it
--- fails another, all that a repair could use is still there, in the end and after a crash at any moment.
+-- What a command that opens an image leaves alone. Of one that stands for no world: where it fails one of the first
+-- three tests, of the format gate, the journal and the header, nothing was written, and the disk reads as before. Where
+-- it fails another, all that a repair could use is still there, in the end and after a crash at any moment. And of each
+-- image what lies behind it.
 pub record SparesImage (r : Status) (port : Moments) : Type 0 where
   pub foreign : port.tells → IsForeign port.old.reads → IsUntouched port.old port.new
   pub damaged : port.tells → IsNotImage r → IsSpared port.old port.new
+  pub behind : port.tells → IsFirm port.old → LeavesBehind port.old port.new
+
+-- A disk was made and served, at most 2^40 bytes of input. What lies behind it is as it was.
+pub record Made (fresh : Fresh) (r : Status) (source : Taking) (port : Moments) : Type 0 where
+  pub ran : FreshRan r line_voice line_spelling fresh.kind (single_world fresh.geometry fresh.caps) (2 ^ 40) source port
+  pub behind : port.tells → IsFirm port.old → LeavesSameBehind fresh.geometry port.old port.new
 
 -- An image was opened and served, at most 2^40 bytes of it, and a refusal says what is wrong with it.
 pub record Opened (r : Status) (v : Voice) (p : Spelling Request) (kind : PlaceKind) (source : Taking)
@@ -81,6 +91,7 @@ pub record Formatted (words : Format) (r : Status) (port : Moments) : Type 0 whe
   pub memory : r ≢ status.NoMemory
   pub made : port.tells → HasFormatted r words port.old port.new
   pub any_moment : port.tells → LeavesOnly port.old port.new (IsLeftOfFormat words port.old)
+  pub behind : port.tells → IsFirm port.old → LeavesSectorsBehind words.geometry port.old port.new
 
 -- An image keeps digests in place of capabilities. Without memory it wasn't upgraded.
 pub record Upgraded (r : Status) (port : Moments) : Type 0 where
@@ -124,8 +135,7 @@ pub record TreeCopied (words : CopyFs) (r : Status) (port : Moments) : Type 0 wh
 -- What the command that the words spell did, with this status, to its source and to its port. A command that takes no
 -- input leaves the source as it was. Where they spell none, it was Usage.
 abbrev pub Did : Option Command → Status → Taking → Moments → Type 0
-Did (Some (command.Fresh fresh)) r source port =
-    FreshRan r line_voice line_spelling fresh.kind (single_world fresh.geometry fresh.caps) (2 ^ 40) source port
+Did (Some (command.Fresh fresh)) r source port = Made fresh r source port
 Did (Some (command.Format words)) r source port = source.untouched × Formatted words r port
 Did (Some (command.Run kind)) r source port = Opened r line_voice line_spelling kind source port
 Did (Some (command.Serve kind)) r source port =
