@@ -1,12 +1,17 @@
 -- What one request of a core leaves, as an ask of a disk of blocks.
-use Rattle.std.proofs.Common.{◌≡◌, inl, inr, ⊎_elim, ℕ, true, List, refl, sym, ◌∙◌, ap}
+use Rattle.std.proofs.Common.{◌≡◌, ◌⊎◌, inl, inr, ⊎_elim, ℕ, ◌≤◌, true, List, refl, sym, ◌∙◌, ap, subst, arith}
 use Rattle.std.specs.Prelude.{Some, Result, Ok, Err, IfOk, OnOk}
 use Rattle.tsd_model.specs.World.{World}
 use Rattle.tsd_model.specs.Sessions.{is_open}
+use Rattle.tsd_model.specs.declared.geometry.Geometry.{Geometry}
 use Rattle.tsd_model.specs.declared.requests.PlaceKind.{PlaceKind}
 use Rattle.tsd_model.specs.declared.requests.Request.{Request}
 use Rattle.tsd_model.specs.declared.replies.Reply.{Reply}
-use Rattle.image_device.specs.View.{View as DeviceView}
+use Rattle.image_device.specs.View.{IsSound, View as DeviceView}
+use Rattle.image_device.specs.Runs.{LeavesPart}
+use Rattle.image_device.proofs.Parts.{part_at_end}
+use Rattle.image_layout.specs.Image.{Image}
+use Rattle.image_world.specs.Behind.{behind}
 use Rattle.volume_laws.specs.Moments.{LeavesEither, StandsForEither}
 use Rattle.volume_laws.specs.Volume.{world_on}
 use Rattle.volume_laws.specs.Writes.{Works}
@@ -14,11 +19,11 @@ use Rattle.volume_laws.proofs.QuestionLaws.{told_size}
 use Rattle.fs_port.specs.View.{Left}
 use Rattle.fs_port.specs.Calls.{Counts, IsEitherSide, LeavesWorldsOnly, Stays, is_steady}
 use Rattle.fs_port.proofs.PlainLaws.{steady_records, steady_open}
-use Rattle.tsd_core.specs.Core.{Core, state_on, told_state}
+use Rattle.tsd_core.specs.Core.{Core, state_on, told_state, told_world}
 use Rattle.tsd_core.specs.Work.{SameSize}
 use Rattle.tsd_core.specs.Applying.{IsToldAnswer, next_world}
 use Rattle.core_blocks.specs.CoreView.{SaysWorld, core_view}
-use Rattle.core_blocks.specs.ViewLaws.{says_one}
+use Rattle.core_blocks.specs.ViewLaws.{no_first, says_one, second_of}
 
 module _ (lenders : ℕ × ℕ) (kind : PlaceKind) (old new : Core) (v w : DeviceView) (q : Request) where
   -- an image of the world before or of the one after says that world
@@ -29,14 +34,50 @@ module _ (lenders : ℕ × ℕ) (kind : PlaceKind) (old new : Core) (v w : Devic
     | inr next ↦ (next_world kind (state_on old v.reads) q, says_one x.image (next_world kind (state_on old v.reads) q) x.world next says, inr refl, left.1)
   ]
 
-  pub ask_leaves : w.sent ≡ v.sent → LeavesEither v w (next_world kind (state_on old v.reads) q) → LeavesWorldsOnly (core_view lenders kind old v) (core_view lenders kind new w) (IsEitherSide (core_view lenders kind old v) q)
-  ask_leaves sent leaves = record {
-    later = leaves.later;
-    sent = sent;
-    each = λ x f h. either_side x f h.says (leaves.each x.image f h.was_left);
-    before = λ t x f le h. ⊎_elim (λ was. inl (record { was_left = was; says = h.says })) (λ now. inr (either_side x f h.says now)) (leaves.before t x.image f le h.was_left);
-    keeps = λ t x f le h. record { was_left = leaves.keeps t x.image f le h.was_left; says = h.says };
-  }
+  module _ (leaves : LeavesEither v w (next_world kind (state_on old v.reads) q)) (sound : IsSound w) (size : SameSize old new) (aside : LeavesPart (behind old.volume.tables.geometry) v w) where
+    told_same : (told_world new).geometry ≡ (told_world old).geometry
+    told_same = (told_size new.volume.tables).0 ∙ (size.geometry ∙ sym (told_size old.volume.tables).0)
+
+    -- the same by the size that memory tells
+    told_aside : LeavesPart (behind (told_world old).geometry) v w
+    told_aside = subst (λ (g : Geometry). LeavesPart (behind g) v w) (sym (told_size old.volume.tables).0) aside
+
+    same : behind (told_world old).geometry w.reads ≡ behind (told_world old).geometry v.reads
+    same = part_at_end (behind (told_world old).geometry) v w sound told_aside
+
+    back : (t : ℕ) (x : Image) (f : List ℕ) → t ≤ v.clock → w.left t x f ⊎ (behind (told_world new).geometry x ≡ behind (told_world new).geometry w.reads) → v.left t x f ⊎ (behind (told_world old).geometry x ≡ behind (told_world old).geometry v.reads)
+    back t x f le (inl left) = told_aside.before t x f le left
+    back t x f le (inr alike) = inr (subst (λ (g : Geometry). behind g x ≡ behind g w.reads) told_same alike ∙ same)
+
+    forth : (t : ℕ) (x : Image) (f : List ℕ) → t ≤ v.clock → v.left t x f ⊎ (behind (told_world old).geometry x ≡ behind (told_world old).geometry v.reads) → w.left t x f ⊎ (behind (told_world new).geometry x ≡ behind (told_world new).geometry w.reads)
+    forth t x f le (inl left) = inl (leaves.keeps t x f le left)
+    forth t x f le (inr alike) = inr (subst (λ (g : Geometry). behind g x ≡ behind g w.reads) (sym told_same) (alike ∙ sym same))
+
+    pub ask_leaves : w.sent ≡ v.sent → LeavesWorldsOnly (core_view lenders kind old v) (core_view lenders kind new w) (IsEitherSide (core_view lenders kind old v) q)
+    ask_leaves sent = record {
+      later = omega (arith, leaves.later);
+      sent = sent;
+      each = λ x f left. elim left [
+        | inl h ↦ either_side x f h.says (leaves.each x.image f (subst (λ t. w.left t x.image f) (second_of h.since v.clock h.moment) h.was_left))
+        | inr e ↦ absurd (no_first e.since v.clock e.moment)
+      ];
+      before = λ t x f le left. elim left [
+        | inl h ↦
+            let early : h.since ≤ v.clock = omega (arith, le, h.moment.first) in
+            ⊎_elim (λ was. inl (inl (record { since = h.since; moment = h.moment; was_left = was; says = h.says }))) (λ now. inr (either_side x f h.says now)) (leaves.before h.since x.image f early h.was_left)
+        | inr e ↦
+            let early : e.since ≤ v.clock = omega (arith, le, e.moment) in
+            inl (inr (record { since = e.since; moment = e.moment; says_none = e.says_none; either = back e.since x.image f early e.either }))
+      ];
+      keeps = λ t x f le left. elim left [
+        | inl h ↦
+            let early : h.since ≤ v.clock = omega (arith, le, h.moment.first) in
+            inl (record { since = h.since; moment = h.moment; was_left = leaves.keeps h.since x.image f early h.was_left; says = h.says })
+        | inr e ↦
+            let early : e.since ≤ v.clock = omega (arith, le, e.moment) in
+            inr (record { since = e.since; moment = e.moment; says_none = e.says_none; either = forth e.since x.image f early e.either })
+      ];
+    }
 
   pub ask_stays : {E : Type 0} (result : Result Reply E) → is_steady q ≡ true → IfOk result (λ r. IsToldAnswer kind old q r new) → OnOk result (Stays (core_view lenders kind old v) (core_view lenders kind new w))
   ask_stays (Ok r) steady told = record {
@@ -50,7 +91,7 @@ module _ (lenders : ℕ × ℕ) (kind : PlaceKind) (old new : Core) (v w : Devic
     geometry = (told_size new.volume.tables).0 ∙ (size.geometry ∙ sym (told_size old.volume.tables).0);
     version = (told_size new.volume.tables).1 ∙ (size.version ∙ sym (told_size old.volume.tables).1);
     kind = refl;
-    clock = works.clock;
+    clock = omega (arith, works.clock);
     faults = works.faults;
     put_faults = works.put_faults;
     lenders = refl;

@@ -5,7 +5,7 @@
 //!
 //! What it promises: a core that is borrowed with its device is a disk of blocks, and is spent exactly where the core
 //! is. Each ask answers by the rules of the disk, and a crash inside leaves an image of the world before or of the one
-//! after. What memory tells holds for every device.
+//! after. No ask writes a sector behind the image. What memory tells holds for every device.
 #![tactic(auto)]
 
 mod blocks;

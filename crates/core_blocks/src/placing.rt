@@ -2,6 +2,8 @@
 
 ghost use Rattle.std.specs.Prelude.{◌≡◌, true, OnOk, OnErr, IfOk};
 ghost use Rattle.image_device.specs.Counts.{CountsFault};
+ghost use Rattle.image_device.specs.Runs.{LeavesPart};
+ghost use Rattle.image_world.specs.Behind.{behind};
 ghost use Rattle.tsd_model.specs.declared.requests.PlaceKind.{PlaceKind};
 ghost use Rattle.tsd_model.specs.Run.{IsAnswer};
 ghost use Rattle.volume_laws.specs.Moments.{LeavesEither};
@@ -40,6 +42,9 @@ pub trait Placing {
         ensures sent { D.told → (D.view dev.new).sent ≡ (D.view dev.old).sent }
         ensures any_moment { D.told → LeavesEither (D.view dev.old) (D.view dev.new) (next_world (kind self.now)
             (state_on core.old (D.view dev.old).reads) request.now) }
+        // Also where it failed, a crash at any moment leaves what lies behind the image as it was.
+        ensures behind { D.told → LeavesPart (behind core.old.volume.tables.geometry) (D.view dev.old)
+            (D.view dev.new) }
         ensures works { Works (D.view dev.old) (D.view dev.new) }
         ensures faults { CountsFault result (D.view dev.old).faults (D.view dev.new).faults };
 }

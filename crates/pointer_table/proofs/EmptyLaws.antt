@@ -1,8 +1,8 @@
 -- The list of the empty slots: made, and with a slot taken off or put in front.
-use Rattle.std.proofs.Common.{◌≡◌, ℕ, suc, ◌+◌, ◌-◌, ◌<◌, ◌≤◌, ◌==◌, true, cond, List, [], ◌∷◌, length, get_or, set, drop, refl, sym, ◌∙◌, ap, subst, arith, inl, inr, drop-cons}
+use Rattle.std.proofs.Common.{◌≡◌, ℕ, zero, suc, ◌+◌, ◌-◌, ◌<◌, ◌≤◌, ◌==◌, true, cond, List, [], ◌∷◌, length, get_or, set, drop, refl, sym, ◌∙◌, ap, subst, arith, inl, inr, drop-cons}
 use Rattle.std.proofs.Common.{Option, Some, None}
 use Rattle.std.specs.Prelude.{count_by, is_some}
-use Rattle.std.proofs.lemmas.Bool.{or_cases, or_left, or_right, eqb-true, eq-eqb, both_ways, false_from_ne_true}
+use Rattle.std.proofs.lemmas.Bool.{cases_lt, or_cases, or_left, or_right, eqb-true, eq-eqb, both_ways, false_from_ne_true}
 use Rattle.std.proofs.lemmas.List.{length-set, get_or-set_same, get_or-set_other, drop_all}
 use Rattle.std.proofs.lemmas.List.Sums.{sum_by-cons}
 use Rattle.pointer_table.specs.Empties.{is_among, AreEmptyOnce, AreLinked, AreEmpties}
@@ -127,6 +127,31 @@ count_drop_none slots l inside here = count_drop slots l inside ∙ ap (λ s. co
 
 pub count_drop_all : (slots : List (Option (ℕ × ℕ))) (l : ℕ) → length slots ≤ l → count_by is_some (drop l slots) ≡ 0
 count_drop_all slots l past = ap (count_by is_some) (drop_all l slots past)
+
+-- where none of the slots from one on is counted, none of them holds a pair
+pub none_left : (slots : List (Option (ℕ × ℕ))) (l k : ℕ) (e : ℕ × ℕ) → count_by is_some (drop l slots) ≡ 0 → l ≤ k → slot_at slots k ≡ Some e → ⊥
+none_left slots l k e none far here = go (k - l) l (omega arith) none
+  where
+    inside : k < length slots
+    inside = some_inside slots k e here
+
+    go : (n m : ℕ) → m + n ≡ k → count_by is_some (drop m slots) ≡ 0 → ⊥
+    go zero m at none_here =
+        let within = inside in
+        let same : m ≡ k = omega arith in
+        let more = count_drop_some slots m e (omega arith) (ap (slot_at slots) same ∙ here) in
+        omega arith
+    go (suc n) m at none_here =
+        let within = inside in
+        let more = count_drop slots m (omega arith) in
+        go n (suc m) (omega arith) (omega arith)
+
+-- where one is counted, there are such slots
+pub some_left : (slots : List (Option (ℕ × ℕ))) (l : ℕ) → 0 < count_by is_some (drop l slots) → l < length slots
+some_left slots l some = elim (cases_lt l (length slots)) [
+  | inl inside ↦ inside
+  | inr past ↦ let none = count_drop_all slots l past in absurd (omega arith)
+]
 
 pub empties_none : (slots : List (Option (ℕ × ℕ))) (first left : ℕ) (next : List ℕ) → first ≡ no_link → left ≡ length slots → AreEmptiesFrom slots left first next
 empties_none slots first left next nowhere all = record {

@@ -2,6 +2,7 @@
 use Rattle.std.proofs.Common.{◌≡◌, ℕ, suc, ◌+◌, ◌-◌, ◌<◌, ◌≤◌, ◌==◌, ◌||◌, Bool, true, false, cond, List, [], ◌∷◌, length, get_or, take, drop, refl, sym, ◌∙◌, ap, subst, arith, inl, inr, length-drop, drop-cons}
 use Rattle.std.proofs.Common.{Option, Some, None}
 use Rattle.std.specs.List.{list_any}
+use Rattle.std.specs.Prelude.{count_by, is_some}
 use Rattle.std.proofs.lemmas.Bool.{cases_eq, cases_lt, or_cases, eqb-true, eq-eqb, ne_eqb, false_from_ne_true}
 use Rattle.std.proofs.lemmas.List.{get_or-drop, drop_all, get_or-take, get_or_past, length-take, take-map}
 use Rattle.std.proofs.lemmas.List.Folds.{list_any_at}
@@ -15,6 +16,7 @@ use Rattle.pointer_table.specs.Threads.{rank, IsWith}
 use Rattle.pointer_table.specs.declared.raw.RawSlot.{RawSlot}
 use Rattle.pointer_table.specs.declared.threads.Threads.{Threads}
 use Rattle.pointer_table.specs.declared.way.Way.{Way}
+use Rattle.pointer_table.proofs.EmptyLaws.{none_left}
 use Rattle.pointer_table.proofs.ThreadLaws.{same_rank}
 
 -- the slots that stand in the order from an offset on
@@ -176,6 +178,21 @@ raws_more raws position e here =
 pub raws_same : (raws : List RawSlot) (position : ℕ) → slot_at (slots_in raws) position ≡ None → (k : ℕ) → slot_at (slots_in (take position raws)) k ≡ slot_at (slots_in (take (position + 1) raws)) k
 raws_same raws position none k =
     sym (ap (λ slots. slot_at slots k) (slots_front raws position)) ∙ (front_same (slots_in raws) position none k ∙ ap (λ slots. slot_at slots k) (slots_front raws (position + 1)))
+
+-- where none is left behind them
+pub raws_all : (raws : List RawSlot) (position : ℕ) → count_by is_some (drop position (slots_in raws)) ≡ 0 → (k : ℕ) → slot_at (slots_in (take position raws)) k ≡ slot_at (slots_in raws) k
+raws_all raws position none k = go (slot_at (slots_in (take position raws)) k) (slot_at (slots_in raws) k) refl refl
+  where
+    front : slot_at (take position (slots_in raws)) k ≡ slot_at (slots_in (take position raws)) k
+    front = ap (λ slots. slot_at slots k) (slots_front raws position)
+
+    go : (a b : Option (ℕ × ℕ)) → slot_at (slots_in (take position raws)) k ≡ a → slot_at (slots_in raws) k ≡ b → a ≡ b
+    go None None one other = refl
+    go (Some e) b one other = sym (raws_held raws position k e one).1 ∙ other
+    go None (Some e) one other = elim (cases_lt k position) [
+      | inl low ↦ sym one ∙ (sym front ∙ (before_offset (slots_in raws) position k low ∙ other))
+      | inr far ↦ absurd (none_left (slots_in raws) position k e none far other)
+    ]
 
 -- slots given another way
 pub threaded_same : (way : Way) (held now : ℕ → Option (ℕ × ℕ)) (t : Threads) → ((k : ℕ) → held k ≡ now k) → IsThreadedBy way held t → IsThreadedBy way now t

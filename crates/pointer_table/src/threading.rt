@@ -15,6 +15,7 @@ ghost use Rattle.pointer_table.specs.Threads.{group};
 
 use crate::fault::TableFault;
 use crate::links::NO_LINK;
+use crate::next::count_held;
 use crate::order::{holders, least_repeated, pair_at, sort_by_pair};
 use crate::raw::RawSlot;
 use crate::threads::Threads;
@@ -81,7 +82,7 @@ pub(crate) fn by_ends(
     Ok((by_source, by_target))
 }
 
-/// The slots threaded by bucket, one after another.
+/// The slots threaded by bucket, one after another, up to the last that holds a pair.
 pub(crate) fn by_bucket(
     alloc: Global,
     geometry: &Geometry,
@@ -93,10 +94,14 @@ pub(crate) fn by_bucket(
     ensures err { IfErr result (λ e. e ≡ TableFault.NoMemory) }
 {
     let mut threads = Threads::none(alloc, Way::Bucket, slots.len() / 2 + 1, slots.len(), false)?;
-    for position in 0..slots.len() {
+    let mut left = count_held(slots);
+    let mut position = 0;
+    while left > 0 {
         if let Some((source, target)) = pair_at(slots, position as u32) {
             threads.add(&slots[..position], position as u32, source, target, NO_LINK);
+            left -= 1;
         }
+        position += 1;
     }
     Ok(threads)
 }

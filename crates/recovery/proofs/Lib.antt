@@ -4,3 +4,4 @@ pub mod AreaRuns
 pub mod OpenRuns
 mod SparedLaws
 pub mod FreshQuiet
+mod OpenCosts

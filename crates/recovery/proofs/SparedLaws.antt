@@ -1,5 +1,5 @@
 -- What is left of an image that fails a test.
-use Rattle.std.proofs.Common.{◌≡◌, ℕ, ◌+◌, ◌≤◌, true, List, [], refl, sym, ◌∙◌, ap, subst, arith, Ok, Err}
+use Rattle.std.proofs.Common.{◌≡◌, ℕ, true, List, [], refl, sym, ◌∙◌, ap, subst, arith, Ok, Err}
 use Rattle.std.specs.Prelude.{Result, IfErr, IsErrAnd}
 use Rattle.image_device.specs.Calls.{Rests, Settles, Uses}
 use Rattle.image_device.specs.Runs.{IsFirm, LeavesOnly}
@@ -21,7 +21,7 @@ use Rattle.recovery.specs.Faults.{of_replay}
 use Rattle.recovery.specs.Opening.{IsImageFault, IsSpared, LeavesData}
 use Rattle.tsd_model.specs.declared.geometry.Geometry.{Geometry}
 use Rattle.image_device.proofs.Moments.{weakened}
-use Rattle.image_layout.specs.Areas.{data_start, header_sector}
+use Rattle.image_layout.specs.Areas.{header_sector}
 use Rattle.image_world.specs.Tables.{Tables, tables_of}
 use Rattle.image_layout.specs.Header.{header_of}
 use Rattle.image_world.proofs.WrittenLaws.{above_journal}

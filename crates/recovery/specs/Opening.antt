@@ -1,5 +1,5 @@
 -- What opening answers, and what a crash leaves of it.
-use Rattle.std.specs.Prelude.{◌≡◌, ◌↔◌, ◌+◌, ◌≤◌, [], Result, Ok, Err, ⊤}
+use Rattle.std.specs.Prelude.{◌≡◌, ◌↔◌, ℕ, ◌+◌, ◌≤◌, [], Result, Ok, Err, ⊤}
 use Rattle.tsd_model.specs.World.{World}
 use Rattle.image_device.specs.View.{View}
 use Rattle.image_device.specs.Runs.{IsFirm, LeavesOnly}
@@ -13,6 +13,7 @@ use Rattle.intent_journal.specs.Ring.{replay_writes}
 use Rattle.image_world.specs.Faults.{IsFormatGateOpen, HasJournal, IsGood, IsFirstFault}
 use Rattle.image_world.specs.Stands.{Stands}
 use Rattle.image_world.specs.Tables.{tables_of}
+use Rattle.volume.specs.Sweeping.{left_cost}
 use Rattle.volume_laws.specs.Data.{HasSameData}
 use Rattle.volume_laws.specs.Volume.{Volume}
 use Rattle.recovery.specs.declared.fault.OpenFault.{OpenFault}
@@ -68,3 +69,7 @@ IsOpening image (Err fault.NoMemory) = ⊤
 -- both stand for the same world, or for none
 abbrev pub StandAlike : Image → Image → Type 0
 StandAlike image x = (w : World) → Stands image w ↔ Stands x w
+
+-- How often an opening writes at most: by what is replayed, and by what is left to be swept and reclaimed.
+abbrev pub opening_writes : Image → ℕ
+opening_writes image = replay_writes image + left_cost (tables_of (home image))

@@ -15,7 +15,7 @@ ghost use Rattle.volume_laws.specs.Quiet.{IsQuiet};
 ghost use Rattle.volume_laws.specs.Volume.{IsVolumeAt, IsVolumeReady, world_on};
 ghost use Rattle.volume_laws.specs.Writes.{due, Works};
 ghost use Rattle.recovery.specs.Opening.{IsForeign, IsImageFault, IsOpening, IsSpared, IsUntouched};
-ghost use Rattle.recovery.specs.Opening.{LeavesData, StandAlike};
+ghost use Rattle.recovery.specs.Opening.{LeavesData, opening_writes, StandAlike};
 
 use crate::fault::OpenFault;
 use crate::head::read_head;
@@ -51,6 +51,12 @@ pub fn open_image<D: Device>(alloc: Global, dev: &mut D) -> Result<Volume, OpenF
     // The data of all blocks, of free ones too, and what lies behind the image stay, in each image that a crash leaves.
     ensures data_kept { D.told → IsFirm (D.view dev.old) → LeavesData (D.view dev.old) (D.view dev.new) }
 
+    // It writes by what is replayed, and by what is left to be swept and reclaimed.
+    ensures uses { D.told → Uses (opening_writes (D.view dev.old).reads) (D.view dev.old) (D.view dev.new) }
+    ensures cost { D.told → IfOk result (λ v. (D.view dev.new).writes + due v ≤ (D.view dev.old).writes
+        + opening_writes (D.view dev.old).reads) }
+
+    // Where nothing is left to be done on the image, it writes nothing.
     ensures unwritten { D.told → IsQuiet (D.view dev.old).reads → Uses 0 (D.view dev.old) (D.view dev.new) }
     ensures paid { D.told → IsQuiet (D.view dev.old).reads → IfOk result (λ v. (D.view dev.new).writes + due v
         ≤ (D.view dev.old).writes) }

@@ -1,5 +1,5 @@
 -- From a request that was judged and carried out to what is said of it.
-use Rattle.std.proofs.Common.{◌≡◌, ◌⊎◌, ℕ, ◌+◌, ◌≤◌, Bool, true, false, List, length, refl, sym, ◌∙◌, ap, subst, arith, inl, inr, Option, Some, None}
+use Rattle.std.proofs.Common.{◌≡◌, ◌⊎◌, ℕ, ◌+◌, ◌≤◌, ◌||◌, Bool, true, false, List, length, refl, sym, ◌∙◌, ap, subst, arith, inl, inr, Option, Some, None}
 use Rattle.std.specs.Prelude.{Result, Ok, IsOk, IfSome, is_none, cond, filter}
 use Rattle.tsd_model.specs.World.{World, has_number}
 use Rattle.tsd_model.specs.Sessions.{Sessions, fitted, no_sessions}
@@ -130,6 +130,8 @@ refused_applied told kind q c v r ready known table sound at refusal = record {
   paid = λ t b. omega arith;
   most = λ t b. omega arith;
   limit = λ b. omega arith;
+  sweep_paid = λ b. omega arith;
+  swept = λ b. omega arith;
   works = record { clock = omega arith; faults = omega arith; put_faults = refl; writes = omega arith };
   faults = refl;
 }
@@ -265,6 +267,17 @@ refused_keeps kind q old new r (inr starved) stays e =
     let volume : new.volume ≡ old.volume = stays (begin_asks q starved.begin) in
     λ i. record { volume = volume i; grants = table i }
 
+-- so what is refused then asks nothing, as a begin does
+pub refused_asks : (kind : PlaceKind) (w : World) (old new : Table) (q : Request) (r : Reply) → (IsChanged kind w old q r new ⊎ IsStarved old q r new) → (is_refusal r || asks_nothing q) ≡ true → asks_nothing q ≡ true
+refused_asks kind w old new q r (inl changed) e = subst (λ (t : Bool). (t || asks_nothing q) ≡ true) unrefused e
+  where
+    unrefused : is_refusal r ≡ false
+    unrefused = elim (true_or_false (is_read q)) [
+      | inr other ↦ ap is_refusal (changed.reply other) ∙ no_refusal kind w q
+      | inl reads ↦ ap is_refusal (changed.read reads).1
+    ]
+refused_asks kind w old new q r (inr starved) e = begin_asks q starved.begin
+
 granted_risen : (told : Type 0) (kind : PlaceKind) (q : Request) (old new : Core) (v w : View) (result : Result Reply Failed) → IsCoreReady old → IsKnown old.volume → IsTable old.grants
     → (told → IsCoreAt old v) → ◌≡◌ {A = Option Rule} (verdict (told_world old) old.grants.sessions q) None
     → IsCarriedOut told kind q (risen_in old q) new v w result → (asks_nothing q ≡ true → new.volume ≡ old.volume) → (asks_nothing q ≡ true → IsOk result)
@@ -303,6 +316,8 @@ granted_risen told kind q old new v w result ready known table at granted carrie
       paid = λ h b. then_ok result (λ (p : w.writes + due new.volume ≤ v.writes + due old.volume + cost_of t q). omega (arith, p, same h)) (does.paid b);
       most = λ h b. omega (arith, does.most b, same h);
       limit = does.limit;
+      sweep_paid = does.sweep_paid;
+      swept = does.swept;
       works = op.works;
       faults = op.faults;
     }

@@ -104,6 +104,8 @@ request_of told kind q old new v w r does s ok err faults = record {
   paid = λ b. ok _ (does.paid b);
   most = does.most;
   limit = does.limit;
+  sweep_paid = λ b. ok _ (does.sweep_paid b);
+  swept = does.swept;
 }
 
 -- the same change of the world, said in other words

@@ -77,6 +77,8 @@ still_there told kind q vol v r same idle sound at ready unspent = record {
   paid = λ b. omega arith;
   most = λ b. omega arith;
   limit = λ b. omega arith;
+  sweep_paid = λ b. omega arith;
+  swept = λ b. omega arith;
 }
 
 -- the volume and the device stay as they are

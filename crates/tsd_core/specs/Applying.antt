@@ -18,6 +18,7 @@ use Rattle.image_device.specs.declared.device.Failed.{Failed}
 use Rattle.disk_laws.specs.Bytes.{AreLike}
 use Rattle.disk_laws.specs.Reclaiming.{is_sweep}
 use Rattle.tsd_model.specs.Run.{IsAnswer}
+use Rattle.volume.specs.Sweeping.{sweep_cost}
 use Rattle.volume_laws.specs.Moments.{LeavesEither}
 use Rattle.volume_laws.specs.Writes.{due, Works}
 use Rattle.tsd_core.specs.Core.{Core, IsCoreReady, IsCoreAt, told_world, told_state, sessions_of, state_on}
@@ -93,5 +94,8 @@ pub record IsApplied (told : Type 0) (kind : PlaceKind) (q : Request) (old new :
       → OnOk result (w.writes + due new.volume ≤ v.writes + due old.volume + cost_in (state_on old v.reads) q)
   pub most : told → is_sweep q ≡ false → w.writes ≤ v.writes + due old.volume + cost_in (state_on old v.reads) q
   pub limit : is_sweep q ≡ false → w.writes ≤ v.writes + write_limit old.volume q
+  pub sweep_paid : is_sweep q ≡ true
+      → OnOk result (w.writes + due new.volume ≤ v.writes + due old.volume + sweep_cost (told_world old))
+  pub swept : is_sweep q ≡ true → w.writes ≤ v.writes + due old.volume + sweep_cost (told_world old)
   pub works : Works v w
   pub faults : CountsFault result v.faults w.faults

@@ -15,6 +15,7 @@ use Rattle.disk_laws.specs.Bytes.{AreLike}
 use Rattle.disk_laws.specs.Reclaiming.{is_sweep}
 use Rattle.grant_table.specs.Table.{Table, with_sessions}
 use Rattle.tsd_core.specs.Seen.{table_change, world_after, reply_to, is_read, writes_nothing, IsStarved}
+use Rattle.volume.specs.Sweeping.{sweep_cost}
 use Rattle.volume_laws.specs.Operations.{IsOperation}
 use Rattle.volume_laws.specs.Volume.{IsVolumeReady, Volume, told_by, world_on}
 use Rattle.image_world.specs.Debt.{owed}
@@ -37,7 +38,7 @@ pub record IsKnown (v : Volume) : Type 0 where
   pub ring : checkpoint_writes v.ring ≤ 121
 
 -- What a call on the volume does for a request, between these devices: it makes the change of the request, in memory
--- too. What it costs is said of all but a sweep.
+-- too. What it costs is said of a sweep by what it takes away, and of all others by what they doom.
 pub record DoesRequest {T : Type 0} (told : Type 0) (kind : PlaceKind) (q : Request) (old new : Volume) (v w : View)
     (result : Result T Failed) : Type 0 where
   pub operation : IsOperation told (bytes_given kind (told_by old) q) (λ u. world_after kind u q) old new v w result
@@ -50,11 +51,14 @@ pub record DoesRequest {T : Type 0} (told : Type 0) (kind : PlaceKind) (q : Requ
   pub version : new.tables.version ≡ old.tables.version
   pub like : OnOk result (AreLike (told_by new) (world_after kind (told_by old) q))
   pub ready : OnOk result (IsVolumeReady new)
-  -- what it costs
+  -- what all but a sweep cost
   pub any_owed : told → is_sweep q ≡ false → LeavesOwed v w (owed old.tables + made_by (told_by old) q)
   pub paid : is_sweep q ≡ false → OnOk result (IsPaid (cost_of (told_by old) q) old v new w)
   pub most : is_sweep q ≡ false → w.writes ≤ v.writes + due old + cost_of (told_by old) q
   pub limit : is_sweep q ≡ false → w.writes ≤ v.writes + write_limit old q
+  -- what a sweep costs: by what it takes away
+  pub sweep_paid : is_sweep q ≡ true → OnOk result (IsPaid (sweep_cost (told_by old)) old v new w)
+  pub swept : is_sweep q ≡ true → w.writes ≤ v.writes + due old + sweep_cost (told_by old)
 
 -- In memory: the table is that of the change and the reply that of the rules, but for the bytes of a read.
 pub record IsChanged (kind : PlaceKind) (w : World) (old : Table) (q : Request) (r : Reply) (new : Table) : Type 0 where

@@ -1,5 +1,5 @@
 -- Which blocks get bytes by a request that is granted, what it commits, and what is owed then.
-use Rattle.std.specs.Prelude.{◌≡◌, ℕ, ◌+◌, ◌-◌, ◌*◌, ◌==◌, ◌||◌, Bool, true, false, cond, List, [], ◌∷◌, length}
+use Rattle.std.specs.Prelude.{ℕ, ◌+◌, ◌-◌, ◌==◌, ◌||◌, Bool, true, false, cond, List, [], ◌∷◌, length}
 use Rattle.tsd_model.specs.Placing.{chosen, chosen_run}
 use Rattle.tsd_model.specs.Step.{run_at}
 use Rattle.tsd_model.specs.World.{World}

@@ -6,7 +6,6 @@ use Rattle.tsd_model.specs.World.{World, is_live}
 use Rattle.tsd_model.specs.Sessions.{Levels, Sessions, begun, ended, dropped_from, fitted, no_sessions}
 use Rattle.tsd_model.specs.Placing.{chosen, chosen_run}
 use Rattle.tsd_model.specs.Step.{State, change, raised_by, run_at}
-use Rattle.tsd_model.specs.Run.{answer}
 use Rattle.tsd_model.specs.Verdict.{is_begin}
 use Rattle.tsd_model.specs.declared.requests.Level.TheVariants as level
 use Rattle.tsd_model.specs.declared.requests.PlaceKind.{PlaceKind}

@@ -26,7 +26,7 @@ made_in s q = cond (is_granted s.world s.sessions q) (made_by s.world q) 0
 abbrev pub cost_with : ℕ → ℕ
 cost_with gone = 460 + lost_cost * gone
 
--- what a request costs that no rule refuses; a sweep has no bound
+-- what a request costs that no rule refuses and that is no sweep
 abbrev pub cost_of : World → Request → ℕ
 cost_of w q = cost_with (made_by w q)
 

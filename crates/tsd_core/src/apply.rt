@@ -7,6 +7,7 @@ ghost use Rattle.tsd_model.specs.ReplyForm.{HasForm};
 ghost use Rattle.tsd_model.specs.declared.replies.Reply.TheVariants as reply;
 ghost use Rattle.disk_laws.specs.Reclaiming.{is_sweep};
 ghost use Rattle.tsd_model.specs.Run.{IsAnswer};
+ghost use Rattle.volume.specs.Sweeping.{sweep_cost};
 ghost use Rattle.volume_laws.specs.Moments.{LeavesEither};
 ghost use Rattle.volume_laws.specs.Writes.{due, Works};
 ghost use Rattle.tsd_core.specs.Core.{IsCoreReady, IsCoreAt, state_on, told_world};
@@ -95,6 +96,15 @@ impl Core {
             + due self.old.volume + cost_in (state_on self.old (D.view dev.old).reads) request.now }
         ensures limit { is_sweep request.now ≡ false → (D.view dev.new).writes ≤ (D.view dev.old).writes +
             write_limit self.old.volume request.now }
+
+        // A sweep writes by what it takes away and what was due: at most 7 times for each block and pair that goes,
+        // and 10 times for its flag.
+        ensures sweep_paid { is_sweep request.now ≡ true
+            → OnOk result ((D.view dev.new).writes + due self.new.volume ≤ (D.view dev.old).writes + due
+            self.old.volume + sweep_cost (told_world self.old)) }
+        ensures swept { is_sweep request.now ≡ true → (D.view dev.new).writes ≤ (D.view dev.old).writes
+            + due self.old.volume + sweep_cost (told_world self.old) }
+
         ensures works { Works (D.view dev.old) (D.view dev.new) }
         ensures faults { CountsFault result (D.view dev.old).faults (D.view dev.new).faults }
     {

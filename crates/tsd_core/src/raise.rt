@@ -42,10 +42,10 @@ impl Core {
 }
 
 /// The first or the second need of a request.
-fn need_at(request: &Request, placement: usize) -> Option<Need>
-    ensures { result ≡ slice_get (needs request.now) placement }
+fn need_at(request: &Request, index: usize) -> Option<Need>
+    ensures { result ≡ slice_get (needs request.now) index }
 {
-    needs(request).as_slice().get(placement).copied()
+    needs(request).as_slice().get(index).copied()
 }
 
 fn raise_at(grants: &mut Grants, session: u32, need: Option<Need>, origins: &Origins)

@@ -3,6 +3,7 @@ use Rattle.std.specs.Prelude.{Err}
 use Rattle.image_device.proofs.Moments.{uses_and}
 use Rattle.image_layout.specs.Image.{Image, is_open}
 use Rattle.recovery.proofs.OpenRuns.{synced, read_still, opened_start, opened_sync, opened_head, opened_replay, replayed, loaded, opened_load, stood, opened_finish, opened_err, opened_device, is_device, quiet_uses, quiet_finish, quiet_paid, unwritten, owed_start, owed_sync, owed_head, owed_replay, owed_load, owed_finish, right_head}
+use Rattle.recovery.proofs.OpenCosts.{costs_none, costs_start, uses_replay, costs_replay, uses_load, costs_finish, costs_paid}
 use Rattle.recovery.proofs.SparedLaws.{by_image, by_other, by_replay, spared_head, spared_bad, spared_load, data_start_of, data_sync, data_head, data_replay, data_load, data_finish}
 use Rattle.recovery.specs.declared.fault.OpenFault.TheVariants as fault
 use Rattle.volume_laws.proofs.StepOps.{either_same}
@@ -248,3 +249,52 @@ returns-clause-data_kept g c told firm =
     (c.in_ok-replay.ensures.at told) (c.in_ok-replay.ensures.done told) (c.in_ok-replay.ensures.valid told) (c.in_ok-replay.ensures.firm told) (c.load.ensures.rests told)
     (uses_and 0 0 0 _ _ _ (omega arith) c.sync.ensures.uses c.read_head.ensures.uses) (c.replay.ensures.needed told) c.load.ensures.uses)
     (c.in_ok-volume.ensures.at told) (c.finish.ensures.operation.data_kept told)
+
+pub returns-in_err-ring-clause-uses : goal.returns-in_err-ring-clause-uses
+returns-in_err-ring-clause-uses g c told = costs_none (g.D.Device.view c.args.dev.now)
+
+pub returns-in_err-sync-clause-uses : goal.returns-in_err-sync-clause-uses
+returns-in_err-sync-clause-uses g c told = costs_start _ _ c.sync.ensures.uses
+
+pub returns-in_err-header-clause-uses : goal.returns-in_err-header-clause-uses
+returns-in_err-header-clause-uses g c told = costs_start _ _ (uses_and 0 0 0 _ _ _ (omega arith) c.sync.ensures.uses c.read_head.ensures.uses)
+
+pub returns-in_err-replay-clause-uses : goal.returns-in_err-replay-clause-uses
+returns-in_err-replay-clause-uses g c told =
+    let still = read_still _ _ _ (synced _ _ (c.in_ok-sync.ensures.firm told) (c.sync.ensures.settles told)) (c.read_head.ensures.rests told) in
+    let start = uses_and 0 0 0 _ _ _ (omega arith) c.sync.ensures.uses c.read_head.ensures.uses in
+    costs_replay _ _ (uses_replay _ _ _ still start (c.replay.ensures.needed told))
+
+pub returns-in_err-volume-clause-uses : goal.returns-in_err-volume-clause-uses
+returns-in_err-volume-clause-uses g c told =
+    let still = read_still _ _ _ (synced _ _ (c.in_ok-sync.ensures.firm told) (c.sync.ensures.settles told)) (c.read_head.ensures.rests told) in
+    let start = uses_and 0 0 0 _ _ _ (omega arith) c.sync.ensures.uses c.read_head.ensures.uses in
+    let load = uses_load _ _ _ (uses_replay _ _ _ still start (c.replay.ensures.needed told)) c.load.ensures.uses in
+    costs_replay _ _ load
+
+pub returns-in_err-finish-clause-uses : goal.returns-in_err-finish-clause-uses
+returns-in_err-finish-clause-uses g c told =
+    let still = read_still _ _ _ (synced _ _ (c.in_ok-sync.ensures.firm told) (c.sync.ensures.settles told)) (c.read_head.ensures.rests told) in
+    let start = uses_and 0 0 0 _ _ _ (omega arith) c.sync.ensures.uses c.read_head.ensures.uses in
+    let done = replayed _ _ _ still (c.in_ok-replay.ensures.at told) (c.in_ok-replay.ensures.done told) (c.in_ok-replay.ensures.valid told) (c.in_ok-replay.ensures.firm told) (c.replay.ensures.sent told) in
+    let now = loaded _ _ _ done (c.load.ensures.rests told) in
+    let load = uses_load _ _ _ (uses_replay _ _ _ still start (c.replay.ensures.needed told)) c.load.ensures.uses in
+    costs_finish _ _ _ c.in_ok-volume.volume now (c.in_ok-volume.ensures.at told) c.in_ok-volume.ensures.ring load c.finish.ensures.uses
+
+pub returns-clause-uses : goal.returns-clause-uses
+returns-clause-uses g c told =
+    let still = read_still _ _ _ (synced _ _ (c.in_ok-sync.ensures.firm told) (c.sync.ensures.settles told)) (c.read_head.ensures.rests told) in
+    let start = uses_and 0 0 0 _ _ _ (omega arith) c.sync.ensures.uses c.read_head.ensures.uses in
+    let done = replayed _ _ _ still (c.in_ok-replay.ensures.at told) (c.in_ok-replay.ensures.done told) (c.in_ok-replay.ensures.valid told) (c.in_ok-replay.ensures.firm told) (c.replay.ensures.sent told) in
+    let now = loaded _ _ _ done (c.load.ensures.rests told) in
+    let load = uses_load _ _ _ (uses_replay _ _ _ still start (c.replay.ensures.needed told)) c.load.ensures.uses in
+    costs_finish _ _ _ c.in_ok-volume.volume now (c.in_ok-volume.ensures.at told) c.in_ok-volume.ensures.ring load c.finish.ensures.uses
+
+pub returns-clause-cost : goal.returns-clause-cost
+returns-clause-cost g c told =
+    let still = read_still _ _ _ (synced _ _ (c.in_ok-sync.ensures.firm told) (c.sync.ensures.settles told)) (c.read_head.ensures.rests told) in
+    let start = uses_and 0 0 0 _ _ _ (omega arith) c.sync.ensures.uses c.read_head.ensures.uses in
+    let done = replayed _ _ _ still (c.in_ok-replay.ensures.at told) (c.in_ok-replay.ensures.done told) (c.in_ok-replay.ensures.valid told) (c.in_ok-replay.ensures.firm told) (c.replay.ensures.sent told) in
+    let now = loaded _ _ _ done (c.load.ensures.rests told) in
+    let load = uses_load _ _ _ (uses_replay _ _ _ still start (c.replay.ensures.needed told)) c.load.ensures.uses in
+    costs_paid (g.D.Device.view c.args.dev.now) (g.D.Device.view c.load.new.dev) (g.D.Device.view c.finish.new.dev) c.in_ok-volume.volume c.finish.new.self now (c.in_ok-volume.ensures.at told) c.in_ok-volume.ensures.ring load c.in_ok-finish.ensures.paid

@@ -1,6 +1,5 @@
 use Rattle.std.proofs.Common.{inl, inr, refl, sym, subst, arith}
-use Rattle.std.specs.Prelude.{Ok, Result}
-use Rattle.tsd_model.specs.ReplyForm.{HasForm}
+use Rattle.std.specs.Prelude.{Result}
 use Rattle.tsd_model.specs.World.{free_count}
 use Rattle.tsd_model.specs.Step.{targets_from}
 use Rattle.tsd_model.specs.declared.replies.Reply.{Reply}

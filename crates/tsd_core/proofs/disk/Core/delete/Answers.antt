@@ -49,6 +49,8 @@ returns g c = λ kind session shown.
       paid = λ b. then_ok c.drop_pointer.result (paid_more (batch_cost 2 + 5 * made t c.args.source c.args.target) (cost_of t q) old.volume new.volume v w (omega arith)) e.cost.paid;
       most = λ b. most_due n (cost_of t q) old.volume v w e.cost.uses (omega (arith, bounds));
       limit = λ b. at_most n (130) v w e.cost.uses (omega (arith, bounds, known.ring));
+      sweep_paid = λ b. absurd (cc);
+      swept = λ b. absurd (cc);
     } in
     subst (λ (x : Core). IsCarriedOut g.D.Device.told kind q x new v w c.gone.result) c.self.view_is
     (subst (IsCarriedOut g.D.Device.told kind q old new v w) (sym c.gone.ensures)

@@ -9,7 +9,7 @@ use Rattle.disk_laws.specs.Bytes.{AreLike}
 use Rattle.grant_table.specs.Table.{with_sessions}
 use Rattle.volume_laws.specs.Volume.{told_by, world_on}
 use Rattle.image_world.specs.Debt.{owed}
-use Rattle.volume_laws.specs.Moments.{LeavesEither, LeavesOwed}
+use Rattle.volume_laws.specs.Moments.{LeavesOwed}
 use Rattle.volume_laws.specs.Writes.{batch_cost, due}
 use Rattle.tsd_core.specs.Seen.{world_after}
 use Rattle.tsd_core.proofs.FormLaws.{free_numbers}
@@ -59,6 +59,8 @@ returns-clause-alloc g c = λ kind session shown h count picked.
       paid = λ b. then_ok c.allocate-outcome.result (paid_more (size + batch_cost (3 * length bs)) (cost_of t q) old.volume new.volume v w (omega (arith, bounds))) e.cost.paid;
       most = λ b. most_due n (cost_of t q) old.volume v w e.cost.uses (omega (arith, bounds));
       limit = λ b. at_most n (600 + 12 * owed old.volume.tables) v w e.cost.uses (omega (arith, bounds, known.ring));
+      sweep_paid = λ b. absurd (cc);
+      swept = λ b. absurd (cc);
     } in
     subst (λ (x : Core). IsCarriedOut g.D.Device.told kind q x new v w c.blocks-2.result) c.self.view_is
     (subst (IsCarriedOut g.D.Device.told kind q old new v w) (sym c.blocks-2.ensures)
@@ -97,6 +99,8 @@ returns-clause-contig g c = λ kind session shown h count picked.
       paid = λ b. then_ok c.allocate-outcome.result (paid_more (size + batch_cost (3 * length bs)) (cost_of t q) old.volume new.volume v w (omega (arith, bounds))) e.cost.paid;
       most = λ b. most_due n (cost_of t q) old.volume v w e.cost.uses (omega (arith, bounds));
       limit = λ b. at_most n (600 + 12 * owed old.volume.tables) v w e.cost.uses (omega (arith, bounds, known.ring));
+      sweep_paid = λ b. absurd (cc);
+      swept = λ b. absurd (cc);
     } in
     subst (λ (x : Core). IsCarriedOut g.D.Device.told kind q x new v w c.blocks-2.result) c.self.view_is
     (subst (IsCarriedOut g.D.Device.told kind q old new v w) (sym c.blocks-2.ensures)

@@ -7,7 +7,8 @@ use Rattle.image_device.specs.declared.device.Failed.{Failed}
 use Rattle.volume_laws.specs.Volume.{Volume, told_by}
 use Rattle.tsd_core.specs.Applying.{IsApplied}
 use Rattle.tsd_core.specs.Core.{Core, told_world}
-use Rattle.tsd_core.proofs.Applied.{refused_applied, granted_applied}
+use Rattle.tsd_core.proofs.Applied.{refused_applied, granted_applied, refused_asks}
+use Rattle.tsd_core.proofs.Operations.{if_map}
 use Rattle.tsd_core.proofs.disk.Core.judge.Goals as goal
 
 pub returns-in-Err-clause-applied : goal.returns-in-Err-clause-applied
@@ -26,3 +27,10 @@ returns-in-Ok-clause-applied g c =
     (subst (λ (x : Core). ◌≡◌ {A = Option Rule} (verdict (told_world x) x.grants.sessions c.args.request.now) None) c.self.view_is
     (subst (λ (x : Volume). ◌≡◌ {A = Option Rule} (verdict (told_by x) c.self.inside.grants.sessions c.args.request.now) None) c.of.ensures c.in-Ok.ensures.ok))
     c.raise.ensures.volume c.raise.ensures.grants c.carry_out.ensures.carried_out c.carry_out.ensures.volume c.carry_out.ensures.answered
+
+pub returns-in-Ok-clause-asks_nothing : goal.returns-in-Ok-clause-asks_nothing
+returns-in-Ok-clause-asks_nothing g c =
+    let was = c.raise.new.self in
+    if_map c.carry_out.result
+    (λ r kept e. c.carry_out.ensures.asks_nothing (refused_asks c.args.placement.now.kind (told_world was) was.grants c.carry_out.new.self.grants c.args.request.now r kept e))
+    c.carry_out.ensures.carried_out.kept

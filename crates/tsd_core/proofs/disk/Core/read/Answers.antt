@@ -1,10 +1,9 @@
-use Rattle.std.proofs.Common.{[], inl, ◌≡◌, ℕ, false, refl, sym, ap, subst, arith}
+use Rattle.std.proofs.Common.{[], ◌≡◌, ℕ, refl, sym, ap, subst, arith}
 use Rattle.std.specs.Prelude.{length, unwrap_or}
 use Rattle.tsd_model.specs.Geometry.{IsLawful}
 use Rattle.tsd_model.specs.declared.replies.Reply.TheVariants as reply
 use Rattle.tsd_model.specs.declared.requests.Request.TheVariants as ask
 use Rattle.disk_laws.specs.Bytes.{AreLike}
-use Rattle.image_device.proofs.Moments.{weakened}
 use Rattle.volume_laws.specs.Volume.{Volume, IsVolumeReady, told_by, world_on}
 use Rattle.volume_laws.specs.Moments.{LeavesOwed}
 use Rattle.volume_laws.specs.Writes.{IsPaid}
@@ -44,6 +43,8 @@ returns g c = λ kind session shown.
       paid = λ b. then_ok c.read_block-outcome.result (λ (same : new.volume ≡ old.volume). subst (λ (x : Volume). IsPaid (cost_of t q) old.volume v x w) (sym same) (omega (arith, e.cost.uses.most))) e.same;
       most = λ b. most_due n (cost_of t q) old.volume v w e.cost.uses (omega (arith, bounds));
       limit = λ b. at_most n (600) v w e.cost.uses (omega (arith, bounds, known.ring));
+      sweep_paid = λ b. absurd (cc);
+      swept = λ b. absurd (cc);
     } in
     subst (λ (x : Core). IsCarriedOut g.D.Device.told kind q x new v w c.bytes.result) c.self.view_is
     (subst (IsCarriedOut g.D.Device.told kind q old new v w) (sym c.bytes.ensures)

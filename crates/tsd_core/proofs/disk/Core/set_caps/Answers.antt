@@ -8,7 +8,7 @@ use Rattle.disk_laws.specs.Bytes.{AreLike}
 use Rattle.intent_journal.specs.Ring.{checkpoint_writes}
 use Rattle.grant_table.specs.Table.{with_sessions}
 use Rattle.volume_laws.specs.Volume.{told_by, world_on}
-use Rattle.volume_laws.specs.Moments.{LeavesEither, LeavesOwed}
+use Rattle.volume_laws.specs.Moments.{LeavesOwed}
 use Rattle.volume_laws.specs.Writes.{batch_cost}
 use Rattle.tsd_core.specs.Core.{Core, IsCoreAt}
 use Rattle.tsd_core.specs.Work.{cost_of}
@@ -47,6 +47,8 @@ returns g c = λ kind session shown.
       paid = λ b. then_ok c.set_caps.result (paid_more (batch_cost 1) (cost_of t q) old.volume new.volume v w (omega arith)) e.cost.paid;
       most = λ b. most_due n (cost_of t q) old.volume v w e.cost.uses (omega (arith, bounds));
       limit = λ b. at_most n (600) v w e.cost.uses (omega (arith, bounds, known.ring));
+      sweep_paid = λ b. absurd (cc);
+      swept = λ b. absurd (cc);
     } in
     subst (λ (x : Core). IsCarriedOut g.D.Device.told kind q x new v w c.done.result) c.self.view_is
     (subst (IsCarriedOut g.D.Device.told kind q old new v w) (sym c.done.ensures)

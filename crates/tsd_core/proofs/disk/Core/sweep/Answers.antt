@@ -1,4 +1,4 @@
-use Rattle.std.proofs.Common.{◌^◌, ◌≡◌, ◌-◌, ◌<◌, refl, sym, ◌∙◌, ap, subst}
+use Rattle.std.proofs.Common.{◌^◌, ◌≡◌, ◌-◌, ◌<◌, refl, sym, ◌∙◌, ap, subst, arith}
 use Rattle.tsd_model.specs.World.{free_count, has_number}
 use Rattle.tsd_model.specs.Reach.{reach, swept}
 use Rattle.tsd_model.specs.declared.replies.Reply.TheVariants as reply
@@ -40,6 +40,8 @@ returns g c = λ kind session shown.
       paid = λ b. absurd (cc);
       most = λ b. absurd (cc);
       limit = λ b. absurd (cc);
+      sweep_paid = λ b. e.paid;
+      swept = λ b. omega (arith, e.uses.most);
     } in
     subst (λ (x : Core). IsCarriedOut g.D.Device.told kind q x new v w c.gone.result) c.self.view_is
     (subst (IsCarriedOut g.D.Device.told kind q old new v w) (sym c.gone.ensures)

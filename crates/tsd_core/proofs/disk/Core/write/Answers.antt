@@ -1,4 +1,4 @@
-use Rattle.std.proofs.Common.{◌≡◌, ℕ, ◌+◌, ◌≤◌, true, false, refl, sym, ap, subst, arith}
+use Rattle.std.proofs.Common.{◌≡◌, ℕ, ◌+◌, ◌≤◌, true, refl, sym, ap, subst, arith}
 use Rattle.tsd_model.specs.Geometry.{block_len, IsLawful}
 use Rattle.tsd_model.specs.World.{is_live}
 use Rattle.tsd_model.specs.Step.{filled, with_contents}
@@ -48,6 +48,8 @@ returns g c = λ kind session shown.
       paid = λ b. then_ok c.write_block.result (paid_more (batch_cost old.volume.tables.geometry.sectors) (cost_of t q) old.volume new.volume v w (omega (arith, bounds))) e.cost.paid;
       most = λ b. most_due n (cost_of t q) old.volume v w e.cost.uses (omega (arith, bounds));
       limit = λ b. at_most n (600) v w e.cost.uses (omega (arith, bounds, known.ring));
+      sweep_paid = λ b. absurd (cc);
+      swept = λ b. absurd (cc);
     } in
     subst (λ (x : Core). IsCarriedOut g.D.Device.told kind q x new v w c.done.result) c.self.view_is
     (subst (IsCarriedOut g.D.Device.told kind q old new v w) (sym c.done.ensures)
