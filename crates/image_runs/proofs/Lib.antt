@@ -11,3 +11,4 @@ mod Upgraded
 mod Requests
 mod LoadRuns
 mod Loaded
+mod Behind

@@ -10,3 +10,4 @@ pub mod Format
 pub mod Upgrade
 pub mod Load
 pub mod Applying
+pub mod Behind

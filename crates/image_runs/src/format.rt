@@ -4,7 +4,8 @@ ghost use Rattle.std.specs.Prelude.{◌≡◌, ◌≢◌, ◌≤◌, length, tak
 ghost use Rattle.tsd_model.specs.Geometry.{IsLawful};
 ghost use Rattle.image_device.specs.Counts.{Rose};
 ghost use Rattle.image_layout.specs.declared.fault.ImageFault.{ImageFault};
-ghost use Rattle.image_device.specs.Runs.{LeavesOnly};
+ghost use Rattle.image_device.specs.Runs.{IsFirm, LeavesOnly};
+ghost use Rattle.image_runs.specs.Behind.{LeavesSectorsBehind};
 ghost use Rattle.image_runs.specs.Sending.{IsEnding};
 ghost use Rattle.image_runs.specs.Format.{HasFormatted, IsLeftOfFormat, caps_of};
 
@@ -28,6 +29,9 @@ pub fn format_image<P: Port>(port: &mut P, words: &Format) -> Status
     // A crash at any moment leaves what formatting may, and wherever a byte was sent the fresh world.
     ensures any_moment { P.told → LeavesOnly (P.view port.old) (P.view port.new) (IsLeftOfFormat words.now
         (P.view port.old)) }
+    // It leaves the sectors behind the image as they were.
+    ensures behind { P.told → IsFirm (P.view port.old) → LeavesSectorsBehind words.now.geometry (P.view port.old)
+        (P.view port.new) }
     // A count of faults rose only where the status is that fault's.
     ensures device_fault { result ≡ Status.DeviceFault → Rose (P.view port.old).faults (P.view port.new).faults }
     ensures put_fault { result ≡ Status.PutFault → Rose (P.view port.old).put_faults (P.view port.new).put_faults }

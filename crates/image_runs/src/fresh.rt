@@ -2,6 +2,8 @@
 
 ghost use Rattle.std.specs.Prelude.{◌≡◌, ◌≢◌, ◌≤◌, ◌∷◌, []};
 ghost use Rattle.image_device.specs.Counts.{Rose};
+ghost use Rattle.image_device.specs.Runs.{IsFirm};
+ghost use Rattle.image_runs.specs.Behind.{LeavesSameBehind};
 ghost use Rattle.image_runs.specs.Fresh.{FreshRan, IsPromptFresh, single_world};
 ghost use Rattle.serving.specs.Prompt.{IsOfPort};
 ghost use Rattle.serving.specs.Ran.{EndsOnce, moments, taking};
@@ -43,6 +45,10 @@ pub fn serve_fresh<S: Source, P: Port, R: Protocol<Request = Request> + Replies>
     // nothing is done behind the last one but that.
     ensures prompt { P.told → IsPromptFresh result R.voice placement.now.kind (single_world geometry.now caps.now)
         (IsOfPort P.view) (P.view port.old) (P.view port.new) }
+    // A crash at any moment leaves the sectors behind the image as they were, or so that they are to be that once the
+    // records of the journal are in place.
+    ensures behind { P.told → IsFirm (P.view port.old) → LeavesSameBehind geometry.now (P.view port.old)
+        (P.view port.new) }
     ensures once { EndsOnce (S.ends source.old) (S.ends source.new) }
     // A count of faults rose only where the status is that fault's.
     ensures source_fault { result ≡ Status.SourceFault → Rose (S.faults source.old) (S.faults source.new) }

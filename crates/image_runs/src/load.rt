@@ -3,7 +3,8 @@
 ghost use Rattle.std.specs.Prelude.{◌≡◌, ◌≢◌, ℕ, ◌+◌, ◌<◌, ◌≤◌, ◌⊎◌, ◌^◌, IfOk};
 ghost use Rattle.std.specs.Prelude.{OnOk, OnErr, IfErr};
 ghost use Rattle.image_device.specs.Counts.{CountsFaultOf, Rose};
-ghost use Rattle.image_device.specs.Runs.{IsFirm, LeavesOnly};
+ghost use Rattle.image_device.specs.Runs.{IsFirm, LeavesOnly, LeavesPart};
+ghost use Rattle.image_world.specs.Behind.{LeavesBehind, behind};
 ghost use Rattle.image_world.specs.Stands.{world_of};
 ghost use Rattle.tsd_model.specs.Run.{at_rest};
 ghost use Rattle.load_gen.specs.Load.{load_of};
@@ -83,6 +84,8 @@ pub fn load_image<P: Port>(
     ensures no_memory { P.told → result ≡ Status.NoMemory → IsFirm (P.view port.old)
         → LeavesOnly (P.view port.old) (P.view port.new) (λ x f. StandAlike (P.view port.old).reads x
         × (f ≡ (P.view port.old).sent)) }
+    // A crash at any moment leaves what lies behind the image as it was.
+    ensures behind { P.told → IsFirm (P.view port.old) → LeavesBehind (P.view port.old) (P.view port.new) }
     // A count of faults rose only where the status is that fault's.
     ensures device_fault { result ≡ Status.DeviceFault → Rose (P.view port.old).faults (P.view port.new).faults }
     ensures put_fault { result ≡ Status.PutFault → Rose (P.view port.old).put_faults (P.view port.new).put_faults }
@@ -124,6 +127,8 @@ fn carry_out<D: Device>(
     ensures no_memory { D.told → IfErr result (λ why. why ≡ Status.NoMemory → IsFirm (D.view dev.old)
         → LeavesOnly (D.view dev.old) (D.view dev.new) (λ x f. StandAlike (D.view dev.old).reads x
         × (f ≡ (D.view dev.old).sent))) }
+    // A crash at any moment leaves what lies behind the image as it was.
+    ensures behind { D.told → IsFirm (D.view dev.old) → LeavesBehind (D.view dev.old) (D.view dev.new) }
     ensures works { Works (D.view dev.old) (D.view dev.new) }
     ensures faults { CountsFaultOf Status.DeviceFault result (D.view dev.old).faults (D.view dev.new).faults }
 {
@@ -161,6 +166,7 @@ fn run<D: Device>(
         (D.view dev.new) }
     ensures no_memory { D.told → IfErr result (λ why. why ≡ Status.NoMemory
         → LeavesRun placement.now.kind load.now.seed 0 (D.view dev.old) (D.view dev.new)) }
+    ensures behind { D.told → LeavesPart (behind core.old.volume.tables.geometry) (D.view dev.old) (D.view dev.new) }
     ensures works { Works (D.view dev.old) (D.view dev.new) }
     ensures faults { CountsFaultOf Status.DeviceFault result (D.view dev.old).faults (D.view dev.new).faults }
 {
@@ -198,12 +204,14 @@ fn apply_all<D: Device>(
     ensures applied { D.told
         → IfOk result (λ t. HasApplied placement.now.kind load.now.seed (world_of (D.view dev.old).reads) load.now.count
         (state_on core.new (D.view dev.new).reads) t.granted t.refused) }
+    ensures size { core.new.volume.tables.geometry ≡ core.old.volume.tables.geometry }
     ensures stops { IfErr result IsStopped }
     ensures sent { D.told → (D.view dev.new).sent ≡ (D.view dev.old).sent }
     ensures any_moment { D.told → LeavesRun placement.now.kind load.now.seed load.now.count (D.view dev.old)
         (D.view dev.new) }
     ensures no_memory { D.told → IfErr result (λ why. why ≡ Status.NoMemory
         → LeavesRun placement.now.kind load.now.seed 0 (D.view dev.old) (D.view dev.new)) }
+    ensures behind { D.told → LeavesPart (behind core.old.volume.tables.geometry) (D.view dev.old) (D.view dev.new) }
     ensures works { Works (D.view dev.old) (D.view dev.new) }
     ensures faults { CountsFaultOf Status.DeviceFault result (D.view dev.old).faults (D.view dev.new).faults }
 {
@@ -239,6 +247,7 @@ fn apply_next<D: Device>(
         (state_on core.new (D.view dev.new).reads) tally.old.granted tally.old.refused tally.new.granted
         tally.new.refused) }
     ensures one { OnOk result (tally.new.granted + tally.new.refused ≡ tally.old.granted + tally.old.refused + 1) }
+    ensures size { core.new.volume.tables.geometry ≡ core.old.volume.tables.geometry }
     ensures stops { IfErr result IsStopped }
     ensures starved { D.told → IfErr result (λ why. why ≡ Status.NoMemory
         → IsAnswer placement.now.kind (state_on core.old (D.view dev.old).reads) request.now replied.NoMemory
@@ -246,6 +255,7 @@ fn apply_next<D: Device>(
     ensures sent { D.told → (D.view dev.new).sent ≡ (D.view dev.old).sent }
     ensures any_moment { D.told → LeavesEither (D.view dev.old) (D.view dev.new) (next_world placement.now.kind
         (state_on core.old (D.view dev.old).reads) request.now) }
+    ensures behind { D.told → LeavesPart (behind core.old.volume.tables.geometry) (D.view dev.old) (D.view dev.new) }
     ensures works { Works (D.view dev.old) (D.view dev.new) }
     ensures faults { CountsFaultOf Status.DeviceFault result (D.view dev.old).faults (D.view dev.new).faults }
 {

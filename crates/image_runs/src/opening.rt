@@ -11,6 +11,7 @@ ghost use Rattle.tsd_model.specs.Sessions.{no_sessions};
 ghost use Rattle.recovery.specs.Opening.{IsForeign, IsSpared, IsUntouched, StandAlike};
 ghost use Rattle.tsd_core.specs.Core.{IsCoreAt, IsCoreReady, state_on};
 ghost use Rattle.volume_laws.specs.Volume.{IsVolumeAt, IsVolumeReady, world_on};
+ghost use Rattle.image_world.specs.Behind.{LeavesBehind};
 ghost use Rattle.image_world.specs.Debt.{debt};
 ghost use Rattle.volume_laws.specs.Quiet.{IsQuiet};
 ghost use Rattle.volume_laws.specs.Writes.{due, Works};
@@ -47,6 +48,8 @@ pub fn open_volume<D: Device>(alloc: Global, dev: &mut D) -> Result<Volume, Stat
         ≤ (D.view dev.old).writes }
     ensures paid { D.told → IsQuiet (D.view dev.old).reads → IfOk result (λ v. (D.view dev.new).writes + due v
         ≤ (D.view dev.old).writes) }
+    // A crash at any moment leaves what lies behind the image as it was.
+    ensures behind { D.told → IsFirm (D.view dev.old) → LeavesBehind (D.view dev.old) (D.view dev.new) }
     ensures works { Works (D.view dev.old) (D.view dev.new) }
     ensures faults { CountsFaultOf Status.DeviceFault result (D.view dev.old).faults (D.view dev.new).faults }
 {
@@ -82,6 +85,8 @@ pub fn open_core<D: Device>(alloc: Global, dev: &mut D) -> Result<Core, Status>
         ≤ (D.view dev.old).writes }
     ensures paid { D.told → IsQuiet (D.view dev.old).reads
         → IfOk result (λ c. (D.view dev.new).writes + due c.volume ≤ (D.view dev.old).writes) }
+    // A crash at any moment leaves what lies behind the image as it was.
+    ensures behind { D.told → IsFirm (D.view dev.old) → LeavesBehind (D.view dev.old) (D.view dev.new) }
     ensures works { Works (D.view dev.old) (D.view dev.new) }
     ensures faults { CountsFaultOf Status.DeviceFault result (D.view dev.old).faults (D.view dev.new).faults }
 {

@@ -1,6 +1,7 @@
 //! The core beside its placement.
 
 ghost use Rattle.std.specs.Prelude.{◌≡◌, true};
+ghost use Rattle.image_world.specs.Behind.{behind};
 ghost use Rattle.tsd_core.specs.Core.{IsCoreReady, FitsReads};
 ghost use Rattle.volume_laws.specs.Quiet.{IsQuiet};
 ghost use Rattle.volume_laws.specs.Writes.{due};
@@ -39,6 +40,8 @@ impl<'a> Handler for CoreServer<'a> {
     ghost due = { λ h x. due h.core.now.volume };
 
     ghost is_closed = { IsQuiet };
+
+    ghost aside = { λ h. behind h.core.now.volume.tables.geometry };
 
     ghost lender = { λ h. h.core.ghost_name };
 

@@ -2,8 +2,9 @@
 
 ghost use Rattle.std.specs.Prelude.{◌≡◌, ◌≢◌, ℕ, ◌≤◌, ◌⊎◌, false, OnOk, OnErr, IfErr};
 ghost use Rattle.image_device.specs.Counts.{CountsFault, CountsFaultOf, Rose};
-ghost use Rattle.image_device.specs.Runs.{IsFirm, LeavesOnly};
+ghost use Rattle.image_device.specs.Runs.{IsFirm, LeavesOnly, LeavesPart};
 ghost use Rattle.image_device.specs.Image.{zeros};
+ghost use Rattle.image_world.specs.Behind.{LeavesBehind, behind};
 ghost use Rattle.image_world.specs.Fresh.{AreClosed};
 ghost use Rattle.tsd_model.specs.Records.{upgraded};
 ghost use Rattle.volume_laws.specs.Moments.{LeavesEither};
@@ -40,6 +41,8 @@ pub fn upgrade_image<P: Port>(alloc: Global, port: &mut P) -> Status
     ensures no_memory { P.told → result ≡ Status.NoMemory → IsFirm (P.view port.old)
         → LeavesOnly (P.view port.old) (P.view port.new) (λ x f. StandAlike (P.view port.old).reads x
         × (f ≡ (P.view port.old).sent)) }
+    // A crash at any moment leaves what lies behind the image as it was.
+    ensures behind { P.told → IsFirm (P.view port.old) → LeavesBehind (P.view port.old) (P.view port.new) }
     // A count of faults rose only where the status is that fault's.
     ensures device_fault { result ≡ Status.DeviceFault → Rose (P.view port.old).faults (P.view port.new).faults }
     ensures put_fault { result ≡ Status.PutFault → Rose (P.view port.old).put_faults (P.view port.new).put_faults }
@@ -71,6 +74,8 @@ fn upgrade<D: Device>(alloc: Global, dev: &mut D) -> Result<(), Status>
     ensures no_memory { D.told → IfErr result (λ why. why ≡ Status.NoMemory → IsFirm (D.view dev.old)
         → LeavesOnly (D.view dev.old) (D.view dev.new) (λ x f. StandAlike (D.view dev.old).reads x
         × (f ≡ (D.view dev.old).sent))) }
+    // A crash at any moment leaves what lies behind the image as it was.
+    ensures behind { D.told → IsFirm (D.view dev.old) → LeavesBehind (D.view dev.old) (D.view dev.new) }
     ensures works { Works (D.view dev.old) (D.view dev.new) }
     ensures faults { CountsFaultOf Status.DeviceFault result (D.view dev.old).faults (D.view dev.new).faults }
 {
@@ -93,6 +98,7 @@ fn upgrade_at<D: Device>(volume: &mut Volume, dev: &mut D) -> Result<(), Status>
     ensures sent { D.told → (D.view dev.new).sent ≡ (D.view dev.old).sent }
     ensures any_moment { D.told → LeavesEither (D.view dev.old) (D.view dev.new)
         (upgraded (world_on (D.view dev.old))) }
+    ensures behind { D.told → LeavesPart (behind volume.old.tables.geometry) (D.view dev.old) (D.view dev.new) }
     ensures works { Works (D.view dev.old) (D.view dev.new) }
     ensures faults { CountsFault result (D.view dev.old).faults (D.view dev.new).faults }
 {

@@ -3,6 +3,8 @@ use Rattle.image_device.specs.View.{IsLeftInPut}
 use Rattle.image_device.specs.Runs.{LeavesOnly}
 use Rattle.image_device.proofs.Moments.{weakened}
 use Rattle.image_runs.specs.Sending.{ProperFrontWasSent}
+use Rattle.image_world.specs.Behind.{behind, size_of_image}
+use Rattle.image_runs.proofs.Behind.{behind_said}
 use Rattle.image_runs.proofs.Opened.{not_stopped, spared_put, untouched_put}
 use Rattle.image_runs.proofs.Saying.{saying_moments, checked_whole, unchecked, cut_from}
 use Rattle.image_runs.proofs.check.check_image.Goals as goal
@@ -66,3 +68,13 @@ returns-in-Ok-put_all-clause-spared g c told h =
 
 pub returns-in-Err-clause-spared : goal.returns-in-Err-clause-spared
 returns-in-Err-clause-spared g c told h = absurd (not_stopped c.in-Err.why c.in-Err.ensures.failing h)
+
+pub returns-in-Ok-put_all-clause-behind : goal.returns-in-Ok-put_all-clause-behind
+returns-in-Ok-put_all-clause-behind g c told firm =
+    let old = g.P.Device.view c.args.port.now in
+    behind_said (behind (size_of_image old.reads)) _ old (g.P.Device.view c.judge.new.dev) (g.P.Device.view c.put_all.new.port) (g.met.P.Device.sound c.judge.new.dev told) (c.judge.ensures.behind told firm) (c.put_all.ensures.any_moment told)
+
+pub returns-in-Err-put_all-clause-behind : goal.returns-in-Err-put_all-clause-behind
+returns-in-Err-put_all-clause-behind g c told firm =
+    let old = g.P.Device.view c.args.port.now in
+    behind_said (behind (size_of_image old.reads)) _ old (g.P.Device.view c.judge.new.dev) (g.P.Device.view c.put_all.new.port) (g.met.P.Device.sound c.judge.new.dev told) (c.judge.ensures.behind told firm) (c.put_all.ensures.any_moment told)

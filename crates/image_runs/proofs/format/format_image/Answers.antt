@@ -8,6 +8,8 @@ use Rattle.image_world.specs.Stands.{Stands}
 use Rattle.recovery.specs.Formatting.{IsFormatting}
 use Rattle.tsd_words.specs.Lines.{cap_lines}
 use Rattle.image_runs.specs.Sending.{ProperFrontWasSent}
+use Rattle.image_runs.specs.Behind.{sectors_behind}
+use Rattle.image_runs.proofs.Behind.{behind_format, behind_said}
 use Rattle.image_runs.proofs.Saying.{cut_from}
 use Rattle.image_runs.proofs.Formatted.{formatted_still, format_moments}
 use Rattle.image_runs.proofs.format.format_image.Goals as goal
@@ -64,3 +66,18 @@ returns-in-Err-clause-any_moment g c told =
     let mid = g.P.Device.view c.format.new.dev in
     let geometry = c.args.words.now.geometry in
     weakened old mid _ _ (subst (λ (l : List CapPair). LeavesOnly old mid (λ x f. IsFormatting old (fresh_world geometry l) x f × (f ≡ old.sent))) c.caps_of-caps.ensures.value (c.format.ensures.any_moment told)) (λ x f left. inl left)
+
+pub returns-in-Ok-put_all-clause-behind : goal.returns-in-Ok-put_all-clause-behind
+returns-in-Ok-put_all-clause-behind g c told firm =
+    let old = g.P.Device.view c.args.port.now in
+    behind_said (sectors_behind c.args.words.now.geometry) _ old (g.P.Device.view c.format.new.dev) (g.P.Device.view c.put_all.new.port) (g.met.P.Device.sound c.format.new.dev told) (behind_format c.args.words.now.geometry old (g.P.Device.view c.format.new.dev) c.requires.lawful firm (c.format.ensures.inside told)) (c.put_all.ensures.any_moment told)
+
+pub returns-in-Err-put_all-clause-behind : goal.returns-in-Err-put_all-clause-behind
+returns-in-Err-put_all-clause-behind g c told firm =
+    let old = g.P.Device.view c.args.port.now in
+    behind_said (sectors_behind c.args.words.now.geometry) _ old (g.P.Device.view c.format.new.dev) (g.P.Device.view c.put_all.new.port) (g.met.P.Device.sound c.format.new.dev told) (behind_format c.args.words.now.geometry old (g.P.Device.view c.format.new.dev) c.requires.lawful firm (c.format.ensures.inside told)) (c.put_all.ensures.any_moment told)
+
+pub returns-in-Err-clause-behind : goal.returns-in-Err-clause-behind
+returns-in-Err-clause-behind g c told firm =
+    let old = g.P.Device.view c.args.port.now in
+    behind_format c.args.words.now.geometry old (g.P.Device.view c.format.new.dev) c.requires.lawful firm (c.format.ensures.inside told)

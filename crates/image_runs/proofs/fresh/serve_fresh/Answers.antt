@@ -9,6 +9,7 @@ use Rattle.serving.specs.Voice.{spoken_counted}
 use Rattle.serving.specs.Ran.{moments, taking}
 use Rattle.image_runs.specs.Fresh.{single_world}
 use Rattle.serving.specs.Prompt.{IsOfPort, mark}
+use Rattle.image_runs.proofs.Behind.{behind_format, behind_formatted, behind_fresh}
 use Rattle.image_runs.proofs.FreshRuns.{Formatted, prompt_formatted, ran_formatted, ran_unformatted}
 use Rattle.image_runs.proofs.Started.{prompt_nothing}
 use Rattle.image_runs.proofs.fresh.serve_fresh.Given as given
@@ -73,3 +74,18 @@ returns-in-Err-clause-prompt g c told =
       writes = λ _. c.format.ensures.uses.most;
       prompt = prompt_nothing _ g.R.Replies.voice (IsOfPort g.P.Device.view) _ (mark new) (spoken_counted disk_rules g.R.Replies.voice (λ s q r t given. given.1) g.met.R.Replies.apart);
     }
+
+pub returns-in-Ok-clause-behind : goal.returns-in-Ok-clause-behind
+returns-in-Ok-clause-behind g c told firm =
+    let old = g.P.Device.view c.args.port.now in
+    let mid = g.P.Device.view c.format.new.dev in
+    let done = (formatted_here g c told).formatted in
+    behind_fresh c.args.geometry.now (single_world c.args.geometry.now c.args.caps.now) old mid (g.P.Device.view c.serve_image.new.port) (g.met.P.Device.sound c.format.new.dev told) refl done.stands done.quiet.closed
+    (behind_format c.args.geometry.now old mid c.requires.lawful firm (c.format.ensures.inside told))
+    (c.serve_image.ensures.behind told done.firm)
+
+pub returns-in-Err-clause-behind : goal.returns-in-Err-clause-behind
+returns-in-Err-clause-behind g c told firm =
+    let old = g.P.Device.view c.args.port.now in
+    let mid = g.P.Device.view c.format.new.dev in
+    behind_formatted c.args.geometry.now old mid (behind_format c.args.geometry.now old mid c.requires.lawful firm (c.format.ensures.inside told))

@@ -7,6 +7,7 @@ use Rattle.serving.specs.ModelRules.{Placed}
 use Rattle.serving.specs.Prompt.{IsOfPort, Promptly, mark}
 use Rattle.serving.specs.Voice.{spoken, spoken_counted}
 use Rattle.image_runs.specs.Served.{start_of}
+use Rattle.image_runs.proofs.Behind.{behind_then, size_of_core}
 use Rattle.image_runs.proofs.Opened.{not_foreign}
 use Rattle.image_runs.proofs.Started.{asked_image, placed_at, ends_opened, ends_unopened, judged_by, not_of_source, not_of_put, prompt_nothing}
 use Rattle.image_runs.proofs.image.serve_image.Goals as goal
@@ -165,3 +166,13 @@ returns-in-Err-clause-prompt g c told =
       writes = λ quiet. omega (arith, c.open_core.ensures.unwritten told quiet);
       prompt = prompt_nothing c.in-Err.why g.R.Replies.voice (IsOfPort g.P.Device.view) _ (mark new) (spoken_counted disk_rules g.R.Replies.voice (λ s q r t given. given.1) g.met.R.Replies.apart);
     }
+
+pub returns-in-Ok-clause-behind : goal.returns-in-Ok-clause-behind
+returns-in-Ok-clause-behind g c told firm =
+    let old = g.P.Device.view c.args.port.now in
+    let mid = g.P.Device.view c.open_core.new.dev in
+    behind_then c.in-Ok.core.volume.tables.geometry old mid (g.P.Device.view c.serve_core.new.port) (g.met.P.Device.sound c.open_core.new.dev told)
+    (size_of_core c.in-Ok.core old.reads mid (c.in-Ok.ensures.at told) (c.in-Ok.ensures.state told)) (c.open_core.ensures.behind told firm) (c.serve_core.ensures.behind told)
+
+pub returns-in-Err-clause-behind : goal.returns-in-Err-clause-behind
+returns-in-Err-clause-behind g c = c.open_core.ensures.behind

@@ -7,6 +7,9 @@ use Rattle.load_gen.specs.Requests.{seed_request}
 use Rattle.tsd_core.proofs.AtLaws.{at_volume, like_at}
 use Rattle.tsd_core.specs.Core.{state_on, told_world}
 use Rattle.image_device.specs.Counts.{Rose}
+use Rattle.image_device.proofs.Parts.{part_stays}
+use Rattle.image_world.specs.Behind.{behind}
+use Rattle.serving.proofs.Aside.{aside_then}
 use Rattle.image_runs.proofs.Requests.{applied_more}
 use Rattle.image_runs.proofs.LoadRuns.{run_started, run_more, run_within, run_starved}
 use Rattle.image_runs.proofs.load.apply_all.Goals as goal
@@ -22,6 +25,8 @@ loop-number-init g c =
       draws = c.requires.draws;
       sent = λ told. refl;
       moments = λ told. run_started c.args.placement.now.kind c.args.load.now.seed start (g.met.D.Device.sound c.args.dev.now told) (c.requires.at told).0 (c.requires.at told).1.good;
+      size = refl;
+      behind = λ told. part_stays (behind c.args.core.now.volume.tables.geometry) start (g.met.D.Device.sound c.args.dev.now told) (c.requires.at told).0;
       works = record { clock = omega arith; faults = omega arith; put_faults = refl; writes = omega arith };
       faults = refl;
     }
@@ -51,6 +56,8 @@ loop-number-preserved g c =
           let size = (like_at c.args.core.now.volume start (at_volume c.args.core.now start (c.requires.at told))).geometry in
           run_more kind seed n start mid new (state_on c.loop-number.core mid.reads) c.next_request.result refl (l.applied told).state (drawn ∙ ap (λ (s : Geometry). seed_request seed s n) size)
           (l.sent told) (l.moments told) (c.apply_next.ensures.any_moment told);
+      size = c.apply_next.ensures.size ∙ l.size;
+      behind = λ told. aside_then (behind c.args.core.now.volume.tables.geometry) (behind c.loop-number.core.volume.tables.geometry) start mid new (g.met.D.Device.sound c.loop-number.dev told) (ap behind l.size) (l.behind told) (c.apply_next.ensures.behind told);
       works = record {
         clock = omega (arith, l.works.clock, c.apply_next.ensures.works.clock);
         faults = omega (arith, l.works.faults, c.apply_next.ensures.works.faults);
@@ -97,3 +104,14 @@ returns-in_err-apply_next-clause-faults g c =
     let same = c.loop-number.invariant.faults in
     let is = err_from_is_err_and c.from_residual.result c.from_residual.ensures.1 in
     rw (is.1, is.2) ((λ e. subst (λ (n : ℕ). Rose n new.faults) same (f.0 (cc))), (λ other. f.1 (λ e. other (cc)) ∙ same))
+
+pub returns-in_err-apply_next-clause-behind : goal.returns-in_err-apply_next-clause-behind
+returns-in_err-apply_next-clause-behind g c told =
+    let start = g.D.Device.view c.args.dev.now in
+    let mid = g.D.Device.view c.loop-number.dev in
+    let new = g.D.Device.view c.apply_next.new.dev in
+    let l = c.loop-number.invariant in
+    aside_then (behind c.args.core.now.volume.tables.geometry) (behind c.loop-number.core.volume.tables.geometry) start mid new (g.met.D.Device.sound c.loop-number.dev told) (ap behind l.size) (l.behind told) (c.apply_next.ensures.behind told)
+
+pub returns-in_err-apply_next-clause-size : goal.returns-in_err-apply_next-clause-size
+returns-in_err-apply_next-clause-size g c = c.apply_next.ensures.size ∙ c.loop-number.invariant.size

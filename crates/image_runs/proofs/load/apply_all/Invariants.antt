@@ -1,4 +1,6 @@
 use Rattle.std.proofs.Common.{◌≡◌, ◌+◌}
+use Rattle.image_device.specs.Runs.{LeavesPart}
+use Rattle.image_world.specs.Behind.{behind}
 use Rattle.image_world.specs.Stands.{world_of}
 use Rattle.load_gen.specs.Load.{load_of}
 use Rattle.tsd_core.specs.Core.{IsCoreAt, IsCoreReady, state_on, told_world}
@@ -18,6 +20,8 @@ invariant-loop-number g l =
       draws : l.draws ≡ load_of l.load.seed (told_world l.initial.core).geometry l.number;
       sent : g.D.Device.told → now.sent ≡ start.sent;
       moments : g.D.Device.told → LeavesRun l.placement.kind l.load.seed l.number start now;
+      size : l.core.volume.tables.geometry ≡ l.initial.core.volume.tables.geometry;
+      behind : g.D.Device.told → LeavesPart (behind l.initial.core.volume.tables.geometry) start now;
       works : Works start now;
       faults : now.faults ≡ start.faults;
     }

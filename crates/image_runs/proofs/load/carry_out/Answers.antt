@@ -1,4 +1,4 @@
-use Rattle.std.proofs.Common.{◌∙◌, inl, sym, subst}
+use Rattle.std.proofs.Common.{◌∙◌, ap, inl, sym, subst}
 use Rattle.std.specs.Prelude.{ℕ, IfOk}
 use Rattle.tsd_model.specs.World.{World}
 use Rattle.image_device.specs.Counts.{CountsFaultOf}
@@ -8,6 +8,7 @@ use Rattle.volume_laws.specs.Volume.{IsVolumeAt}
 use Rattle.tsd_core.proofs.AtLaws.{at_core}
 use Rattle.tsd_words.specs.declared.status.Status.TheVariants as status
 use Rattle.image_runs.specs.Applying.{IsSummary}
+use Rattle.image_runs.proofs.Behind.{behind_then, size_of_volume}
 use Rattle.image_runs.proofs.Opened.{not_foreign, spared_on}
 use Rattle.image_runs.proofs.Loaded.{loaded_on, load_moments, starved_alike, judged_on, unopened_on}
 use Rattle.image_runs.proofs.load.carry_out.Goals as goal
@@ -62,3 +63,11 @@ returns-in-Ok-clause-spared g c told = spared_on _ c.run.result c.run.ensures.st
 
 pub returns-in-Err-clause-no_memory : goal.returns-in-Err-clause-no_memory
 returns-in-Err-clause-no_memory g c told memory = c.open_volume.ensures.any_moment told
+
+pub returns-in-Ok-clause-behind : goal.returns-in-Ok-clause-behind
+returns-in-Ok-clause-behind g c told firm =
+    let old = g.D.Device.view c.args.dev.now in
+    let mid = g.D.Device.view c.open_volume.new.dev in
+    behind_then c.new-core.result.volume.tables.geometry old mid (g.D.Device.view c.run.new.dev) (g.met.D.Device.sound c.open_volume.new.dev told)
+    (ap (λ (v : Volume). v.tables.geometry) c.new-core.ensures.volume ∙ size_of_volume c.in-Ok.volume old.reads mid (c.in-Ok.ensures.at told) (c.in-Ok.ensures.done told))
+    (c.open_volume.ensures.behind told firm) (c.run.ensures.behind told)

@@ -3,6 +3,8 @@ use Rattle.image_device.specs.View.{IsLeftInPut}
 use Rattle.image_device.specs.Runs.{LeavesOnly}
 use Rattle.image_device.proofs.Moments.{weakened}
 use Rattle.image_runs.specs.Sending.{ProperFrontWasSent}
+use Rattle.image_world.specs.Behind.{behind, size_of_image}
+use Rattle.image_runs.proofs.Behind.{behind_said}
 use Rattle.image_runs.proofs.Opened.{untouched_put}
 use Rattle.image_runs.proofs.Saying.{cut_from}
 use Rattle.image_runs.proofs.Loaded.{line_is, line_moments, loaded_still, not_loaded}
@@ -68,3 +70,13 @@ returns-in-Ok-put_all-clause-untouched g c told foreign =
 pub returns-in-Err-put_all-clause-untouched : goal.returns-in-Err-put_all-clause-untouched
 returns-in-Err-put_all-clause-untouched g c told foreign =
     untouched_put g.P.Device.told _ (g.P.Device.view c.args.port.now) (g.P.Device.view c.carry_out.new.dev) (g.P.Device.view c.put_all.new.port) c.put_all.result told c.put_all.ensures (c.carry_out.ensures.untouched told foreign)
+
+pub returns-in-Ok-put_all-clause-behind : goal.returns-in-Ok-put_all-clause-behind
+returns-in-Ok-put_all-clause-behind g c told firm =
+    let old = g.P.Device.view c.args.port.now in
+    behind_said (behind (size_of_image old.reads)) _ old (g.P.Device.view c.carry_out.new.dev) (g.P.Device.view c.put_all.new.port) (g.met.P.Device.sound c.carry_out.new.dev told) (c.carry_out.ensures.behind told firm) (c.put_all.ensures.any_moment told)
+
+pub returns-in-Err-put_all-clause-behind : goal.returns-in-Err-put_all-clause-behind
+returns-in-Err-put_all-clause-behind g c told firm =
+    let old = g.P.Device.view c.args.port.now in
+    behind_said (behind (size_of_image old.reads)) _ old (g.P.Device.view c.carry_out.new.dev) (g.P.Device.view c.put_all.new.port) (g.met.P.Device.sound c.carry_out.new.dev told) (c.carry_out.ensures.behind told firm) (c.put_all.ensures.any_moment told)

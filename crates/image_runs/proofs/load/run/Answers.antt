@@ -1,6 +1,8 @@
-use Rattle.std.proofs.Common.{refl}
+use Rattle.std.proofs.Common.{ap, refl}
 use Rattle.image_world.specs.Stands.{world_of}
 use Rattle.tsd_core.specs.Core.{state_on}
+use Rattle.image_world.specs.Behind.{behind}
+use Rattle.serving.proofs.Aside.{aside_then}
 use Rattle.image_runs.proofs.LoadRuns.{run_kept}
 use Rattle.image_runs.proofs.Loaded.{loaded_there, summed}
 use Rattle.image_runs.proofs.load.run.Goals as goal
@@ -30,3 +32,15 @@ returns-in-Err-close-clause-any_moment g c told =
     let mid = g.D.Device.view c.apply_all.new.dev in
     run_kept c.args.placement.now.kind c.args.load.now.seed c.args.load.now.count (g.D.Device.view c.args.dev.now) mid (g.D.Device.view c.close.new.dev) (state_on c.apply_all.new.core mid.reads) refl
     (c.in-Ok.ensures.applied told).state (c.apply_all.ensures.sent told) (c.apply_all.ensures.any_moment told) (c.close.ensures.any_moment told)
+
+pub returns-in-Ok-close-clause-behind : goal.returns-in-Ok-close-clause-behind
+returns-in-Ok-close-clause-behind g c told =
+    let mid = g.D.Device.view c.apply_all.new.dev in
+    aside_then (behind c.args.core.now.volume.tables.geometry) (behind c.apply_all.new.core.volume.tables.geometry) (g.D.Device.view c.args.dev.now) mid (g.D.Device.view c.close.new.dev)
+    (g.met.D.Device.sound c.apply_all.new.dev told) (ap behind c.apply_all.ensures.size) (c.apply_all.ensures.behind told) (c.close.ensures.behind told)
+
+pub returns-in-Err-close-clause-behind : goal.returns-in-Err-close-clause-behind
+returns-in-Err-close-clause-behind g c told =
+    let mid = g.D.Device.view c.apply_all.new.dev in
+    aside_then (behind c.args.core.now.volume.tables.geometry) (behind c.apply_all.new.core.volume.tables.geometry) (g.D.Device.view c.args.dev.now) mid (g.D.Device.view c.close.new.dev)
+    (g.met.D.Device.sound c.apply_all.new.dev told) (ap behind c.apply_all.ensures.size) (c.apply_all.ensures.behind told) (c.close.ensures.behind told)

@@ -6,6 +6,8 @@ use Rattle.tsd_words.specs.declared.status.Status.TheVariants as status
 use Rattle.intent_journal.specs.Home.{home}
 use Rattle.image_world.specs.Debt.{owed}
 use Rattle.image_runs.specs.Opened.{IsJudged, IsNotImage, IsUnopened}
+use Rattle.image_world.specs.Behind.{size_of_image}
+use Rattle.image_runs.proofs.Behind.{behind_kept}
 use Rattle.image_runs.proofs.Opened.{image_fault_of, flag_of, judged_of, unopened_of, device_of, device_only}
 use Rattle.image_runs.proofs.opening.open_volume.Goals as goal
 
@@ -44,3 +46,13 @@ returns-in-Err-clause-unwritten g c told quiet = omega (arith, (c.open_image.ens
 pub returns-in-Err-clause-spared : goal.returns-in-Err-clause-spared
 returns-in-Err-clause-spared g c told h =
     c.in-Err.ensures.spared told (image_fault_of c.in-Err.why (subst (λ (r : Status). IsNotImage r) c.status_of.ensures h))
+
+pub returns-in-Ok-clause-behind : goal.returns-in-Ok-clause-behind
+returns-in-Ok-clause-behind g c told firm =
+    let old = g.D.Device.view c.args.dev.now in
+    behind_kept (size_of_image old.reads) old (g.D.Device.view c.open_image.new.dev) (c.open_image.ensures.data_kept told firm)
+
+pub returns-in-Err-clause-behind : goal.returns-in-Err-clause-behind
+returns-in-Err-clause-behind g c told firm =
+    let old = g.D.Device.view c.args.dev.now in
+    behind_kept (size_of_image old.reads) old (g.D.Device.view c.open_image.new.dev) (c.open_image.ensures.data_kept told firm)

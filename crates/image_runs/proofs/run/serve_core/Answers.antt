@@ -28,3 +28,6 @@ returns-clause-spent g c failed = subst (λ (d : Core). d.volume.is_spent ≡ tr
 
 pub returns-clause-at : goal.returns-clause-at
 returns-clause-at g c other told = subst (λ (d : Core). IsCoreAt d (g.P.Device.view c.serve.new.port)) (sym (c.core-1.given.1 (sym c.serve.ensures.lender))) (c.serve.ensures.at other told)
+
+pub returns-clause-behind : goal.returns-clause-behind
+returns-clause-behind g c told = c.serve.ensures.aside_kept told

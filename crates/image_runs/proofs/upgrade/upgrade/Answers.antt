@@ -2,6 +2,7 @@ use Rattle.std.proofs.Common.{inl}
 use Rattle.image_runs.specs.Opened.{IsJudged, IsNotImage, IsUnopened}
 use Rattle.recovery.specs.Opening.{IsSpared}
 use Rattle.image_device.proofs.Moments.{weakened}
+use Rattle.image_runs.proofs.Behind.{behind_then, size_of_volume}
 use Rattle.image_runs.proofs.Opened.{not_foreign}
 use Rattle.image_runs.proofs.Upgraded.{by_device, counted_since, not_for_memory, upgrade_moments, upgraded_there}
 use Rattle.image_runs.proofs.upgrade.upgrade.Goals as goal
@@ -43,3 +44,10 @@ returns-in-Ok-clause-untouched g c told foreign = absurd (not_foreign _ (c.in-Ok
 pub returns-in-Ok-clause-spared : goal.returns-in-Ok-clause-spared
 returns-in-Ok-clause-spared g c told =
     by_device (λ why. IsNotImage why → IsSpared (g.D.Device.view c.args.dev.now) (g.D.Device.view c.upgrade_at.new.dev)) c.upgrade_at.result c.upgrade_at.ensures.failed (λ h. absurd h)
+
+pub returns-in-Ok-clause-behind : goal.returns-in-Ok-clause-behind
+returns-in-Ok-clause-behind g c told firm =
+    let old = g.D.Device.view c.args.dev.now in
+    let mid = g.D.Device.view c.open_volume.new.dev in
+    behind_then c.in-Ok.volume.tables.geometry old mid (g.D.Device.view c.upgrade_at.new.dev) (g.met.D.Device.sound c.open_volume.new.dev told)
+    (size_of_volume c.in-Ok.volume old.reads mid (c.in-Ok.ensures.at told) (c.in-Ok.ensures.done told)) (c.open_volume.ensures.behind told firm) (c.upgrade_at.ensures.behind told)

@@ -1,4 +1,5 @@
 use Rattle.std.proofs.Common.{ap}
+use Rattle.image_world.specs.Behind.{behind}
 use Rattle.image_runs.proofs.Serving.{before_or_after, before_reply, refusal_asks}
 use Rattle.image_runs.proofs.server.CoreServerHandler.apply.Goals as goal
 
@@ -14,3 +15,6 @@ returns-clause-before g c = λ told bounded.
 
 pub returns-clause-refused : goal.returns-clause-refused
 returns-clause-refused g c = refusal_asks c.apply.result _ _ c.apply.ensures.asks_nothing
+
+pub returns-clause-aside : goal.returns-clause-aside
+returns-clause-aside g c = ap behind c.apply.ensures.size.geometry

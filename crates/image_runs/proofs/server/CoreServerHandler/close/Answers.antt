@@ -1,0 +1,6 @@
+use Rattle.std.proofs.Common.{ap}
+use Rattle.image_world.specs.Behind.{behind}
+use Rattle.image_runs.proofs.server.CoreServerHandler.close.Goals as goal
+
+pub returns-clause-aside : goal.returns-clause-aside
+returns-clause-aside g c = ap behind c.close.ensures.size.geometry
