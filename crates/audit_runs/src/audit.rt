@@ -3,6 +3,7 @@
 ghost use Rattle.std.specs.Prelude.{◌≡◌, ◌≢◌, IfOk, IfErr};
 ghost use Rattle.image_device.specs.Counts.{CountsFaultOf, Rose};
 ghost use Rattle.image_device.specs.Runs.{IsFirm, LeavesOnly};
+ghost use Rattle.image_world.specs.Behind.{LeavesBehind};
 ghost use Rattle.recovery.specs.Opening.{IsForeign, IsSpared, IsUntouched, StandAlike};
 ghost use Rattle.volume_laws.specs.Writes.{Works};
 ghost use Rattle.image_runs.specs.Opened.{IsJudged, IsNotImage, IsUnopened};
@@ -30,6 +31,8 @@ pub fn audit_image<P: Port>(alloc: Global, port: &mut P) -> Status
     ensures untouched { P.told → IsForeign (P.view port.old).reads
         → IsUntouched (P.view port.old) (P.view port.new) }
     ensures spared { P.told → IsNotImage result → IsSpared (P.view port.old) (P.view port.new) }
+    // However it ends, a crash at any moment leaves what lies behind the image as it was.
+    ensures behind { P.told → IsFirm (P.view port.old) → LeavesBehind (P.view port.old) (P.view port.new) }
     // A crash at any moment leaves an image of the same world, or of none where the image stood for none.
     ensures any_moment { P.told → IsFirm (P.view port.old) → LeavesOnly (P.view port.old) (P.view port.new)
         (λ x f. StandAlike (P.view port.old).reads x × IsAuditing (P.view port.old).reads (P.view port.old).sent f) }
@@ -58,6 +61,8 @@ fn find<D: Device>(alloc: Global, dev: &mut D) -> Result<Reached, Status>
     // where it fails another, nothing is lost that a repair could use.
     ensures untouched { D.told → IsForeign (D.view dev.old).reads → IsUntouched (D.view dev.old) (D.view dev.new) }
     ensures spared { D.told → IfErr result (λ why. IsNotImage why → IsSpared (D.view dev.old) (D.view dev.new)) }
+    // However it ends, a crash at any moment leaves what lies behind the image as it was.
+    ensures behind { D.told → IsFirm (D.view dev.old) → LeavesBehind (D.view dev.old) (D.view dev.new) }
     ensures any_moment { D.told → IsFirm (D.view dev.old) → LeavesOnly (D.view dev.old) (D.view dev.new)
         (λ x f. StandAlike (D.view dev.old).reads x × (f ≡ (D.view dev.old).sent)) }
     ensures works { Works (D.view dev.old) (D.view dev.new) }

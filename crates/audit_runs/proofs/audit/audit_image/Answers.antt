@@ -1,5 +1,7 @@
 use Rattle.std.proofs.Common.{◌++◌, ◌∙◌, ap, List, ℕ}
 use Rattle.image_audit.specs.Laws.{listings_from}
+use Rattle.image_world.specs.Behind.{behind, size_of_image}
+use Rattle.image_runs.proofs.Behind.{behind_said}
 use Rattle.image_runs.proofs.Opened.{spared_put, untouched_put}
 use Rattle.audit_runs.specs.Audit.{IsAuditOf, listings_text}
 use Rattle.audit_runs.proofs.AnswerLaws.{audit_of, cut_from, silent_moments, told_moments, unaudited, unopened_ends}
@@ -49,3 +51,13 @@ returns-clause-any_moment g c told firm =
 
 pub returns-clause-ending : goal.returns-clause-ending
 returns-clause-ending g c = unopened_ends c.in-Err.why c.in-Err.ensures.stops
+
+pub returns-in-Ok-put_listings-clause-behind : goal.returns-in-Ok-put_listings-clause-behind
+returns-in-Ok-put_listings-clause-behind g c told firm =
+    let old = g.P.Device.view c.args.port.now in
+    behind_said (behind (size_of_image old.reads)) _ old (g.P.Device.view c.find.new.dev) (g.P.Device.view c.put_listings.new.port) (g.met.P.Device.sound c.find.new.dev told) (c.find.ensures.behind told firm) (c.put_listings.ensures.any_moment told)
+
+pub returns-in-Ok-clause-behind : goal.returns-in-Ok-clause-behind
+returns-in-Ok-clause-behind g c told firm =
+    let old = g.P.Device.view c.args.port.now in
+    behind_said (behind (size_of_image old.reads)) _ old (g.P.Device.view c.find.new.dev) (g.P.Device.view c.put_listings.new.port) (g.met.P.Device.sound c.find.new.dev told) (c.find.ensures.behind told firm) (c.put_listings.ensures.any_moment told)

@@ -2,6 +2,8 @@ use Rattle.std.proofs.Common.{◌≡◌, ◌++◌, ◌∙◌, ap, subst, List, �
 use Rattle.image_device.specs.View.{IsLeftInPut}
 use Rattle.image_device.specs.Runs.{LeavesOnly}
 use Rattle.image_runs.specs.Sending.{ProperFrontWasSent}
+use Rattle.image_world.specs.Behind.{behind, size_of_image}
+use Rattle.image_runs.proofs.Behind.{behind_said}
 use Rattle.image_runs.proofs.Opened.{spared_put, untouched_put}
 use Rattle.audit_runs.specs.Verify.{IsAnswerOf}
 use Rattle.audit_runs.proofs.AnswerLaws.{cut_from, silent_moments, told_moments, unanswered_ends, unverified}
@@ -60,3 +62,13 @@ returns-in-Ok-put_all-clause-untouched g c told foreign =
 pub returns-in-Err-put_all-clause-untouched : goal.returns-in-Err-put_all-clause-untouched
 returns-in-Err-put_all-clause-untouched g c told foreign =
     untouched_put g.P.Device.told _ (g.P.Device.view c.args.port.now) (g.P.Device.view c.answer.new.dev) (g.P.Device.view c.put_all.new.port) c.put_all.result told c.put_all.ensures (c.answer.ensures.untouched told foreign)
+
+pub returns-in-Ok-put_all-clause-behind : goal.returns-in-Ok-put_all-clause-behind
+returns-in-Ok-put_all-clause-behind g c told firm =
+    let old = g.P.Device.view c.args.port.now in
+    behind_said (behind (size_of_image old.reads)) _ old (g.P.Device.view c.answer.new.dev) (g.P.Device.view c.put_all.new.port) (g.met.P.Device.sound c.answer.new.dev told) (c.answer.ensures.behind told firm) (c.put_all.ensures.any_moment told)
+
+pub returns-in-Err-put_all-clause-behind : goal.returns-in-Err-put_all-clause-behind
+returns-in-Err-put_all-clause-behind g c told firm =
+    let old = g.P.Device.view c.args.port.now in
+    behind_said (behind (size_of_image old.reads)) _ old (g.P.Device.view c.answer.new.dev) (g.P.Device.view c.put_all.new.port) (g.met.P.Device.sound c.answer.new.dev told) (c.answer.ensures.behind told firm) (c.put_all.ensures.any_moment told)
