@@ -30,7 +30,7 @@ use Rattle.serving.specs.Ran.{Moments, Taking}
 use Rattle.serving.specs.Voice.{Voice}
 use Rattle.image_runs.specs.Fresh.{single_world}
 use Rattle.tsd_serve.specs.Headline.{EachCrashLeaves, Headline, IsPrefixLeft}
-use Rattle.tsd_serve.specs.MirrorDid.{AreSoundAtEnd, BeginsAs, EachSideKeeps, EndsAs, IsSoundAtEnd, MirrorHeadline, first_view, lost_of}
+use Rattle.tsd_serve.specs.MirrorDid.{AreSoundAtEnd, BeganAs, EachSideKeeps, EndedAs, IsSoundAtEnd, MirrorHeadline, first_view, lost_of}
 use Rattle.tsd_serve.specs.MirrorStatus.{ended_with}
 use Rattle.tsd_serve.proofs.Prefixes.{none_left}
 
@@ -40,7 +40,7 @@ each_weaker s c i P Q here each = (λ h. here i.first.image (each.0 h), λ h. he
 
 -- ---- a command that ran over both
 
-module _ (old new : SidesView) (c : Serving) (port : Moments) (begins : BeginsAs old port.old) (ends : EndsAs old new c port.new) where
+module _ (old new : SidesView) (c : Serving) (port : Moments) (begins : BeganAs old port.old) (ends : EndedAs old new c port.new) where
   -- What holds of each image that a crash left of the mirror while the command ran holds of each side that is sound, if it holds of what
   -- a crash left of the first side before.
   pub each_side : (P : Image → List ℕ → Type 0) → LeavesOnly port.old port.new P → ((x : Image) (f : List ℕ) → IsLeftOfFirst old x f → P x f)
@@ -106,7 +106,7 @@ formatting_first old w x f was = inl (record { agrees = λ n h. was.0.agrees n (
 
 -- ---- the headline on each side
 
-pub headline_over : (words : Command) (source : Taking) (old new : SidesView) (c : Serving) (port : Moments) → BeginsAs old port.old → EndsAs old new c port.new → Headline words source port → MirrorHeadline words source old new
+pub headline_over : (words : Command) (source : Taking) (old new : SidesView) (c : Serving) (port : Moments) → BeganAs old port.old → EndedAs old new c port.new → Headline words source port → MirrorHeadline words source old new
 headline_over (command.Run kind) source old new c port begins ends ran = of_opened old new c port begins ends line_voice line_spelling kind source ran
 headline_over (command.Serve kind) source old new c port begins ends ran = of_opened old new c port begins ends frame_voice frame_spelling kind source ran
 headline_over (command.Fresh fresh) source old new c port begins ends ran =

@@ -67,7 +67,7 @@ pub record NoSideIsLeft (old new : SidesView) : Type 0 where
 
 -- The mirror as it began: it reads as the first side did, nothing is loose, and nothing was sent. What a crash left of
 -- it since the start is what a crash then left of the first side.
-pub record BeginsAs (old : SidesView) (begun : View) : Type 0 where
+pub record BeganAs (old : SidesView) (begun : View) : Type 0 where
   pub sound : IsSound begun
   pub reads : begun.reads ≡ old.first.reads
   pub firm : IsFirm begun
@@ -77,7 +77,7 @@ pub record BeginsAs (old : SidesView) (begun : View) : Type 0 where
 
 -- The mirror as it ended, where these sides count: what a crash left of it is, of each item of the sides, the image of
 -- each side that is sound in it and, where neither is, that of the side that is left.
-pub record EndsAs (old new : SidesView) (c : Serving) (ended : View) : Type 0 where
+pub record EndedAs (old new : SidesView) (c : Serving) (ended : View) : Type 0 where
   pub reads : ended.reads ≡ reads_of c new
   pub loose : ended.loose ≡ loose_of c new
   pub sent : ended.sent ≡ new.sent
@@ -87,8 +87,8 @@ pub record EndsAs (old new : SidesView) (c : Serving) (ended : View) : Type 0 wh
 pub record DidOver (words : Option Command) (r : MirrorStatus) (source : Taking) (old new : SidesView) (c : Serving)
     (port : Moments) : Type 0 where
   pub did : Did words (answered r) source port
-  pub begins : port.tells → BeginsAs old port.old
-  pub ends : port.tells → EndsAs old new c port.new
+  pub begins : port.tells → BeganAs old port.old
+  pub ends : port.tells → EndedAs old new c port.new
 
 -- The first side failed in the copying, and nothing else was done.
 pub record DidCopy (told : Type 0) (r : MirrorStatus) (source : Taking) (old new : SidesView) : Type 0 where

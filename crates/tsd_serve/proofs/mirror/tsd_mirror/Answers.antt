@@ -9,7 +9,7 @@ use Rattle.tsd_words.specs.declared.commands.Command.{Command}
 use Rattle.tsd_words.specs.declared.status.Status.{Status}
 use Rattle.tsd_words.specs.declared.status.Status.TheVariants as status
 use Rattle.tsd_serve.specs.Did.{Did}
-use Rattle.tsd_serve.specs.MirrorDid.{AreSoundAtEnd, DidOver, EndsAs}
+use Rattle.tsd_serve.specs.MirrorDid.{AreSoundAtEnd, DidOver, EndedAs}
 use Rattle.tsd_serve.specs.MirrorStatus.{answered, ended_with}
 use Rattle.tsd_serve.proofs.Mirrored.{headline_over, headline_unbegun, sound_at_end}
 use Rattle.tsd_serve.proofs.Promises.{headline}
@@ -63,7 +63,7 @@ did_over g c =
         later = e.clock;
         left = e.left told;
       };
-      ends = λ told. subst (λ r. EndsAs old (view r) n.serving ended) (sym c.into_sides.ensures.sides) (record {
+      ends = λ told. subst (λ r. EndedAs old (view r) n.serving ended) (sym c.into_sides.ensures.sides) (record {
         reads = refl;
         loose = refl;
         sent = refl;
