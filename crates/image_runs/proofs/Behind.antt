@@ -18,8 +18,7 @@ use Rattle.image_world.specs.Fresh.{AreClosed}
 use Rattle.image_world.specs.Stands.{Stands, world_of}
 use Rattle.image_world.specs.Tables.{Tables, tables_of}
 use Rattle.image_world.proofs.WorldLaws.{geometry_left, told_like}
-use Rattle.recovery.specs.Areas.{fresh_end, is_fresh}
-use Rattle.recovery.specs.Opening.{LeavesData}
+use Rattle.recovery.specs.Areas.{is_fresh}
 use Rattle.serving.proofs.Aside.{aside_then}
 use Rattle.tsd_core.proofs.BehindLaws.{behind_of_data}
 use Rattle.tsd_core.specs.Core.{Core, IsCoreAt, state_on}
