@@ -39,6 +39,8 @@ impl<'a, H: Handler> Handler for Lent<'a, H> {
 
     ghost is_closed = { H.is_closed };
 
+    ghost aside = { λ h. H.aside h.handler.now };
+
     ghost lender = { λ h. h.handler.ghost_name };
 
     ghost stands_now = { λ h x e. H.stands_now h.handler.now x e };

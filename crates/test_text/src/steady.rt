@@ -28,6 +28,8 @@ impl Handler for Steady {
 
     ghost is_closed = { λ x. Unit {0} };
 
+    ghost aside = { λ h x. x };
+
     ghost lender = { λ h. 0 };
 
     ghost stands_now = { λ h x e. tt };
