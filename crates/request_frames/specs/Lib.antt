@@ -6,3 +6,4 @@ pub mod Cutting
 pub mod Reading
 pub mod Parsing
 pub mod ReplyReading
+pub mod FrameRoom

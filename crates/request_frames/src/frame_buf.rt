@@ -1,4 +1,4 @@
-//! A frame to be sent, in a buffer of bounded size.
+//! A frame to be sent, in a buffer of bounded size: one for every frame, and one for short frames.
 
 ghost use Rattle.std.specs.Prelude.{◌≡◌, ◌+◌, ◌-◌, ◌≤◌, [], ◌∷◌, ◌++◌, length, drop};
 ghost use Rattle.byteorder.specs.Endian.{little_bytes};
@@ -16,13 +16,25 @@ pub const LENGTH_BYTES: usize = 2;
 /// The most bytes of a frame that is sent.
 pub const FRAME_MAX: usize = LENGTH_BYTES + REQUEST_MAX;
 
-/// At most 4,124 bytes. It takes no memory. Contracts see it as the list of its bytes.
+/// The most bytes of a block whose frame is short.
+pub const SHORT_DATA: usize = 1024;
+
+/// The most bytes of a short frame: a length, a code, and the bytes of a block.
+pub const SHORT_MAX: usize = LENGTH_BYTES + 1 + SHORT_DATA;
+
+/// At most `N` bytes. It takes no memory. Contracts see it as the list of its bytes.
 #[derive(Drop)]
-pub struct FrameBuf {
-    bytes: ArrayVec<u8, FRAME_MAX>,
+pub struct Frame<const N: usize> {
+    bytes: ArrayVec<u8, N>,
 }
 
-impl Model for FrameBuf {
+/// At most 4,124 bytes: room for every frame.
+pub type FrameBuf = Frame<FRAME_MAX>;
+
+/// At most 1,027 bytes: room that costs little to clear.
+pub type ShortFrame = Frame<SHORT_MAX>;
+
+impl<const N: usize> Model for Frame<N> {
     ghost use Rattle.std.specs.Prelude.{List, ℕ};
 
     ghost Value = { List ℕ };
@@ -30,12 +42,12 @@ impl Model for FrameBuf {
     ghost view = { λ b. b.bytes.items };
 }
 
-impl FrameBuf {
+impl<const N: usize> Frame<N> {
     /// No bytes.
-    pub fn new() -> FrameBuf
+    pub fn new() -> Frame<N>
         ensures { result ≡ [] }
     {
-        FrameBuf {
+        Frame {
             bytes: ArrayVec::new(),
         }
     }
@@ -43,13 +55,14 @@ impl FrameBuf {
     /// The bytes.
     pub fn as_slice(&self) -> &[u8]
         ensures value { result.now ≡ self.now }
-        ensures fits { length self.now ≤ 4124 }
+        ensures fits { length self.now ≤ N }
     {
         self.bytes.as_slice()
     }
 
     /// Leaves room for a length alone.
     pub(crate) fn begin(&mut self)
+        requires { LENGTH_BYTES ≤ N }
         ensures { self.new ≡ 0 ∷ 0 ∷ [] }
     {
         self.bytes.clear();
@@ -58,7 +71,7 @@ impl FrameBuf {
 
     /// Adds bytes at the end, for which there is room.
     pub(crate) fn put(&mut self, bytes: &[u8])
-        requires { length self.old + length bytes.now ≤ FRAME_MAX }
+        requires { length self.old + length bytes.now ≤ N }
         ensures { self.new ≡ self.old ++ bytes.now }
     {
         let _fit = self.bytes.try_extend_from_slice(bytes);
@@ -66,7 +79,8 @@ impl FrameBuf {
 
     /// Writes the length of the body that stands after it.
     pub(crate) fn end(&mut self)
-        requires { LENGTH_BYTES ≤ length self.old }
+        requires some { LENGTH_BYTES ≤ length self.old }
+        requires most { N ≤ FRAME_MAX }
         ensures { self.new ≡ little_bytes 2 (length self.old - 2) ++ drop 2 self.old }
     {
         let length = (self.bytes.len() - LENGTH_BYTES) as u16;

@@ -1,14 +1,15 @@
 //! Replies as they are sent.
 
-ghost use Rattle.std.specs.Prelude.{◌≡◌, ◌+◌, ◌^◌, ◌<◌, ◌≤◌, [], ◌∷◌, ◌++◌, length};
+ghost use Rattle.std.specs.Prelude.{◌≡◌, ◌+◌, ◌^◌, ◌<◌, ◌≤◌, [], ◌∷◌, ◌++◌, length, false, MatchOption};
 ghost use Rattle.tsd_model.specs.ReplyForm.{HasBody};
 ghost use Rattle.tsd_model.specs.declared.replies.Reply.{Reply};
 ghost use Rattle.request_frames.specs.Fields.{Code, Number, AllFit, bytes_of};
 ghost use Rattle.request_frames.specs.Replies.{IsReply, reply_body, reply_fields, rule_fields};
 ghost use Rattle.request_frames.specs.Frames.{frame_of};
+ghost use Rattle.request_frames.specs.FrameRoom.{frame_room, is_short};
 
 use crate::codes;
-use crate::frame_buf::{FRAME_MAX, FrameBuf};
+use crate::frame_buf::{FRAME_MAX, Frame, FrameBuf, LENGTH_BYTES, SHORT_DATA, ShortFrame};
 use crate::writing::{put_code, put_level, put_number, put_numbers};
 use tsd_model::{Reply, Rule};
 
@@ -21,14 +22,48 @@ pub fn encode_reply(reply: &Reply, into: &mut FrameBuf)
     ensures frame { into.new ≡ frame_of (reply_body reply.now) }
     ensures spelled { IsReply (reply_body reply.now) reply.now }
 {
+    encode(reply, into);
+}
+
+/// The frame of a short reply; None where the reply is the bytes of a larger block.
+pub fn short_frame(reply: &Reply) -> Option<ShortFrame>
+    ensures { MatchOption result (is_short reply.now ≡ false) (λ frame. frame ≡ frame_of (reply_body reply.now)) }
+{
+    if !is_short(reply) {
+        return None;
+    }
+    let mut frame = ShortFrame::new();
+    encode(reply, &mut frame);
+    Some(frame)
+}
+
+/// Whether a reply's frame is short.
+fn is_short(reply: &Reply) -> bool
+    ensures { result ≡ is_short reply.now }
+{
+    match reply {
+        Reply::Bytes(all) => all.len() <= SHORT_DATA,
+        _ => true,
+    }
+}
+
+/// Replaces the bytes by the frame of a reply, for which there is room.
+fn encode<const N: usize>(reply: &Reply, into: &mut Frame<N>)
+    requires room { frame_room reply.now ≤ N }
+    requires least { LENGTH_BYTES ≤ N }
+    requires most { N ≤ FRAME_MAX }
+    ensures frame { into.new ≡ frame_of (reply_body reply.now) }
+    ensures fits { AllFit (reply_fields reply.now) }
+{
     into.begin();
     put_reply(into, reply);
     into.end();
 }
 
 /// The body of a reply, after room for its length.
-fn put_reply(into: &mut FrameBuf, reply: &Reply)
-    requires { into.old ≡ 0 ∷ 0 ∷ [] }
+fn put_reply<const N: usize>(into: &mut Frame<N>, reply: &Reply)
+    requires empty { into.old ≡ 0 ∷ 0 ∷ [] }
+    requires room { frame_room reply.now ≤ N }
     ensures body { into.new ≡ 0 ∷ 0 ∷ reply_body reply.now }
     ensures fits { AllFit (reply_fields reply.now) }
 {
@@ -63,8 +98,8 @@ fn put_reply(into: &mut FrameBuf, reply: &Reply)
 }
 
 /// The byte of a rule and its numbers.
-fn put_rule(into: &mut FrameBuf, rule: &Rule)
-    requires { length into.old + RULE_ROOM ≤ FRAME_MAX }
+fn put_rule<const N: usize>(into: &mut Frame<N>, rule: &Rule)
+    requires { length into.old + RULE_ROOM ≤ N }
     ensures bytes { into.new ≡ into.old ++ bytes_of (rule_fields rule.now) }
     ensures fits { AllFit (rule_fields rule.now) }
 {
@@ -93,8 +128,8 @@ fn put_rule(into: &mut FrameBuf, rule: &Rule)
 }
 
 /// A code and two numbers.
-fn put_two(into: &mut FrameBuf, code: u8, first: u32, second: u32)
-    requires { length into.old + RULE_ROOM ≤ FRAME_MAX }
+fn put_two<const N: usize>(into: &mut Frame<N>, code: u8, first: u32, second: u32)
+    requires { length into.old + RULE_ROOM ≤ N }
     ensures bytes { into.new ≡ into.old ++ bytes_of (Code code ∷ Number first ∷ Number second ∷ []) }
     ensures fits { AllFit (Number first ∷ Number second ∷ []) }
 {

@@ -6,23 +6,23 @@ ghost use Rattle.request_frames.specs.Fields.{AllFit};
 ghost use Rattle.request_frames.specs.Replies.{numbers};
 
 use crate::codes::{ABSENT, LEVEL_NONE, LEVEL_READ, LEVEL_WRITE, PRESENT};
-use crate::frame_buf::{FRAME_MAX, FrameBuf};
+use crate::frame_buf::Frame;
 use crate::reader::NUMBER_BYTES;
 use byteorder::{ByteOrder, LittleEndian};
 use tsd_model::caps::CAP_BYTES;
 use tsd_model::{Cap, Hint, Level, Shown};
 
 /// A code.
-pub fn put_code(into: &mut FrameBuf, code: u8)
-    requires { length into.old + 1 ≤ FRAME_MAX }
+pub fn put_code<const N: usize>(into: &mut Frame<N>, code: u8)
+    requires { length into.old + 1 ≤ N }
     ensures { into.new ≡ into.old ++ field_bytes (Code code) }
 {
     into.put([code].as_slice());
 }
 
 /// A number, the lowest byte first.
-pub fn put_number(into: &mut FrameBuf, n: u32)
-    requires { length into.old + NUMBER_BYTES ≤ FRAME_MAX }
+pub fn put_number<const N: usize>(into: &mut Frame<N>, n: u32)
+    requires { length into.old + NUMBER_BYTES ≤ N }
     ensures bytes { into.new ≡ into.old ++ field_bytes (Number n) }
     ensures fits { HasRoomFor (Number n) }
 {
@@ -32,8 +32,8 @@ pub fn put_number(into: &mut FrameBuf, n: u32)
 }
 
 /// Numbers.
-pub fn put_numbers(into: &mut FrameBuf, items: &[u32])
-    requires { length into.old + NUMBER_BYTES * length items.now ≤ FRAME_MAX }
+pub fn put_numbers<const N: usize>(into: &mut Frame<N>, items: &[u32])
+    requires { length into.old + NUMBER_BYTES * length items.now ≤ N }
     ensures bytes { into.new ≡ into.old ++ bytes_of (numbers items.now) }
     ensures fits { AllFit (numbers items.now) }
 {
@@ -43,8 +43,8 @@ pub fn put_numbers(into: &mut FrameBuf, items: &[u32])
 }
 
 /// A capability.
-pub fn put_cap(into: &mut FrameBuf, cap: &Cap)
-    requires { length into.old + CAP_BYTES ≤ FRAME_MAX }
+pub fn put_cap<const N: usize>(into: &mut Frame<N>, cap: &Cap)
+    requires { length into.old + CAP_BYTES ≤ N }
     ensures bytes { into.new ≡ into.old ++ field_bytes (New cap.now) }
     ensures fits { HasRoomFor (New cap.now) }
 {
@@ -52,8 +52,8 @@ pub fn put_cap(into: &mut FrameBuf, cap: &Cap)
 }
 
 /// What is shown.
-pub fn put_shown(into: &mut FrameBuf, shown: &Shown)
-    requires { length into.old + 1 + CAP_BYTES ≤ FRAME_MAX }
+pub fn put_shown<const N: usize>(into: &mut Frame<N>, shown: &Shown)
+    requires { length into.old + 1 + CAP_BYTES ≤ N }
     ensures bytes { into.new ≡ into.old ++ field_bytes (Show shown.now) }
     ensures fits { HasRoomFor (Show shown.now) }
     ensures room { length (field_bytes (Show shown.now)) ≤ 1 + CAP_BYTES }
@@ -68,8 +68,8 @@ pub fn put_shown(into: &mut FrameBuf, shown: &Shown)
 }
 
 /// A hint.
-pub fn put_hint(into: &mut FrameBuf, hint: Hint)
-    requires { length into.old + 1 + NUMBER_BYTES ≤ FRAME_MAX }
+pub fn put_hint<const N: usize>(into: &mut Frame<N>, hint: Hint)
+    requires { length into.old + 1 + NUMBER_BYTES ≤ N }
     ensures bytes { into.new ≡ into.old ++ field_bytes (Near hint) }
     ensures fits { HasRoomFor (Near hint) }
 {
@@ -83,8 +83,8 @@ pub fn put_hint(into: &mut FrameBuf, hint: Hint)
 }
 
 /// A level.
-pub fn put_level(into: &mut FrameBuf, level: Level)
-    requires { length into.old + 1 ≤ FRAME_MAX }
+pub fn put_level<const N: usize>(into: &mut Frame<N>, level: Level)
+    requires { length into.old + 1 ≤ N }
     ensures { into.new ≡ into.old ++ field_bytes (Rank level) }
 {
     let code = match level {

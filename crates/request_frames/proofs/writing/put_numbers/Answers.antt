@@ -5,10 +5,10 @@ use Rattle.request_frames.proofs.WritingLaws.{numbers_bytes, numbers_fit}
 use Rattle.request_frames.proofs.writing.put_numbers.Goals as goal
 
 pub returns-clause-bytes : goal.returns-clause-bytes
-returns-clause-bytes c =
+returns-clause-bytes g c =
     c.loop-n.invariant.0
     ∙ ap (λ xs. c.args.into.now ++ flat_map (λ n. little_bytes 4 n) xs) (take_all c.loop-n.n-index c.args.items.now c.loop-n-test.false)
     ∙ ap (λ xs. c.args.into.now ++ xs) (numbers_bytes c.args.items.now)
 
 pub returns-clause-fits : goal.returns-clause-fits
-returns-clause-fits c = numbers_fit c.args.items.now (λ i. omega (arith, c.type_inv.items i))
+returns-clause-fits g c = numbers_fit c.args.items.now (λ i. omega (arith, c.type_inv.items i))
