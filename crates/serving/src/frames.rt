@@ -1,13 +1,15 @@
 //! Frames as a protocol.
 
+ghost use Rattle.image_device.specs.Runs.{PutsAll};
 ghost use Rattle.request_frames.specs.Cutting.{WasFed};
-ghost use Rattle.serving.specs.FrameSpelling.{frame_spelling, frame_voice};
+ghost use Rattle.tsd_model.specs.ReplyForm.{HasBody};
+ghost use Rattle.serving.specs.FrameSpelling.{frame_reply, frame_spelling, frame_voice};
 ghost use Rattle.serving.specs.FrameLaws.{frames_lawful, frames_apart};
 
 use crate::protocol::{Ending, Fed, Protocol};
 use crate::replies::Replies;
 use image_device::{Failed, Port, put_all};
-use request_frames::{FrameBuf, FrameCutter, decode_body, encode_reply};
+use request_frames::{FrameBuf, FrameCutter, decode_body, encode_reply, short_frame};
 use tsd_model::{Reply, Request};
 
 impl Protocol for FrameCutter {
@@ -50,8 +52,20 @@ impl Replies for FrameCutter {
     ghost apart = { frames_apart };
 
     fn put_reply<P: Port>(port: &mut P, reply: &Reply) -> Result<(), Failed> {
-        let mut frame = FrameBuf::new();
-        encode_reply(reply, &mut frame);
-        put_all(port, frame.as_slice())
+        match short_frame(reply) {
+            Some(frame) => put_all(port, frame.as_slice()),
+            None => put_long(port, reply),
+        }
     }
+}
+
+/// Sends a reply whole. It stays a call, so that a short reply pays for no room of a long one.
+#[inline(never)]
+fn put_long<P: Port>(port: &mut P, reply: &Reply) -> Result<(), Failed>
+    requires { HasBody reply.now }
+    ensures { PutsAll P.told (frame_reply reply.now) (P.view port.old) (P.view port.new) result }
+{
+    let mut frame = FrameBuf::new();
+    encode_reply(reply, &mut frame);
+    put_all(port, frame.as_slice())
 }
