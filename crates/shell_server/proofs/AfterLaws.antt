@@ -17,6 +17,7 @@ use Rattle.tsd_words.specs.declared.status.Status.{Status}
 use Rattle.tsd_words.specs.declared.status.Status.TheVariants as status
 use Rattle.serving.specs.Service.{IsInAnswer, LeftBy}
 use Rattle.tsd_core.specs.Core.{Core}
+use Rattle.core_blocks.proofs.BehindLaws.{behind_then}
 use Rattle.shell_server.specs.Shell.{ShellState, AnswersByLine, files_after, heard, shell_service, shell_step, tree_in}
 use Rattle.shell_server.specs.Kept.{shell_state}
 use Rattle.shell_server.specs.Carried.{IsLeftBeforeOrAfter, IsCarried, IsLooked, IsServed}
@@ -39,6 +40,7 @@ module _ {X Y : Type 0} (told : Type 0) (start : World) (q : ShellAsk) (f0 f1 f2
         (subst (λ (s : ShellState). LeavesOnly w z (IsInAnswer (shell_service start) s q v.sent)) (look.state t).0
         (subst (λ (b : List ℕ). LeavesOnly w z (IsInAnswer (shell_service start) (shell_state f1 w.reads) q b)) (look.sent t) (served.any_moment t)))
         (λ y g left. left);
+    behind = behind_then told c0 c1 c2 v w z look.behind served.behind;
     stops = served.stops;
     faults = subst (λ (n : ℕ). CountsFaultOf status.DeviceFault result n z.faults) look.faultless.0 served.faults;
     put_faults = subst (λ (n : ℕ). CountsFaultOf status.PutFault result n z.put_faults) look.put_faults served.put_faults;
@@ -53,6 +55,7 @@ module _ {X Y : Type 0} (told : Type 0) (start : World) (q : ShellAsk) (f0 f1 : 
     answered = λ t. (tt, λ other line. answers t other line);
     sent = look.sent;
     any_moment = λ t. weakened v w _ (λ x g. IsLeftBeforeOrAfter start (shell_state f0 v.reads) q x × (g ≡ v.sent)) (look.any_moment t) (λ x g left. (inl left.0, left.1));
+    behind = look.behind;
     put_faults = look.put_faults;
     faultless = look.faultless;
     spent = look.spent;

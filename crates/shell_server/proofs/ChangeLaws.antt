@@ -30,6 +30,7 @@ use Rattle.fs_port.specs.Files.{Answers}
 use Rattle.fs_port.specs.Runs.{Changes}
 use Rattle.shell_text.specs.Texts.{answer_text}
 use Rattle.tsd_core.specs.Core.{Core, IsCoreAt, IsCoreReady}
+use Rattle.core_blocks.specs.Behind.{KeepsBehind}
 use Rattle.core_blocks.specs.CoreView.{core_view}
 use Rattle.core_blocks.proofs.ImageLaws.{IsImageOf, images_left}
 use Rattle.shell_server.specs.Shell.{ShellState, AnswersByLine, IsKeptSince, heard, files_after, shell_step, tree_in, tree_under}
@@ -239,14 +240,15 @@ module _ (start : World) (f : FilesView) (q a : ShellAsk) (hears : heard f.kind 
 
   pub carried : {X : Type 0} (told : Type 0) (result : Result X FsRefusal) → AreReady f c0 → (told → FitsShell start f c0 v.reads) → (c1.volume.is_spent ≡ false → IsCoreReady c1) → (told → c1.volume.is_spent ≡ false → IsCoreAt c1 w)
       → (told → f.mounted ≡ true → (step_on f old a).answer ≡ done → IsTrue (is_there (step_on f old a).tree))
-      → (told → Answers f old new a result (λ x answer. answer ≡ done)) → Changes told f old new a result → IsCarried told start q f f c0 c1 v w result
-  carried {X = X} told result ready keeps core_ready core_at stays_there answer changed = record {
+      → (told → Answers f old new a result (λ x answer. answer ≡ done)) → Changes told f old new a result → KeepsBehind told c0 c1 v w → IsCarried told start q f f c0 c1 v w result
+  carried {X = X} told result ready keeps core_ready core_at stays_there answer changed aside = record {
     ready = ready_by result changed.stays changed.unspent;
     at = λ t. at_by t result (answer t) (changed.world t) (changed.valid t) changed.unspent;
     answered = λ t. answered_by t result (answer t) (changed.world t) (changed.valid t);
     sent = λ t. (changed.crash t).sent;
     any_moment = λ t. weakened v w (IsImageOf (IsEitherTree f old a) v.sent) (λ x f. IsLeftBeforeOrAfter start state q x × (f ≡ v.sent)) (images_left l m kind placement c0 c1 v w (IsEitherTree f old a) (changed.crash t))
         (λ x g left. (crash_in (keeps t).kept left.0 x left.1 left.2, left.3));
+    behind = aside;
     put_faults = changed.counts.put_faults;
     faultless = changed.faultless;
     spent = changed.spent;

@@ -63,4 +63,4 @@ served_free told start f0 f1 c0 c1 v w z n few look result stops puts =
     (free_answers start (shell_state f0 v.reads) n few (look.read t) (subst (λ (s : ShellState). IsKeptSince start s) same (look.at t).0.1.kept)))
     look.sent
     (λ t. weakened v w _ (λ x g. IsLeftBeforeOrAfter start (shell_state f0 v.reads) ask.Df x × (g ≡ v.sent)) (look.any_moment t) (λ x g left. (inl left.0, left.1)))
-    look.faultless.0 look.put_faults result stops puts
+    look.faultless.0 look.put_faults look.behind result stops puts

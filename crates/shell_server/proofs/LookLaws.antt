@@ -20,6 +20,7 @@ use Rattle.fs_port.specs.Files.{FilesView, OnAnswer, step_on, tree_on}
 use Rattle.fs_port.specs.Files.{Answers}
 use Rattle.fs_port.specs.Runs.{Looks}
 use Rattle.tsd_core.specs.Core.{Core, IsCoreAt, IsCoreReady}
+use Rattle.core_blocks.specs.Behind.{KeepsBehind}
 use Rattle.core_blocks.specs.CoreView.{core_view}
 use Rattle.core_blocks.proofs.ImageLaws.{IsImageOf, images_left}
 use Rattle.shell_server.specs.Shell.{ShellState, IsKeptSince, IsLeftOf, IsTidyIn, heard, shell_step, tree_under}
@@ -48,8 +49,8 @@ module _ (start : World) (f : FilesView) (q a : ShellAsk) (hears : heard f.kind 
       → (told → IfOk result (λ x. of_answer x (step_on f old a).answer)) → (told → IfErr result (λ e. e ≢ no.Device → (step_on f old a).answer ≡ refused e)) → (told → OnAnswer result (new.world ≡ old.world)) → (told → LeavesWorldsOnly old new (λ u. u ≡ old.world)) → (told → OnAnswer result (IsValidNow new))
       → OnAnswer result (Stays old new) → Counts old new → OnAnswer result (new.spent ≡ false) → OnAnswer result (new.faults ≡ old.faults)
       → IfErr result (λ e. e ≡ no.Device → new.spent ≡ true) → IfErr result (λ e. e ≡ no.Device → Rose old.faults new.faults)
-      → IsLooked told start q f f c0 c1 v w of_answer result
-  looked_so {X = X} told of_answer result ready keeps core_ready core_at ok err world crash valid stays counts unspent faultless spent cause = record {
+      → KeepsBehind told c0 c1 v w → IsLooked told start q f f c0 c1 v w of_answer result
+  looked_so {X = X} told of_answer result ready keeps core_ready core_at ok err world crash valid stays counts unspent faultless spent cause aside = record {
     ready = ready_by result stays unspent;
     at = λ t. at_by t result (world t) (valid t) unspent;
     state = λ t. state_by result (world t);
@@ -58,6 +59,7 @@ module _ (start : World) (f : FilesView) (q a : ShellAsk) (hears : heard f.kind 
     sent = λ t. (crash t).sent;
     any_moment = λ t. weakened v w (IsImageOf (λ u. u ≡ old.world) v.sent) (λ x g. IsLeftOf start state x × (g ≡ v.sent)) (images_left l m kind placement c0 c1 v w (λ u. u ≡ old.world) (crash t))
         (λ x g left. (image_still (keeps t) x left.0 left.1 left.2, left.3));
+    behind = aside;
     put_faults = counts.put_faults;
     faultless = faultless;
     spent = spent;
@@ -101,10 +103,10 @@ module _ (start : World) (f : FilesView) (q a : ShellAsk) (hears : heard f.kind 
 
   pub looked : {X : Type 0} (told : Type 0) (of_answer : X → Answer → Type 0) (result : Result X FsRefusal) → AreReady f c0 → (told → FitsShell start f c0 v.reads) → (c1.volume.is_spent ≡ false → IsCoreReady c1) → (told → c1.volume.is_spent ≡ false → IsCoreAt c1 w)
       → (told → Answers f old new a result of_answer) → Looks told old new result
-      → IsLooked told start q f f c0 c1 v w of_answer result
-  looked {X = X} told of_answer result ready keeps core_ready core_at answer looks =
+      → KeepsBehind told c0 c1 v w → IsLooked told start q f f c0 c1 v w of_answer result
+  looked {X = X} told of_answer result ready keeps core_ready core_at answer looks aside =
       let runs = looks.runs in
-      looked_so told of_answer result ready keeps core_ready core_at (λ t. ok_by result (answer t)) (λ t. err_by result (answer t)) looks.world runs.crash runs.valid runs.stays runs.counts runs.unspent runs.faultless runs.spent runs.cause
+      looked_so told of_answer result ready keeps core_ready core_at (λ t. ok_by result (answer t)) (λ t. err_by result (answer t)) looks.world runs.crash runs.valid runs.stays runs.counts runs.unspent runs.faultless runs.spent runs.cause aside
     where
       ok_by : (r : Result X FsRefusal) → Answers f old new a r of_answer → IfOk r (λ x. of_answer x (step_on f old a).answer)
       ok_by (Ok x) is = is.ok.0

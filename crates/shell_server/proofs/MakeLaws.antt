@@ -22,6 +22,7 @@ use Rattle.fs_port.specs.Files.{FilesView, IsEitherTree, LeavesTidyWorld, OnAnsw
 use Rattle.fs_port.specs.Runs.{IsMade, Runs}
 use Rattle.shell_text.specs.Texts.{answer_text}
 use Rattle.tsd_core.specs.Core.{Core, IsCoreAt, IsCoreReady}
+use Rattle.core_blocks.specs.Behind.{KeepsBehind}
 use Rattle.core_blocks.specs.CoreView.{core_view}
 use Rattle.core_blocks.proofs.ImageLaws.{IsImageOf, images_left}
 use Rattle.shell_server.specs.Shell.{ShellState, AnswersByLine, IsKeptSince}
@@ -58,14 +59,15 @@ module _ (start : World) (f g : FilesView) (l m : ℕ × ℕ) (kind placement : 
 
   pub carried_make : {X : Type 0} (told : Type 0) (result : Result X FsRefusal) → AreReady f c0 → (told → FitsShell start f c0 v.reads) → (c1.volume.is_spent ≡ false → IsCoreReady c1) → (told → c1.volume.is_spent ≡ false → IsCoreAt c1 w)
       → (told → MatchResult result (λ x. IsMade f old new) (λ e. e ≡ no.Device)) → Runs told old new (IsEitherTree f old ask.Make) result → MatchResult result (λ x. g ≡ mounted_now f) (λ e. g ≡ f)
-      → IsCarried told start ask.Make f g c0 c1 v w result
-  carried_make {X = X} told result ready keeps core_ready core_at makes_it runs mounted = record {
+      → KeepsBehind told c0 c1 v w → IsCarried told start ask.Make f g c0 c1 v w result
+  carried_make {X = X} told result ready keeps core_ready core_at makes_it runs mounted aside = record {
     ready = ready_by result runs.stays runs.unspent mounted;
     at = λ t. at_by t result (makes_it t) (runs.valid t) mounted runs.unspent;
     answered = λ t. answered_by t result (makes_it t) (runs.valid t) mounted;
     sent = λ t. (runs.crash t).sent;
     any_moment = λ t. weakened v w (IsImageOf (IsEitherTree f old ask.Make) v.sent) (λ x h. IsLeftBeforeOrAfter start state ask.Make x × (h ≡ v.sent)) (images_left l m kind placement c0 c1 v w (IsEitherTree f old ask.Make) (runs.crash t))
         (λ x h left. (crash_in (keeps t).kept left.0 x left.1 left.2, left.3));
+    behind = aside;
     put_faults = runs.counts.put_faults;
     faultless = runs.faultless;
     spent = runs.spent;

@@ -21,6 +21,8 @@ use Rattle.tsd_words.specs.declared.status.Status.{Status}
 use Rattle.tsd_words.specs.declared.status.Status.TheVariants as status
 use Rattle.serving.specs.Service.{IsAnswering, IsInAnswer, LeftBy}
 use Rattle.tsd_core.specs.Core.{Core}
+use Rattle.core_blocks.specs.Behind.{KeepsBehind}
+use Rattle.core_blocks.proofs.BehindLaws.{behind_put, behind_stays, behind_then}
 use Rattle.shell_server.specs.Shell.{ShellState, AnswersByLine, IsLeftOf, files_after, heard, shell_service, shell_step, tree_in}
 use Rattle.shell_server.specs.Kept.{AreReady, FitsShell, shell_state, shell_stands}
 use Rattle.shell_server.specs.Carried.{IsLeftBeforeOrAfter, IsCarried, IsOneLine, IsServed, change_line}
@@ -59,12 +61,15 @@ module _ (start : World) (s : ShellState) (q : ShellAsk) where
 
 module _ (told : Type 0) (start : World) (q : ShellAsk) (f0 f1 : FilesView) (c0 c1 : Core) (v w z : View) (line : List ℕ) (are_ready : AreReady f1 c1) (at : told → ((n : ℕ) → w.loose n ≡ false) × FitsShell start f1 c1 w.reads)
     (answers : told → AnswersByLine start (shell_state f0 v.reads) q line (shell_state f1 w.reads)) (sent : told → w.sent ≡ v.sent) (any : told → LeavesOnly v w (λ x f. IsLeftBeforeOrAfter start (shell_state f0 v.reads) q x × (f ≡ v.sent)))
-    (faults : w.faults ≡ v.faults) (put_faults : w.put_faults ≡ v.put_faults) where
+    (faults : w.faults ≡ v.faults) (put_faults : w.put_faults ≡ v.put_faults) (aside : KeepsBehind told c0 c1 v w) where
   at_there : told → z.reads ≡ w.reads → z.loose ≡ w.loose → ((n : ℕ) → z.loose n ≡ false) × FitsShell start f1 c1 z.reads
   at_there t reads loose = (λ n. ap (λ g. g n) loose ∙ (at t).0 n, subst (λ x. FitsShell start f1 c1 x) (sym reads) (at t).1)
 
   sent_any : {Y : Type 0} (result : Result Y Status) → PutsAll told line w z result → told → LeavesOnly v z (IsInAnswer (shell_service start) (shell_state f0 v.reads) q v.sent)
   sent_any result puts t = any_sent start (shell_state f0 v.reads) q v w (any t) z line (shell_state f1 w.reads) (sent t) (answers t) (at t).0 (shell_stands start f1 c1 w.reads (at t).1) (puts.any_moment t)
+
+  sent_behind : {Y : Type 0} (result : Result Y Status) → PutsAll told line w z result → KeepsBehind told c0 c1 v z
+  sent_behind result puts = behind_then told c0 c1 c1 v w z aside (behind_put told c1 line w z result (λ t. (at t).0) puts)
 
   -- it was sent, or a front of it
   pub line_served : {Y : Type 0} (result : Result Y Status) → IfErr result (λ why. why ≡ status.PutFault) → PutsAll told line w z result → IsServed told start q f0 f1 c0 c1 v z result
@@ -75,6 +80,7 @@ module _ (told : Type 0) (start : World) (q : ShellAsk) (f0 f1 : FilesView) (c0 
     answered = λ t. (line, subst (λ x. AnswersByLine start (shell_state f0 v.reads) q line (shell_state f1 x)) (sym (puts.reads t)) (answers t), puts.sent t ∙ ap (λ l. l ++ line) (sent t));
     left = λ t. tt;
     any_moment = sent_any (Ok y) puts;
+    behind = sent_behind (Ok y) puts;
     stops = tt;
     faults = (λ e. absurd (cc), λ ne. puts.puts.faults ∙ faults);
     put_faults = (λ e. absurd (cc), λ ne. puts.faults ∙ put_faults);
@@ -89,6 +95,7 @@ module _ (told : Type 0) (start : World) (q : ShellAsk) (f0 f1 : FilesView) (c0 
         subst (λ r. LeftBy r (shell_service start) (shell_state f0 v.reads) q (shell_state f1 z.reads) v.sent z.sent) (sym stops)
         (put_failed start (shell_state f0 v.reads) q v.sent z.sent line (shell_state f1 w.reads) (shell_state f1 z.reads) (answers t) (ap (λ x. shell_state f1 x) (puts.reads t)) part.0 part.1 (part.2 ∙ ap (λ l. l ++ take part.0 line) (sent t)));
     any_moment = sent_any (Err why) puts;
+    behind = sent_behind (Err why) puts;
     stops = inr stops;
     faults = (λ e. absurd (apart (cc)), λ ne. puts.puts.faults ∙ faults);
     put_faults = (λ e. subst (λ n. Rose n z.put_faults) put_faults puts.faults, λ ne. absurd (ne (ap Err stops)));
@@ -112,6 +119,7 @@ served_bad told start q f c v z ready sound at is =
       kept = (at t).1.kept;
     })
     (λ t. refl) (λ t. started v _ (sound t) (λ x g left. (inl (subst (λ y. IsLeftOf start (shell_state f v.reads) y) (sym (firm_image v (at t).0 x g left)) (shell_stands start f c v.reads (at t).1)), left.1))) refl refl
+    (behind_stays told c v sound (λ t. (at t).0))
 
 -- ---- refusals
 
@@ -148,6 +156,7 @@ module _ {X : Type 0} (told : Type 0) (start : World) (q : ShellAsk) (f0 f1 : Fi
         answered = λ t. tt;
         left = λ t. inl (carried.sent t);
         any_moment = λ t. any_carried start (shell_state f0 v.reads) q v w (carried.any_moment t);
+        behind = carried.behind;
         stops = inl refl;
         faults = (λ e. cause, λ ne. absurd (ne refl));
         put_faults = (λ e. absurd (cc), λ ne. carried.put_faults);
@@ -164,7 +173,7 @@ module _ {X : Type 0} (told : Type 0) (start : World) (q : ShellAsk) (f0 f1 : Fi
         line_served told start q f0 f1 c0 c1 v w z (change_line done) (on_answer (AreReady f1 c1) done other carried.ready)
         (λ t. on_answer (((n : ℕ) → w.loose n ≡ false) × FitsShell start f1 c1 w.reads) done other (carried.at t))
         (λ t. on_answer (IsOneLine done → AnswersByLine start (shell_state f0 v.reads) q (change_line done) (shell_state f1 w.reads)) done other (carried.answered t) line)
-        carried.sent carried.any_moment (on_answer (w.faults ≡ v.faults) done other carried.faultless) carried.put_faults result stops puts
+        carried.sent carried.any_moment (on_answer (w.faults ≡ v.faults) done other carried.faultless) carried.put_faults carried.behind result stops puts
 
   pub served : {Y : Type 0} (z : View) (result : Result Y Status) → (done ≡ Err no.Device → (result ≡ Err status.DeviceFault) × (z ≡ w)) → (done ≢ Err no.Device → IsOneLine done) → (done ≢ Err no.Device → IfErr result (λ why. why ≡ status.PutFault)) → (done ≢ Err no.Device → PutsAll told (change_line done) w z result)
       → IsServed told start q f0 f1 c0 c1 v z result

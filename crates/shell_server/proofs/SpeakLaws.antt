@@ -14,6 +14,7 @@ use Rattle.tsd_words.specs.declared.status.Status.{Status}
 use Rattle.tsd_words.specs.declared.status.Status.TheVariants as status
 use Rattle.serving.specs.Service.{IsInAnswer, LeftBy}
 use Rattle.tsd_core.specs.Core.{Core}
+use Rattle.core_blocks.proofs.BehindLaws.{behind_put, behind_stays, behind_then}
 use Rattle.shell_server.specs.Shell.{ShellState, AnswersByLine, IsInParts, IsLeftOf, shell_service}
 use Rattle.shell_server.specs.Kept.{AreReady, FitsShell, shell_state, shell_stands}
 use Rattle.shell_server.specs.Carried.{IsLooked, IsServed}
@@ -32,6 +33,7 @@ module _ (told : Type 0) (start : World) (f0 : FilesView) (c0 : Core) (v : View)
     sent = λ t. sym (append-nil v.sent);
     any_moment = λ t. started v (λ x f. IsLeftOf start state x × IsPart v.sent [] f) (sound t)
         (λ x f left. (subst (λ y. IsLeftOf start state y) (sym (firm_image v (at t).0 x f left)) (shell_stands start f0 c0 v.reads (at t).1), record { front = []; back = []; sent = left.1 ∙ sym (append-nil v.sent); whole = refl }));
+    behind = behind_stays told c0 v sound (λ t. (at t).0);
     faults = refl;
     put_faults = refl;
   }
@@ -50,6 +52,7 @@ module _ (told : Type 0) (start : World) (f0 : FilesView) (c0 : Core) (v : View)
       sent = λ t. look.sent t ∙ so_far.sent t;
       any_moment = λ t. joined v w y (λ x f. IsLeftOf start state x × IsPart v.sent p f) (λ x f. IsLeftOf start (shell_state f1 w.reads) x × (f ≡ w.sent)) (so_far.any_moment t) (look.any_moment t)
           (λ x f left. (subst (λ (s : ShellState). IsLeftOf start s x) (so_far.state t) left.0, record { front = p; back = []; sent = left.1 ∙ so_far.sent t; whole = sym (append-nil p) }));
+      behind = behind_then told c0 c1 c2 v w y so_far.behind look.behind;
       faults = look.faultless.0 ∙ so_far.faults;
       put_faults = look.put_faults ∙ so_far.put_faults;
     }
@@ -74,6 +77,7 @@ module _ (told : Type 0) (start : World) (f0 : FilesView) (c0 : Core) (v : View)
               whole = ap (λ l. p ++ l) left.1.whole ∙ sym (append_assoc p left.1.front left.1.back);
             },
           ));
+      behind = behind_then told c0 c1 c1 v w z so_far.behind (behind_put told c1 piece w z (Ok y) (λ t. (so_far.at t).0) puts);
       faults = puts.puts.faults ∙ so_far.faults;
       put_faults = puts.faults ∙ so_far.put_faults;
     }
@@ -94,6 +98,7 @@ module _ (told : Type 0) (start : World) (f0 : FilesView) (c0 : Core) (v : View)
       answered = λ t. (line, subst (λ (s : ShellState). AnswersByLine start state q line s) (sym (spoken.state t)) (given t), spoken.sent t);
       left = λ t. tt;
       any_moment = λ t. spoken_any z line spoken q (given t) t;
+      behind = spoken.behind;
       stops = tt;
       faults = (λ e. absurd (cc), λ ne. spoken.faults);
       put_faults = (λ e. absurd (cc), λ ne. spoken.put_faults);
@@ -114,6 +119,7 @@ module _ (told : Type 0) (start : World) (f0 : FilesView) (c0 : Core) (v : View)
       left = λ t. let l = speech t in inr (answering start state q v.sent y.sent l.0 state p l.1 l.3 l.2 (look.sent t ∙ so_far.sent t), inr l.4);
       any_moment = λ t. let l = speech t in joined v w y (IsInAnswer (shell_service start) state q v.sent) (λ x f. IsLeftOf start (shell_state f1 w.reads) x × (f ≡ w.sent)) (any_speaking q l.0 l.1 l.2 l.3 t) (look.any_moment t)
           (λ x f left. inr (answering start state q v.sent f l.0 state p l.1 l.3 l.2 (left.1 ∙ so_far.sent t), inl (subst (λ (s : ShellState). IsLeftOf start s x) (so_far.state t) left.0)));
+      behind = behind_then told c0 c1 c2 v w y so_far.behind look.behind;
       stops = inl refl;
       faults = (λ e. subst (λ (n : ℕ). Rose n y.faults) so_far.faults (look.cause refl), λ ne. absurd (ne refl));
       put_faults = (λ e. absurd (cc), λ ne. look.put_faults ∙ so_far.put_faults);
@@ -144,6 +150,7 @@ module _ (told : Type 0) (start : World) (f0 : FilesView) (c0 : Core) (v : View)
           let whole : l.0 ≡ (p ++ left.1.front) ++ (left.1.back ++ l.1) =
           l.2 ∙ ap (λ k. p ++ (k ++ l.1)) left.1.whole ∙ ap (λ k. p ++ k) (append_assoc left.1.front left.1.back l.1) ∙ sym (append_assoc p left.1.front (left.1.back ++ l.1)) in
           inr (answering start state q v.sent f l.0 state (p ++ left.1.front) (left.1.back ++ l.1) l.3 whole (left.1.sent ∙ ap (λ k. k ++ left.1.front) (so_far.sent t) ∙ append_assoc v.sent p left.1.front), inl (subst (λ y. IsLeftOf start state y) (sym same) (stands_now t))));
+      behind = behind_then told c0 c1 c1 v w z so_far.behind (behind_put told c1 piece w z (Err why) (λ t. (so_far.at t).0) puts);
       stops = inr is;
       faults = (λ e. absurd (apart (cc)), λ ne. puts.puts.faults ∙ so_far.faults);
       put_faults = (λ e. subst (λ (n : ℕ). Rose n z.put_faults) so_far.put_faults puts.faults, λ ne. absurd (ne (ap Err is)));

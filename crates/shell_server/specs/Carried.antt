@@ -17,6 +17,7 @@ use Rattle.tsd_words.specs.declared.status.Status.TheVariants as status
 use Rattle.serving.specs.Handling.{FitsDevice}
 use Rattle.serving.specs.Service.{IsInAnswer, LeftBy}
 use Rattle.tsd_core.specs.Core.{Core}
+use Rattle.core_blocks.specs.Behind.{KeepsBehind}
 use Rattle.shell_server.specs.Shell.{ShellState, AnswersByLine, IsLeftOf, shell_service, shell_step}
 use Rattle.shell_server.specs.Kept.{AreReady, FitsShell, shell_state}
 
@@ -45,6 +46,7 @@ pub record IsCarried {X : Type 0} (told : Type 0) (start : World) (q : ShellAsk)
       → AnswersByLine start (shell_state f0 v.reads) q (change_line result) (shell_state f1 w.reads))
   pub sent : told → w.sent ≡ v.sent
   pub any_moment : told → LeavesOnly v w (λ x f. IsLeftBeforeOrAfter start (shell_state f0 v.reads) q x × (f ≡ v.sent))
+  pub behind : KeepsBehind told c0 c1 v w
   pub put_faults : w.put_faults ≡ v.put_faults
   pub faultless : OnAnswer result (w.faults ≡ v.faults)
   pub spent : IfErr result (λ e. e ≡ no.Device → c1.volume.is_spent ≡ true)
@@ -60,6 +62,7 @@ pub record IsLooked {X : Type 0} (told : Type 0) (start : World) (q : ShellAsk) 
   pub refused : told → IfErr result (λ e. e ≢ no.Device → (shell_step (shell_state f0 v.reads) q).answer ≡ refused e)
   pub sent : told → w.sent ≡ v.sent
   pub any_moment : told → LeavesOnly v w (λ x f. IsLeftOf start (shell_state f0 v.reads) x × (f ≡ v.sent))
+  pub behind : KeepsBehind told c0 c1 v w
   pub put_faults : w.put_faults ≡ v.put_faults
   pub faultless : OnAnswer result (w.faults ≡ v.faults)
   pub spent : IfErr result (λ e. e ≡ no.Device → c1.volume.is_spent ≡ true)
@@ -77,6 +80,7 @@ pub record IsServed {X : Type 0} (told : Type 0) (start : World) (q : ShellAsk) 
       → IfErr result (λ why. LeftBy why (shell_service start) (shell_state f0 v.reads) q (shell_state f1 w.reads)
       v.sent w.sent)
   pub any_moment : told → LeavesOnly v w (IsInAnswer (shell_service start) (shell_state f0 v.reads) q v.sent)
+  pub behind : KeepsBehind told c0 c1 v w
   pub stops : IfErr result (λ why. (why ≡ status.DeviceFault) ⊎ (why ≡ status.PutFault))
   pub faults : CountsFaultOf status.DeviceFault result v.faults w.faults
   pub put_faults : CountsFaultOf status.PutFault result v.put_faults w.put_faults

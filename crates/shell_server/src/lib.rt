@@ -12,7 +12,7 @@
 //!
 //! What it promises (`specs/Shell`): each ask is answered by the step of the tree, with the room of the world as it is;
 //! only an ask that is done changes the world. A crash at any moment leaves the tree before the ask or the one after
-//! it, by the whole answers sent.
+//! it, by the whole answers sent, and what lies behind the image as it was.
 #![tactic(auto)]
 
 mod answer;

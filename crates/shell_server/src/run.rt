@@ -2,10 +2,12 @@
 
 ghost use Rattle.std.specs.Prelude.{◌≡◌, ◌≢◌, ◌≤◌, true};
 ghost use Rattle.image_device.specs.Counts.{Rose};
+ghost use Rattle.image_device.specs.Runs.{LeavesPart};
+ghost use Rattle.image_world.specs.Behind.{behind};
 ghost use Rattle.image_world.specs.Stands.{world_of};
 ghost use Rattle.serving.specs.Handling.{FitsDevice};
 ghost use Rattle.serving.specs.Ran.{EndsOnce, Ran, moments, taking};
-ghost use Rattle.tsd_core.specs.Core.{IsCoreAt, IsCoreReady};
+ghost use Rattle.tsd_core.specs.Core.{IsCoreAt, IsCoreReady, told_world};
 ghost use Rattle.volume_laws.specs.Quiet.{IsQuiet};
 ghost use Rattle.volume_laws.specs.Writes.{due};
 ghost use Rattle.shell_server.specs.Kept.{AreReady, FitsShell, shell_state};
@@ -41,6 +43,8 @@ pub fn serve_shell<F: Files, L: Placing, K: Started, Y: Layout, S: Source, P: Po
         (shell_state (F.view files.old) (P.view port.old).reads) final limit
         (taking S.told S.taken S.left_bytes S.ended source.old source.new) (due core.old.volume)
         (moments P.told P.view port.old port.new) × (final.world ≡ world_of (P.view port.new).reads) }
+    // However it ended, a crash at any moment leaves what lies behind the image as it was.
+    ensures behind { P.told → LeavesPart (behind (told_world core.old).geometry) (P.view port.old) (P.view port.new) }
     // Unless the device failed, the core may be used again; else it is spent.
     ensures ready { result ≢ Status.DeviceFault → IsCoreReady core.new }
     ensures at { result ≢ Status.DeviceFault → P.told → IsCoreAt core.new (P.view port.new) }

@@ -1,7 +1,9 @@
 //! The shell as a server of the loop.
 
 ghost use Rattle.std.specs.Prelude.{◌≡◌, true};
+ghost use Rattle.image_world.specs.Behind.{behind};
 ghost use Rattle.serving.specs.Handling.{FitsDevice};
+ghost use Rattle.tsd_core.specs.Core.{told_world};
 ghost use Rattle.volume_laws.specs.Quiet.{IsQuiet};
 ghost use Rattle.volume_laws.specs.Writes.{due};
 ghost use Rattle.shell_server.specs.Carried.{IsServed};
@@ -55,6 +57,8 @@ impl<'a, F: Files, L: Placing, K: Started, Y: Layout> Server<ShellLines<Y>>
     ghost due = { λ h x. due h.core.now.volume };
 
     ghost is_closed = { IsQuiet };
+
+    ghost aside = { λ h. behind (told_world h.core.now).geometry };
 
     ghost lender = { λ h. h.core.ghost_name };
 

@@ -8,6 +8,7 @@ use Rattle.shell_server.specs.Kept.{shell_state}
 use Rattle.shell_server.proofs.CatLaws.{cat_answers, cat_in_parts, behind, line_end, line_headed, line_next, line_parts, no_size, not_refused, part_is, up_to, up_to_next, up_to_none, whole_line}
 use Rattle.shell_server.proofs.SendLaws.{line_served}
 use Rattle.shell_server.proofs.SpeakLaws.{speaks_none, speaks_put, speaks_look, speaks_lost, speaks_cut, speaks_end}
+use Rattle.core_blocks.proofs.BehindLaws.{behind_then}
 use Rattle.shell_server.proofs.answer.send_file.Goals as goal
 
 pub returns-in-Err : goal.returns-in-Err
@@ -69,7 +70,8 @@ returns-in-Err-part_on g c =
     let r = c.requires.told told in
     not_refused r.0 c.in-Err-part_on.field-0 (shell_step (shell_state f v.reads) q).answer r.1 (ap (λ (s : ShellState). (shell_step s q).answer) (sym (i.1.state told)) ∙ look.refused told other) in
     line_served g.P.Device.told start q f (g.F.Files.view c.part_on.new.files) c.args.core.now c.part_on.new.core v (g.P.Device.view c.part_on.new.dev) (g.P.Device.view c.send_end.new.port) (10 ∷ []) (look.ready.1 other)
-    (λ told. absurd (never told)) (λ told. absurd (never told)) (λ told. absurd (never told)) (λ told. absurd (never told)) (look.faultless.1 other ∙ i.1.faults) (look.put_faults ∙ i.1.put_faults) c.send_end.result c.send_end.ensures.stops c.send_end.ensures.puts
+    (λ told. absurd (never told)) (λ told. absurd (never told)) (λ told. absurd (never told)) (λ told. absurd (never told)) (look.faultless.1 other ∙ i.1.faults) (look.put_faults ∙ i.1.put_faults)
+    (behind_then g.P.Device.told c.args.core.now c.loop-start.core c.part_on.new.core v (g.P.Device.view c.loop-start.port) (g.P.Device.view c.part_on.new.dev) i.1.behind look.behind) c.send_end.result c.send_end.ensures.stops c.send_end.ensures.puts
 
 pub returns-in-Err-send_text : goal.returns-in-Err-send_text
 returns-in-Err-send_text g c =

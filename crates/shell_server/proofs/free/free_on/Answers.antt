@@ -1,7 +1,9 @@
 use Rattle.std.proofs.Common.{◌≡◌, ℕ, sym, refl, ◌∙◌, ap}
+use Rattle.image_device.specs.Runs.{IsFirm}
 use Rattle.fs_trees.specs.declared.ask.ShellAsk.TheVariants as ask
 use Rattle.fs_port.specs.Files.{step_on}
 use Rattle.core_blocks.specs.CoreView.{core_view}
+use Rattle.core_blocks.proofs.BehindLaws.{behind_called}
 use Rattle.shell_server.specs.Kept.{AreReady, FitsShell}
 use Rattle.shell_server.proofs.FreeLaws.{TellsFree, free_told, free_refused}
 use Rattle.shell_server.proofs.LookLaws.{looked_so}
@@ -18,10 +20,13 @@ returns g c =
     let p = c.free_blocks.ensures in
     let ready : AreReady f b.core.now = rw c.new-blocks.ensures.core_now c.requires.ready in
     let keeps : g.D.Device.told → FitsShell g.K.Started.start f b.core.now v.reads = λ told. rw (c.new-blocks.ensures.core_now, c.new-blocks.ensures.dev_now) (c.requires.at told).1 in
+    let firm : g.D.Device.told → IsFirm v = λ told. rw c.new-blocks.ensures.dev_now (c.requires.at told).0 in
     let core_is : c.core-1.given.0 ≡ d.core.now = c.core-1.given.1 (sym c.new-blocks.ensures.core ∙ sym (ap (λ n. n.0) p.counts.lenders)) in
     let dev_is : c.dev-1.given.0 ≡ d.dev.now = c.dev-1.given.1 (sym c.new-blocks.ensures.dev ∙ sym (ap (λ n. n.1) p.counts.lenders)) in
     rw (core_is, dev_is, ← c.new-blocks.ensures.core_now, ← c.new-blocks.ensures.dev_now)
     (looked_so g.K.Started.start f ask.Df ask.Df refl l (d.core.ghost_name, d.dev.ghost_name) kind (g.L.Placing.kind d.placement.now) b.core.now d.core.now v (g.D.Device.view d.dev.now)
     g.D.Device.told TellsFree c.free_blocks.result ready keeps d.ready d.at
     (λ told. free_told f (core_view l kind b.core.now v) c.free_blocks.result (p.value told)) (λ told. free_refused (step_on f (core_view l kind b.core.now v) ask.Df).answer c.free_blocks.result (p.only told))
-    p.looks p.crash (λ told. p.valid told (record { valid = (keeps told).kept.valid; fits = (keeps told).fits })) p.stays p.counts p.unspent p.faultless p.spent p.cause)
+    p.looks p.crash (λ told. p.valid told (record { valid = (keeps told).kept.valid; fits = (keeps told).fits })) p.stays p.counts p.unspent p.faultless p.spent p.cause
+    (behind_called g.D.Device.told l (d.core.ghost_name, d.dev.ghost_name) (g.L.Placing.kind b.placement.now) (g.L.Placing.kind d.placement.now) b.core.now d.core.now v (g.D.Device.view d.dev.now) _
+    (λ told. g.met.D.Device.sound b.dev.now told) (λ told. g.met.D.Device.sound d.dev.now told) firm p.counts p.crash))

@@ -9,6 +9,7 @@ use Rattle.fs_laws.specs.Small.{IsNameListing}
 use Rattle.shell_server.proofs.LsLaws.{behind, first_is, lists, line_headed, ls_answers, ls_in_parts, ls_not_refused, next_is, no_names, said_all, said_most, said_next, said_none, said_piece, whole_line}
 use Rattle.shell_server.proofs.SendLaws.{line_served}
 use Rattle.shell_server.proofs.SpeakLaws.{speaks_none, speaks_put, speaks_look, speaks_lost, speaks_cut, speaks_end}
+use Rattle.core_blocks.proofs.BehindLaws.{behind_then}
 use Rattle.shell_server.proofs.listing.send_names.Goals as goal
 
 pub returns-in-Err : goal.returns-in-Err
@@ -151,7 +152,8 @@ returns-in-Err-next_on g c =
     let r = c.requires.told told in
     ls_not_refused r.0 c.in-Err-next_on.field-0 (shell_step s q).answer r.1 (ap (λ (u : ShellState). (shell_step u q).answer) (sym (spoken.state told)) ∙ look.refused told other) in
     line_served g.P.Device.told start q f (g.F.Files.view c.next_on.new.files) c.args.core.now c.next_on.new.core v (g.P.Device.view c.next_on.new.dev) (g.P.Device.view c.send_end-in-Err-next_on.new.port) (10 ∷ []) (look.ready.1 other)
-    (λ told. absurd (never told)) (λ told. absurd (never told)) (λ told. absurd (never told)) (λ told. absurd (never told)) (look.faultless.1 other ∙ spoken.faults) (look.put_faults ∙ spoken.put_faults) c.send_end-in-Err-next_on.result c.send_end-in-Err-next_on.ensures.stops c.send_end-in-Err-next_on.ensures.puts
+    (λ told. absurd (never told)) (λ told. absurd (never told)) (λ told. absurd (never told)) (λ told. absurd (never told)) (look.faultless.1 other ∙ spoken.faults) (look.put_faults ∙ spoken.put_faults)
+    (behind_then g.P.Device.told c.args.core.now c.loop-left.core c.next_on.new.core v z (g.P.Device.view c.next_on.new.dev) spoken.behind look.behind) c.send_end-in-Err-next_on.result c.send_end-in-Err-next_on.ensures.stops c.send_end-in-Err-next_on.ensures.puts
 
 pub loop-left-preserved : goal.loop-left-preserved
 loop-left-preserved g c =

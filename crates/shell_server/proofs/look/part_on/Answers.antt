@@ -1,6 +1,8 @@
 use Rattle.std.proofs.Common.{◌≡◌, ℕ, cond, sym, ◌∙◌, ap}
+use Rattle.image_device.specs.Runs.{IsFirm}
 use Rattle.fs_trees.specs.declared.ask.ShellAsk.TheVariants as ask
 use Rattle.fs_port.specs.Files.{TellsPart}
+use Rattle.core_blocks.proofs.BehindLaws.{behind_called}
 use Rattle.shell_server.specs.Kept.{AreReady, FitsShell}
 use Rattle.shell_server.proofs.LookLaws.{looked}
 use Rattle.shell_server.proofs.look.part_on.Goals as goal
@@ -19,9 +21,12 @@ returns g c =
     let p = c.read_part.ensures in
     let ready : AreReady f b.core.now = rw c.new-blocks.ensures.core_now c.requires.ready in
     let keeps : g.D.Device.told → FitsShell g.K.Started.start f b.core.now v.reads = λ told. rw (c.new-blocks.ensures.core_now, c.new-blocks.ensures.dev_now) (c.requires.at told).1 in
+    let firm : g.D.Device.told → IsFirm v = λ told. rw c.new-blocks.ensures.dev_now (c.requires.at told).0 in
     let core_is : c.core-1.given.0 ≡ d.core.now = c.core-1.given.1 (sym c.new-blocks.ensures.core ∙ sym (ap (λ n. n.0) p.looks.runs.counts.lenders)) in
     let dev_is : c.dev-1.given.0 ≡ d.dev.now = c.dev-1.given.1 (sym c.new-blocks.ensures.dev ∙ sym (ap (λ n. n.1) p.looks.runs.counts.lenders)) in
     rw (core_is, dev_is, ← c.new-blocks.ensures.core_now, ← c.new-blocks.ensures.dev_now, p.same)
     (looked g.K.Started.start f ask_it ask_it (ap (λ t. cond t ask_it ask.Bad) c.requires.named) l (d.core.ghost_name, d.dev.ghost_name) (g.L.Placing.kind b.placement.now) (g.L.Placing.kind d.placement.now) b.core.now d.core.now v (g.D.Device.view d.dev.now)
     g.D.Device.told (λ x. TellsPart c.args.start c.read_part.new.into) c.read_part.result ready keeps d.ready d.at
-    p.answer p.looks)
+    p.answer p.looks
+    (behind_called g.D.Device.told l (d.core.ghost_name, d.dev.ghost_name) (g.L.Placing.kind b.placement.now) (g.L.Placing.kind d.placement.now) b.core.now d.core.now v (g.D.Device.view d.dev.now) _
+    (λ told. g.met.D.Device.sound b.dev.now told) (λ told. g.met.D.Device.sound d.dev.now told) firm p.looks.runs.counts p.looks.runs.crash))

@@ -1,6 +1,8 @@
 use Rattle.std.proofs.Common.{◌≡◌, ℕ, cond, refl, sym, ◌∙◌, ap}
+use Rattle.image_device.specs.Runs.{IsFirm}
 use Rattle.fs_trees.specs.declared.ask.ShellAsk.TheVariants as ask
 use Rattle.core_blocks.specs.CoreView.{core_view}
+use Rattle.core_blocks.proofs.BehindLaws.{behind_called}
 use Rattle.shell_server.specs.Kept.{AreReady, FitsShell}
 use Rattle.shell_server.proofs.ChangeLaws.{carried, rm_of_change, rm_unmounted, rm_stays}
 use Rattle.shell_server.proofs.put.remove_on.Goals as goal
@@ -20,6 +22,7 @@ returns g c =
     let p = c.remove.ensures in
     let ready : AreReady f b.core.now = rw c.new-blocks.ensures.core_now c.requires.ready in
     let keeps : g.D.Device.told → FitsShell g.K.Started.start f b.core.now v.reads = λ told. rw (c.new-blocks.ensures.core_now, c.new-blocks.ensures.dev_now) (c.requires.at told).1 in
+    let firm : g.D.Device.told → IsFirm v = λ told. rw c.new-blocks.ensures.dev_now (c.requires.at told).0 in
     let core_is : c.core-1.given.0 ≡ d.core.now = c.core-1.given.1 (sym c.new-blocks.ensures.core ∙ sym (ap (λ n. n.0) p.changes.counts.lenders)) in
     let dev_is : c.dev-1.given.0 ≡ d.dev.now = c.dev-1.given.1 (sym c.new-blocks.ensures.dev ∙ sym (ap (λ n. n.1) p.changes.counts.lenders)) in
     rw (core_is, dev_is, ← c.new-blocks.ensures.core_now, ← c.new-blocks.ensures.dev_now, p.same)
@@ -28,4 +31,6 @@ returns g c =
     (rm_unmounted f (core_view l kind b.core.now v) c.args.path.now)
     g.D.Device.told c.remove.result ready keeps d.ready d.at
     (λ told mounted. rm_stays f (core_view l kind b.core.now v) c.args.path.now mounted ((keeps told).there mounted))
-    p.answer p.changes)
+    p.answer p.changes
+    (behind_called g.D.Device.told l (d.core.ghost_name, d.dev.ghost_name) (g.L.Placing.kind b.placement.now) (g.L.Placing.kind d.placement.now) b.core.now d.core.now v (g.D.Device.view d.dev.now) _
+    (λ told. g.met.D.Device.sound b.dev.now told) (λ told. g.met.D.Device.sound d.dev.now told) firm p.changes.counts p.changes.crash))

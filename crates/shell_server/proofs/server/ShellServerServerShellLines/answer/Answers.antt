@@ -1,5 +1,6 @@
-use Rattle.std.proofs.Common.{refl, arith}
+use Rattle.std.proofs.Common.{refl, ap, arith}
 use Rattle.std.specs.Prelude.{Result, Ok, Err, OnOk}
+use Rattle.image_world.specs.Behind.{behind}
 use Rattle.serving.specs.Prompt.{mark}
 use Rattle.shell_server.proofs.server.ShellServerServerShellLines.answer.Goals as goal
 
@@ -12,3 +13,9 @@ pub returns-clause-prompt : goal.returns-clause-prompt
 returns-clause-prompt g c told =
     let new = mark (g.P.Device.view c.answer_ask.new.port) in
     on_ok c.answer_ask.result _ (record { replied = new; of_port = (c.answer_ask.new.port, refl); sent = refl; before = λ bounded. absurd bounded; behind = omega arith })
+
+pub returns-clause-aside : goal.returns-clause-aside
+returns-clause-aside g c = ap behind c.answer_ask.ensures.behind.size
+
+pub returns-clause-aside_kept : goal.returns-clause-aside_kept
+returns-clause-aside_kept g c = c.answer_ask.ensures.behind.any_moment
