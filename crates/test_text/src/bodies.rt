@@ -1,6 +1,8 @@
 //! Bodies: that the spellings of requests and replies are the ones that we mean, by examples.
 
-use request_frames::{FrameBuf, decode_body, decode_reply, encode_reply, encode_request};
+use request_frames::{
+    FrameBuf, decode_body, decode_reply, encode_reply, encode_request, short_frame,
+};
 use std::process::Abort;
 use tsd_model::{BlockList, Cap, CapPair, Data, Hint, Level, Reply, Request, Rule, Shown};
 
@@ -190,6 +192,20 @@ fn is_reply(rt: &impl Abort, length: u8, body: &[u8], reply: &Reply) {
         }
         None => assert!(rt; false, "{body:?}"),
     }
+}
+
+/// The bytes of a block have a short frame where they are at most 1,024, and it is their frame.
+#[test]
+fn short_frames_end_at_1024_bytes(rt: HostRuntime) {
+    let most = Reply::Bytes(data([7; 1024].as_slice()));
+    let mut frame = FrameBuf::new();
+    encode_reply(&most, &mut frame);
+    match short_frame(&most) {
+        Some(short) => assert_eq!(rt; short.as_slice(), frame.as_slice()),
+        None => assert!(rt; false, "no short frame of 1,024 bytes"),
+    }
+    let more = Reply::Bytes(data([7; 1025].as_slice()));
+    assert!(rt; short_frame(&more).is_none());
 }
 
 /// The replies of the worked example and each other one that isn't a refusal.
