@@ -30,6 +30,7 @@ use Rattle.tsd_words.specs.declared.status.Status.TheVariants as status
 use Rattle.tsd_core.specs.Core.{Core, IsCoreReady, sessions_of, state_on, told_state, told_world}
 use Rattle.tsd_core.specs.Core.{IsCoreAt}
 use Rattle.tsd_core.specs.Applying.{IsReplyLike, IsToldAnswer, next_world}
+use Rattle.core_blocks.specs.Behind.{KeepsBehind}
 use Rattle.image_shell.specs.FromCore.{IsAtStart, IsSessionBegun}
 
 open_mapped : (f : Held → Held) (o : Option Held) → is_some (option_map f o) ≡ is_some o
@@ -75,7 +76,7 @@ pub valid_now : (start : World) (c : Core) (v : View) → IsAtStart start c v �
 valid_now start c v at = (subst IsValid (sym at.world) at.valid, subst (λ (w : World). Fits w (sessions_of c)) (sym at.world) at.fits)
 
 module _ (told : Type 0) (start : World) (kind : PlaceKind) (c0 c1 : Core) (v w : View) (none : c0.grants.sessions ≡ no_sessions) (at : told → IsAtStart start c0 v)
-    (sent : told → w.sent ≡ v.sent) (any : told → LeavesEither v w (next_world kind (state_on c0 v.reads) (ask.Begin 1))) (works : Works v w) where
+    (sent : told → w.sent ≡ v.sent) (any : told → LeavesEither v w (next_world kind (state_on c0 v.reads) (ask.Begin 1))) (works : Works v w) (aside : KeepsBehind told c0 c1 v w) where
   either_start : told → (x : Image) → StandsForEither (world_on v) (next_world kind (state_on c0 v.reads) (ask.Begin 1)) x → Stands x start
   either_start t x (inl before) = subst (λ (u : World). Stands x u) (at t).world before
   either_start t x (inr next) = subst (λ (u : World). Stands x u) (begin_world kind (state_on c0 v.reads) false ∙ (at t).world) next
@@ -109,6 +110,7 @@ module _ (told : Type 0) (start : World) (kind : PlaceKind) (c0 c1 : Core) (v w 
         at = λ t. at_next t (core t) (subst (λ (o : Reply). IsAnswer kind (state_on c0 v.reads) (ask.Begin 1) o (state_on c1 w.reads)) done (given t));
         sent = sent;
         any_moment = moments;
+        behind = aside;
         stops = tt;
         clock = works.clock;
         put_faults = works.put_faults;
@@ -123,6 +125,7 @@ module _ (told : Type 0) (start : World) (kind : PlaceKind) (c0 c1 : Core) (v w 
     at = λ t. tt;
     sent = sent;
     any_moment = moments;
+    behind = aside;
     stops = inr refl;
     clock = works.clock;
     put_faults = works.put_faults;
@@ -137,6 +140,7 @@ module _ (told : Type 0) (start : World) (kind : PlaceKind) (c0 c1 : Core) (v w 
     at = λ t. tt;
     sent = sent;
     any_moment = moments;
+    behind = aside;
     stops = inl refl;
     clock = works.clock;
     put_faults = works.put_faults;

@@ -1,5 +1,5 @@
 -- The tree mounted on the disk, where one is there.
-use Rattle.std.proofs.Common.{◌≡◌, inl, inr, ℕ, Bool, true, false, List, sym, ◌∙◌, ap, subst}
+use Rattle.std.proofs.Common.{◌≡◌, inl, inr, ℕ, Bool, true, false, List, sym, ◌∙◌, ap, subst, arith}
 use Rattle.std.specs.Prelude.{Result, Ok, Err, IsTrue, MatchResult}
 use Rattle.tsd_model.specs.World.{World}
 use Rattle.tsd_model.specs.declared.requests.PlaceKind.{PlaceKind}
@@ -16,6 +16,7 @@ use Rattle.fs_port.specs.Calls.{IsValidNow, Stays}
 use Rattle.fs_port.specs.Files.{FilesView, IsTreeAlone, LeavesTidyWorld, OnAnswer, mounted_now, unmounted_now}
 use Rattle.fs_port.specs.Runs.{FindsTree, Runs}
 use Rattle.tsd_core.specs.Core.{Core, IsCoreAt, IsCoreReady}
+use Rattle.core_blocks.specs.Behind.{KeepsBehind}
 use Rattle.core_blocks.specs.CoreView.{core_view}
 use Rattle.core_blocks.proofs.ImageLaws.{IsImageOf, images_left}
 use Rattle.serving.specs.Handling.{FitsDevice}
@@ -51,15 +52,16 @@ module _ (start : World) (f g : FilesView) (l m : ℕ × ℕ) (kind placement : 
   module _ (told : Type 0) (here : told → world_of v.reads ≡ start) where
     pub mounted_by : {X : Type 0} (result : Result X FsRefusal) → AreReady f c0 → (c1.volume.is_spent ≡ false → IsCoreReady c1) → (told → c1.volume.is_spent ≡ false → IsCoreAt c1 w)
         → (told → FindsTree f old new result) → Runs told old new (IsTreeAlone f old) result → MatchResult result (λ x. g ≡ mounted_now f) (λ e. g ≡ unmounted_now f)
-        → IsMounted told start f g c0 c1 v w result
-    mounted_by {X = X} result ready core_ready core_at finds runs mounted = record {
+        → KeepsBehind told c0 c1 v w → IsMounted told start f g c0 c1 v w result
+    mounted_by {X = X} result ready core_ready core_at finds runs mounted aside = record {
       ready = ready_by result runs.stays runs.unspent mounted;
       at = λ t. subst (λ (u : World). OnAnswer result (FitsDevice (FitsShell u g c1) w)) (here t) (at_by t result (finds t) (runs.valid t) mounted runs.unspent);
       first = λ t. subst (λ (u : World). OnAnswer result (IsFirstState f u (shell_state g w.reads))) (here t) (first_by result (finds t) (runs.valid t) mounted);
       sent = λ t. (runs.crash t).sent;
       any_moment = λ t. subst (λ (u : World). LeavesOnly v w (λ x h. IsLeftOf u (record { files = f; world = u }) x × (h ≡ v.sent))) (here t)
           (weakened v w (IsImageOf (IsTreeAlone f old) v.sent) (λ x h. IsLeftOf (world_of v.reads) (record { files = f; world = world_of v.reads }) x × (h ≡ v.sent)) (images_left l m kind placement c0 c1 v w (IsTreeAlone f old) (runs.crash t)) left_of);
-      clock = runs.counts.clock;
+      behind = aside;
+      clock = omega (arith, runs.counts.clock);
       put_faults = runs.counts.put_faults;
       faultless = runs.faultless;
       cause = runs.cause;

@@ -24,6 +24,7 @@ use Rattle.serving.specs.Ran.{AskedBy, ByStatus, Moments, Taking}
 use Rattle.serving.specs.Runs.{IsAcknowledged}
 use Rattle.serving.specs.Seen.{IsSeenRun}
 use Rattle.tsd_core.specs.Core.{Core, IsCoreAt, IsCoreReady, sessions_of, told_world}
+use Rattle.core_blocks.specs.Behind.{KeepsBehind}
 use Rattle.image_runs.specs.Served.{IsAtEase}
 use Rattle.shell_server.specs.Lines.{shell_spelling}
 use Rattle.shell_server.specs.Shell.{ShellState, IsLeftOf, shell_service}
@@ -48,6 +49,7 @@ pub record IsSessionBegun {X : Type 0} (told : Type 0) (start : World) (c0 c1 : 
   pub at : told → OnOk result (IsAtStart start c1 w)
   pub sent : told → w.sent ≡ v.sent
   pub any_moment : told → LeavesOnly v w (λ x f. Stands x start × (f ≡ v.sent))
+  pub behind : KeepsBehind told c0 c1 v w
   pub stops : IfErr result (λ why. (why ≡ status.DeviceFault) ⊎ (why ≡ status.NoMemory))
   pub clock : v.clock ≤ w.clock
   pub put_faults : w.put_faults ≡ v.put_faults
@@ -61,6 +63,7 @@ pub record IsMounted {X : Type 0} (told : Type 0) (start : World) (f0 f1 : Files
   pub first : told → OnAnswer result (IsFirstState f0 start (shell_state f1 w.reads))
   pub sent : told → w.sent ≡ v.sent
   pub any_moment : told → LeavesOnly v w (λ x f. IsLeftOf start (record { files = f0; world = start }) x × (f ≡ v.sent))
+  pub behind : KeepsBehind told c0 c1 v w
   pub clock : v.clock ≤ w.clock
   pub put_faults : w.put_faults ≡ v.put_faults
   pub faultless : OnAnswer result (w.faults ≡ v.faults)

@@ -2,6 +2,8 @@
 
 ghost use Rattle.std.specs.Prelude.{◌≡◌, ◌≢◌, ◌≤◌};
 ghost use Rattle.image_device.specs.Counts.{Rose};
+ghost use Rattle.image_device.specs.Runs.{IsFirm};
+ghost use Rattle.image_world.specs.Behind.{LeavesBehind};
 ghost use Rattle.fs_trees.specs.declared.ask.ShellKind.TheVariants as kind;
 ghost use Rattle.serving.specs.Ran.{EndsOnce, moments, taking};
 ghost use Rattle.image_runs.specs.Opened.{IsNotImage};
@@ -41,6 +43,8 @@ pub fn serve_inode_image<S: Source, P: Port>(
     ensures untouched { P.told → IsForeign (P.view port.old).reads
         → IsUntouched (P.view port.old) (P.view port.new) }
     ensures spared { P.told → IsNotImage result → IsSpared (P.view port.old) (P.view port.new) }
+    // However it ended, a crash at any moment leaves what lies behind the image as it was.
+    ensures behind { P.told → IsFirm (P.view port.old) → LeavesBehind (P.view port.old) (P.view port.new) }
     ensures once { EndsOnce (S.ends source.old) (S.ends source.new) }
     ensures source_fault { result ≡ Status.SourceFault → Rose (S.faults source.old) (S.faults source.new) }
     ensures device_fault { result ≡ Status.DeviceFault → Rose (P.view port.old).faults (P.view port.new).faults }
@@ -78,6 +82,8 @@ pub fn serve_chain_image<S: Source, P: Port>(
     ensures untouched { P.told → IsForeign (P.view port.old).reads
         → IsUntouched (P.view port.old) (P.view port.new) }
     ensures spared { P.told → IsNotImage result → IsSpared (P.view port.old) (P.view port.new) }
+    // However it ended, a crash at any moment leaves what lies behind the image as it was.
+    ensures behind { P.told → IsFirm (P.view port.old) → LeavesBehind (P.view port.old) (P.view port.new) }
     ensures once { EndsOnce (S.ends source.old) (S.ends source.new) }
     ensures source_fault { result ≡ Status.SourceFault → Rose (S.faults source.old) (S.faults source.new) }
     ensures device_fault { result ≡ Status.DeviceFault → Rose (P.view port.old).faults (P.view port.new).faults }

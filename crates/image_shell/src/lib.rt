@@ -12,8 +12,8 @@
 //! What it promises (`specs/Served`): by its status, which asks the bytes that came in hold, and what of their answers
 //! was sent, each by the step of the tree that the image held at the start. Each state of the run rested in an image
 //! that a crash may have left, with the answers before it sent. A crash at any moment leaves the tree after as many
-//! asks
-//! as whole answers were sent, or the one after one ask more, and what the root doesn't reach as it was at the start.
+//! asks as whole answers were sent, or the one after one ask more, and as they were at the start what the root doesn't
+//! reach and what lies behind the image.
 //! RootDenied comes exactly where the capability doesn't attain write at the root; then the world is as it was.
 #![tactic(auto)]
 

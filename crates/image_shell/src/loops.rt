@@ -4,8 +4,10 @@ ghost use Rattle.std.specs.Prelude.{◌≡◌, ◌≢◌, ◌≤◌, true};
 ghost use Rattle.fs_trees.specs.declared.ask.ShellKind.TheVariants as kind;
 ghost use Rattle.inode_fs.specs.View.{inode_view};
 ghost use Rattle.chain_fs.specs.View.{chain_view};
+ghost use Rattle.image_device.specs.Runs.{LeavesPart};
+ghost use Rattle.image_world.specs.Behind.{behind};
 ghost use Rattle.serving.specs.Ran.{EndsOnce, moments, taking};
-ghost use Rattle.tsd_core.specs.Core.{IsCoreAt, IsCoreReady};
+ghost use Rattle.tsd_core.specs.Core.{IsCoreAt, IsCoreReady, told_world};
 ghost use Rattle.volume_laws.specs.Quiet.{IsQuiet};
 ghost use Rattle.volume_laws.specs.Writes.{due};
 ghost use Rattle.shell_server.specs.Kept.{AreReady};
@@ -41,6 +43,8 @@ pub fn serve_inode<S: Source, P: Port>(
     ensures ran { LoopRan result (inode_view files.old) kind.Inode limit
         (taking S.told S.taken S.left_bytes S.ended source.old source.new) (due core.old.volume)
         (moments P.told P.view port.old port.new) }
+    // However it ended, a crash at any moment leaves what lies behind the image as it was.
+    ensures behind { P.told → LeavesPart (behind (told_world core.old).geometry) (P.view port.old) (P.view port.new) }
     // Unless the device failed, the core may be used again; else it is spent.
     ensures ready { result ≢ Status.DeviceFault → IsCoreReady core.new }
     ensures at { result ≢ Status.DeviceFault → P.told → IsCoreAt core.new (P.view port.new) }
@@ -74,6 +78,8 @@ pub fn serve_chain<S: Source, P: Port>(
     ensures ran { LoopRan result (chain_view files.old) kind.Chain limit
         (taking S.told S.taken S.left_bytes S.ended source.old source.new) (due core.old.volume)
         (moments P.told P.view port.old port.new) }
+    // However it ended, a crash at any moment leaves what lies behind the image as it was.
+    ensures behind { P.told → LeavesPart (behind (told_world core.old).geometry) (P.view port.old) (P.view port.new) }
     // Unless the device failed, the core may be used again; else it is spent.
     ensures ready { result ≢ Status.DeviceFault → IsCoreReady core.new }
     ensures at { result ≢ Status.DeviceFault → P.told → IsCoreAt core.new (P.view port.new) }

@@ -3,6 +3,8 @@
 ghost use Rattle.std.specs.Prelude.{◌≡◌, ◌≤◌};
 ghost use Rattle.tsd_model.specs.Sessions.{no_sessions};
 ghost use Rattle.tsd_model.specs.declared.requests.Level.TheVariants as level;
+ghost use Rattle.image_device.specs.Runs.{LeavesPart};
+ghost use Rattle.image_world.specs.Behind.{behind};
 ghost use Rattle.tsd_core.specs.Core.{IsCoreReady, told_world};
 ghost use Rattle.serving.specs.Ran.{EndsOnce, moments, taking};
 ghost use Rattle.shell_server.specs.Kept.{AreReady};
@@ -40,6 +42,8 @@ pub fn serve_opened<F: Files, L: Placing, K: Started, Y: Layout, S: Source, P: P
     ensures ran { RanFrom result (F.view files.old) Y.layout limit
         (taking S.told S.taken S.left_bytes S.ended source.old source.new) K.start
         (moments P.told P.view port.old port.new) }
+    // However it ended, a crash at any moment leaves what lies behind the image as it was.
+    ensures behind { P.told → LeavesPart (behind (told_world core.old).geometry) (P.view port.old) (P.view port.new) }
     ensures once { EndsOnce (S.ends source.old) (S.ends source.new) }
     ensures faults { TellsFaults result (S.faults source.old) (S.faults source.new) (P.view port.old)
         (P.view port.new) }
@@ -115,6 +119,8 @@ pub fn serve_begun<F: Files, L: Placing, K: Started, Y: Layout, S: Source, P: Po
     ensures ran { RanFrom result (F.view files.old) Y.layout limit
         (taking S.told S.taken S.left_bytes S.ended source.old source.new) K.start
         (moments P.told P.view port.old port.new) }
+    // However it ended, a crash at any moment leaves what lies behind the image as it was.
+    ensures behind { P.told → LeavesPart (behind (told_world core.old).geometry) (P.view port.old) (P.view port.new) }
     ensures once { EndsOnce (S.ends source.old) (S.ends source.new) }
     ensures faults { TellsFaults result (S.faults source.old) (S.faults source.new) (P.view port.old)
         (P.view port.new) }

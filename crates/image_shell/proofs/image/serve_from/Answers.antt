@@ -1,7 +1,11 @@
-use Rattle.std.proofs.Common.{refl, sym, ◌∙◌, append-nil}
+use Rattle.std.proofs.Common.{refl, sym, ◌∙◌, ap, subst, append-nil}
+use Rattle.image_device.specs.Runs.{LeavesPart}
 use Rattle.image_runs.proofs.Opened.{not_foreign}
+use Rattle.image_world.specs.Behind.{behind}
 use Rattle.image_world.proofs.CapsLaws.{loaded_is_no_fault}
 use Rattle.tsd_words.specs.declared.status.Status.TheVariants as status
+use Rattle.tsd_model.specs.Step.{State}
+use Rattle.core_blocks.proofs.BehindLaws.{behind_after, size_at}
 use Rattle.image_shell.proofs.StartLaws.{admitted_image, judged_start, ran_opened, ran_unopened, start_here}
 use Rattle.image_shell.proofs.image.serve_from.Goals as goal
 
@@ -49,3 +53,15 @@ returns-in-Err-clause-untouched g c = c.open_core.ensures.untouched
 
 pub returns-in-Err-clause-spared : goal.returns-in-Err-clause-spared
 returns-in-Err-clause-spared g c told h = c.in-Err.ensures.spared told h
+
+pub returns-in-Ok-clause-behind : goal.returns-in-Ok-clause-behind
+returns-in-Ok-clause-behind g c told firm =
+    let o = c.in-Ok.ensures in
+    let old = g.P.Device.view c.args.port.now in
+    let mid = g.P.Device.view c.open_core.new.dev in
+    let new = g.P.Device.view c.serve_opened.new.port in
+    behind_after old mid new (g.met.P.Device.sound c.open_core.new.dev told) (ap (λ (s : State). s.world) (o.state told)) (c.open_core.ensures.behind told firm)
+    (subst (λ size. LeavesPart (behind size) mid new) (size_at c.in-Ok.core mid (o.at told)) (c.serve_opened.ensures.behind told))
+
+pub returns-in-Err-clause-behind : goal.returns-in-Err-clause-behind
+returns-in-Err-clause-behind g c = c.open_core.ensures.behind

@@ -1,4 +1,6 @@
 use Rattle.std.proofs.Common.{refl, sym, append-nil}
+use Rattle.image_device.proofs.Parts.{part_stays}
+use Rattle.image_world.specs.Behind.{behind, size_of_image}
 use Rattle.image_shell.proofs.StartLaws.{ran_unstarted}
 use Rattle.image_shell.proofs.kinds.serve_chain_image.Goals as goal
 
@@ -8,3 +10,8 @@ returns-in-Err-clause-ran g c =
 
 pub returns-in-Err-clause-untouched : goal.returns-in-Err-clause-untouched
 returns-in-Err-clause-untouched g c told foreign = record { writes = refl; reads = refl }
+
+pub returns-in-Err-clause-behind : goal.returns-in-Err-clause-behind
+returns-in-Err-clause-behind g c told firm =
+    let v = g.P.Device.view c.args.port.now in
+    part_stays (behind (size_of_image v.reads)) v (g.met.P.Device.sound c.args.port.now told) firm

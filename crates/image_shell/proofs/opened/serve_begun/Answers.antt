@@ -1,6 +1,7 @@
 use Rattle.std.proofs.Common.{◌≡◌, inl, inr, [], refl, sym, append-nil}
 use Rattle.image_device.proofs.Moments.{weakened}
 use Rattle.tsd_words.specs.declared.status.Status.TheVariants as status
+use Rattle.core_blocks.proofs.BehindLaws.{behind_until}
 use Rattle.shell_server.specs.Shell.{IsLeftOf}
 use Rattle.image_shell.specs.FromCore.{IsAsAtStart}
 use Rattle.image_shell.proofs.FromLaws.{not_device, ran_mounted}
@@ -48,3 +49,14 @@ returns-else-is_device-clause-ran g c =
     let f = g.F.Files.view c.args.files.now in
     ran_mounted c.serve_shell-in-Err.result f (g.F.Files.view c.mount_on.new.files) g.Y.Layout.layout c.args.limit _ g.P.Device.told _ _ g.K.Started.start c.serve_shell-in-Err.new.core v w new _
     (λ t. (c.requires.at t).valid) m.sent m.any_moment m.clock (λ t. (m.first t).1 (not_device c.in-Err.why c.is_device.result c.is_device.ensures c.if-is_device.false)) c.serve_shell-in-Err.ensures.at c.serve_shell-in-Err.ensures.closed c.serve_shell-in-Err.ensures.ran
+
+pub returns-then-is_device-clause-behind : goal.returns-then-is_device-clause-behind
+returns-then-is_device-clause-behind g c = c.mount_on.ensures.behind.any_moment
+
+pub returns-in-Ok-clause-behind : goal.returns-in-Ok-clause-behind
+returns-in-Ok-clause-behind g c =
+    behind_until g.P.Device.told c.args.core.now c.mount_on.new.core (g.P.Device.view c.args.port.now) (g.P.Device.view c.mount_on.new.dev) (g.P.Device.view c.serve_shell.new.port) c.in-Ok.ensures.behind c.serve_shell.ensures.behind
+
+pub returns-else-is_device-clause-behind : goal.returns-else-is_device-clause-behind
+returns-else-is_device-clause-behind g c =
+    behind_until g.P.Device.told c.args.core.now c.mount_on.new.core (g.P.Device.view c.args.port.now) (g.P.Device.view c.mount_on.new.dev) (g.P.Device.view c.serve_shell-in-Err.new.port) c.in-Err.ensures.behind c.serve_shell-in-Err.ensures.behind

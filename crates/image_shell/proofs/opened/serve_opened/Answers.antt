@@ -1,7 +1,11 @@
 use Rattle.std.proofs.Common.{◌≡◌, inl, [], refl, sym, ◌∙◌, append-nil}
 use Rattle.tsd_model.specs.declared.requests.Level.TheVariants as level
 use Rattle.image_device.proofs.Moments.{weakened}
+use Rattle.image_device.proofs.Parts.{part_stays}
+use Rattle.image_world.specs.Behind.{behind}
 use Rattle.image_world.specs.Stands.{Stands}
+use Rattle.tsd_core.specs.Core.{told_world}
+use Rattle.core_blocks.proofs.BehindLaws.{behind_until}
 use Rattle.tsd_words.specs.declared.status.Status.TheVariants as status
 use Rattle.image_shell.specs.FromCore.{IsAsAtStart}
 use Rattle.image_shell.proofs.FromLaws.{allowed_by, is_write, level_told, moments_of_start, not_served, not_write, ran_earlier}
@@ -62,3 +66,14 @@ returns-in-Err-clause-ran g c =
         alike = λ t. weakened v w (λ x h. Stands x start × (h ≡ v.sent)) (λ x h. IsAsAtStart c.in-Err.why f start x × (h ≡ v.sent)) (b.any_moment t) (λ x h left. (inl left.0, left.1));
       });
     }
+
+pub returns-then-is_below_write-clause-behind : goal.returns-then-is_below_write-clause-behind
+returns-then-is_below_write-clause-behind g c told =
+    part_stays (behind (told_world c.args.core.now).geometry) (g.P.Device.view c.args.port.now) (g.met.P.Device.sound c.args.port.now told) (c.requires.at told).core.0
+
+pub returns-in-Ok-clause-behind : goal.returns-in-Ok-clause-behind
+returns-in-Ok-clause-behind g c =
+    behind_until g.P.Device.told c.args.core.now c.begin_on.new.core (g.P.Device.view c.args.port.now) (g.P.Device.view c.begin_on.new.dev) (g.P.Device.view c.serve_begun.new.port) c.begin_on.ensures.behind c.serve_begun.ensures.behind
+
+pub returns-in-Err-clause-behind : goal.returns-in-Err-clause-behind
+returns-in-Err-clause-behind g c = c.begin_on.ensures.behind.any_moment
