@@ -1,5 +1,5 @@
 -- The source mounted and copied on a disk.
-use Rattle.std.proofs.Common.{◌≡◌, ◌≢◌, ◌≤◌, ◌⊎◌, inl, inr, ⊎_elim, ℕ, ◌<◌, true, false, refl, sym, ◌∙◌, ap, subst}
+use Rattle.std.proofs.Common.{◌≡◌, ◌≢◌, ◌⊎◌, inl, inr, ⊎_elim, ℕ, ◌<◌, false, refl, sym, ◌∙◌, ap, subst}
 use Rattle.std.specs.Prelude.{Result, Ok, Err, IfOk, IfErr, OnOk, slice_get}
 use Rattle.tsd_model.specs.World.{World}
 use Rattle.tsd_model.specs.Valid.{IsValid}
@@ -8,7 +8,7 @@ use Rattle.image_device.specs.Counts.{CountsFault, Rose}
 use Rattle.fs_trees.specs.Copying.{copy_steps, partial}
 use Rattle.fs_trees.specs.Layouts.{tree_at}
 use Rattle.fs_trees.specs.Outside.{OthersStay}
-use Rattle.fs_trees.specs.Tree.{Tree, is_there}
+use Rattle.fs_trees.specs.Tree.{Tree}
 use Rattle.fs_trees.specs.declared.refusal.FsRefusal.{FsRefusal}
 use Rattle.fs_trees.specs.declared.refusal.FsRefusal.TheVariants as fs
 use Rattle.fs_laws.specs.Apart.{AreApart}
@@ -28,7 +28,7 @@ use Rattle.tsd_words.specs.declared.status.Status.TheVariants as status
 use Rattle.shell_server.specs.Shell.{tree_under}
 use Rattle.image_copy.specs.declared.ending.CopyEnd.TheVariants as end
 use Rattle.image_copy.specs.Lines.{HasWords}
-use Rattle.image_copy.specs.Ends.{EndsAs, IsMounted, IsPartlyCopied, IsTrimmed, IsUnderWay, SourceStays}
+use Rattle.image_copy.specs.Ends.{EndsAs, IsMounted, IsTrimmed, IsUnderWay, SourceStays}
 use Rattle.image_copy.specs.Steps.{CopiesBetween, end_of, unmounted_end}
 use Rattle.image_copy.proofs.TrimLaws.{apart_back, same_tree, still_apart}
 

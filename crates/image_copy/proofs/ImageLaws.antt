@@ -1,5 +1,5 @@
 -- A copy over an image, joined from its steps.
-use Rattle.std.proofs.Common.{◌≡◌, ◌≢◌, ◌≤◌, ◌<◌, ◌⊎◌, inl, inr, ⊎_elim, ℕ, Bool, true, false, cond, nat_lt, List, [], ◌++◌, length, take, refl, sym, ◌∙◌, ap, subst, arith, append-nil}
+use Rattle.std.proofs.Common.{◌≡◌, ◌≢◌, ◌<◌, ◌⊎◌, inl, inr, ℕ, Bool, true, false, cond, nat_lt, refl, sym, ◌∙◌, ap, subst, arith}
 use Rattle.std.proofs.lemmas.Bool.{ltb-true}
 use Rattle.std.specs.Prelude.{Option, Some, None, Result, Ok, Err, OnOk, IfOk, IfErr}
 use Rattle.tsd_model.specs.World.{World}
@@ -10,10 +10,12 @@ use Rattle.tsd_model.specs.declared.requests.Level.TheVariants as level
 use Rattle.disk_laws.specs.Bytes.{AreLike}
 use Rattle.disk_laws.proofs.FreshLaws.{no_sessions_fit}
 use Rattle.image_device.specs.Counts.{CountsFaultOf, Rose}
-use Rattle.image_device.specs.View.{IsLeftInPut, IsPart, IsSound, View}
+use Rattle.image_device.specs.View.{IsSound, View}
 use Rattle.image_device.specs.Runs.{IsFirm, LeavesOnly}
 use Rattle.image_device.proofs.Moments.{firm_image, joined, started, weakened}
+use Rattle.image_device.proofs.Parts.{part_stays}
 use Rattle.image_layout.specs.Image.{Image}
+use Rattle.image_world.specs.Behind.{LeavesBehind, behind, size_of_image}
 use Rattle.image_world.specs.Faults.{IsGood}
 use Rattle.image_world.specs.Stands.{Stands, world_of}
 use Rattle.image_world.proofs.WorldLaws.{world_valid}
@@ -25,16 +27,14 @@ use Rattle.tsd_words.specs.declared.status.Status.TheVariants as status
 use Rattle.tsd_core.specs.Core.{Core, IsCoreAt, IsCoreReady, told_world}
 use Rattle.tsd_core.proofs.AtLaws.{at_core, like_at}
 use Rattle.fs_port.specs.Files.{FilesView}
-use Rattle.image_runs.specs.Opened.{IsJudged, IsNotImage, IsOpened, IsUnopened}
-use Rattle.image_runs.specs.Sending.{ProperFrontWasSent}
+use Rattle.core_blocks.proofs.BehindLaws.{behind_after}
+use Rattle.image_runs.specs.Opened.{IsJudged, IsNotImage, IsUnopened}
 use Rattle.image_runs.specs.Served.{IsAtEase}
 use Rattle.image_runs.proofs.Opened.{not_foreign}
-use Rattle.image_shell.specs.FromCore.{IsAtStart}
 use Rattle.image_shell.specs.Served.{IsRootDenied, level_at}
 use Rattle.image_shell.proofs.FromLaws.{level_like}
-use Rattle.image_copy.specs.Copied.{AreAdmitted, HasCopied, HasEnded, IsCopyEnding, IsCopyJudged, IsLeftOfCopy, IsNotBegun, IsSideDenied, level_under, source, target}
-use Rattle.image_copy.specs.Ends.{EndsAs, IsUnderWay}
-use Rattle.image_copy.specs.Lines.{end_line}
+use Rattle.image_copy.specs.Copied.{AreAdmitted, HasEnded, IsCopyJudged, IsNotBegun, IsSideDenied, level_under, source, target}
+use Rattle.image_copy.specs.Ends.{EndsAs}
 use Rattle.image_copy.specs.Steps.{CarriesOut, CopiesFrom, CopiesOn, IsDenial, IsLeftBy, IsLeftFrom, IsSharing, IsStartOf, IsStop, IsUnended}
 use Rattle.image_copy.specs.declared.ending.CopyEnd.{CopyEnd}
 use Rattle.tsd_words.specs.declared.commands.CopyFs.{CopyFs}
@@ -78,6 +78,7 @@ module _ (told : Type 0) (words : CopyFs) (vol : Volume) (v : View) (sound : tol
     denied = denied;
     sent = λ t. refl;
     any_moment = λ t. weakened v v (λ x s. Stands x (world_of v.reads) × (s ≡ v.sent)) (λ x s. IsLeftBy (source words) (target words) (world_of v.reads) x × (s ≡ v.sent)) (here t) (λ x s left. (inl left.0, left.1));
+    behind = λ t. part_stays (behind (size_of_image v.reads)) v (sound t) (at t).firm;
     not_begun = λ t not. here t;
     clock = omega arith;
     put_faults = refl;
@@ -151,6 +152,7 @@ module _ (told : Type 0) (words : CopyFs) (vol : Volume) (v : View) (sound : tol
           denied = λ t. stops_so (IsStop (world_of v.reads) words) r tt tt copies.stops;
           sent = copies.sent;
           any_moment = copies.any_moment;
+          behind = copies.behind;
           not_begun = λ t. not_begun_so _ r copies.stops (copies.no_memory t);
           clock = copies.clock;
           put_faults = copies.put_faults;
@@ -187,7 +189,8 @@ alike_of : (old x : Image) → IsGood old → Stands x (world_of old) → StandA
 alike_of old x good stands w = (λ s. record { good = stands.good; world = s.world ∙ stands.world }, λ s. record { good = good; world = s.world ∙ sym stands.world })
 
 module _ (told : Type 0) (words : CopyFs) (old mid new : View) (good : told → IsGood old.reads) (same : told → world_of mid.reads ≡ world_of old.reads) (sent : told → mid.sent ≡ old.sent)
-    (any : told → IsFirm old → LeavesOnly old mid (λ x s. StandAlike old.reads x × (s ≡ old.sent))) (put_faults : mid.put_faults ≡ old.put_faults) (faults : mid.faults ≡ old.faults) where
+    (any : told → IsFirm old → LeavesOnly old mid (λ x s. StandAlike old.reads x × (s ≡ old.sent))) (put_faults : mid.put_faults ≡ old.put_faults) (faults : mid.faults ≡ old.faults)
+    (sound : told → IsSound mid) (aside : told → IsFirm old → LeavesBehind old mid) where
   ends_so : told → (r : Result CopyEnd Status) → IfOk r (λ e. EndsAs (source words) (target words) (world_of mid.reads) e (world_of new.reads)) → OnOk r (IsAtEase new (world_of new.reads)) → IfOk r (HasEnded words old new)
   ends_so t (Ok e) ends ease = record { world = world_of new.reads; ends = subst (λ (w : World). EndsAs (source words) (target words) w e (world_of new.reads)) (same t) ends; at_ease = ease }
   ends_so t (Err why) ends ease = tt
@@ -228,6 +231,7 @@ module _ (told : Type 0) (words : CopyFs) (old mid new : View) (good : told → 
     judged = λ t. judged_so t r (copies.denied t);
     sent = λ t. copies.sent t ∙ sent t;
     any_moment = λ t firm. moments_all t firm (copies.any_moment t);
+    behind = λ t firm. behind_after old mid new (sound t) (same t) (aside t firm) (copies.behind t);
     not_begun = λ t. not_begun_all t r (copies.not_begun t);
     untouched = λ t foreign. absurd (not_foreign old.reads (good t) foreign);
     spared = λ t. spared_so t r (copies.denied t);
@@ -263,8 +267,8 @@ unopened_judged words image status.Truncated h judged = absurd h
 
 pub not_carried_out : (told : Type 0) (words : CopyFs) (old new : View) (why : Status) → IsUnopened why → (told → IsJudged old.reads why) → (told → new.sent ≡ old.sent) → (told → IsFirm old → LeavesOnly old new (λ x s. StandAlike old.reads x × (s ≡ old.sent)))
     → (told → IsForeign old.reads → IsUntouched old new) → (told → IsNotImage why → IsSpared old new) → new.put_faults ≡ old.put_faults
-    → ((why ≡ status.DeviceFault → Rose old.faults new.faults) × (why ≢ status.DeviceFault → new.faults ≡ old.faults)) → CarriesOut told words old new (Err why)
-not_carried_out told words old new why stops judged sent any untouched spared put_faults faults = record {
+    → ((why ≡ status.DeviceFault → Rose old.faults new.faults) × (why ≢ status.DeviceFault → new.faults ≡ old.faults)) → (told → IsFirm old → LeavesBehind old new) → CarriesOut told words old new (Err why)
+not_carried_out told words old new why stops judged sent any untouched spared put_faults faults aside = record {
   has_words = tt;
   ends = λ t. tt;
   stops = unopened_unended why stops;
@@ -272,6 +276,7 @@ not_carried_out told words old new why stops judged sent any untouched spared pu
   judged = λ t. unopened_judged words old.reads why stops (judged t);
   sent = sent;
   any_moment = λ t firm. weakened old new (λ x s. StandAlike old.reads x × (s ≡ old.sent)) (λ x s. IsLeftFrom words old.reads x × (s ≡ old.sent)) (any t firm) (λ x s left. (inl left.0, left.1));
+  behind = aside;
   not_begun = λ t not firm. any t firm;
   untouched = untouched;
   spared = spared;

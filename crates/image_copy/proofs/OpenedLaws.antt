@@ -1,20 +1,21 @@
 -- A copy on a core, joined from its steps.
-use Rattle.std.proofs.Common.{◌≡◌, ◌≢◌, ◌≤◌, ◌⊎◌, inl, inr, ℕ, Bool, true, false, cond, nat_lt, List, refl, sym, ◌∙◌, ap, subst, arith}
+use Rattle.std.proofs.Common.{◌≡◌, ◌≤◌, ◌⊎◌, inl, inr, ℕ, Bool, true, false, cond, nat_lt, refl, sym, ◌∙◌, ap, subst, arith}
 use Rattle.std.proofs.lemmas.Bool.{ltb-true}
 use Rattle.std.specs.Prelude.{Result, Ok, Err, OnOk, IfOk, IfErr, IsTrue, slice_get}
 use Rattle.tsd_model.specs.World.{World}
 use Rattle.tsd_model.specs.Records.{kept_of}
 use Rattle.tsd_model.specs.Sessions.{is_open}
 use Rattle.tsd_model.specs.Attained.{record_level}
+use Rattle.tsd_model.specs.declared.geometry.Geometry.{Geometry}
 use Rattle.tsd_model.specs.declared.requests.Level.{Level}
 use Rattle.tsd_model.specs.declared.requests.Level.TheVariants as level
 use Rattle.tsd_model.specs.declared.requests.PlaceKind.{PlaceKind}
-use Rattle.disk_laws.specs.Bytes.{AreLike}
 use Rattle.image_device.specs.Counts.{CountsFault, CountsFaultOf, Rose}
 use Rattle.image_device.specs.View.{IsSound, View as DeviceView}
-use Rattle.image_device.specs.Runs.{LeavesOnly}
+use Rattle.image_device.specs.Runs.{LeavesOnly, LeavesPart}
 use Rattle.image_device.proofs.Moments.{joined, weakened}
-use Rattle.image_layout.specs.Image.{Image}
+use Rattle.image_device.proofs.Parts.{part_stays, part_then}
+use Rattle.image_world.specs.Behind.{LeavesBehind, behind, size_of_image}
 use Rattle.image_world.specs.Stands.{Stands, world_of}
 use Rattle.volume_laws.specs.Moments.{LeavesWorld}
 use Rattle.volume_laws.specs.Writes.{Works}
@@ -24,13 +25,14 @@ use Rattle.tsd_core.specs.Core.{Core, IsCoreAt, IsCoreReady, sessions_of, told_w
 use Rattle.fs_laws.specs.Apart.{AreApart}
 use Rattle.fs_port.specs.View.{DiskView}
 use Rattle.fs_port.specs.Files.{FilesView, IsClientReady}
+use Rattle.core_blocks.specs.Behind.{KeepsBehind}
 use Rattle.core_blocks.specs.CoreView.{core_view}
+use Rattle.core_blocks.proofs.BehindLaws.{behind_between, behind_on, same_size, size_at}
 use Rattle.core_blocks.proofs.ImageLaws.{IsImageOf, images_left}
 use Rattle.image_shell.specs.FromCore.{IsAtStart}
 use Rattle.image_shell.specs.Served.{level_at}
 use Rattle.image_shell.proofs.FromLaws.{level_like, moments_of_start}
 use Rattle.image_copy.specs.Ends.{EndsAs, IsFirstShared, IsUnderWay}
-use Rattle.image_copy.specs.Lines.{HasWords}
 use Rattle.image_copy.specs.Steps.{AreBegun, AreBothOpen, CopiesBetween, CopiesOn, IsLeftBy, IsStartOf, RunsOn}
 use Rattle.image_copy.specs.declared.ending.CopyEnd.{CopyEnd}
 use Rattle.image_copy.specs.declared.ending.CopyEnd.TheVariants as end
@@ -66,8 +68,8 @@ module _ (told : Type 0) (f g : FilesView) (l m : ℕ × ℕ) (kind placement : 
   on_unspent (Ok e) then unspent = then unspent
   on_unspent (Err why) then unspent = tt
 
-  pub runs_by : (r : Result CopyEnd Status) → (c1.volume.is_spent ≡ false → IsCoreReady c1) → (told → c1.volume.is_spent ≡ false → IsCoreAt c1 w) → CopiesBetween told f g old new r → RunsOn told f g c1 v w r
-  runs_by r ready at copies = record {
+  pub runs_by : (r : Result CopyEnd Status) → (c1.volume.is_spent ≡ false → IsCoreReady c1) → (told → c1.volume.is_spent ≡ false → IsCoreAt c1 w) → CopiesBetween told f g old new r → (told → IsCoreAt c0 v) → KeepsBehind told c0 c1 v w → RunsOn told f g c1 v w r
+  runs_by r ready at copies was aside = record {
     ready = on_unspent r ready copies.unspent;
     at = λ t. on_unspent r (at t) copies.unspent;
     ends = copies.ends;
@@ -75,7 +77,9 @@ module _ (told : Type 0) (f g : FilesView) (l m : ℕ × ℕ) (kind placement : 
     sent = λ t. (copies.crash t).sent;
     any_moment = λ t. weakened v w (IsImageOf (IsUnderWay f g (world_of v.reads)) v.sent) (λ x s. ((u : World) × Stands x u × IsUnderWay f g (world_of v.reads) u) × (s ≡ v.sent))
         (images_left l m kind placement c0 c1 v w (IsUnderWay f g (world_of v.reads)) (copies.crash t)) (λ x s left. ((left.0, left.1, left.2), left.3));
-    clock = copies.counts.clock;
+    size = λ t. aside.size ∙ size_at c0 v (was t);
+    behind = behind_on told c0 c1 v w was aside;
+    clock = omega (arith, copies.counts.clock);
     put_faults = copies.counts.put_faults;
     stops = copies.stops;
     faults = copies.faults;
@@ -101,14 +105,16 @@ module _ (told : Type 0) (f g : FilesView) (c0 c1 : Core) (v u : DeviceView) whe
   pub apart_begun : {A : Type 0} (a : A) → AreBegun {X = A} told (AreBothOpen c1) c0 c1 v u (Ok a) → (told → AreApart (world_of v.reads) f.root g.root) → told → AreApart (world_of u.reads) f.root g.root
   apart_begun a begun apart t = subst (λ (s : World). AreApart s f.root g.root) (sym (begun.at t).world) (apart t)
 
-  pub not_begun : {A : Type 0} (why : Status) → AreBegun {X = A} told (AreBothOpen c1) c0 c1 v u (Err why) → CopiesOn told f g c1 v u (Err why)
-  not_begun why begun = record {
+  pub not_begun : {A : Type 0} (why : Status) → AreBegun {X = A} told (AreBothOpen c1) c0 c1 v u (Err why) → (told → IsCoreAt c0 v) → CopiesOn told f g c1 v u (Err why)
+  not_begun why begun was = record {
     ready = tt;
     at = λ t. tt;
     ends = λ t. tt;
     words = tt;
     sent = begun.sent;
     any_moment = λ t. weakened v u (λ x s. Stands x (world_of v.reads) × (s ≡ v.sent)) (λ x s. IsLeftBy f g (world_of v.reads) x × (s ≡ v.sent)) (begun.any_moment t) (λ x s left. (inl left.0, left.1));
+    size = λ t. begun.behind.size ∙ size_at c0 v (was t);
+    behind = behind_on told c0 c1 v u was begun.behind;
     no_memory = λ t is. begun.any_moment t;
     stops = begun.stops;
     clock = begun.clock;
@@ -146,14 +152,16 @@ module _ (told : Type 0) (f g : FilesView) (c0 c1 : Core) (v u : DeviceView) whe
     faults_so (Ok e) stops faults = (λ is. absurd (cc), λ ne. faults ∙ begun.faults.1 (λ is. cc))
     faults_so (Err why) stops faults = (λ is. subst (λ (n : ℕ). Rose n w.faults) (begun.faults.1 (λ k. cc)) faults, λ ne. absurd (ne (ap Err stops)))
 
-    pub copies_begun : (r : Result CopyEnd Status) → RunsOn told f g c2 u w r → CopiesOn told f g c2 v w r
-    copies_begun r runs = record {
+    pub copies_begun : (r : Result CopyEnd Status) → RunsOn told f g c2 u w r → (told → IsCoreAt c0 v) → CopiesOn told f g c2 v w r
+    copies_begun r runs was = record {
       ready = runs.ready;
       at = runs.at;
       ends = λ t. ends_from t r (runs.ends t);
       words = runs.words;
       sent = λ t. runs.sent t ∙ begun.sent t;
       any_moment = λ t. both_moments t (runs.any_moment t);
+      size = λ t. runs.size t ∙ same_size u.reads v.reads (begun.at t).world;
+      behind = behind_between told c0 c1 v u w was (λ t. (begun.at t).core) begun.behind runs.behind;
       no_memory = λ t. never_memory r _ runs.stops;
       stops = stops_so r runs.stops;
       clock = omega (arith, begun.clock, runs.clock);
@@ -171,6 +179,8 @@ shared_on told f g c v b sound start shared = record {
   words = tt;
   sent = λ t. refl;
   any_moment = λ t. weakened v v (λ x s. Stands x (world_of v.reads) × (s ≡ v.sent)) (λ x s. IsLeftBy f g (world_of v.reads) x × (s ≡ v.sent)) (moments_of_start (world_of v.reads) c v (sound t) (start.at t)) (λ x s left. (inl left.0, left.1));
+  size = λ t. size_at c v (start.at t).core;
+  behind = λ t. part_stays (behind (size_of_image v.reads)) v (sound t) (start.at t).core.0;
   no_memory = λ t. tt;
   stops = tt;
   clock = omega arith;
@@ -180,10 +190,13 @@ shared_on told f g c v b sound start shared = record {
 
 -- ---- and closed
 
-module _ (told : Type 0) (f g : FilesView) (c1 c2 : Core) (v u w : DeviceView) (e : CopyEnd) (copies : CopiesOn told f g c1 v u (Ok e)) (any : told → LeavesWorld u w) (sent : told → w.sent ≡ u.sent) (works : Works u w) where
+module _ (told : Type 0) (f g : FilesView) (c1 c2 : Core) (v u w : DeviceView) (e : CopyEnd) (copies : CopiesOn told f g c1 v u (Ok e)) (any : told → LeavesWorld u w) (sent : told → w.sent ≡ u.sent) (works : Works u w) (sound : told → IsSound u) (aside : KeepsBehind told c1 c2 u w) where
   closing : told → LeavesOnly v w (λ x s. IsLeftBy f g (world_of v.reads) x × (s ≡ v.sent))
   closing t = joined v u w (λ x s. IsLeftBy f g (world_of v.reads) x × (s ≡ v.sent)) (λ x s. Stands x (world_of u.reads) × (s ≡ u.sent)) (copies.any_moment t) (any t)
       (λ x s left. (inr (world_of u.reads, left.0, inr (e, copies.ends t)), left.1 ∙ copies.sent t))
+
+  closing_behind : told → LeavesBehind v w
+  closing_behind t = part_then (behind (size_of_image v.reads)) v u w (sound t) (copies.behind t) (subst (λ (s : Geometry). LeavesPart (behind s) u w) (copies.size t) (aside.any_moment t))
 
   pub closed_on : IsCoreReady c2 → (told → IsCoreAt c2 w) → (told → world_of w.reads ≡ world_of u.reads) → w.faults ≡ u.faults → CopiesOn told f g c2 v w (Ok e)
   closed_on ready at same faultless = record {
@@ -193,6 +206,8 @@ module _ (told : Type 0) (f g : FilesView) (c1 c2 : Core) (v u w : DeviceView) (
     words = copies.words;
     sent = λ t. sent t ∙ copies.sent t;
     any_moment = closing;
+    size = λ t. aside.size ∙ copies.size t;
+    behind = closing_behind;
     no_memory = λ t. tt;
     stops = tt;
     clock = omega (arith, copies.clock, works.clock);
@@ -208,6 +223,8 @@ module _ (told : Type 0) (f g : FilesView) (c1 c2 : Core) (v u w : DeviceView) (
     words = tt;
     sent = λ t. sent t ∙ copies.sent t;
     any_moment = closing;
+    size = λ t. aside.size ∙ copies.size t;
+    behind = closing_behind;
     no_memory = λ t is. absurd (cc);
     stops = inl refl;
     clock = omega (arith, copies.clock, works.clock);

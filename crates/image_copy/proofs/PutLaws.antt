@@ -1,10 +1,11 @@
 -- The line of a copy that has ended, put.
-use Rattle.std.proofs.Common.{◌≡◌, ◌⊎◌, inl, inr, ℕ, List, [], ◌++◌, refl, sym, ◌∙◌, ap, subst, append-nil}
-use Rattle.tsd_model.specs.World.{World}
+use Rattle.std.proofs.Common.{◌≡◌, ◌⊎◌, inl, inr, ℕ, List, [], refl, sym, ◌∙◌, ap, subst, append-nil}
 use Rattle.image_device.specs.View.{IsLeftInPut, IsPart, IsSound, View}
 use Rattle.image_device.specs.Runs.{IsFirm, LeavesOnly}
 use Rattle.image_device.proofs.Moments.{firm_image, joined, started, weakened}
+use Rattle.image_device.proofs.Parts.{part_stays}
 use Rattle.image_layout.specs.Image.{Image}
+use Rattle.image_world.specs.Behind.{LeavesBehind, behind, size_of_image}
 use Rattle.image_world.specs.Faults.{IsGood}
 use Rattle.image_world.specs.Stands.{Stands, world_of}
 use Rattle.recovery.specs.Opening.{StandAlike}
@@ -98,3 +99,6 @@ idle_moments v sound firm = started v (λ x s. StandAlike v.reads x × (s ≡ v.
 
 pub idle_left : (words : CopyFs) (v : View) → IsSound v → IsFirm v → LeavesOnly v v (IsLeftOfCopy words v)
 idle_left words v sound firm = weakened v v (λ x s. StandAlike v.reads x × (s ≡ v.sent)) (IsLeftOfCopy words v) (idle_moments v sound firm) (λ x s left. inl (left.0, left.1))
+
+pub idle_behind : (v : View) → IsSound v → IsFirm v → LeavesBehind v v
+idle_behind v sound firm = part_stays (behind (size_of_image v.reads)) v sound firm

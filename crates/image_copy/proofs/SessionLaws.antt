@@ -6,7 +6,6 @@ use Rattle.tsd_model.specs.World.{World}
 use Rattle.tsd_model.specs.Sessions.{Fits, Held, Sessions, begun, fitted, held_by, is_open, no_sessions, sessions_max}
 use Rattle.tsd_model.specs.Step.{Outcome, State, judged}
 use Rattle.tsd_model.specs.Run.{IsAnswer, answer, starved}
-use Rattle.tsd_model.specs.Valid.{IsValid}
 use Rattle.tsd_model.specs.Verdict.{verdict}
 use Rattle.tsd_model.specs.declared.replies.Reply.{Reply}
 use Rattle.tsd_model.specs.declared.replies.Reply.TheVariants as reply
@@ -30,6 +29,8 @@ use Rattle.tsd_words.specs.declared.status.Status.{Status}
 use Rattle.tsd_words.specs.declared.status.Status.TheVariants as status
 use Rattle.tsd_core.specs.Core.{Core, IsCoreAt, IsCoreReady, sessions_of, state_on, told_state, told_world}
 use Rattle.tsd_core.specs.Applying.{IsReplyLike, IsToldAnswer, next_world}
+use Rattle.core_blocks.specs.Behind.{KeepsBehind}
+use Rattle.core_blocks.proofs.BehindLaws.{behind_then}
 use Rattle.image_shell.specs.FromCore.{IsAtStart}
 use Rattle.image_copy.specs.Steps.{AreBegun, AreBothOpen, IsOneMore}
 
@@ -87,7 +88,7 @@ module _ (session : ℕ) (low : 1 ≤ session) (high : session ≤ sessions_max)
   begin_world kind s want = after_answer (λ t. t.world ≡ s.world) kind s (ask.Begin session) want refl (λ _. refl)
 
   module _ (told : Type 0) (kind : PlaceKind) (c0 c1 : Core) (v w : View) (all : length (sessions_of c0) ≡ sessions_max) (at : told → IsAtStart (world_of v.reads) c0 v)
-      (sent : told → w.sent ≡ v.sent) (any : told → LeavesEither v w (next_world kind (state_on c0 v.reads) (ask.Begin session))) (works : Works v w) where
+      (sent : told → w.sent ≡ v.sent) (any : told → LeavesEither v w (next_world kind (state_on c0 v.reads) (ask.Begin session))) (works : Works v w) (aside : KeepsBehind told c0 c1 v w) where
     either_start : (x : Image) → StandsForEither (world_on v) (next_world kind (state_on c0 v.reads) (ask.Begin session)) x → Stands x (world_of v.reads)
     either_start x (inl before) = before
     either_start x (inr next) = subst (λ (u : World). Stands x u) (begin_world kind (state_on c0 v.reads) false) next
@@ -120,6 +121,7 @@ module _ (session : ℕ) (low : 1 ≤ session) (high : session ≤ sessions_max)
           at = λ t. at_next t (core t) (subst (λ (o : Reply). IsAnswer kind (state_on c0 v.reads) (ask.Begin session) o (state_on c1 w.reads)) done (given t));
           sent = sent;
           any_moment = moments;
+          behind = aside;
           stops = tt;
           clock = works.clock;
           put_faults = works.put_faults;
@@ -134,6 +136,7 @@ module _ (session : ℕ) (low : 1 ≤ session) (high : session ≤ sessions_max)
       at = λ t. tt;
       sent = sent;
       any_moment = moments;
+      behind = aside;
       stops = inr refl;
       clock = works.clock;
       put_faults = works.put_faults;
@@ -148,6 +151,7 @@ module _ (session : ℕ) (low : 1 ≤ session) (high : session ≤ sessions_max)
       at = λ t. tt;
       sent = sent;
       any_moment = moments;
+      behind = aside;
       stops = inl refl;
       clock = works.clock;
       put_faults = works.put_faults;
@@ -173,6 +177,7 @@ module _ (told : Type 0) (c0 c1 : Core) (u v : View) where
     at = λ t. tt;
     sent = b.sent;
     any_moment = b.any_moment;
+    behind = b.behind;
     stops = b.stops;
     clock = b.clock;
     put_faults = b.put_faults;
@@ -192,6 +197,7 @@ module _ (told : Type 0) (c0 c1 : Core) (u v : View) where
       at = λ t. subst (λ (s : World). IsAtStart s c2 w) (first.at t).world (b.at t);
       sent = λ t. b.sent t ∙ first.sent t;
       any_moment = all_moments b.any_moment;
+      behind = behind_then told c0 c1 c2 u v w first.behind b.behind;
       stops = tt;
       clock = omega (arith, b.clock, first.clock);
       put_faults = b.put_faults ∙ first.put_faults;
@@ -206,6 +212,7 @@ module _ (told : Type 0) (c0 c1 : Core) (u v : View) where
       at = λ t. tt;
       sent = λ t. b.sent t ∙ first.sent t;
       any_moment = all_moments b.any_moment;
+      behind = behind_then told c0 c1 c2 u v w first.behind b.behind;
       stops = b.stops;
       clock = omega (arith, b.clock, first.clock);
       put_faults = b.put_faults ∙ first.put_faults;

@@ -1,6 +1,6 @@
 -- What hangs from one root while what another doesn't reach stays: its tree is as it was, also where none is there.
 use Rattle.std.proofs.Common.{◌≡◌, ℕ, ◌<◌, Bool, true, false, refl, sym, ◌∙◌, subst}
-use Rattle.tsd_model.specs.World.{World, contents, is_live, has_number}
+use Rattle.tsd_model.specs.World.{World, contents, has_number}
 use Rattle.tsd_model.specs.Pairs.{holds}
 use Rattle.tsd_model.specs.Valid.{IsValid}
 use Rattle.tsd_model.specs.declared.geometry.Geometry.{Geometry}

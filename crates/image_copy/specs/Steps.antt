@@ -13,6 +13,7 @@ use Rattle.image_device.specs.Runs.{IsFirm, LeavesOnly}
 use Rattle.image_audit.specs.declared.entry.Entry.{Entry}
 use Rattle.image_audit.specs.Entries.{is_listed}
 use Rattle.image_layout.specs.Image.{Image}
+use Rattle.image_world.specs.Behind.{LeavesBehind, size_of_image}
 use Rattle.image_world.specs.Stands.{Stands, world_of}
 use Rattle.image_world.specs.Faults.{IsGood}
 use Rattle.recovery.specs.Opening.{IsForeign, IsSpared, IsUntouched, StandAlike}
@@ -30,6 +31,7 @@ use Rattle.fs_port.specs.Files.{FilesView}
 use Rattle.fs_copy.specs.declared.copied.Copied.{Copied}
 use Rattle.fs_copy.specs.declared.refusal.CopyRefusal.{CopyRefusal}
 use Rattle.fs_copy.specs.declared.refusal.CopyRefusal.TheVariants as no
+use Rattle.core_blocks.specs.Behind.{KeepsBehind}
 use Rattle.image_shell.specs.FromCore.{IsAtStart}
 use Rattle.image_shell.specs.Served.{level_at}
 use Rattle.image_copy.specs.Copied.{AreAdmitted, HasEnded, IsCopyJudged, IsNotBegun, IsSideDenied, source}
@@ -69,6 +71,7 @@ pub record AreBegun {X : Type 0} (told : Type 0) (open_now : Type 0) (c0 c1 : Co
   pub at : told → OnOk result (IsAtStart (world_of v.reads) c1 w)
   pub sent : told → w.sent ≡ v.sent
   pub any_moment : told → LeavesOnly v w (λ x f. Stands x (world_of v.reads) × (f ≡ v.sent))
+  pub behind : KeepsBehind told c0 c1 v w
   pub stops : IfErr result (λ why. (why ≡ status.DeviceFault) ⊎ (why ≡ status.NoMemory))
   pub clock : v.clock ≤ w.clock
   pub put_faults : w.put_faults ≡ v.put_faults
@@ -131,6 +134,8 @@ pub record RunsOn (told : Type 0) (f g : FilesView) (c1 : Core) (v w : View)
   pub sent : told → w.sent ≡ v.sent
   pub any_moment : told → LeavesOnly v w (λ x s. ((u : World) × Stands x u × IsUnderWay f g (world_of v.reads) u)
       × (s ≡ v.sent))
+  pub size : told → (told_world c1).geometry ≡ size_of_image v.reads
+  pub behind : told → LeavesBehind v w
   pub clock : v.clock ≤ w.clock
   pub put_faults : w.put_faults ≡ v.put_faults
   pub stops : IfErr result (λ why. why ≡ status.DeviceFault)
@@ -150,6 +155,8 @@ pub record CopiesOn (told : Type 0) (f g : FilesView) (c1 : Core) (v w : View)
   pub words : IfOk result HasWords
   pub sent : told → w.sent ≡ v.sent
   pub any_moment : told → LeavesOnly v w (λ x s. IsLeftBy f g (world_of v.reads) x × (s ≡ v.sent))
+  pub size : told → (told_world c1).geometry ≡ size_of_image v.reads
+  pub behind : told → LeavesBehind v w
   pub no_memory : told → IfErr result (λ why. why ≡ status.NoMemory
       → LeavesOnly v w (λ x s. Stands x (world_of v.reads) × (s ≡ v.sent)))
   pub stops : IfErr result (λ why. (why ≡ status.DeviceFault) ⊎ (why ≡ status.NoMemory))
@@ -185,6 +192,7 @@ pub record CopiesFrom (told : Type 0) (words : CopyFs) (v w : View) (result : Re
   pub sent : told → w.sent ≡ v.sent
   pub any_moment : told → LeavesOnly v w (λ x s. IsLeftBy (source words) (target words) (world_of v.reads) x
       × (s ≡ v.sent))
+  pub behind : told → LeavesBehind v w
   pub not_begun : told → IfErr result (λ why. IsNotBegun why
       → LeavesOnly v w (λ x s. Stands x (world_of v.reads) × (s ≡ v.sent)))
   pub clock : v.clock ≤ w.clock
@@ -208,6 +216,7 @@ pub record CarriesOut (told : Type 0) (words : CopyFs) (v w : View) (result : Re
   pub judged : told → IfErr result (IsCopyJudged words v.reads)
   pub sent : told → w.sent ≡ v.sent
   pub any_moment : told → IsFirm v → LeavesOnly v w (λ x s. IsLeftFrom words v.reads x × (s ≡ v.sent))
+  pub behind : told → IsFirm v → LeavesBehind v w
   pub not_begun : told → IfErr result (λ why. IsNotBegun why → IsFirm v
       → LeavesOnly v w (λ x s. StandAlike v.reads x × (s ≡ v.sent)))
   pub untouched : told → IsForeign v.reads → IsUntouched v w

@@ -3,6 +3,7 @@
 ghost use Rattle.std.specs.Prelude.{◌≡◌, ◌≢◌, false};
 ghost use Rattle.image_device.specs.Counts.{Rose};
 ghost use Rattle.image_device.specs.Runs.{IsFirm, LeavesOnly};
+ghost use Rattle.image_world.specs.Behind.{LeavesBehind};
 ghost use Rattle.image_runs.specs.Opened.{IsNotImage};
 ghost use Rattle.recovery.specs.Opening.{IsForeign, IsSpared, IsUntouched, StandAlike};
 ghost use Rattle.volume_laws.specs.Volume.{IsVolumeAt, IsVolumeReady, told_by};
@@ -57,6 +58,8 @@ pub fn copy_over_image<A: Files, B: Files, L: Placing, P: Port>(
     ensures untouched { P.told → IsForeign (P.view port.old).reads
         → IsUntouched (P.view port.old) (P.view port.new) }
     ensures spared { P.told → IsNotImage result → IsSpared (P.view port.old) (P.view port.new) }
+    // However it ended, a crash at any moment leaves what lies behind the image as it was.
+    ensures behind { P.told → IsFirm (P.view port.old) → LeavesBehind (P.view port.old) (P.view port.new) }
     // A count of faults rose only where the status is that fault's.
     ensures device_fault { result ≡ Status.DeviceFault → Rose (P.view port.old).faults (P.view port.new).faults }
     ensures put_fault { result ≡ Status.PutFault → Rose (P.view port.old).put_faults (P.view port.new).put_faults }

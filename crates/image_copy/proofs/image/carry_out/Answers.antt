@@ -8,11 +8,11 @@ returns-in-Ok g c =
     let view = g.D.Device.view in
     let o = c.in-Ok.ensures in
     carried_out g.D.Device.told c.args.words.now (view c.args.dev.now) (view c.open_volume.new.dev) (view c.copy_opened.new.dev) o.read o.done o.sent o.any_moment o.works.put_faults (o.faults.1 (λ e. cc))
-    c.copy_opened.result c.copy_opened.ensures
+    (λ t. g.met.D.Device.sound c.open_volume.new.dev t) c.open_volume.ensures.behind c.copy_opened.result c.copy_opened.ensures
 
 pub returns-in-Err : goal.returns-in-Err
 returns-in-Err g c =
     let view = g.D.Device.view in
     let o = c.in-Err.ensures in
     not_carried_out g.D.Device.told c.args.words.now (view c.args.dev.now) (view c.open_volume.new.dev) c.in-Err.why o.stops o.read o.sent o.any_moment o.untouched o.spared o.works.put_faults
-    ((λ is. o.faults.0 (ap Err is)), λ ne. o.faults.1 (λ e. ne (cc)))
+    ((λ is. o.faults.0 (ap Err is)), λ ne. o.faults.1 (λ e. ne (cc))) c.open_volume.ensures.behind

@@ -1,6 +1,8 @@
 use Rattle.std.proofs.Common.{ℕ, List, ◌++◌, ◌∙◌, ap, subst}
 use Rattle.image_device.specs.View.{IsLeftInPut}
 use Rattle.image_device.specs.Runs.{LeavesOnly}
+use Rattle.image_device.proofs.Parts.{part_put, part_then}
+use Rattle.image_world.specs.Behind.{behind, size_of_image}
 use Rattle.image_runs.specs.Sending.{ProperFrontWasSent}
 use Rattle.image_runs.proofs.Opened.{untouched_put}
 use Rattle.image_copy.proofs.PutLaws.{ended_still, put_moments, silent_moments, unended_copied, unended_ends}
@@ -59,3 +61,22 @@ returns-in-Ok-put_all-clause-untouched g c told foreign =
 pub returns-in-Err-put_all-clause-untouched : goal.returns-in-Err-put_all-clause-untouched
 returns-in-Err-put_all-clause-untouched g c told foreign =
     untouched_put g.P.Device.told _ (g.P.Device.view c.args.port.now) (g.P.Device.view c.carry_out.new.dev) (g.P.Device.view c.put_all.new.port) c.put_all.result told c.put_all.ensures (c.in-Ok.ensures.untouched told foreign)
+
+pub returns-in-Ok-put_all-clause-behind : goal.returns-in-Ok-put_all-clause-behind
+returns-in-Ok-put_all-clause-behind g c told firm =
+    let old = g.P.Device.view c.args.port.now in
+    let mid = g.P.Device.view c.carry_out.new.dev in
+    let new = g.P.Device.view c.put_all.new.port in
+    part_then (behind (size_of_image old.reads)) old mid new (g.met.P.Device.sound c.carry_out.new.dev told) (c.in-Ok.ensures.behind told firm)
+    (part_put (behind (size_of_image old.reads)) c.as_slice.result.now mid new (c.in-Ok.ensures.ends told).at_ease.firm (c.put_all.ensures.any_moment told))
+
+pub returns-in-Err-put_all-clause-behind : goal.returns-in-Err-put_all-clause-behind
+returns-in-Err-put_all-clause-behind g c told firm =
+    let old = g.P.Device.view c.args.port.now in
+    let mid = g.P.Device.view c.carry_out.new.dev in
+    let new = g.P.Device.view c.put_all.new.port in
+    part_then (behind (size_of_image old.reads)) old mid new (g.met.P.Device.sound c.carry_out.new.dev told) (c.in-Ok.ensures.behind told firm)
+    (part_put (behind (size_of_image old.reads)) c.as_slice.result.now mid new (c.in-Ok.ensures.ends told).at_ease.firm (c.put_all.ensures.any_moment told))
+
+pub returns-in-Err-clause-behind : goal.returns-in-Err-clause-behind
+returns-in-Err-clause-behind g c = c.in-Err.ensures.behind

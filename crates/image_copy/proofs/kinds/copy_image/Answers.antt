@@ -1,4 +1,4 @@
-use Rattle.image_copy.proofs.PutLaws.{idle_left, idle_moments}
+use Rattle.image_copy.proofs.PutLaws.{idle_behind, idle_left, idle_moments}
 use Rattle.image_copy.proofs.kinds.copy_image.Goals as goal
 
 pub returns-in-Err-clause-any_moment : goal.returns-in-Err-clause-any_moment
@@ -12,3 +12,9 @@ returns-in-Err-new-clause-any_moment g c told firm = idle_left c.args.words.now 
 
 pub returns-in-Err-new-clause-not_begun : goal.returns-in-Err-new-clause-not_begun
 returns-in-Err-new-clause-not_begun g c told not firm = idle_moments (g.P.Device.view c.args.port.now) (g.met.P.Device.sound c.args.port.now told) firm
+
+pub returns-in-Err-clause-behind : goal.returns-in-Err-clause-behind
+returns-in-Err-clause-behind g c told firm = idle_behind (g.P.Device.view c.args.port.now) (g.met.P.Device.sound c.args.port.now told) firm
+
+pub returns-in-Err-new-clause-behind : goal.returns-in-Err-new-clause-behind
+returns-in-Err-new-clause-behind g c told firm = idle_behind (g.P.Device.view c.args.port.now) (g.met.P.Device.sound c.args.port.now told) firm

@@ -1,5 +1,4 @@
-use Rattle.std.proofs.Common.{sym, subst}
-use Rattle.std.specs.Prelude.{Option}
+use Rattle.std.proofs.Common.{subst}
 use Rattle.image_world.specs.Stands.{world_of}
 use Rattle.image_copy.specs.Steps.{IsSharing}
 use Rattle.image_copy.proofs.OpenedLaws.{shared_on}
