@@ -11,4 +11,5 @@ mod Upgraded
 mod Requests
 mod LoadRuns
 mod Loaded
-mod Behind
+pub mod Behind
+mod Counted

@@ -20,6 +20,6 @@ LeavesSectorsBehind g old new = LeavesPart (sectors_behind g) old new
 abbrev pub AreSameBehind : Geometry → Image → Image → Type 0
 AreSameBehind g start x = (sectors_behind g x ≡ sectors_behind g start) ⊎ (behind g x ≡ sectors_behind g start)
 
--- Such is each image that a crash at any moment leaves: of formatting the first, and of what is done then the second.
+-- Such is each image that a crash at any moment leaves.
 abbrev pub LeavesSameBehind : Geometry → View → View → Type 0
 LeavesSameBehind g old new = LeavesOnly old new (λ x f. AreSameBehind g old.reads x)

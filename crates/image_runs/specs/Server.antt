@@ -32,7 +32,7 @@ limit_with owed q = 600
 abbrev pub writes_before : State → ℕ → Request → ℕ
 writes_before s owed q = cond (is_granted s.world s.sessions q) (limit_with owed q) 0
 
--- how its work is counted; a sweep has no bound
+-- how its work is counted; of a sweep no bound is said here, but by the core
 abbrev pub disk_work : Work Request Placed
 disk_work = record {
   bounded = λ q. is_sweep q ≡ false;

@@ -1,6 +1,7 @@
 //! The volume and the disk of an image.
 
 ghost use Rattle.std.specs.Prelude.{◌≡◌, ◌≢◌, ◌≤◌, ◌+◌, false, IfOk, OnOk, IfErr};
+ghost use Rattle.image_device.specs.Calls.{Uses};
 ghost use Rattle.image_device.specs.Counts.{CountsFaultOf};
 ghost use Rattle.image_device.specs.Runs.{IsFirm, LeavesOnly};
 ghost use Rattle.image_world.specs.Stands.{world_of};
@@ -8,7 +9,7 @@ ghost use Rattle.image_world.specs.Tables.{tables_of};
 ghost use Rattle.intent_journal.specs.Home.{home};
 ghost use Rattle.tsd_model.specs.Run.{at_rest};
 ghost use Rattle.tsd_model.specs.Sessions.{no_sessions};
-ghost use Rattle.recovery.specs.Opening.{IsForeign, IsSpared, IsUntouched, StandAlike};
+ghost use Rattle.recovery.specs.Opening.{IsForeign, IsSpared, IsUntouched, StandAlike, opening_writes};
 ghost use Rattle.tsd_core.specs.Core.{IsCoreAt, IsCoreReady, state_on};
 ghost use Rattle.volume_laws.specs.Volume.{IsVolumeAt, IsVolumeReady, world_on};
 ghost use Rattle.image_world.specs.Behind.{LeavesBehind};
@@ -43,7 +44,9 @@ pub fn open_volume<D: Device>(alloc: Global, dev: &mut D) -> Result<Volume, Stat
     // where it fails another, nothing is lost that a repair could use.
     ensures untouched { D.told → IsForeign (D.view dev.old).reads → IsUntouched (D.view dev.old) (D.view dev.new) }
     ensures spared { D.told → IfErr result (λ why. IsNotImage why → IsSpared (D.view dev.old) (D.view dev.new)) }
-    // Where nothing was left to be done, nothing is written, and nothing is owed.
+    // It writes by what is replayed, and by what is left to be swept and reclaimed. Where nothing was left to be done,
+    // nothing is written, and nothing is owed.
+    ensures uses { D.told → Uses (opening_writes (D.view dev.old).reads) (D.view dev.old) (D.view dev.new) }
     ensures unwritten { D.told → IsQuiet (D.view dev.old).reads → (D.view dev.new).writes
         ≤ (D.view dev.old).writes }
     ensures paid { D.told → IsQuiet (D.view dev.old).reads → IfOk result (λ v. (D.view dev.new).writes + due v
@@ -80,7 +83,9 @@ pub fn open_core<D: Device>(alloc: Global, dev: &mut D) -> Result<Core, Status>
     // where it fails another, nothing is lost that a repair could use.
     ensures untouched { D.told → IsForeign (D.view dev.old).reads → IsUntouched (D.view dev.old) (D.view dev.new) }
     ensures spared { D.told → IfErr result (λ why. IsNotImage why → IsSpared (D.view dev.old) (D.view dev.new)) }
-    // Where nothing was left to be done, nothing is written, and nothing is owed.
+    // It writes by what is replayed, and by what is left to be swept and reclaimed. Where nothing was left to be done,
+    // nothing is written, and nothing is owed.
+    ensures uses { D.told → Uses (opening_writes (D.view dev.old).reads) (D.view dev.old) (D.view dev.new) }
     ensures unwritten { D.told → IsQuiet (D.view dev.old).reads → (D.view dev.new).writes
         ≤ (D.view dev.old).writes }
     ensures paid { D.told → IsQuiet (D.view dev.old).reads

@@ -1,0 +1,28 @@
+-- What a request did that is counted, by whether its reply was one.
+use Rattle.std.proofs.Common.{◌≡◌, ◌≢◌, ◌+◌, ℕ, Result, Ok, Err, OnOk, IfErr, subst}
+use Rattle.tsd_model.specs.Run.{IsAnswer}
+use Rattle.tsd_model.specs.Step.{State}
+use Rattle.tsd_model.specs.declared.replies.Reply.{Reply}
+use Rattle.tsd_model.specs.declared.replies.Reply.TheVariants as replied
+use Rattle.tsd_model.specs.declared.requests.PlaceKind.{PlaceKind}
+use Rattle.tsd_model.specs.declared.requests.Request.{Request}
+use Rattle.tsd_words.specs.declared.status.Status.{Status}
+use Rattle.tsd_words.specs.declared.status.Status.TheVariants as status
+use Rattle.image_runs.specs.Applying.{IsRequestNext, more_granted, more_refused}
+
+pub on_ok : {T E P : Type 0} (r : Result T E) → P → OnOk r P
+on_ok (Ok x) p = p
+on_ok (Err e) p = tt
+
+-- it was counted
+pub next_counted : (kind : PlaceKind) (s : State) (q : Request) (t : State) (reply : Reply) (granted refused more fewer : ℕ) (r : Result (Unit {0}) Status)
+    → IsAnswer kind s q reply t → OnOk r (more ≡ granted + more_granted reply) → OnOk r (fewer ≡ refused + more_refused reply) → OnOk r (reply ≢ replied.NoMemory)
+    → OnOk r (IsRequestNext kind s q t granted refused more fewer)
+next_counted kind s q t reply granted refused more fewer (Ok x) given a b found = record { reply = reply; given = given; found = found; granted_are = a; refused_are = b }
+next_counted kind s q t reply granted refused more fewer (Err e) given a b found = tt
+
+-- it wasn't, for want of memory
+pub not_counted : (kind : PlaceKind) (s : State) (q : Request) (t : State) (reply : Reply) (r : Result (Unit {0}) Status) → IsAnswer kind s q reply t
+    → IfErr r (λ why. (why ≡ status.NoMemory) × (reply ≡ replied.NoMemory)) → IfErr r (λ why. why ≡ status.NoMemory → IsAnswer kind s q replied.NoMemory t)
+not_counted kind s q t reply (Ok x) given none = tt
+not_counted kind s q t reply (Err e) given none = λ is. subst (λ (a : Reply). IsAnswer kind s q a t) none.1 given
