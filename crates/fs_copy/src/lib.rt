@@ -1,6 +1,6 @@
 //! A tree copied from one root of a disk to another, in either layout.
 //!
-//
+//! What it stands on: `fs_port` says what a disk and a file system promise, `fs_trees` which asks make a tree again, and
 //! `fs_laws` that what one root reaches stays while another is written.
 //!
 //! What it promises (`specs/Copies`): the target's root has the source's tree afterwards, or the tree after the steps
