@@ -34,8 +34,13 @@ class Caps(NamedTuple):
 
 def total_of(image: bytes) -> int:
     """The disk's total of sectors, as its header has it."""
-    sectors, blocks, slots = (int.from_bytes(image[FIELDS[field]:FIELDS[field] + 4], "little")
-                              for field in ("sectors", "blocks", "slots"))
+    blocks, sectors, slots = (int.from_bytes(image[FIELDS[field]:FIELDS[field] + 4], "little")
+                              for field in ("blocks", "sectors", "slots"))
+    return sectors_of(blocks, sectors, slots)
+
+
+def sectors_of(blocks: int, sectors: int, slots: int) -> int:
+    """How many sectors a disk of this size takes."""
     return (COUNTS_SECTOR + sectors_for(4 * blocks, SECTOR) + sectors_for(blocks, 8 * SECTOR)
             + sectors_for(8 * slots, SECTOR) + sectors * blocks)
 
@@ -87,18 +92,16 @@ def killed(program: Program, path: Path, caps: Caps) -> None:
 def size_results(context: Context, size: Tuple[int, int, int, int]) -> Iterator[Result]:
     """Every command over one disk."""
     blocks, sectors, slots, primaries = size
-    program, path = context.program, context.folder / f"{blocks}-{sectors}.img"
-    runner = Program(program)
+    runner, path = Program(context.program), context.folder / f"{blocks}-{sectors}.img"
     drawn = context.random(f"behind/{blocks}/{sectors}")
-    total = (COUNTS_SECTOR + sectors_for(4 * blocks, SECTOR) + sectors_for(blocks, 8 * SECTOR)
-             + sectors_for(8 * slots, SECTOR) + sectors * blocks)
+    total = sectors_of(blocks, sectors, slots)
     path.write_bytes(drawn.randbytes(SECTOR * (total + MORE)))
     behind = path.read_bytes()[SECTOR * total:]
     run = runner.run([path, "format", *map(str, size[:3]), str(primaries), SEED])
     name = f"{blocks} blocks of {sectors}"
     yield compared(f"{name}: format", (0, total), (run.status, total_of(path.read_bytes())))
     yield compared(f"{name}: format leaves what lies behind", behind, path.read_bytes()[SECTOR * total:])
-    caps = [Caps(*row.split()[1:]) for row in run.out.decode().splitlines()]
+    caps = [Caps(*row.split()[-2:]) for row in run.out.decode().splitlines()]
     for number, (words, text, status) in enumerate(steps_of(caps, primaries)):
         run = runner.run([path, *words], text)
         yield compared(f"{name}: {words[0]}, step {number}", status, run.status)
