@@ -1,11 +1,20 @@
-//! Descriptors: their bytes, and the first thing that makes one not valid.
+//! What stands in the journal's sectors: a descriptor's bytes, and an older journal, of one record.
 
 use super::batches::committed;
-use super::damages::{GATES, set_record};
+use super::steps::{filled, open};
 use image_device::{Device, Failed, MemStation};
-use intent_journal::{Batch, Ring};
-use std::alloc::Global;
+use intent_journal::{Batch, Replayed, Ring};
 use std::test::Fail;
+
+/// A descriptor with this count and these homes.
+fn descriptor(count: u32, homes: &[u32]) -> [u8; 512] {
+    let mut bytes = [0; 512];
+    bytes[..4].copy_from_slice(&count.to_le_bytes());
+    for (index, home) in homes.iter().take(113).enumerate() {
+        bytes[4 + 4 * index..8 + 4 * index].copy_from_slice(&home.to_le_bytes());
+    }
+    bytes
+}
 
 #[test]
 fn written(rt: HostRuntime) -> Result<(), Fail> {
@@ -21,45 +30,28 @@ fn written(rt: HostRuntime) -> Result<(), Fail> {
     Ok(())
 }
 
-/// A disk with this record, behind one of so many other homes where there are any.
-fn behind(alloc: Global, start: u32, count: u32, homes: &[u32]) -> Result<MemStation, Failed> {
-    let mut station = MemStation::new(alloc, Vec::new(alloc));
-    let mut others = [0; 113];
-    for (index, other) in others.iter_mut().enumerate() {
-        *other = 1000 + index as u32;
-    }
-    if start == 0 {
-        set_record(&mut station, GATES[0], count, homes)?;
-    } else {
-        set_record(&mut station, GATES[0], start, &others)?;
-        set_record(&mut station, GATES[1], count, homes)?;
-    }
-    Ok(station)
-}
-
 #[test]
-fn valid(rt: HostRuntime) -> Result<(), Fail> {
+fn an_older_journal_of_one_record_is_replayed(rt: HostRuntime) -> Result<(), Fail> {
     let alloc = rt.alloc();
-    let homes = [131, 0, 500, 132];
-    for (count, start, homes, some) in [
-        (4, 0, homes, true),
-        (4, 109, homes, true),
-        (4, 110, homes, false),
-        (1, 112, homes, true),
-        (1, 113, homes, false),
-        (0, 0, homes, false),
-        (113, 0, homes, false),
-        (114, 0, homes, false),
-        (u32::MAX, 0, homes, false),
-        (4, 0, [131, 0, 500, 131], false),
-        (3, 0, [131, 0, 500, 131], true),
-        (4, 0, [131, 0, 500, 130], false),
-        (4, 0, [1, 0, 500, 132], false),
-        (4, 0, [2, 0, 500, 132], false),
-    ] {
-        let mut station = behind(alloc, start, count, &homes)?;
-        let look = Ring::new(alloc)?.look(&mut station, 131, &mut [0; 512]);
-        assert_eq!(rt; look.is_ok(), some, "{count} homes from {start}");
+    let mut station = MemStation::new(alloc, Vec::new(alloc));
+    let mut homes = [0; 113];
+    for (index, home) in homes.iter_mut().enumerate() {
+        *home = 131 + 2 * index as u32;
+    }
+    let mut open_gate = [0; 512];
+    open_gate[0] = 1;
+    station.poke(2, &open_gate)?;
+    station.poke(3, &descriptor(113, &homes))?;
+    for body in 0..113_u8 {
+        station.poke(4 + u32::from(body), &[body; 512])?;
+    }
+    let found = open(&mut station, &mut Ring::new(alloc)?);
+    assert_eq!(rt; found, Ok(Replayed::Homes(113)));
+    for body in 0..113_u8 {
+        assert_eq!(rt;
+            filled(&mut station, 131 + 2 * u32::from(body))?,
+            Some(body)
+        );
     }
     Ok(())
 }
