@@ -1,5 +1,5 @@
 -- The number of pairs to a block, counted slot by slot.
-use Rattle.std.proofs.Common.{◌≡◌, ℕ, suc, ◌+◌, ◌<◌, ◌≤◌, false, cond, ◌==◌, List, [], ◌∷◌, length, take, get_or, set, refl, sym, ◌∙◌, ap, arith, inl, inr}
+use Rattle.std.proofs.Common.{◌≡◌, ℕ, zero, suc, ◌+◌, ◌<◌, ◌≤◌, false, cond, ◌==◌, List, [], ◌∷◌, length, take, get_or, set, refl, sym, ◌∙◌, ap, arith, inl, inr}
 use Rattle.std.proofs.Common.{Option, Some, None}
 use Rattle.std.proofs.lemmas.Bool.{cases_eq, false_from_ne_true, eq-eqb, ne_eqb}
 use Rattle.std.proofs.lemmas.List.{get_or-set_same, get_or-set_other, length-take, take_all}
@@ -39,6 +39,11 @@ slots_to_most slots b = count_by-le-length (leads_to b) slots
 
 pub none_counted : (slots : List (Option (ℕ × ℕ))) (k b : ℕ) → k < length slots → slot_at slots k ≡ None → slots_to (take (k + 1) slots) b ≡ slots_to (take k slots) b
 none_counted slots k b inside empty = count_by_more_no (leads_to b) slots k None inside (ap (leads_to b) empty)
+
+-- where none of the slots from one on holds a pair
+pub none_from : (slots : List (Option (ℕ × ℕ))) (k n b : ℕ) → k + n ≡ length slots → ((j : ℕ) → k ≤ j → slot_at slots j ≡ None) → slots_to (take (length slots) slots) b ≡ slots_to (take k slots) b
+none_from slots k zero b all empty = ap (λ m. slots_to (take m slots) b) (let end : length slots ≡ k = omega arith in end)
+none_from slots k (suc n) b all empty = none_from slots (k + 1) n b (omega arith) (λ j far. empty j (omega arith)) ∙ none_counted slots k b (omega arith) (empty k (omega arith))
 
 pub same_counted : (slots : List (Option (ℕ × ℕ))) (k a b : ℕ) → k < length slots → slot_at slots k ≡ Some (a, b) → slots_to (take (k + 1) slots) b ≡ slots_to (take k slots) b + 1
 same_counted slots k a b inside held = count_by_more_yes (leads_to b) slots k None inside (ap (leads_to b) held ∙ eq-eqb b b refl)

@@ -29,6 +29,20 @@ later slots live k f b = record { position = b.position; before = omega (arith, 
 pub loose_none : (slots : List (Option (ℕ × ℕ))) (live : List Bool) → IsLeastLoose slots live 0 None
 loose_none slots live f b = omega (arith, b.before)
 
+-- where no slot from one on holds a pair
+sooner : (slots : List (Option (ℕ × ℕ))) (live : List Bool) (k end : ℕ) (f : ℕ × ℕ) → ((j : ℕ) → k ≤ j → slot_at slots j ≡ None) → IsLooseBefore slots live end f → IsLooseBefore slots live k f
+sooner slots live k end f none b = elim (cases_lt b.position k) [
+  | inl less ↦ record { position = b.position; before = less; held = b.held; loose = b.loose }
+  | inr from ↦ (let empty = none b.position from in let held = b.held in absurd (cc))
+]
+
+pub loose_behind : (slots : List (Option (ℕ × ℕ))) (live : List Bool) (k end : ℕ) (least : Option (ℕ × ℕ)) → k ≤ end → ((j : ℕ) → k ≤ j → slot_at slots j ≡ None) → IsLeastLoose slots live k least → IsLeastLoose slots live end least
+loose_behind slots live k end None inside none so_far = λ f b. so_far f (sooner slots live k end f none b)
+loose_behind slots live k end (Some e) inside none so_far = (
+  record { position = so_far.0.position; before = omega (arith, so_far.0.before, inside); held = so_far.0.held; loose = so_far.0.loose },
+  λ f b. so_far.1 f (sooner slots live k end f none b),
+)
+
 -- a slot without such a pair
 none_more : (slots : List (Option (ℕ × ℕ))) (live : List Bool) (k : ℕ) (least : Option (ℕ × ℕ)) → ((f : ℕ × ℕ) → slot_at slots k ≡ Some f → are_live live f ≡ true)
     → IsLeastLoose slots live k least → IsLeastLoose slots live (k + 1) least

@@ -8,15 +8,14 @@ use pointer_table::PointerTable;
 use ref_counts::RefCounts;
 use std::alloc::{AllocError, Global};
 
-/// The number of pairs to each block. It looks at each slot once.
+/// The number of pairs to each block. It looks once at each slot up to the last that holds a pair.
 pub(crate) fn pairs_to_each(alloc: Global, pointers: &PointerTable) -> Result<Vec<u32>, AllocError>
     requires { IsTable pointers.now }
     ensures each { IfOk result (λ found. length found.items ≡ pointers.now.geometry.blocks) }
     ensures found { IfOk result (λ found. AreFound found.items pointers.now) }
 {
-    let geometry = pointers.geometry();
-    let mut found = vec![in alloc; 0u32; geometry.blocks as usize]?;
-    for slot in 0..geometry.slots {
+    let mut found = vec![in alloc; 0u32; pointers.geometry().blocks as usize]?;
+    for slot in 0..pointers.slots_end() {
         if let Some((_, target)) = pointers.pair_in(slot) {
             found[target as usize] += 1;
         }

@@ -35,13 +35,13 @@ fn lesser(least: Option<(u32, u32)>, candidate: Option<(u32, u32)>) -> Option<(u
     }
 }
 
-/// The least pair with an end that isn't live. It looks at each slot once.
+/// The least pair with an end that isn't live. It looks once at each slot up to the last that holds a pair.
 pub(crate) fn least_loose_pair(pointers: &PointerTable, live: &LiveMap) -> Option<(u32, u32)>
     requires { live.now.geometry ≡ pointers.now.geometry }
     ensures { IsLeastLoose pointers.now.slots live.now.live pointers.now.geometry.slots result }
 {
     let mut least = None;
-    for slot in 0..pointers.geometry().slots {
+    for slot in 0..pointers.slots_end() {
         least = lesser(least, loose_pair(pointers, live, slot));
     }
     least

@@ -14,17 +14,14 @@ use Rattle.tsd_model.specs.Pairs.{holds}
 use Rattle.pointer_table.specs.Indexed.{IsIndex, HasLinksAndHeads, IsPlaceOf}
 use Rattle.pointer_table.specs.Empties.{AreEmpties}
 use Rattle.pointer_table.specs.Order.{AreSmall, ArePackable}
-use Rattle.pointer_table.specs.Raw.{slot_in, slots_in}
 use Rattle.pointer_table.specs.Reading.{AreWithinTo}
 use Rattle.pointer_table.specs.Slots.{slot_at, pairs_in}
 use Rattle.pointer_table.specs.Table.{Table, pairs, MayBeHeld, IsTable}
 use Rattle.pointer_table.specs.Threads.{IsWith}
 use Rattle.pointer_table.specs.declared.index.Index.{Index}
-use Rattle.pointer_table.specs.declared.raw.RawSlot.{RawSlot}
 use Rattle.pointer_table.proofs.EmptyLaws.{first_empty, empties_taken, empties_given}
-use Rattle.pointer_table.proofs.RawLaws.{slots_in-set}
 use Rattle.pointer_table.proofs.SlotLaws.{some_inside, holds_from_slot, set_same, set_other}
-use Rattle.pointer_table.proofs.TableLaws.{with_slot, set_in, fits, added, removed, held_added, held_removed}
+use Rattle.pointer_table.proofs.TableLaws.{with_slot, fits, added, removed, held_added, held_removed}
 
 -- ---- one slot
 
@@ -44,85 +41,85 @@ slot_emptied slots position e held = record {
 
 -- ---- what a table in memory keeps
 
-abbrev pub Kept : Geometry → List RawSlot → ℕ → Index → Type 0
+abbrev pub Kept : Geometry → List (Option (ℕ × ℕ)) → ℕ → Index → Type 0
 Kept g items held x =
-    IsTable (record { geometry = g; slots = slots_in items })
-    × (held ≡ length (pairs (record { geometry = g; slots = slots_in items })))
-    × AreEmpties (slots_in items) held x.empty x.by_bucket.next
-    × IsIndex (slot_at (slots_in items)) x
+    IsTable (record { geometry = g; slots = items })
+    × (held ≡ length (pairs (record { geometry = g; slots = items })))
+    × AreEmpties items held x.empty x.by_bucket.next
+    × IsIndex (slot_at items) x
     × HasLinksAndHeads g.blocks g.slots x
 
 -- a table that isn't full has an empty slot, the first of the list
-few_held : (t : Table) (g : Geometry) (items : List RawSlot) (held : ℕ) (x : Index) → ◌≡◌ {A = Table} (record { geometry = g; slots = slots_in items }) t
-    → Kept g items held x → length (pairs t) < t.geometry.slots → held < length (slots_in items)
+few_held : (t : Table) (g : Geometry) (items : List (Option (ℕ × ℕ))) (held : ℕ) (x : Index) → ◌≡◌ {A = Table} (record { geometry = g; slots = items }) t
+    → Kept g items held x → length (pairs t) < t.geometry.slots → held < length items
 few_held t g items held x is kept room =
-    let same : length (pairs (record { geometry = g; slots = slots_in items })) ≡ length (pairs t) = ap (λ (v : Table). length (pairs v)) is in
+    let same : length (pairs (record { geometry = g; slots = items })) ≡ length (pairs t) = ap (λ (v : Table). length (pairs v)) is in
     let sizes : g.slots ≡ t.geometry.slots = ap (λ (v : Table). v.geometry.slots) is in
     let all = kept.0.count in
     let held_is = kept.1 in
     omega arith
 
-pub next_empty : (t : Table) (g : Geometry) (items : List RawSlot) (held : ℕ) (x : Index) → ◌≡◌ {A = Table} (record { geometry = g; slots = slots_in items }) t
-    → Kept g items held x → length (pairs t) < t.geometry.slots → (x.empty < length (slots_in items)) × (slot_at (slots_in items) x.empty ≡ None)
-next_empty t g items held x is kept room = first_empty (slots_in items) held x.empty x.by_bucket.next kept.2 (few_held t g items held x is kept room)
+pub next_empty : (t : Table) (g : Geometry) (items : List (Option (ℕ × ℕ))) (held : ℕ) (x : Index) → ◌≡◌ {A = Table} (record { geometry = g; slots = items }) t
+    → Kept g items held x → length (pairs t) < t.geometry.slots → (x.empty < length items) × (slot_at items x.empty ≡ None)
+next_empty t g items held x is kept room = first_empty items held x.empty x.by_bucket.next kept.2 (few_held t g items held x is kept room)
 
 -- it is filled
-pub filled : (t : Table) (g : Geometry) (items : List RawSlot) (held : ℕ) (x now : Index) (position a b : ℕ) (raw : RawSlot) → ◌≡◌ {A = Table} (record { geometry = g; slots = slots_in items }) t
-    → Kept g items held x → length (pairs t) < t.geometry.slots → holds (pairs t) a b ≡ false → MayBeHeld t.geometry (a, b) → position ≡ x.empty → slot_in raw ≡ Some (a, b)
-    → ((next : ℕ → Option (ℕ × ℕ)) → IsWith (slot_at (slots_in items)) position (a, b) next → IsIndex next now)
+pub filled : (t : Table) (g : Geometry) (items : List (Option (ℕ × ℕ))) (held : ℕ) (x now : Index) (position a b : ℕ) (slots : List (Option (ℕ × ℕ))) → ◌≡◌ {A = Table} (record { geometry = g; slots = items }) t
+    → Kept g items held x → length (pairs t) < t.geometry.slots → holds (pairs t) a b ≡ false → MayBeHeld t.geometry (a, b) → position ≡ x.empty → slots ≡ set items position (Some (a, b))
+    → ((next : ℕ → Option (ℕ × ℕ)) → IsWith (slot_at items) position (a, b) next → IsIndex next now)
     → ((blocks positions : ℕ) → HasLinksAndHeads blocks positions x → HasLinksAndHeads blocks positions now)
     → now.empty ≡ get_or x.by_bucket.next x.empty 0
-    → ((k : ℕ) → slot_at (slots_in items) k ≡ None → (k ≡ position → ⊥) → get_or now.by_bucket.next k 0 ≡ get_or x.by_bucket.next k 0)
-    → Kept g (set items position raw) (held + 1) now
-filled t g items held x now position a b raw is kept room absent within place_is raw_is index rooms first stays = (table, many, empties_now, index_now, rooms g.blocks g.slots kept.4)
+    → ((k : ℕ) → slot_at items k ≡ None → (k ≡ position → ⊥) → get_or now.by_bucket.next k 0 ≡ get_or x.by_bucket.next k 0)
+    → Kept g slots (held + 1) now
+filled t g items held x now position a b slots is kept room absent within place_is set_is index rooms first stays = (table, many, empties_now, index_now, rooms g.blocks g.slots kept.4)
   where
     u : Table
-    u = record { geometry = g; slots = slots_in items }
+    u = record { geometry = g; slots = items }
 
-    empty : slot_at (slots_in items) position ≡ None
-    empty = ap (slot_at (slots_in items)) place_is ∙ (next_empty t g items held x is kept room).1
+    empty : slot_at items position ≡ None
+    empty = ap (slot_at items) place_is ∙ (next_empty t g items held x is kept room).1
 
-    inside : position < length (slots_in items)
+    inside : position < length items
     inside = let at = (next_empty t g items held x is kept room).0 in let same = place_is in omega arith
 
     not_held : holds (pairs u) a b ≡ false
     not_held = ap (λ (v : Table). holds (pairs v) a b) is ∙ absent
 
-    slots_are : set (slots_in items) position (Some (a, b)) ≡ slots_in (set items position raw)
-    slots_are = ap (set (slots_in items) position) (sym raw_is) ∙ sym (slots_in-set items position raw)
+    slots_are : set items position (Some (a, b)) ≡ slots
+    slots_are = sym set_is
 
-    table : IsTable (record { geometry = g; slots = slots_in (set items position raw) })
+    table : IsTable (record { geometry = g; slots = slots })
     table = subst (λ (slots : List (Option (ℕ × ℕ))). IsTable (record { geometry = g; slots = slots })) slots_are
         (added u position a b kept.0 (let here = inside in let all = kept.0.count in omega arith) not_held (subst (λ (v : Table). MayBeHeld v.geometry (a, b)) (sym is) within))
 
-    many : held + 1 ≡ length (pairs (record { geometry = g; slots = slots_in (set items position raw) }))
+    many : held + 1 ≡ length (pairs (record { geometry = g; slots = slots }))
     many = ap (λ (n : ℕ). n + 1) kept.1 ∙ (sym (held_added u position a b kept.0 (let here = inside in let all = kept.0.count in omega arith) empty not_held)
         ∙ ap (λ (slots : List (Option (ℕ × ℕ))). length (pairs_in slots)) slots_are)
 
-    taken : AreEmpties (set (slots_in items) x.empty (Some (a, b))) (held + 1) (get_or x.by_bucket.next x.empty 0) now.by_bucket.next
-    taken = empties_taken (slots_in items) held x.empty x.by_bucket.next now.by_bucket.next (a, b) kept.2 (few_held t g items held x is kept room)
+    taken : AreEmpties (set items x.empty (Some (a, b))) (held + 1) (get_or x.by_bucket.next x.empty 0) now.by_bucket.next
+    taken = empties_taken items held x.empty x.by_bucket.next now.by_bucket.next (a, b) kept.2 (few_held t g items held x is kept room)
         (λ k none off. stays k none (λ same. off (same ∙ place_is)))
 
-    empties_now : AreEmpties (slots_in (set items position raw)) (held + 1) now.empty now.by_bucket.next
-    empties_now = subst (λ (link : ℕ). AreEmpties (slots_in (set items position raw)) (held + 1) link now.by_bucket.next) (sym first)
+    empties_now : AreEmpties slots (held + 1) now.empty now.by_bucket.next
+    empties_now = subst (λ (link : ℕ). AreEmpties slots (held + 1) link now.by_bucket.next) (sym first)
         (subst (λ (slots : List (Option (ℕ × ℕ))). AreEmpties slots (held + 1) (get_or x.by_bucket.next x.empty 0) now.by_bucket.next)
-        (ap (λ (p : ℕ). set (slots_in items) p (Some (a, b))) (sym place_is) ∙ slots_are) taken)
+        (ap (λ (p : ℕ). set items p (Some (a, b))) (sym place_is) ∙ slots_are) taken)
 
-    index_now : IsIndex (slot_at (slots_in (set items position raw))) now
+    index_now : IsIndex (slot_at slots) now
     index_now = subst (λ (slots : List (Option (ℕ × ℕ))). IsIndex (slot_at slots) now) slots_are
-        (index (slot_at (set (slots_in items) position (Some (a, b)))) (slot_filled (slots_in items) position (a, b) inside empty))
+        (index (slot_at (set items position (Some (a, b)))) (slot_filled items position (a, b) inside empty))
 
 -- the same in the steps of the code: the slot is taken off the list, and then the pair is threaded
-pub put_kept : (t : Table) (g : Geometry) (items : List RawSlot) (held : ℕ) (x taken now : Index) (position a b : ℕ) (raw : RawSlot) → ◌≡◌ {A = Table} (record { geometry = g; slots = slots_in items }) t
+pub put_kept : (t : Table) (g : Geometry) (items : List (Option (ℕ × ℕ))) (held : ℕ) (x taken now : Index) (position a b : ℕ) (slots : List (Option (ℕ × ℕ))) → ◌≡◌ {A = Table} (record { geometry = g; slots = items }) t
     → Kept g items held x → length (pairs t) < t.geometry.slots → holds (pairs t) a b ≡ false → MayBeHeld t.geometry (a, b) → position ≡ x.empty
-    → taken ≡ record x { empty = get_or x.by_bucket.next x.empty 0 } → slot_in raw ≡ Some (a, b)
-    → ((next : ℕ → Option (ℕ × ℕ)) → IsWith (slot_at (slots_in items)) position (a, b) next → IsIndex next now)
+    → taken ≡ record x { empty = get_or x.by_bucket.next x.empty 0 } → slots ≡ set items position (Some (a, b))
+    → ((next : ℕ → Option (ℕ × ℕ)) → IsWith (slot_at items) position (a, b) next → IsIndex next now)
     → ((blocks positions : ℕ) → HasLinksAndHeads blocks positions taken → HasLinksAndHeads blocks positions now)
     → now.empty ≡ taken.empty
-    → ((k : ℕ) → slot_at (slots_in items) k ≡ None → (k ≡ position → ⊥) → get_or now.by_bucket.next k 0 ≡ get_or taken.by_bucket.next k 0)
-    → Kept g (set items position raw) (held + 1) now
-put_kept t g items held x taken now position a b raw is kept room absent within place_is taken_is raw_is index rooms first stays =
-    filled t g items held x now position a b raw is kept room absent within place_is raw_is index
+    → ((k : ℕ) → slot_at items k ≡ None → (k ≡ position → ⊥) → get_or now.by_bucket.next k 0 ≡ get_or taken.by_bucket.next k 0)
+    → Kept g slots (held + 1) now
+put_kept t g items held x taken now position a b slots is kept room absent within place_is taken_is set_is index rooms first stays =
+    filled t g items held x now position a b slots is kept room absent within place_is set_is index
     (λ blocks positions old. rooms blocks positions (subst (HasLinksAndHeads blocks positions) (sym taken_is) (same_room blocks positions old)))
     (first ∙ ap (λ (y : Index). y.empty) taken_is)
     (λ k none off. stays k none off ∙ ap (λ (y : Index). get_or y.by_bucket.next k 0) taken_is)
@@ -137,54 +134,54 @@ put_kept t g items held x taken now position a b raw is kept room absent within 
     }
 
 -- where a slot holds a pair, one is held
-pub some_held : (t : Table) (g : Geometry) (items : List RawSlot) (held : ℕ) (x : Index) (position a b : ℕ) → ◌≡◌ {A = Table} (record { geometry = g; slots = slots_in items }) t
+pub some_held : (t : Table) (g : Geometry) (items : List (Option (ℕ × ℕ))) (held : ℕ) (x : Index) (position a b : ℕ) → ◌≡◌ {A = Table} (record { geometry = g; slots = items }) t
     → Kept g items held x → slot_at t.slots position ≡ Some (a, b) → 1 ≤ held
 some_held t g items held x position a b is kept here =
-    let u : Table = record { geometry = g; slots = slots_in items } in
+    let u : Table = record { geometry = g; slots = items } in
     let fewer = held_removed u position a b kept.0 (ap (λ (v : Table). slot_at v.slots position) is ∙ here) in
     let held_is = kept.1 in
     omega arith
 
 -- a slot is emptied
-pub emptied : (t : Table) (g : Geometry) (items : List RawSlot) (held left : ℕ) (x cut now : Index) (position a b : ℕ) (raw : RawSlot) → ◌≡◌ {A = Table} (record { geometry = g; slots = slots_in items }) t
-    → Kept g items held x → slot_at t.slots position ≡ Some (a, b) → held ≡ left + 1 → slot_in raw ≡ None
-    → ((next : ℕ → Option (ℕ × ℕ)) → IsWith next position (a, b) (slot_at (slots_in items)) → IsIndex next cut)
+pub emptied : (t : Table) (g : Geometry) (items : List (Option (ℕ × ℕ))) (held left : ℕ) (x cut now : Index) (position a b : ℕ) (slots : List (Option (ℕ × ℕ))) → ◌≡◌ {A = Table} (record { geometry = g; slots = items }) t
+    → Kept g items held x → slot_at t.slots position ≡ Some (a, b) → held ≡ left + 1 → slots ≡ set items position None
+    → ((next : ℕ → Option (ℕ × ℕ)) → IsWith next position (a, b) (slot_at items) → IsIndex next cut)
     → ((next : ℕ → Option (ℕ × ℕ)) → next position ≡ None → IsIndex next cut → IsIndex next now)
     → HasLinksAndHeads g.blocks g.slots now
     → now.empty ≡ position → now.by_bucket.next ≡ set cut.by_bucket.next position x.empty → position < length cut.by_bucket.next
-    → ((k : ℕ) → slot_at (slots_in items) k ≡ None → get_or cut.by_bucket.next k 0 ≡ get_or x.by_bucket.next k 0)
-    → Kept g (set items position raw) left now
-emptied t g items held left x cut now position a b raw is kept here one_more raw_is index given rooms first links inside stays = (table, many, empties_now, index_now, rooms)
+    → ((k : ℕ) → slot_at items k ≡ None → get_or cut.by_bucket.next k 0 ≡ get_or x.by_bucket.next k 0)
+    → Kept g slots left now
+emptied t g items held left x cut now position a b slots is kept here one_more set_is index given rooms first links inside stays = (table, many, empties_now, index_now, rooms)
   where
     u : Table
-    u = record { geometry = g; slots = slots_in items }
+    u = record { geometry = g; slots = items }
 
-    there : slot_at (slots_in items) position ≡ Some (a, b)
+    there : slot_at items position ≡ Some (a, b)
     there = ap (λ (v : Table). slot_at v.slots position) is ∙ here
 
-    slots_are : set (slots_in items) position None ≡ slots_in (set items position raw)
-    slots_are = ap (set (slots_in items) position) (sym raw_is) ∙ sym (slots_in-set items position raw)
+    slots_are : set items position None ≡ slots
+    slots_are = sym set_is
 
-    table : IsTable (record { geometry = g; slots = slots_in (set items position raw) })
+    table : IsTable (record { geometry = g; slots = slots })
     table = subst (λ (slots : List (Option (ℕ × ℕ))). IsTable (record { geometry = g; slots = slots })) slots_are (removed u position a b kept.0 there)
 
-    many : left ≡ length (pairs (record { geometry = g; slots = slots_in (set items position raw) }))
+    many : left ≡ length (pairs (record { geometry = g; slots = slots }))
     many =
         let fewer = held_removed u position a b kept.0 there in
         let held_is = kept.1 in
-        let less : left ≡ length (pairs_in (set (slots_in items) position None)) = omega arith in
+        let less : left ≡ length (pairs_in (set items position None)) = omega arith in
         less ∙ ap (λ (slots : List (Option (ℕ × ℕ))). length (pairs_in slots)) slots_are
 
-    empties_now : AreEmpties (slots_in (set items position raw)) left now.empty now.by_bucket.next
-    empties_now = subst (λ (link : ℕ). AreEmpties (slots_in (set items position raw)) left link now.by_bucket.next) (sym first)
-        (subst (AreEmpties (slots_in (set items position raw)) left position) (sym links)
+    empties_now : AreEmpties slots left now.empty now.by_bucket.next
+    empties_now = subst (λ (link : ℕ). AreEmpties slots left link now.by_bucket.next) (sym first)
+        (subst (AreEmpties slots left position) (sym links)
         (subst (λ (slots : List (Option (ℕ × ℕ))). AreEmpties slots left position (set cut.by_bucket.next position x.empty)) slots_are
-        (empties_given (slots_in items) held left x.empty x.by_bucket.next cut.by_bucket.next position (a, b) kept.2 one_more there inside stays)))
+        (empties_given items held left x.empty x.by_bucket.next cut.by_bucket.next position (a, b) kept.2 one_more there inside stays)))
 
-    index_now : IsIndex (slot_at (slots_in (set items position raw))) now
+    index_now : IsIndex (slot_at slots) now
     index_now = subst (λ (slots : List (Option (ℕ × ℕ))). IsIndex (slot_at slots) now) slots_are
-        (given (slot_at (set (slots_in items) position None)) (set_same (slots_in items) position None (some_inside (slots_in items) position (a, b) there))
-        (index (slot_at (set (slots_in items) position None)) (slot_emptied (slots_in items) position (a, b) there)))
+        (given (slot_at (set items position None)) (set_same items position None (some_inside items position (a, b) there))
+        (index (slot_at (set items position None)) (slot_emptied items position (a, b) there)))
 
 -- ---- what is asked of a change of the index
 
@@ -215,25 +212,25 @@ packable g slots lawful count within = record {
 
 -- ---- the patch of a changed slot
 
-pub change_after : (t : Table) (g : Geometry) (items : List RawSlot) (position : ℕ) (raw : RawSlot) (patch : Patch) (before after : Option (ℕ × ℕ)) → ◌≡◌ {A = Table} (record { geometry = g; slots = slots_in items }) t
-    → position < t.geometry.slots → slot_at t.slots position ≡ before → slot_in raw ≡ after → patch.sector ≡ sector_of g position
-    → patch.bytes ≡ slot_sector_bytes (slots_in (set items position raw)) (position / 64) → IsChange t (record { geometry = g; slots = slots_in (set items position raw) }) before after patch
-change_after t g items position raw patch before after is inside was now sector bytes = record {
+pub change_after : (t : Table) (g : Geometry) (items now : List (Option (ℕ × ℕ))) (position : ℕ) (patch : Patch) (before after : Option (ℕ × ℕ)) → ◌≡◌ {A = Table} (record { geometry = g; slots = items }) t
+    → now ≡ set items position after → position < t.geometry.slots → slot_at t.slots position ≡ before → patch.sector ≡ sector_of g position
+    → patch.bytes ≡ slot_sector_bytes now (position / 64) → IsChange t (record { geometry = g; slots = now }) before after patch
+change_after t g items now position patch before after is set_is inside was sector bytes = record {
   position = position;
   inside = inside;
   was = was;
-  now = sym (set_in t g items position raw is) ∙ ap (with_slot t position) now;
+  now = ap (λ slots. record { geometry = g; slots = slots }) set_is ∙ ap (λ (u : Table). with_slot u position after) is;
   sector = sector ∙ ap (λ (u : Table). sector_of u.geometry position) is;
   bytes = bytes;
 }
 
-pub stored_after : (t : Table) (g : Geometry) (items : List RawSlot) (position : ℕ) (raw : RawSlot) (patch : Patch) → ◌≡◌ {A = Table} (record { geometry = g; slots = slots_in items }) t
-    → IsTable (record { geometry = g; slots = slots_in (set items position raw) }) → patch.sector ≡ sector_of g position
-    → patch.bytes ≡ slot_sector_bytes (slots_in (set items position raw)) (position / 64) → (x : Image) → IsStored t.slots t.geometry x
-    → IsStored (slots_in (set items position raw)) g (put_at patch.sector patch.bytes x)
-stored_after t g items position raw patch is table sector bytes x old =
-    let same = set_in t g items position raw is in
-    subst (λ (u : Table). IsStored u.slots u.geometry (put_at patch.sector patch.bytes x)) same
-    (stored_kept t.slots t.geometry position (slot_in raw) patch.sector patch.bytes (fits (with_slot t position (slot_in raw)) (subst IsTable (sym same) table))
+pub stored_after : (t : Table) (g : Geometry) (items now : List (Option (ℕ × ℕ))) (position : ℕ) (slot : Option (ℕ × ℕ)) (patch : Patch) → ◌≡◌ {A = Table} (record { geometry = g; slots = items }) t
+    → now ≡ set items position slot → IsTable (record { geometry = g; slots = now }) → patch.sector ≡ sector_of g position
+    → patch.bytes ≡ slot_sector_bytes now (position / 64) → (x : Image) → IsStored t.slots t.geometry x
+    → IsStored now g (put_at patch.sector patch.bytes x)
+stored_after t g items now position slot patch is set_is table sector bytes x old =
+    let same : record { geometry = g; slots = now } ≡ with_slot t position slot = ap (λ slots. record { geometry = g; slots = slots }) set_is ∙ ap (λ (u : Table). with_slot u position slot) is in
+    subst (λ (u : Table). IsStored u.slots u.geometry (put_at patch.sector patch.bytes x)) (sym same)
+    (stored_kept t.slots t.geometry position slot patch.sector patch.bytes (fits (with_slot t position slot) (subst IsTable same table))
     (sector ∙ ap (λ (u : Table). sector_of u.geometry position) is)
-    (bytes ∙ ap (λ (u : Table). slot_sector_bytes u.slots (position / 64)) (sym same)) x old)
+    (bytes ∙ ap (λ (u : Table). slot_sector_bytes u.slots (position / 64)) same) x old)

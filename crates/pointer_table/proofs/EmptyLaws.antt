@@ -1,11 +1,14 @@
 -- The list of the empty slots: made, and with a slot taken off or put in front.
-use Rattle.std.proofs.Common.{◌≡◌, ℕ, zero, suc, ◌+◌, ◌-◌, ◌<◌, ◌≤◌, ◌==◌, true, cond, List, [], ◌∷◌, length, get_or, set, drop, refl, sym, ◌∙◌, ap, subst, arith, inl, inr, drop-cons}
+use Rattle.std.proofs.Common.{◌≡◌, ℕ, zero, suc, ◌+◌, ◌-◌, ◌<◌, ◌≤◌, ◌==◌, nat_lt, true, cond, List, [], ◌∷◌, length, get_or, set, drop, refl, sym, ◌∙◌, ap, subst, arith, inl, inr, drop-cons}
 use Rattle.std.proofs.Common.{Option, Some, None}
 use Rattle.std.specs.Prelude.{count_by, is_some}
-use Rattle.std.proofs.lemmas.Bool.{cases_lt, or_cases, or_left, or_right, eqb-true, eq-eqb, both_ways, false_from_ne_true}
+use Rattle.std.proofs.lemmas.Bool.{cases_lt, lt-ltb, le-ltb, or_cases, or_left, or_right, eqb-true, eq-eqb, both_ways, false_from_ne_true}
 use Rattle.std.proofs.lemmas.List.{length-set, get_or-set_same, get_or-set_other, drop_all}
+use Rattle.std.proofs.lemmas.List.FromFn.{length-range_with_len}
 use Rattle.std.proofs.lemmas.List.Sums.{sum_by-cons}
-use Rattle.pointer_table.specs.Empties.{is_among, AreEmptyOnce, AreLinked, AreEmpties}
+use Rattle.std.specs.List.{range_with_len}
+use Rattle.pointer_table.specs.Empties.{is_among, AreEmptyOnce, AreLinked, AreEmpties, AreInRow}
+use Rattle.pointer_table.specs.Links.{unset_link}
 use Rattle.pointer_table.specs.Slots.{slot_at}
 use Rattle.pointer_table.specs.Threads.{no_link}
 use Rattle.pointer_table.proofs.SlotLaws.{some_inside, set_same, set_other}
@@ -153,14 +156,54 @@ some_left slots l some = elim (cases_lt l (length slots)) [
   | inr past ↦ let none = count_drop_all slots l past in absurd (omega arith)
 ]
 
-pub empties_none : (slots : List (Option (ℕ × ℕ))) (first left : ℕ) (next : List ℕ) → first ≡ no_link → left ≡ length slots → AreEmptiesFrom slots left first next
-empties_none slots first left next nowhere all = record {
-  positions = [];
-  chain = nowhere;
-  empty = tt;
-  from = λ k among. absurd (cc);
-  many = let none = count_drop_all slots left (omega arith) in omega arith;
-}
+-- where none of the slots from one on holds a pair, none is counted
+none_count : (slots : List (Option (ℕ × ℕ))) (l n : ℕ) → l + n ≡ length slots → ((k : ℕ) → l ≤ k → slot_at slots k ≡ None) → count_by is_some (drop l slots) ≡ 0
+none_count slots l zero all none = count_drop_all slots l (omega arith)
+none_count slots l (suc n) all none =
+    let first = count_drop_none slots l (omega arith) (none l (omega arith)) in
+    let rest = none_count slots (suc l) n (omega arith) (λ k far. none k (omega arith)) in
+    omega arith
+
+-- slots in a row
+row_linked : (next : List ℕ) (k n : ℕ) → k + n ≡ length next → ((j : ℕ) → k ≤ j → j < length next → get_or next j 0 ≡ unset_link true (length next) j)
+    → AreLinked next (cond (nat_lt k (length next)) k no_link) (range_with_len k n)
+row_linked next k zero all row = ap (λ t. cond t k no_link) (le-ltb k (length next) (omega arith))
+row_linked next k (suc n) all row = (
+  ap (λ t. cond t k no_link) (lt-ltb k (length next) (omega arith)),
+  subst (λ (l : ℕ). AreLinked next l (range_with_len (k + 1) n)) (sym (row k (omega arith) (omega arith)))
+      (row_linked next (k + 1) n (omega arith) (λ j far inside. row j (omega arith) inside)),
+)
+
+row_among : (k n j : ℕ) → is_among (range_with_len k n) j ≡ true → k ≤ j
+row_among k zero j among = absurd (cc)
+row_among k (suc n) j among = elim (or_cases (k == j) (is_among (range_with_len (k + 1) n) j) among) [
+  | inl here ↦ (let is = eqb-true k j here in omega arith)
+  | inr later ↦ (let far = row_among (k + 1) n j later in omega arith)
+]
+
+row_empty : (slots : List (Option (ℕ × ℕ))) (k n : ℕ) → k + n ≡ length slots → ((j : ℕ) → k ≤ j → slot_at slots j ≡ None) → AreEmptyOnce slots (range_with_len k n)
+row_empty slots k zero all none = tt
+row_empty slots k (suc n) all none = (
+  omega arith,
+  none k (omega arith),
+  false_from_ne_true (is_among (range_with_len (k + 1) n) k) (λ among. let far = row_among (k + 1) n k among in omega arith),
+  row_empty slots (k + 1) n (omega arith) (λ j far. none j (omega arith)),
+)
+
+-- those behind the last one that holds a pair
+pub empties_behind : (slots : List (Option (ℕ × ℕ))) (end first : ℕ) (next : List ℕ) → end ≤ length slots → length next ≡ length slots → ((k : ℕ) → end ≤ k → slot_at slots k ≡ None)
+    → AreInRow (slot_at slots) next → first ≡ cond (nat_lt end (length slots)) end no_link → AreEmptiesFrom slots end first next
+empties_behind slots end first next inside many none row first_is =
+    let left = length slots - end in
+    record {
+      positions = range_with_len end left;
+      chain =
+          subst (λ (l : ℕ). AreLinked next l (range_with_len end left)) (sym (first_is ∙ ap (λ (m : ℕ). cond (nat_lt end m) end no_link) (sym many)))
+          (row_linked next end left (omega arith) (λ j far within. row j within (none j far)));
+      empty = row_empty slots end left (omega arith) none;
+      from = λ k among. row_among end left k among;
+      many = (let count = none_count slots end left (omega arith) none in let all = length-range_with_len end left in omega arith);
+    }
 
 pub empties_more : (slots : List (Option (ℕ × ℕ))) (left first : ℕ) (next : List ℕ) → 0 < left → left ≤ length slots → length next ≡ length slots → slot_at slots (left - 1) ≡ None → AreEmptiesFrom slots left first next
     → AreEmptiesFrom slots (left - 1) (left - 1) (set next (left - 1) first)

@@ -1,5 +1,6 @@
 -- Reading the slots of an image, sector after sector.
 use Rattle.std.proofs.Common.{◌≡◌, ℕ, ◌+◌, ◌-◌, ◌*◌, ◌/◌, ◌%◌, ◌<◌, ◌≤◌, min, true, false, not, cond, ◌&&◌, ◌||◌, ◌==◌, nat_lt, nat_le, inl, inr, List, length, set, refl, sym, ◌∙◌, ap, subst, arith}
+use Rattle.std.proofs.Common.{Option}
 use Rattle.std.proofs.Common.{Some, None}
 use Rattle.std.specs.Int.{div_ceil}
 use Rattle.std.proofs.lemmas.Bool.{cases_eq, eqb-false, ltb-false, leb-false, or_parts}
@@ -10,12 +11,11 @@ use Rattle.image_layout.specs.Areas.{slots_start}
 use Rattle.image_layout.specs.Image.{Image, source_field, target_field}
 use Rattle.pointer_table.specs.declared.raw.RawSlot.{RawSlot}
 use Rattle.pointer_table.specs.Loading.{is_bad, is_bad_at, IsLeastBadSlot}
-use Rattle.pointer_table.specs.Raw.{slot_in, slots_in}
+use Rattle.pointer_table.specs.Raw.{slot_in}
 use Rattle.pointer_table.specs.Reading.{AreReadTo, AreWithinTo}
 use Rattle.pointer_table.specs.Sectors.{slot_of, stored_slot}
 use Rattle.pointer_table.specs.Slots.{slot_at}
 use Rattle.pointer_table.specs.Table.{MayBeHeld}
-use Rattle.pointer_table.proofs.RawLaws.{slots_in-set, length-slots_in}
 use Rattle.pointer_table.proofs.SlotLaws.{set_same, set_other}
 
 -- ---- where a slot's two numbers stand
@@ -56,19 +56,19 @@ good_slot g source target e good is =
           subst (MayBeHeld g) same (omega arith, omega arith, omega arith)
     ] refl good is
 
-pub read_more : (image : Image) (g : Geometry) (position : ℕ) (raws : List RawSlot) (raw : RawSlot) → position < length raws
+pub read_more : (image : Image) (g : Geometry) (position : ℕ) (raws : List (Option (ℕ × ℕ))) (raw : RawSlot) → position < length raws
     → raw.source ≡ source_field image g position → raw.target ≡ target_field image g position → is_bad g raw.source raw.target ≡ false
-    → AreReadTo image g position (slots_in raws) → AreReadTo image g (position + 1) (slots_in (set raws position raw))
+    → AreReadTo image g position raws → AreReadTo image g (position + 1) (set raws position (slot_in raw))
 read_more image g position raws raw inside source target good so_far = record {
   each = λ k below. elim (cases_eq k position) [
     | inl here ↦
         ap (stored_slot image g) here
         ∙ (ap (λ s. slot_of s (target_field image g position)) (sym source) ∙ (ap (slot_of raw.source) (sym target)
-        ∙ (sym (set_same (slots_in raws) position (slot_in raw) (let same = length-slots_in raws in omega arith))
-        ∙ (ap (λ slots. slot_at slots position) (sym (slots_in-set raws position raw)) ∙ ap (slot_at (slots_in (set raws position raw))) (sym here)))))
+        ∙ (sym (set_same raws position (slot_in raw) inside)
+        ∙ ap (slot_at (set raws position (slot_in raw))) (sym here))))
     | inr other ↦
         so_far.each k (omega arith)
-        ∙ (sym (set_other (slots_in raws) position k (slot_in raw) other) ∙ ap (λ slots. slot_at slots k) (sym (slots_in-set raws position raw)))
+        ∙ sym (set_other raws position k (slot_in raw) other)
   ];
   no_bad = λ k below. elim (cases_eq k position) [
     | inl here ↦ ap (is_bad_at image g) here ∙ (ap (λ s. is_bad g s (target_field image g position)) (sym source) ∙ (ap (is_bad g raw.source) (sym target) ∙ good))
@@ -76,24 +76,24 @@ read_more image g position raws raw inside source target good so_far = record {
   ];
 }
 
-pub within_more : (g : Geometry) (position : ℕ) (raws : List RawSlot) (raw : RawSlot) → position < length raws → is_bad g raw.source raw.target ≡ false
-    → AreWithinTo g position (slots_in raws) → AreWithinTo g (position + 1) (slots_in (set raws position raw))
+pub within_more : (g : Geometry) (position : ℕ) (raws : List (Option (ℕ × ℕ))) (raw : RawSlot) → position < length raws → is_bad g raw.source raw.target ≡ false
+    → AreWithinTo g position raws → AreWithinTo g (position + 1) (set raws position (slot_in raw))
 within_more g position raws raw inside good so_far = record {
   each = λ k e below here. elim (cases_eq k position) [
     | inl same ↦
         good_slot g raw.source raw.target e good
-        (sym (set_same (slots_in raws) position (slot_in raw) (let l = length-slots_in raws in omega arith))
-        ∙ (ap (λ slots. slot_at slots position) (sym (slots_in-set raws position raw)) ∙ (ap (slot_at (slots_in (set raws position raw))) (sym same) ∙ here)))
+        (sym (set_same raws position (slot_in raw) inside)
+        ∙ (ap (slot_at (set raws position (slot_in raw))) (sym same) ∙ here))
     | inr other ↦
         so_far.each k e (omega arith)
-        (sym (set_other (slots_in raws) position k (slot_in raw) other) ∙ (ap (λ slots. slot_at slots k) (sym (slots_in-set raws position raw)) ∙ here))
+        (sym (set_other raws position k (slot_in raw) other) ∙ here)
   ];
 }
 
 -- a bad one behind those that were read
-pub least_bad : (image : Image) (g : Geometry) (position : ℕ) (raws : List RawSlot) (raw : RawSlot) → position < g.slots
+pub least_bad : (image : Image) (g : Geometry) (position : ℕ) (raws : List (Option (ℕ × ℕ))) (raw : RawSlot) → position < g.slots
     → raw.source ≡ source_field image g position → raw.target ≡ target_field image g position → is_bad g raw.source raw.target ≡ true
-    → AreReadTo image g position (slots_in raws) → IsLeastBadSlot image g position raw.source raw.target
+    → AreReadTo image g position raws → IsLeastBadSlot image g position raw.source raw.target
 least_bad image g position raws raw inside source target bad so_far = record {
   inside = inside;
   source_is = source;

@@ -11,8 +11,6 @@ use Rattle.std.specs.Result.{IfOk}
 use Rattle.image_layout.specs.Image.{Image}
 use Rattle.pointer_table.specs.declared.fault.TableFault.{TableFault}
 use Rattle.pointer_table.specs.declared.fault.TableFault.TheVariants as fault
-use Rattle.pointer_table.specs.declared.raw.RawSlot.{RawSlot}
-use Rattle.pointer_table.specs.Raw.{slot_in, slots_in}
 use Rattle.pointer_table.specs.Repeating.{IsRepeating}
 use Rattle.pointer_table.specs.Loading.{IsRepeatedOn, IsLeastRepeated, AnswersPointers}
 use Rattle.pointer_table.specs.Reading.{AreReadTo, AreWithinTo}
@@ -22,7 +20,6 @@ use Rattle.pointer_table.specs.Table.{Table, pairs, MayBeHeld, IsTable, ArePairs
 use Rattle.tsd_model.proofs.PairLaws.{length-with_new_pair}
 use Rattle.image_layout.specs.declared.offset.Patch.{Patch}
 use Rattle.pointer_table.specs.Changes.{IsChange}
-use Rattle.pointer_table.proofs.RawLaws.{slots_in-set}
 use Rattle.image_layout.specs.Areas.{slots_start}
 use Rattle.image_layout.specs.Offsets.{slot_offset}
 use Rattle.pointer_table.specs.Sectors.{IsStored, slot_sector_bytes}
@@ -196,14 +193,6 @@ batch_stored slots now g x y table stored patched = record {
             ∙ (sym (stored_at x g k) ∙ (stored.each k inside ∙ sym as_before.1))
       ];
 }
-
--- ---- the fields of a table in memory
-
--- a slot set in memory is one set in the table
-pub set_in : (t : Table) (g : Geometry) (raws : List RawSlot) (position : ℕ) (raw : RawSlot) → ◌≡◌ {A = Table} (record { geometry = g; slots = slots_in raws }) t
-    → with_slot t position (slot_in raw) ≡ record { geometry = g; slots = slots_in (set raws position raw) }
-set_in t g raws position raw is =
-    sym (ap (λ (u : Table). with_slot u position (slot_in raw)) is) ∙ ap (λ slots. record { geometry = g; slots = slots }) (sym (slots_in-set raws position raw))
 
 -- ---- the pairs after a change
 

@@ -1,4 +1,4 @@
--- Slots threaded one after another: from the last pair of their order to the first, and in their own order.
+-- Slots threaded one after another, from the last pair of their order to the first.
 use Rattle.std.proofs.Common.{◌≡◌, ℕ, suc, ◌+◌, ◌-◌, ◌<◌, ◌≤◌, ◌==◌, ◌||◌, Bool, true, false, cond, List, [], ◌∷◌, length, get_or, take, drop, refl, sym, ◌∙◌, ap, subst, arith, inl, inr, length-drop, drop-cons}
 use Rattle.std.proofs.Common.{Option, Some, None}
 use Rattle.std.specs.List.{list_any}
@@ -7,16 +7,15 @@ use Rattle.std.proofs.lemmas.Bool.{cases_eq, cases_lt, or_cases, eqb-true, eq-eq
 use Rattle.std.proofs.lemmas.List.{get_or-drop, drop_all, get_or-take, get_or_past, length-take, take-map}
 use Rattle.std.proofs.lemmas.List.Folds.{list_any_at}
 use Rattle.tsd_model.specs.declared.geometry.Geometry.{Geometry}
-use Rattle.pointer_table.specs.Indexed.{IsThreadedBy}
+use Rattle.pointer_table.specs.Empties.{AreInRow}
+use Rattle.pointer_table.specs.Indexed.{IsIndex}
+use Rattle.pointer_table.specs.Links.{unset_link}
 use Rattle.pointer_table.specs.Order.{sort_key, IsOrder}
-use Rattle.pointer_table.specs.Raw.{slot_in, slots_in}
 use Rattle.pointer_table.specs.Slots.{slot_at}
 use Rattle.pointer_table.specs.Table.{IsTable}
 use Rattle.pointer_table.specs.Threads.{rank, IsWith}
-use Rattle.pointer_table.specs.declared.raw.RawSlot.{RawSlot}
-use Rattle.pointer_table.specs.declared.threads.Threads.{Threads}
-use Rattle.pointer_table.specs.declared.way.Way.{Way}
-use Rattle.pointer_table.proofs.EmptyLaws.{none_left}
+use Rattle.pointer_table.specs.declared.index.Index.{Index}
+use Rattle.pointer_table.proofs.EmptyLaws.{not_some}
 use Rattle.pointer_table.proofs.ThreadLaws.{same_rank}
 
 -- the slots that stand in the order from an offset on
@@ -125,75 +124,18 @@ one_more g slots order l e before after table sorted some inside here so_far mor
     more (threaded slots order ((l - 1) + 1)) (threaded slots order (l - 1)) (thread_more slots order (l - 1) e sorted below here)
     (thread_least g slots order (l - 1) e table sorted below here) (subst (λ (n : ℕ). before (threaded slots order n)) (sym back) so_far)
 
--- ---- slots threaded in their own order
-
--- the slots in front of a place
-before_offset : (slots : List (Option (ℕ × ℕ))) (position k : ℕ) → k < position → slot_at (take position slots) k ≡ slot_at slots k
-before_offset slots position k low = get_or-take position slots k None low
-
-behind_place : (slots : List (Option (ℕ × ℕ))) (position k : ℕ) → position ≤ k → slot_at (take position slots) k ≡ None
-behind_place slots position k far = get_or_past (take position slots) k None (let len = length-take position slots in omega arith)
-
-pub front_empty : (slots : List (Option (ℕ × ℕ))) (position : ℕ) → slot_at (take position slots) position ≡ None
-front_empty slots position = behind_place slots position position (omega arith)
-
--- what is held in front of a place is held
-pub front_held : (slots : List (Option (ℕ × ℕ))) (position k : ℕ) (e : ℕ × ℕ) → slot_at (take position slots) k ≡ Some e → (k < position) × (slot_at slots k ≡ Some e)
-front_held slots position k e here = elim (cases_lt k position) [
-  | inl low ↦ (low, sym (before_offset slots position k low) ∙ here)
-  | inr far ↦ (let none = behind_place slots position k far in absurd (cc))
-]
-
-pub front_more : (slots : List (Option (ℕ × ℕ))) (position : ℕ) (e : ℕ × ℕ) → slot_at slots position ≡ Some e → IsWith (slot_at (take position slots)) position e (slot_at (take (position + 1) slots))
-front_more slots position e here = record {
-  empty = front_empty slots position;
-  filled = before_offset slots (position + 1) position (omega arith) ∙ here;
-  others = λ k off. elim (cases_lt k position) [
-    | inl low ↦ before_offset slots (position + 1) k (omega arith) ∙ sym (before_offset slots position k low)
-    | inr far ↦ behind_place slots (position + 1) k (omega arith) ∙ sym (behind_place slots position k far)
-  ];
-}
-
-pub front_same : (slots : List (Option (ℕ × ℕ))) (position : ℕ) → slot_at slots position ≡ None → (k : ℕ) → slot_at (take position slots) k ≡ slot_at (take (position + 1) slots) k
-front_same slots position none k = elim (cases_lt k position) [
-  | inl low ↦ before_offset slots position k low ∙ sym (before_offset slots (position + 1) k (omega arith))
-  | inr far ↦ behind_place slots position k far ∙ sym (elim (cases_eq k position) [
-    | inl same ↦ before_offset slots (position + 1) k (omega arith) ∙ (ap (slot_at slots) same ∙ none)
-    | inr off ↦ behind_place slots (position + 1) k (omega arith)
-  ])
-]
-
--- the same of slots as the memory holds them
-slots_front : (raws : List RawSlot) (n : ℕ) → take n (slots_in raws) ≡ slots_in (take n raws)
-slots_front raws n = take-map slot_in n raws
-
-pub raws_held : (raws : List RawSlot) (position k : ℕ) (e : ℕ × ℕ) → slot_at (slots_in (take position raws)) k ≡ Some e → (k < position) × (slot_at (slots_in raws) k ≡ Some e)
-raws_held raws position k e here = front_held (slots_in raws) position k e (ap (λ slots. slot_at slots k) (slots_front raws position) ∙ here)
-
-pub raws_more : (raws : List RawSlot) (position : ℕ) (e : ℕ × ℕ) → slot_at (slots_in raws) position ≡ Some e → IsWith (slot_at (slots_in (take position raws))) position e (slot_at (slots_in (take (position + 1) raws)))
-raws_more raws position e here =
-    subst (λ (slots : List (Option (ℕ × ℕ))). IsWith (slot_at slots) position e (slot_at (slots_in (take (position + 1) raws)))) (slots_front raws position)
-    (subst (λ (slots : List (Option (ℕ × ℕ))). IsWith (slot_at (take position (slots_in raws))) position e (slot_at slots)) (slots_front raws (position + 1)) (front_more (slots_in raws) position e here))
-
-pub raws_same : (raws : List RawSlot) (position : ℕ) → slot_at (slots_in raws) position ≡ None → (k : ℕ) → slot_at (slots_in (take position raws)) k ≡ slot_at (slots_in (take (position + 1) raws)) k
-raws_same raws position none k =
-    sym (ap (λ slots. slot_at slots k) (slots_front raws position)) ∙ (front_same (slots_in raws) position none k ∙ ap (λ slots. slot_at slots k) (slots_front raws (position + 1)))
-
--- where none is left behind them
-pub raws_all : (raws : List RawSlot) (position : ℕ) → count_by is_some (drop position (slots_in raws)) ≡ 0 → (k : ℕ) → slot_at (slots_in (take position raws)) k ≡ slot_at (slots_in raws) k
-raws_all raws position none k = go (slot_at (slots_in (take position raws)) k) (slot_at (slots_in raws) k) refl refl
-  where
-    front : slot_at (take position (slots_in raws)) k ≡ slot_at (slots_in (take position raws)) k
-    front = ap (λ slots. slot_at slots k) (slots_front raws position)
-
-    go : (a b : Option (ℕ × ℕ)) → slot_at (slots_in (take position raws)) k ≡ a → slot_at (slots_in raws) k ≡ b → a ≡ b
-    go None None one other = refl
-    go (Some e) b one other = sym (raws_held raws position k e one).1 ∙ other
-    go None (Some e) one other = elim (cases_lt k position) [
-      | inl low ↦ sym one ∙ (sym front ∙ (before_offset (slots_in raws) position k low ∙ other))
-      | inr far ↦ absurd (none_left (slots_in raws) position k e none far other)
-    ]
+-- the links of those that aren't threaded stay in a row
+pub row_more : (slots : List (Option (ℕ × ℕ))) (order : List ℕ) (l : ℕ) (e : ℕ × ℕ) (next now : List ℕ) → IsOrder slots order → 0 < l → l ≤ length order → slot_at slots (get_or order (l - 1) 0) ≡ Some e
+    → length now ≡ length next → ((k : ℕ) → (k ≡ get_or order (l - 1) 0 → ⊥) → get_or now k 0 ≡ get_or next k 0)
+    → AreInRow (threaded slots order l) next → AreInRow (threaded slots order (l - 1)) now
+row_more slots order l e next now sorted some inside here long others row k within none =
+    let back : (l - 1) + 1 ≡ l = omega arith in
+    let with = thread_more slots order (l - 1) e sorted (omega arith) here in
+    let off : k ≡ get_or order (l - 1) 0 → ⊥ = λ same. not_some (threaded slots order (l - 1) k) e none (ap (threaded slots order (l - 1)) same ∙ with.filled) in
+    others k off
+    ∙ (row k (omega arith) (ap (λ n. threaded slots order n k) (sym back) ∙ (sym (with.others k off) ∙ none))
+    ∙ ap (λ n. unset_link true n k) (sym long))
 
 -- slots given another way
-pub threaded_same : (way : Way) (held now : ℕ → Option (ℕ × ℕ)) (t : Threads) → ((k : ℕ) → held k ≡ now k) → IsThreadedBy way held t → IsThreadedBy way now t
-threaded_same way held now t same threads = subst (λ (h : ℕ → Option (ℕ × ℕ)). IsThreadedBy way h t) (λ i k. same k i) threads
+pub index_same : (held now : ℕ → Option (ℕ × ℕ)) (x : Index) → ((k : ℕ) → held k ≡ now k) → IsIndex held x → IsIndex now x
+index_same held now x same index = subst (λ (h : ℕ → Option (ℕ × ℕ)). IsIndex h x) (λ i k. same k i) index

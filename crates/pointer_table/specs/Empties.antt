@@ -1,8 +1,9 @@
 -- The list of the empty slots. The first of them is known, and the link by bucket of each, which no thread uses, leads
 -- to the next one.
-use Rattle.std.specs.Prelude.{◌≡◌, ℕ, ◌+◌, ◌<◌, ◌==◌, Bool, false, List, [], ◌∷◌, length, slice_index_or, Option, None}
-use Rattle.std.specs.Prelude.{⊤}
+use Rattle.std.specs.Prelude.{◌≡◌, ℕ, ◌+◌, ◌<◌, ◌==◌, Bool, true, false, List, [], ◌∷◌, length, slice_index_or, Option}
+use Rattle.std.specs.Prelude.{None, ⊤}
 use Rattle.std.specs.List.{list_any}
+use Rattle.pointer_table.specs.Links.{unset_link}
 use Rattle.pointer_table.specs.Slots.{slot_at}
 use Rattle.pointer_table.specs.Threads.{no_link}
 
@@ -27,3 +28,8 @@ pub record AreEmpties (slots : List (Option (ℕ × ℕ))) (held first : ℕ) (n
   pub chain : AreLinked next first positions
   pub empty : AreEmptyOnce slots positions
   pub many : length positions + held ≡ length slots
+
+-- the link of each slot that holds no pair leads to the next slot, and that of the last one nowhere
+abbrev pub AreInRow : (ℕ → Option (ℕ × ℕ)) → List ℕ → Type 0
+AreInRow held next = (k : ℕ) → k < length next → held k ≡ None
+    → slice_index_or next k 0 ≡ unset_link true (length next) k

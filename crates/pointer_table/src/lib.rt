@@ -29,6 +29,7 @@ mod order;
 mod out_step;
 mod raw;
 mod sector;
+mod slots;
 mod table;
 mod threading;
 mod threads;

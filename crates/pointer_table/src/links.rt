@@ -1,6 +1,6 @@
 //! Links by number, of which few are set: memory is touched up to the last one that was.
 
-ghost use Rattle.std.specs.Prelude.{◌≡◌, ◌≤◌, ◌<◌, ◌^◌, length, slice_index_or, slice_set, replicate, false};
+ghost use Rattle.std.specs.Prelude.{◌≡◌, ◌≤◌, ◌<◌, ◌^◌, length, slice_index_or, slice_set, replicate, [], true, false};
 ghost use Rattle.std.specs.Prelude.{vec_capacity, IfOk, IfErr};
 ghost use Rattle.pointer_table.specs.Links.{unset_link, links_of, AreKept};
 ghost use Rattle.pointer_table.specs.Threads.{no_link};
@@ -77,6 +77,7 @@ impl Links {
     /// So many links, each of which leads to the next number, and the last one nowhere.
     pub(crate) fn row(alloc: Global, count: usize) -> Result<Links, TableFault>
         requires { count < 2 ^ 32 }
+        ensures links { IfOk result (λ l. l ≡ links_of true count []) }
         ensures len { IfOk result (λ l. length l ≡ count) }
         ensures err { IfErr result (λ e. e ≡ TableFault.NoMemory) }
     {
@@ -86,6 +87,7 @@ impl Links {
     /// So many links that were never set.
     fn of(alloc: Global, count: usize, in_row: bool) -> Result<Links, TableFault>
         requires { count < 2 ^ 32 }
+        ensures links { IfOk result (λ l. l ≡ links_of in_row count []) }
         ensures len { IfOk result (λ l. length l ≡ count) }
         ensures nowhere { in_row ≡ false → IfOk result (λ l. l ≡ replicate count no_link) }
         ensures err { IfErr result (λ e. e ≡ TableFault.NoMemory) }

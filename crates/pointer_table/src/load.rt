@@ -1,21 +1,20 @@
 //! Reading the slots of an image, a sector at a time.
 
 ghost use Rattle.std.specs.Prelude.{◌≡◌, ◌*◌, ◌<◌, length};
-ghost use Rattle.std.specs.Prelude.{vec_len, IfOk, OnOk, IfErr};
+ghost use Rattle.std.specs.Prelude.{OnOk};
 ghost use Rattle.image_device.specs.Calls.{Rests, Uses};
 ghost use Rattle.image_device.specs.Counts.{CountsFaultOf};
 ghost use Rattle.pointer_table.specs.Loading.{is_bad};
-ghost use Rattle.pointer_table.specs.Raw.{slots_in};
 ghost use Rattle.pointer_table.specs.Reading.{IsSlotReading, IsTaking, AreWithinTo, TakesWithin};
 ghost use Rattle.tsd_model.specs.Geometry.{IsLawful};
 
 use crate::fault::TableFault;
 use crate::raw::RawSlot;
 use crate::sector::{PER_SECTOR, read_slot};
+use crate::slots::Slots;
 use image_device::Device;
 use image_layout::Layout;
 use image_layout::sectors::SECTOR_BYTES;
-use std::alloc::Global;
 use tsd_model::Geometry;
 
 /// A bad slot, with its two numbers as they stand.
@@ -36,29 +35,19 @@ fn is_bad(slot: &RawSlot, geometry: &Geometry) -> bool
             || slot.target < geometry.primaries)
 }
 
-/// Room for all slots.
-pub(crate) fn empty_slots(alloc: Global, geometry: &Geometry) -> Result<Vec<RawSlot>, TableFault>
-    ensures len { IfOk result (λ slots. vec_len slots ≡ geometry.now.slots) }
-    ensures err { IfErr result (λ e. e ≡ TableFault.NoMemory) }
-{
-    match vec![in alloc; RawSlot::EMPTY; geometry.slots as usize] {
-        Ok(slots) => Ok(slots),
-        Err(_) => Err(TableFault::NoMemory),
-    }
-}
-
 /// Takes the slots of a sector, counted from the first sector of slots, up to the first bad one.
 fn take_sector(
     geometry: &Geometry,
     part: usize,
     sector: &[u8; SECTOR_BYTES],
-    slots: &mut [RawSlot],
+    slots: &mut Slots,
 ) -> Result<(), BadSlot>
     requires lawful { IsLawful geometry.now }
     requires all { length slots.old ≡ geometry.now.slots }
     requires inside { PER_SECTOR * part < geometry.now.slots }
-    ensures read { IsTaking geometry.now part sector.now (slots_in slots.old) (slots_in slots.new) result }
-    ensures within { TakesWithin geometry.now part (slots_in slots.old) (slots_in slots.new) result }
+    ensures all { length slots.new ≡ geometry.now.slots }
+    ensures read { IsTaking geometry.now part sector.now slots.old slots.new result }
+    ensures within { TakesWithin geometry.now part slots.old slots.new result }
 {
     let first = PER_SECTOR * part;
     let end = slots.len().min(first + PER_SECTOR);
@@ -71,7 +60,7 @@ fn take_sector(
                 target: slot.target,
             });
         }
-        slots[position] = slot;
+        slots.set(position, slot);
     }
     Ok(())
 }
@@ -80,12 +69,13 @@ fn take_sector(
 pub(crate) fn read_slots<D: Device>(
     dev: &mut D,
     geometry: &Geometry,
-    slots: &mut [RawSlot],
+    slots: &mut Slots,
 ) -> Result<(), TableFault>
     requires lawful { IsLawful geometry.now }
     requires all { length slots.old ≡ geometry.now.slots }
-    ensures read { D.told → IsSlotReading (D.view dev.old).reads geometry.now (slots_in slots.new) result }
-    ensures within { OnOk result (AreWithinTo geometry.now geometry.now.slots (slots_in slots.new)) }
+    ensures all { length slots.new ≡ geometry.now.slots }
+    ensures read { D.told → IsSlotReading (D.view dev.old).reads geometry.now slots.new result }
+    ensures within { OnOk result (AreWithinTo geometry.now geometry.now.slots slots.new) }
     ensures rests { D.told → Rests (D.view dev.old) (D.view dev.new) }
     ensures uses { Uses 0 (D.view dev.old) (D.view dev.new) }
     ensures faults { CountsFaultOf TableFault.Device result (D.view dev.old).faults (D.view dev.new).faults }

@@ -4,11 +4,11 @@
 ghost use Rattle.std.specs.Prelude.{◌≡◌, ◌+◌, ◌*◌, ◌^◌, ◌<◌, ◌≤◌, ◌++◌, ◌==◌};
 ghost use Rattle.std.specs.Prelude.{if◌then◌else◌, take, drop};
 ghost use Rattle.byteorder.specs.Endian.{little_from, little_bytes};
-ghost use Rattle.pointer_table.specs.Raw.{slot_in, slots_in};
+ghost use Rattle.pointer_table.specs.Raw.{slot_in};
 ghost use Rattle.pointer_table.specs.Sectors.{slot_bytes, slot_sector_bytes};
-ghost use Rattle.pointer_table.specs.Slots.{slot_at};
 
 use crate::raw::RawSlot;
+use crate::slots::Slots;
 use byteorder::{ByteOrder, LittleEndian};
 use image_layout::sectors::SECTOR_BYTES;
 
@@ -70,24 +70,14 @@ fn write_slot(sector: &mut [u8; SECTOR_BYTES], index: usize, slot: &RawSlot)
     put_number(sector, at + TARGET_AT, target_to_write(slot));
 }
 
-/// The slot of a number; past the last slot an empty one.
-fn slot_or_empty(slots: &[RawSlot], position: usize) -> RawSlot
-    ensures { slot_in result ≡ slot_at (slots_in slots.now) position }
-{
-    match slots.get(position) {
-        Some(slot) => *slot,
-        None => RawSlot::EMPTY,
-    }
-}
-
 /// The bytes of a sector of slots, counted from the first such sector.
-pub(crate) fn sector_bytes(slots: &[RawSlot], part: usize) -> [u8; SECTOR_BYTES]
+pub(crate) fn sector_bytes(slots: &Slots, part: usize) -> [u8; SECTOR_BYTES]
     requires { part < 2 ^ 32 }
-    ensures { result ≡ slot_sector_bytes (slots_in slots.now) part }
+    ensures { result ≡ slot_sector_bytes slots.now part }
 {
     let mut sector = [0; SECTOR_BYTES];
     for index in 0..PER_SECTOR {
-        let slot = slot_or_empty(slots, PER_SECTOR * part + index);
+        let slot = slots.get(PER_SECTOR * part + index);
         write_slot(&mut sector, index, &slot);
     }
     sector

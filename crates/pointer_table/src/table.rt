@@ -1,6 +1,6 @@
 //! The table.
 
-ghost use Rattle.std.specs.Prelude.{◌≡◌, ◌↔◌, ◌<◌, ◌/◌, false, None, Some, length, IsErr, IfOk};
+ghost use Rattle.std.specs.Prelude.{◌≡◌, ◌↔◌, ◌<◌, ◌/◌, ℕ, false, None, Some, length, IsErr, IfOk};
 ghost use Rattle.std.specs.Prelude.{◌≤◌, take, OnOk, OnErr};
 ghost use Rattle.image_device.specs.Calls.{Rests, Uses};
 ghost use Rattle.image_device.specs.Counts.{CountsFaultOf};
@@ -10,7 +10,6 @@ ghost use Rattle.tsd_model.specs.Step.{targets_from};
 ghost use Rattle.pointer_table.specs.Changes.{IsChange, IsSlotSector, KeepsStored};
 ghost use Rattle.pointer_table.specs.Loading.{AnswersPointers};
 ghost use Rattle.tsd_model.specs.Next.{IsNextSource, IsNextTarget};
-ghost use Rattle.pointer_table.specs.Raw.{slots_in};
 ghost use Rattle.pointer_table.specs.Reading.{AreWithinTo};
 ghost use Rattle.pointer_table.specs.Repeating.{IsRepeating};
 ghost use Rattle.pointer_table.specs.Sectors.{sector_of, slot_sector_bytes};
@@ -19,10 +18,11 @@ ghost use Rattle.pointer_table.specs.Table.{pairs, MayBeHeld, IsTable, ArePairs}
 
 use crate::fault::{NoPointer, TableFault, TableFull};
 use crate::index::Index;
-use crate::load::{empty_slots, read_slots};
-use crate::next::{count_held, least_targets, targets_from};
+use crate::load::read_slots;
+use crate::next::{least_targets, targets_from};
 use crate::raw::RawSlot;
 use crate::sector::{PER_SECTOR, sector_bytes};
+use crate::slots::Slots;
 use image_device::Device;
 use image_layout::{Layout, Patch};
 use std::alloc::Global;
@@ -34,7 +34,7 @@ use tsd_model::{BlockList, Geometry};
 #[derive(Drop)]
 pub struct PointerTable {
     geometry: Geometry,
-    slots: Vec<RawSlot>,
+    slots: Slots,
     /// How many slots hold a pair.
     held: u32,
     /// The slots that hold pairs, by source, by target and by pair, and the empty ones.
@@ -45,19 +45,18 @@ impl Model for PointerTable {
     ghost use Rattle.std.specs.Prelude.{◌≡◌, length};
     ghost use Rattle.pointer_table.specs.Empties.{AreEmpties};
     ghost use Rattle.pointer_table.specs.Indexed.{IsIndex, HasLinksAndHeads};
-    ghost use Rattle.pointer_table.specs.Raw.{slots_in};
     ghost use Rattle.pointer_table.specs.Slots.{slot_at};
     ghost use Rattle.pointer_table.specs.Table.{Table, pairs, IsTable};
 
     ghost Value = { Table };
 
-    ghost view = { λ t. record { geometry = t.geometry; slots = slots_in t.slots.items } };
+    ghost view = { λ t. record { geometry = t.geometry; slots = t.slots } };
 
     ghost invariant = { λ t.
-        IsTable (record { geometry = t.geometry; slots = slots_in t.slots.items })
-        × (t.held ≡ length (pairs (record { geometry = t.geometry; slots = slots_in t.slots.items })))
-        × AreEmpties (slots_in t.slots.items) t.held t.index.empty t.index.by_bucket.next
-        × IsIndex (slot_at (slots_in t.slots.items)) t.index
+        IsTable (record { geometry = t.geometry; slots = t.slots })
+        × (t.held ≡ length (pairs (record { geometry = t.geometry; slots = t.slots })))
+        × AreEmpties t.slots t.held t.index.empty t.index.by_bucket.next
+        × IsIndex (slot_at t.slots) t.index
         × HasLinksAndHeads t.geometry.blocks t.geometry.slots t.index };
 }
 
@@ -79,7 +78,7 @@ impl PointerTable {
         ensures uses { Uses 0 (D.view dev.old) (D.view dev.new) }
         ensures faults { CountsFaultOf TableFault.Device result (D.view dev.old).faults (D.view dev.new).faults }
     {
-        let mut slots = empty_slots(alloc, geometry)?;
+        let mut slots = Slots::empty(alloc, geometry.slots as usize)?;
         read_slots(dev, geometry, &mut slots)?;
         PointerTable::of_slots(alloc, geometry, slots)
     }
@@ -106,7 +105,17 @@ impl PointerTable {
         ensures value { result ≡ slot_at self.now.slots slot }
         ensures table { IsTable self.now }
     {
-        self.slots[slot as usize].pair()
+        self.slots.get(slot as usize).pair()
+    }
+
+    /// How many slots there are up to the last that held a pair since the table was loaded. None from this one on holds
+    /// a pair.
+    pub fn slots_end(&self) -> u32
+        ensures inside { result ≤ self.now.geometry.slots }
+        ensures empty { (k : ℕ) → result ≤ k → slot_at self.now.slots k ≡ None }
+        ensures table { IsTable self.now }
+    {
+        self.slots.end() as u32
     }
 
     /// Whether a pair is held.
@@ -195,16 +204,16 @@ impl PointerTable {
     fn of_slots(
         alloc: Global,
         geometry: &Geometry,
-        slots: Vec<RawSlot>,
+        slots: Slots,
     ) -> Result<PointerTable, TableFault>
         requires lawful { IsLawful geometry.now }
-        requires count { length slots.items ≡ geometry.now.slots }
-        requires within { AreWithinTo geometry.now geometry.now.slots (slots_in slots.items) }
-        ensures table { IfOk result (λ t. (t.geometry ≡ geometry.now) × (t.slots ≡ slots_in slots.items)) }
-        ensures repeated { IsRepeating (slots_in slots.items) result }
+        requires count { length slots ≡ geometry.now.slots }
+        requires within { AreWithinTo geometry.now geometry.now.slots slots }
+        ensures table { IfOk result (λ t. (t.geometry ≡ geometry.now) × (t.slots ≡ slots)) }
+        ensures repeated { IsRepeating slots result }
     {
         let index = Index::of(alloc, geometry, &slots)?;
-        let held = count_held(&slots);
+        let held = slots.count_held();
         Ok(PointerTable {
             geometry: *geometry,
             slots,
@@ -225,7 +234,8 @@ impl PointerTable {
     {
         let position = self.index.take_empty();
         self.index.add(&self.slots, position, source, target);
-        self.slots[position as usize] = RawSlot::of(source, target);
+        self.slots
+            .set(position as usize, RawSlot::of(source, target));
         self.held += 1;
         self.patch(position as usize)
     }
@@ -239,7 +249,7 @@ impl PointerTable {
         ensures table { IsTable self.new }
     {
         self.index.remove(&self.slots, position, source, target);
-        self.slots[position as usize] = RawSlot::EMPTY;
+        self.slots.set(position as usize, RawSlot::EMPTY);
         self.index.give_empty(position);
         self.held -= 1;
         self.patch(position as usize)

@@ -1,16 +1,17 @@
 //! Threads through the slots: of each group of pairs an ascending list, by heads and links.
 
 ghost use Rattle.std.specs.Prelude.{◌≡◌, ℕ, ◌<◌, ◌^◌, length, slice_index_or};
-ghost use Rattle.std.specs.Prelude.{slice_set, replicate, Option, Some, None, IfSome, IfOk, IfErr};
+ghost use Rattle.std.specs.Prelude.{slice_set, replicate, [], true, Option, Some, None, IfSome, IfOk, IfErr};
 ghost use Rattle.pointer_table.specs.Indexed.{AreThreadsOf};
-ghost use Rattle.pointer_table.specs.Raw.{slots_in};
+ghost use Rattle.pointer_table.specs.Links.{links_of};
 ghost use Rattle.pointer_table.specs.Slots.{slot_at};
 ghost use Rattle.pointer_table.specs.Threads.{rank, is_below, group, linked, no_link, after, heads_with, next_with};
 ghost use Rattle.pointer_table.specs.Threads.{IsFirstThatFar, IsLastBelow, IsBelowAll, IsNear, IsWith};
 
 use crate::fault::TableFault;
 use crate::links::{Links, NO_LINK};
-use crate::raw::RawSlot;
+use crate::order::pair_at;
+use crate::slots::Slots;
 use crate::way::{Way, group, rank};
 use std::alloc::Global;
 
@@ -32,14 +33,11 @@ pub(crate) struct Threads {
 }
 
 /// Whether the pair of a slot is below a rank.
-pub(crate) fn is_below(slots: &[RawSlot], position: u32, limit: u64) -> bool
-    ensures { result ≡ is_below limit (slot_at (slots_in slots.now) position) }
+pub(crate) fn is_below(slots: &Slots, position: u32, limit: u64) -> bool
+    ensures { result ≡ is_below limit (slot_at slots.now position) }
 {
-    match slots.get(position as usize) {
-        Some(slot) => match slot.pair() {
-            Some((source, target)) => rank(source, target) < limit,
-            None => false,
-        },
+    match pair_at(slots, position) {
+        Some((source, target)) => rank(source, target) < limit,
         None => false,
     }
 }
@@ -118,12 +116,12 @@ impl Threads {
     }
 
     /// A slot of a group whose pair is below a rank: this one, if it is.
-    fn near(&self, slots: &[RawSlot], of: usize, limit: u64, position: u32) -> Option<u32>
+    fn near(&self, slots: &Slots, of: usize, limit: u64, position: u32) -> Option<u32>
         requires { of < length self.now.heads }
-        ensures { IsNear (slot_at (slots_in slots.now)) (group self.now.way (length self.now.heads)) of limit
+        ensures { IsNear (slot_at slots.now) (group self.now.way (length self.now.heads)) of limit
             result }
     {
-        let (source, target) = slots.get(position as usize)?.pair()?;
+        let (source, target) = pair_at(slots, position)?;
         if self.group(source, target) == of && rank(source, target) < limit {
             Some(position)
         } else {
@@ -133,10 +131,10 @@ impl Threads {
 
     /// The slot of the last pair of a group below a rank. The walk begins at `near`, where that is a slot of the group
     /// below the rank, and at the head otherwise.
-    fn before(&self, slots: &[RawSlot], of: usize, limit: u64, near: u32) -> Option<u32>
+    fn before(&self, slots: &Slots, of: usize, limit: u64, near: u32) -> Option<u32>
         requires group { of < length self.now.heads }
-        requires threads { AreThreadsOf (slot_at (slots_in slots.now)) self.now }
-        ensures { IsLastBelow (slot_at (slots_in slots.now)) (group self.now.way (length self.now.heads)) of limit
+        requires threads { AreThreadsOf (slot_at slots.now) self.now }
+        ensures { IsLastBelow (slot_at slots.now) (group self.now.way (length self.now.heads)) of limit
             result }
     {
         let mut before = self.near(slots, of, limit, near);
@@ -149,10 +147,10 @@ impl Threads {
     }
 
     /// The slot of the first pair of a group that isn't below a rank. The walk begins as that of `before`.
-    pub(crate) fn first(&self, slots: &[RawSlot], of: usize, from: u64, near: u32) -> Option<u32>
+    pub(crate) fn first(&self, slots: &Slots, of: usize, from: u64, near: u32) -> Option<u32>
         requires group { of < length self.now.heads }
-        requires threads { AreThreadsOf (slot_at (slots_in slots.now)) self.now }
-        ensures { IsFirstThatFar (slot_at (slots_in slots.now)) (group self.now.way (length self.now.heads)) of from
+        requires threads { AreThreadsOf (slot_at slots.now) self.now }
+        ensures { IsFirstThatFar (slot_at slots.now) (group self.now.way (length self.now.heads)) of from
             result }
     {
         let before = self.before(slots, of, from, near);
@@ -176,6 +174,7 @@ impl Threads {
         ensures way { IfOk result (λ t. t.way ≡ way) }
         ensures heads { IfOk result (λ t. t.heads ≡ replicate groups no_link) }
         ensures next { IfOk result (λ t. length t.next ≡ slots) }
+        ensures row { IfOk result (λ t. t.next ≡ links_of true slots []) }
         ensures err { IfErr result (λ e. e ≡ TableFault.NoMemory) }
     {
         let ends = if with_ends { groups } else { 0 };
@@ -207,29 +206,22 @@ impl Threads {
     }
 
     /// Threads the pair of a slot that was empty. The walk to its position begins as that of `before`.
-    pub(crate) fn add(
-        &mut self,
-        slots: &[RawSlot],
-        position: u32,
-        source: u32,
-        target: u32,
-        near: u32,
-    )
+    pub(crate) fn add(&mut self, slots: &Slots, position: u32, source: u32, target: u32, near: u32)
         requires some { 0 < length self.old.heads }
-        requires threads { AreThreadsOf (slot_at (slots_in slots.now)) self.old }
+        requires threads { AreThreadsOf (slot_at slots.now) self.old }
         requires group { group self.old.way (length self.old.heads) (source, target)
             < length self.old.heads }
-        requires empty { slot_at (slots_in slots.now) position ≡ None }
+        requires empty { slot_at slots.now position ≡ None }
         requires position { position < length self.old.next }
         requires link { position < no_link }
-        requires absent { (k : ℕ) → slot_at (slots_in slots.now) k ≡ Some (source, target) → ⊥ }
-        ensures threads { (now : ℕ → Option (ℕ × ℕ)) → IsWith (slot_at (slots_in slots.now)) position
+        requires absent { (k : ℕ) → slot_at slots.now k ≡ Some (source, target) → ⊥ }
+        ensures threads { (now : ℕ → Option (ℕ × ℕ)) → IsWith (slot_at slots.now) position
             (source, target) now
             → AreThreadsOf now self.new }
         ensures way { self.new.way ≡ self.old.way }
         ensures groups { length self.new.heads ≡ length self.old.heads }
         ensures slots { length self.new.next ≡ length self.old.next }
-        ensures empties { (k : ℕ) → slot_at (slots_in slots.now) k ≡ None → (k ≡ position → ⊥)
+        ensures empties { (k : ℕ) → slot_at slots.now k ≡ None → (k ≡ position → ⊥)
             → slice_index_or self.new.next k 0 ≡ slice_index_or self.old.next k 0 }
     {
         let of = self.group(source, target);
@@ -241,22 +233,22 @@ impl Threads {
     /// Takes a pair out of the threads, while its slot still holds it. The walk to it begins as that of `before`.
     pub(crate) fn remove(
         &mut self,
-        slots: &[RawSlot],
+        slots: &Slots,
         position: u32,
         source: u32,
         target: u32,
         near: u32,
     )
         requires some { 0 < length self.old.heads }
-        requires threads { AreThreadsOf (slot_at (slots_in slots.now)) self.old }
-        requires held { slot_at (slots_in slots.now) position ≡ Some (source, target) }
+        requires threads { AreThreadsOf (slot_at slots.now) self.old }
+        requires held { slot_at slots.now position ≡ Some (source, target) }
         ensures threads { (left : ℕ → Option (ℕ × ℕ))
-            → IsWith left position (source, target) (slot_at (slots_in slots.now))
+            → IsWith left position (source, target) (slot_at slots.now)
             → AreThreadsOf left self.new }
         ensures way { self.new.way ≡ self.old.way }
         ensures groups { length self.new.heads ≡ length self.old.heads }
         ensures slots { length self.new.next ≡ length self.old.next }
-        ensures empties { (k : ℕ) → slot_at (slots_in slots.now) k ≡ None
+        ensures empties { (k : ℕ) → slot_at slots.now k ≡ None
             → slice_index_or self.new.next k 0 ≡ slice_index_or self.old.next k 0 }
     {
         let of = self.group(source, target);
@@ -278,6 +270,8 @@ impl Threads {
         ensures way { self.new.way ≡ self.old.way }
         ensures groups { length self.new.heads ≡ length self.old.heads }
         ensures slots { length self.new.next ≡ length self.old.next }
+        ensures others { (k : ℕ) → (k ≡ position → ⊥)
+            → slice_index_or self.new.next k 0 ≡ slice_index_or self.old.next k 0 }
     {
         let of = self.group(source, target);
         let link = self.put(of, None, position);

@@ -1,8 +1,9 @@
 -- Lists of numbers, none twice.
 use Rattle.std.proofs.Common.{◌≡◌, ℕ, zero, suc, ◌+◌, ◌<◌, ◌≤◌, Bool, true, false, not, ◌||◌, ◌==◌, List, [], ◌∷◌, ◌++◌, length, refl, sym, ◌∙◌, ap, subst, arith, take, inl, inr}
 use Rattle.std.proofs.lemmas.Bool.{eq-eqb, eqb-true, ne_eqb, and_parts, and_from, or_cases, or_left, or_right, or_parts, or_from, not-true, both_ways, false_from_ne_true}
-use Rattle.std.proofs.lemmas.List.{length-take, length-set, take_more, take_more_set}
-use Rattle.std.specs.Prelude.{◌-◌, slice_set, get_or}
+use Rattle.std.proofs.lemmas.List.{append-nil, take_more}
+use Rattle.std.proofs.Common.{Option, Some, None}
+use Rattle.std.specs.Prelude.{get_or, option_to_list, IfSome, IsSome, IsNone, ◌↔◌}
 use Rattle.tsd_model.specs.World.{has_number}
 use Rattle.disk_laws.specs.Reclaiming.{all_apart}
 use Rattle.graph_laws.proofs.CountLaws.{apart_fits}
@@ -91,30 +92,24 @@ held_pop h b xs held e = (
         let out = or_parts (has_number ys y) (b == y) (sym (has-push ys b y) ∙ not-true (has_number (ys ++ b ∷ []) y) parts.0) in
         (and_from (not (has_number ys y)) (all_apart ys) (ap not out.0) rest.0, or_from (y == b) (has_number ys b) (ne_eqb y b (λ e. both_ways (b == y) out.1 (eq-eqb b y (sym e)))) rest.1)
 
--- ---- the first of an array
-
--- the first `len` of these
-abbrev pub first_held : List ℕ → ℕ → HeldTargets
-first_held items len = record { room = length items; blocks = take len items }
-
-pub array_room : (items : List ℕ) (len b : ℕ) → len ≤ length items → IsHeld (first_held items len) → b < length items → has_number (take len items) b ≡ false → len < length items
-array_room items len b fits held within new = let room = room_for (first_held items len) b held within new in omega (arith, room, length-take len items)
-
-pub view_pushed : (items : List ℕ) (len b : ℕ) → len < length items → first_held (slice_set items len b) (len + 1) ≡ record { room = length items; blocks = take len items ++ b ∷ [] }
-view_pushed items len b fits = let blocks = take_more_set items len b fits in let room = length-set items len b in λ i. record { room = room i; blocks = blocks i }
-
-pub held_pushed : (items : List ℕ) (len b : ℕ) → len ≤ length items → IsHeld (first_held items len) → b < length items → has_number (take len items) b ≡ false → IsHeld (first_held (slice_set items len b) (len + 1))
-held_pushed items len b fits held within new = subst IsHeld (sym (view_pushed items len b (array_room items len b fits held within new))) (held-push (first_held items len) b held within new)
-
-view_popped : (items : List ℕ) (len x : ℕ) → (len ≡ 0 → ⊥) → len ≤ length items → x ≡ get_or items (len - 1) x → take len items ≡ take (len - 1) items ++ x ∷ []
-view_popped items len x some fits is = let e : len ≡ (len - 1) + 1 = omega arith in ap (λ n. take n items) e ∙ (take_more items (len - 1) x (omega arith) ∙ ap (λ y. take (len - 1) items ++ y ∷ []) (sym is))
-
-pub popped : (items : List ℕ) (len x : ℕ) → (len ≡ 0 → ⊥) → len ≤ length items → IsHeld (first_held items len) → x ≡ get_or items (len - 1) x
-    → IsHeld (first_held items (len - 1)) × IsPopped (first_held items len) (first_held items (len - 1)) x
-popped items len x some fits held is =
-    let last = view_popped items len x some fits is in
-    let parts = held_pop (first_held items len) x (take (len - 1) items) held last in
+pub popped : (old : HeldTargets) (xs : List ℕ) (x : ℕ) → IsHeld old → old.blocks ≡ xs ++ x ∷ [] → IsHeld (record old { blocks = xs }) × IsPopped old (record old { blocks = xs }) x
+popped old xs x held last =
+    let parts = held_pop old x xs held last in
     (parts.0, record { room = refl; last = last; within = parts.1.0; once = parts.1.1 })
+
+pub pop_held : (old : HeldTargets) (xs : List ℕ) (x : Option ℕ) → IsHeld old → old.blocks ≡ xs ++ option_to_list x → IsHeld (record old { blocks = xs })
+pop_held old xs None held last = subst (λ (ys : List ℕ). IsHeld (record old { blocks = ys })) (last ∙ append-nil xs) (record { once = held.once; below = held.below })
+pop_held old xs (Some x) held last = (popped old xs x held last).0
+
+pub pop_some : (old : HeldTargets) (xs : List ℕ) (x : Option ℕ) → IsHeld old → old.blocks ≡ xs ++ option_to_list x → IfSome x (IsPopped old (record old { blocks = xs }))
+pop_some old xs None held last = tt
+pop_some old xs (Some x) held last = (popped old xs x held last).1
+
+pub pop_none : (xs : List ℕ) (x : Option ℕ) → (IsSome x ↔ (0 < length xs)) → IsNone x ↔ (xs ≡ [])
+pop_none [] None is = (λ none. refl, λ empty. tt)
+pop_none [] (Some x) is = absurd (let some = is.0 tt in omega arith)
+pop_none (y ∷ ys) None is = absurd (is.1 (omega arith))
+pop_none (y ∷ ys) (Some x) is = (λ none. absurd none, λ empty. absurd (cc))
 
 -- ---- numbers by their places
 

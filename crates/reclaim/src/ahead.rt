@@ -13,7 +13,7 @@ ghost use Rattle.reclaim.specs.Stepping.{after_step};
 ghost use Rattle.reclaim.specs.Tables.{graph_of, AreTables};
 
 use crate::tally::Tally;
-use crate::work::{Work, zeros};
+use crate::work::Work;
 use bit_array::BitArray;
 use block_alloc::LiveMap;
 use pointer_table::{OutStep, PointerTable};

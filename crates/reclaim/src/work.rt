@@ -1,6 +1,6 @@
 //! The blocks that wait.
 
-ghost use Rattle.std.specs.Prelude.{◌≡◌, ℕ, ◌<◌, ◌∷◌, [], ◌++◌, false, ◌&&◌, nat_lt, length};
+ghost use Rattle.std.specs.Prelude.{◌≡◌, ℕ, ◌<◌, ◌∷◌, [], ◌++◌, false, ◌&&◌, nat_lt};
 ghost use Rattle.std.specs.Prelude.{IfOk, IfSome, IsNone, ◌↔◌};
 ghost use Rattle.tsd_model.specs.World.{has_number};
 ghost use Rattle.pointer_table.specs.Table.{Table};
@@ -9,28 +9,30 @@ ghost use Rattle.reclaim.specs.Tables.{graph_of, AreTables, HaveCounts, HoldsLos
 
 use block_alloc::LiveMap;
 use ref_counts::RefCounts;
-use std::alloc::{AllocError, Global};
+use std::alloc::Global;
 use std::marker::Model;
 use tsd_model::NoMemory;
 
-/// The blocks that wait to be taken away, each once, with room for all blocks of a disk. It takes four bytes a block.
+/// The blocks that wait to be taken away, each once, with room for all blocks of a disk. It takes four bytes a block,
+/// and touches no more of them than ever waited at a time.
 #[derive(Drop)]
 pub struct Work {
+    /// Those that wait.
     blocks: Vec<u32>,
-    /// How many wait: the first ones of `blocks`.
-    len: usize,
+    /// For how many there is room.
+    room: u32,
 }
 
 impl Model for Work {
-    ghost use Rattle.std.specs.Prelude.{◌≤◌, length, take};
+    ghost use Rattle.std.specs.Prelude.{◌≤◌, vec_capacity};
     ghost use Rattle.reclaim.specs.Held.{HeldTargets, IsHeld};
 
     ghost Value = { HeldTargets };
 
-    ghost view = { λ w. record { room = length w.blocks.items; blocks = take w.len w.blocks.items } };
+    ghost view = { λ w. record { room = w.room; blocks = w.blocks.items } };
 
-    ghost invariant = { λ w. (w.len ≤ length w.blocks.items)
-        × IsHeld (record { room = length w.blocks.items; blocks = take w.len w.blocks.items }) };
+    ghost invariant = { λ w. (w.room ≤ vec_capacity w.blocks)
+        × IsHeld (record { room = w.room; blocks = w.blocks.items }) };
 }
 
 impl Work {
@@ -38,10 +40,10 @@ impl Work {
     pub fn new(alloc: Global, blocks: u32) -> Result<Work, NoMemory>
         ensures { IfOk result (λ w. w ≡ record { room = blocks; blocks = [] }) }
     {
-        match zeros(alloc, blocks) {
+        match Vec::with_capacity(alloc, blocks as usize) {
             Ok(items) => Ok(Work {
                 blocks: items,
-                len: 0,
+                room: blocks,
             }),
             Err(_) => Err(NoMemory),
         }
@@ -72,7 +74,7 @@ impl Work {
     fn clear(&mut self)
         ensures { self.new ≡ record self.old { blocks = [] } }
     {
-        self.len = 0;
+        self.blocks.clear();
     }
 
     /// A block more waits.
@@ -81,8 +83,7 @@ impl Work {
         requires new { has_number self.old.blocks block ≡ false }
         ensures { self.new ≡ record self.old { blocks = self.old.blocks ++ block ∷ [] } }
     {
-        self.blocks[self.len] = block;
-        self.len += 1;
+        self.blocks.push_reserved(block);
     }
 
     /// The block that was pushed last waits no longer. None exactly where none waits.
@@ -91,12 +92,7 @@ impl Work {
         ensures none { IsNone result ↔ (self.old.blocks ≡ []) }
         ensures same { IsNone result → self.new ≡ self.old }
     {
-        if self.len == 0 {
-            None
-        } else {
-            self.len -= 1;
-            Some(self.blocks[self.len])
-        }
+        self.blocks.pop()
     }
 }
 
@@ -107,11 +103,4 @@ pub(crate) fn is_uncounted(counts: &RefCounts, live: &LiveMap, primaries: u32, b
     ensures { result ≡ is_uncounted live.now.live counts.now.counts primaries block }
 {
     primaries <= block && live.raw_live(block) && counts.count(block) == 0
-}
-
-/// So many zeros.
-pub(crate) fn zeros(alloc: Global, count: u32) -> Result<Vec<u32>, AllocError>
-    ensures { IfOk result (λ v. length v.items ≡ count) }
-{
-    vec![in alloc; 0u32; count as usize]
 }

@@ -1,14 +1,10 @@
-use Rattle.std.proofs.Common.{◌≡◌, ℕ, ◌+◌, ◌<◌, ◌≤◌, length, take, get_or, set, subst, sym, ap, ◌∙◌, arith}
+use Rattle.std.proofs.Common.{◌≡◌, ℕ, ◌+◌, ◌-◌, ◌<◌, ◌≤◌, length, take, get_or, set, subst, sym, ap, ◌∙◌, arith}
 use Rattle.std.proofs.Math.ListN.{length-set}
 use Rattle.std.proofs.lemmas.Grind.{get_or_default_zero}
-use Rattle.tsd_model.specs.declared.geometry.Geometry.{Geometry}
 use Rattle.image_world.specs.Tests.{slots_to}
-use Rattle.image_world.proofs.CountLaws.{few_to, all_counted, found_more, none_counted}
+use Rattle.image_world.proofs.CountLaws.{few_to, all_counted, found_more, none_counted, none_from}
 use Rattle.image_world.proofs.counting.pairs_to_each.Goals as goal
 use Rattle.image_world.proofs.counting.pairs_to_each.Goals.{in-Some, in_default}
-
-inside_slots : {g h : Geometry} {k n : ℕ} → h ≡ g → n ≡ g.slots → k < h.slots → k < n
-inside_slots same count less = omega (arith, ap (λ (g : Geometry). g.slots) same, count, less)
 
 pub overflow_add-index_mut : goal.overflow_add-index_mut
 overflow_add-index_mut c =
@@ -34,7 +30,7 @@ loop-slot-preserved c = elim c.match-pair_in.branch [
       let now : w.index_mut.result.now ≡ get_or old target 0 = w.index_mut.ensures.value ∙ get_or_default_zero old target w.index_mut.result.now inside in
       let items : c.match-pair_in.found.items ≡ set old target (w.index_mut.result.now + 1) = ap (λ v. v.items) w.found-is in
       let all : length c.match-pair_in.found.items ≡ length old = ap length items ∙ length-set old target (w.index_mut.result.now + 1) in
-      let position : c.loop-slot.slot < length slots = inside_slots c.geometry-geometry.ensures c.pair_in.ensures.table.count c.loop-slot-test.true in
+      let position : c.loop-slot.slot < length slots = omega (arith, c.slots_end-slot-end.ensures.inside, c.requires.count, c.loop-slot-test.true) in
       record {
         each = all ∙ c.loop-slot.invariant.each;
         found = λ b h. ap (λ xs. get_or xs b 0) items
@@ -42,7 +38,7 @@ loop-slot-preserved c = elim c.match-pair_in.branch [
       }
   | in_default w ↦
       let slots = c.args.pointers.now.slots in
-      let position : c.loop-slot.slot < length slots = inside_slots c.geometry-geometry.ensures c.pair_in.ensures.table.count c.loop-slot-test.true in
+      let position : c.loop-slot.slot < length slots = omega (arith, c.slots_end-slot-end.ensures.inside, c.requires.count, c.loop-slot-test.true) in
       let items = ap (λ v. v.items) w.found-is in
       record {
         each = ap length items ∙ c.loop-slot.invariant.each;
@@ -55,5 +51,8 @@ pub returns-clause-found : goal.returns-clause-found
 returns-clause-found c b h =
     let slots = c.args.pointers.now.slots in
     let table = c.requires in
-    let end : length slots ≤ c.loop-slot.slot = omega (arith, table.count, ap (λ (g : Geometry). g.slots) c.geometry-geometry.ensures, c.loop-slot-test.false) in
-    c.loop-slot.invariant.found b (omega (arith, c.loop-slot.invariant.each)) ∙ all_counted slots c.loop-slot.slot b end table.apart
+    let end : c.loop-slot.slot ≡ c.slots_end-slot-end.result = omega arith in
+    let inside = c.slots_end-slot-end.ensures.inside in
+    c.loop-slot.invariant.found b (omega (arith, c.loop-slot.invariant.each))
+    ∙ (sym (none_from slots c.loop-slot.slot (length slots - c.loop-slot.slot) b (omega (arith, table.count)) (λ j far. c.slots_end-slot-end.ensures.empty j (omega arith)))
+    ∙ all_counted slots (length slots) b (omega arith) table.apart)

@@ -1,7 +1,5 @@
-use Rattle.std.proofs.Common.{◌≡◌, ℕ, subst, ap, arith}
-use Rattle.tsd_model.specs.declared.geometry.Geometry.{Geometry}
-use Rattle.image_world.specs.Tests.{IsLeastLoose}
-use Rattle.image_world.proofs.EndLaws.{loose_more}
+use Rattle.std.proofs.Common.{arith}
+use Rattle.image_world.proofs.EndLaws.{loose_behind, loose_more}
 use Rattle.image_world.proofs.ends.least_loose_pair.Goals as goal
 
 pub loop-slot-preserved : goal.loop-slot-preserved
@@ -13,6 +11,7 @@ loop-slot-preserved c =
 
 pub returns : goal.returns
 returns c =
-    let all : c.geometry-slot-end.result.slots ≡ c.args.pointers.now.geometry.slots = ap (λ (g : Geometry). g.slots) c.geometry-slot-end.ensures in
-    let end : c.loop-slot.slot ≡ c.args.pointers.now.geometry.slots = omega arith in
-    subst (λ (k : ℕ). IsLeastLoose c.args.pointers.now.slots c.args.live.now.live k c.loop-slot.least) end c.loop-slot.invariant
+    let end = c.slots_end-slot-end.ensures in
+    let test = c.loop-slot-test.false in
+    loose_behind c.args.pointers.now.slots c.args.live.now.live c.loop-slot.slot c.args.pointers.now.geometry.slots c.loop-slot.least (omega (arith, end.inside))
+    (λ j far. end.empty j (omega arith)) c.loop-slot.invariant

@@ -3,7 +3,6 @@ use Rattle.std.specs.Prelude.{Result, Ok, Err, OnOk}
 use Rattle.std.specs.Int.{div_ceil}
 use Rattle.image_device.specs.Counts.{CountsFault}
 use Rattle.image_layout.specs.Areas.{slots_start, data_start}
-use Rattle.pointer_table.specs.Raw.{slots_in}
 use Rattle.pointer_table.specs.Reading.{AreReadTo, AreWithinTo}
 use Rattle.image_device.proofs.Outcomes.{unless_err}
 use Rattle.image_device.proofs.Resting.{rests_joined, uses_read}
@@ -32,16 +31,17 @@ loop-part-preserved g c =
     let first : min size.slots (64 * part) ≡ 64 * part = omega arith in
     let end : min size.slots (64 * part + 64) ≡ min size.slots (64 * (part + 1)) = omega arith in
     record {
+      all = c.in_default.ensures.all;
       read = λ told.
           let still = (so_far.rests told).reads in
           let bytes = unless_err c.read.result c.is_err.result c.if-is_err.false c.is_err.ensures.value (c.read.ensures.bytes told) in
           let sector : v0.reads (slots_start size + part) ≡ c.read.new.into =
           ap (λ (s : ℕ). v0.reads (s + part)) (sym starts) ∙ (sym (ap (λ r. r (c.slots_start-start.result + part)) still) ∙ sym bytes) in
-          subst (λ (n : ℕ). AreReadTo v0.reads size n (slots_in c.take_sector.new.slots)) end
-          (c.in_default.ensures.read v0.reads sector (subst (λ (n : ℕ). AreReadTo v0.reads size n (slots_in c.loop-part.slots)) first (so_far.read told)));
+          subst (λ (n : ℕ). AreReadTo v0.reads size n c.take_sector.new.slots) end
+          (c.in_default.ensures.read v0.reads sector (subst (λ (n : ℕ). AreReadTo v0.reads size n c.loop-part.slots) first (so_far.read told)));
       within =
-          subst (λ (n : ℕ). AreWithinTo size n (slots_in c.take_sector.new.slots)) end
-          (c.in_default.ensures.within (subst (λ (n : ℕ). AreWithinTo size n (slots_in c.loop-part.slots)) first so_far.within));
+          subst (λ (n : ℕ). AreWithinTo size n c.take_sector.new.slots) end
+          (c.in_default.ensures.within (subst (λ (n : ℕ). AreWithinTo size n c.loop-part.slots) first so_far.within));
       rests = λ told. rests_joined v0 v v' (so_far.rests told) (c.read.ensures.rests told);
       uses = uses_read 0 v0 v v' so_far.uses c.read.ensures.uses;
       faultless = unless_err c.read.result c.is_err.result c.if-is_err.false c.is_err.ensures.value (stays_on_ok c.read.result v.faults v'.faults c.read.ensures.faults) ∙ so_far.faultless;

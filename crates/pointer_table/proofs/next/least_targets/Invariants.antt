@@ -1,5 +1,4 @@
 use Rattle.std.proofs.Common.{◌≡◌, ◌≤◌, ◌-◌, ◌++◌, length, take}
-use Rattle.pointer_table.specs.Raw.{slots_in}
 use Rattle.pointer_table.specs.Slots.{pairs_in}
 use Rattle.pointer_table.proofs.NextLaws.{all_targets}
 use Rattle.pointer_table.proofs.next.least_targets.Given as goal
@@ -7,7 +6,7 @@ use Rattle.pointer_table.proofs.next.least_targets.Given as goal
 -- the targets so far and all that are still to come
 abbrev pub invariant-loop-from : goal.invariant-loop-from
 invariant-loop-from l =
-    let es = pairs_in (slots_in l.slots) in
+    let es = pairs_in l.slots in
     record {
       all : take l.most (l.targets ++ all_targets es l.source l.from) ≡ take l.most (take 64 (all_targets es l.source l.start));
       within : length l.targets ≤ l.most;

@@ -1,6 +1,5 @@
 use Rattle.std.proofs.Common.{◌∙◌, arith}
 use Rattle.std.proofs.lemmas.List.{take-take}
-use Rattle.pointer_table.specs.Raw.{slots_in}
 use Rattle.pointer_table.specs.Slots.{pairs_in}
 use Rattle.pointer_table.proofs.NextLaws.{all_targets}
 use Rattle.pointer_table.proofs.next.targets_from.Goals as goal
@@ -8,4 +7,4 @@ use Rattle.pointer_table.proofs.next.targets_from.Goals as goal
 pub returns : goal.returns
 returns c =
     c.least_targets.ensures
-    ∙ take-take 64 64 (all_targets (pairs_in (slots_in c.args.slots.now)) c.args.source c.args.start) (omega arith)
+    ∙ take-take 64 64 (all_targets (pairs_in c.args.slots.now) c.args.source c.args.start) (omega arith)

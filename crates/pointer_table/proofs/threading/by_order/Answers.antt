@@ -1,38 +1,70 @@
-use Rattle.std.proofs.Common.{◌≡◌, ◌-◌, ℕ, sym, subst, ◌∙◌, arith}
-use Rattle.pointer_table.specs.Indexed.{IsThreadedBy}
-use Rattle.pointer_table.specs.Raw.{slots_in}
+use Rattle.std.proofs.Common.{◌≡◌, ◌-◌, ℕ, length, refl, sym, subst, ap, ◌∙◌, arith}
+use Rattle.pointer_table.specs.Indexed.{IsIndex}
 use Rattle.pointer_table.specs.Slots.{slot_at}
 use Rattle.pointer_table.proofs.EmptyLaws.{not_some}
-use Rattle.pointer_table.proofs.ThreadingLaws.{threaded, one_more, all_threaded, threaded_same}
+use Rattle.pointer_table.proofs.ThreadingLaws.{threaded, none_threaded, one_more, all_threaded, row_more, index_same}
 use Rattle.pointer_table.proofs.threading.by_order.Goals as goal
+
+pub loop-left-init : goal.loop-left-init
+loop-left-init c =
+    let slots = c.args.slots.now in
+    let order = c.args.order.now in
+    record {
+      inside = omega arith;
+      index = index_same _ (threaded slots order (length order)) c.in_ok-index.index (none_threaded slots order (length order) (omega arith)) c.in_ok-index.ensures.index;
+      room = c.in_ok-index.ensures.room;
+      row = λ k inside none. c.in_ok-index.ensures.row k inside refl;
+    }
+
+pub add_first-requires-clause-source : goal.add_first-requires-clause-source
+add_first-requires-clause-source c =
+    let ends = c.requires.table.ends _ (c.in-Some.source, c.in-Some.target) (sym c.pair_at.ensures ∙ c.in-Some.is) in
+    let heads = c.loop-left.invariant.room.sources in
+    omega arith
+
+pub add_first-requires-clause-target : goal.add_first-requires-clause-target
+add_first-requires-clause-target c =
+    let ends = c.requires.table.ends _ (c.in-Some.source, c.in-Some.target) (sym c.pair_at.ensures ∙ c.in-Some.is) in
+    let heads = c.loop-left.invariant.room.sources in
+    omega arith
 
 pub loop-left-preserved-in-Some : goal.loop-left-preserved-in-Some
 loop-left-preserved-in-Some c =
+    let slots = c.args.slots.now in
+    let order = c.args.order.now in
+    let left = c.loop-left.left in
     let so_far = c.loop-left.invariant in
+    let e : ℕ × ℕ = (c.in-Some.source, c.in-Some.target) in
+    let here = sym c.pair_at.ensures ∙ c.in-Some.is in
+    let room = c.add_first.ensures.room c.args.geometry.now.blocks c.args.geometry.now.slots so_far.room in
     record {
       inside = (let inside = so_far.inside in omega arith);
-      threads =
-          one_more c.args.geometry.now (slots_in c.args.slots.now) c.args.order.now c.loop-left.left (c.in-Some.source, c.in-Some.target)
-          (λ held. IsThreadedBy c.args.way held c.loop-left.threads) (λ now. IsThreadedBy c.args.way now c.add_first.new.self)
-          c.requires.table c.requires.order c.loop-left-test.true so_far.inside (sym c.pair_at.ensures ∙ c.in-Some.is) so_far.threads
-          (λ held now more least old. record {
-            way_is = c.add_first.ensures.way ∙ old.way_is;
-            some = (let groups = c.add_first.ensures.groups in let some = old.some in omega arith);
-            threads = c.add_first.ensures.threads held now more least old.threads;
-          });
-      groups = c.add_first.ensures.groups ∙ so_far.groups;
-      slots = c.add_first.ensures.slots ∙ so_far.slots;
+      index =
+          one_more c.args.geometry.now slots order left e (λ held. IsIndex held c.loop-left.index) (λ now. IsIndex now c.add_first.new.self)
+          c.requires.table c.requires.order c.loop-left-test.true so_far.inside here so_far.index c.add_first.ensures.index;
+      room = room;
+      row =
+          row_more slots order left e c.loop-left.index.by_bucket.next c.add_first.new.self.by_bucket.next c.requires.order c.loop-left-test.true so_far.inside here
+          (room.by_bucket ∙ sym so_far.room.by_bucket) c.add_first.ensures.others so_far.row;
     }
 
 pub loop-left-preserved : goal.loop-left-preserved
 loop-left-preserved c =
     let within = c.loop-left.invariant.inside in
     let there = c.requires.order.holders.held (c.loop-left.left - 1) (omega arith) in
-    absurd (not_some (slot_at (slots_in c.args.slots.now) _) there.0 (sym c.pair_at.ensures ∙ c.in_default.is) there.1)
+    absurd (not_some (slot_at c.args.slots.now _) there.0 (sym c.pair_at.ensures ∙ c.in_default.is) there.1)
 
-pub returns-clause-threads : goal.returns-clause-threads
-returns-clause-threads c =
-    let slots = slots_in c.args.slots.now in
+pub returns-clause-index : goal.returns-clause-index
+returns-clause-index c =
+    let slots = c.args.slots.now in
+    let order = c.args.order.now in
     let end : c.loop-left.left ≡ 0 = omega arith in
-    threaded_same c.args.way (threaded slots c.args.order.now 0) (slot_at slots) c.loop-left.threads (all_threaded slots c.args.order.now c.requires.order)
-    (subst (λ (n : ℕ). IsThreadedBy c.args.way (threaded slots c.args.order.now n) c.loop-left.threads) end c.loop-left.invariant.threads)
+    index_same (threaded slots order 0) (slot_at slots) c.loop-left.index (all_threaded slots order c.requires.order)
+    (subst (λ (n : ℕ). IsIndex (threaded slots order n) c.loop-left.index) end c.loop-left.invariant.index)
+
+pub returns-clause-row : goal.returns-clause-row
+returns-clause-row c k inside none =
+    let slots = c.args.slots.now in
+    let order = c.args.order.now in
+    let end : c.loop-left.left ≡ 0 = omega arith in
+    c.loop-left.invariant.row k inside (ap (λ n. threaded slots order n k) end ∙ (all_threaded slots order c.requires.order k ∙ none))

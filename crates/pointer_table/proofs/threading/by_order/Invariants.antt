@@ -1,6 +1,6 @@
 use Rattle.std.proofs.Common.{◌≡◌, ◌≤◌, length}
-use Rattle.pointer_table.specs.Indexed.{IsThreadedBy}
-use Rattle.pointer_table.specs.Raw.{slots_in}
+use Rattle.pointer_table.specs.Empties.{AreInRow}
+use Rattle.pointer_table.specs.Indexed.{HasLinksAndHeads, IsIndex}
 use Rattle.pointer_table.proofs.ThreadingLaws.{threaded}
 use Rattle.pointer_table.proofs.threading.by_order.Given as goal
 
@@ -8,9 +8,9 @@ use Rattle.pointer_table.proofs.threading.by_order.Given as goal
 abbrev pub invariant-loop-left : goal.invariant-loop-left
 invariant-loop-left l = record {
   inside : l.left ≤ length l.order;
-  threads : IsThreadedBy l.fn.way (threaded (slots_in l.slots) l.order l.left) l.threads;
-  groups : length l.threads.heads ≡ l.geometry.blocks;
-  slots : length l.threads.next ≡ l.geometry.slots;
+  index : IsIndex (threaded l.slots l.order l.left) l.index;
+  room : HasLinksAndHeads l.geometry.blocks l.geometry.slots l.index;
+  row : AreInRow (threaded l.slots l.order l.left) l.index.by_bucket.next;
 }
 
 abbrev pub decreases-loop-left : goal.decreases-loop-left

@@ -1,5 +1,4 @@
 use Rattle.std.proofs.Common.{◌≡◌, ◌-◌, List, Some, None, set, length, refl, sym, subst, ap, ◌∙◌, arith}
-use Rattle.pointer_table.specs.Raw.{slots_in}
 use Rattle.pointer_table.specs.Slots.{slot_at}
 use Rattle.pointer_table.specs.Table.{Table}
 use Rattle.pointer_table.specs.Threads.{IsWith}
@@ -12,68 +11,66 @@ pub give_empty-requires : goal.give_empty-requires
 give_empty-requires c =
     let s = c.self.inside in
     let inside = some_inside c.args.self.now.slots c.args.position (c.args.source, c.args.target) c.requires in
-    let same : length (slots_in s.slots.items) ≡ length c.args.self.now.slots = ap (λ (t : Table). length t.slots) c.self.view_is in
-    let all : length (slots_in s.slots.items) ≡ s.geometry.slots = c.self.invariant.0.count in
+    let same : length s.slots ≡ length c.args.self.now.slots = ap (λ (t : Table). length t.slots) c.self.view_is in
+    let all : length s.slots ≡ s.geometry.slots = c.self.invariant.0.count in
     let links = (c.remove.ensures.room s.geometry.blocks s.geometry.slots c.self.invariant.4).by_bucket in
     omega arith
 
 pub overflow_sub-self : goal.overflow_sub-self
 overflow_sub-self c =
     let s = c.self.inside in
-    some_held c.args.self.now s.geometry s.slots.items s.held s.index c.args.position c.args.source c.args.target c.self.view_is c.self.invariant c.requires
+    some_held c.args.self.now s.geometry s.slots s.held s.index c.args.position c.args.source c.args.target c.self.view_is c.self.invariant c.requires
 
 pub invariant_of-self : goal.invariant_of-self
 invariant_of-self c =
     let s = c.self.inside in
-    let some = some_held c.args.self.now s.geometry s.slots.items s.held s.index c.args.position c.args.source c.args.target c.self.view_is c.self.invariant c.requires in
+    let some = some_held c.args.self.now s.geometry s.slots s.held s.index c.args.position c.args.source c.args.target c.self.view_is c.self.invariant c.requires in
     let inside = some_inside c.args.self.now.slots c.args.position (c.args.source, c.args.target) c.requires in
-    let same : length (slots_in s.slots.items) ≡ length c.args.self.now.slots = ap (λ (t : Table). length t.slots) c.self.view_is in
-    let all : length (slots_in s.slots.items) ≡ s.geometry.slots = c.self.invariant.0.count in
+    let same : length s.slots ≡ length c.args.self.now.slots = ap (λ (t : Table). length t.slots) c.self.view_is in
+    let all : length s.slots ≡ s.geometry.slots = c.self.invariant.0.count in
     let links = (c.remove.ensures.room s.geometry.blocks s.geometry.slots c.self.invariant.4).by_bucket in
-    emptied c.args.self.now s.geometry s.slots.items s.held (s.held - 1) s.index c.remove.new.self c.give_empty.new.self c.args.position c.args.source c.args.target (record { source = 0; target = 0 })
-    c.self.view_is c.self.invariant c.requires (omega arith) refl
-    (λ next with. c.remove.ensures.index next
-    (subst (λ (raws : List RawSlot). IsWith next c.args.position (c.args.source, c.args.target) (slot_at (slots_in raws))) (sym c.deref.ensures.value) with))
+    emptied c.args.self.now s.geometry s.slots s.held (s.held - 1) s.index c.remove.new.self c.give_empty.new.self c.args.position c.args.source c.args.target c.set.new.self
+    c.self.view_is c.self.invariant c.requires (omega arith) c.set.ensures
+    c.remove.ensures.index
     c.give_empty.ensures.index
     (c.give_empty.ensures.room s.geometry.blocks s.geometry.slots (c.remove.ensures.room s.geometry.blocks s.geometry.slots c.self.invariant.4))
     c.give_empty.ensures.empty
     (c.give_empty.ensures.next ∙ ap (set c.remove.new.self.by_bucket.next c.args.position) c.remove.ensures.empty)
     (omega arith)
-    (λ k none. c.remove.ensures.empties k (ap (λ raws. slot_at (slots_in raws) k) c.deref.ensures.value ∙ none))
+    c.remove.ensures.empties
 
-kept_now : (c : goal.After-patch) → Kept c.self.inside.geometry (set c.self.inside.slots.items c.args.position (record { source = 0; target = 0 })) (c.self.inside.held - 1) c.give_empty.new.self
+kept_now : (c : goal.After-patch) → Kept c.self.inside.geometry c.set.new.self (c.self.inside.held - 1) c.give_empty.new.self
 kept_now c =
     let s = c.self.inside in
-    let some = some_held c.args.self.now s.geometry s.slots.items s.held s.index c.args.position c.args.source c.args.target c.self.view_is c.self.invariant c.requires in
+    let some = some_held c.args.self.now s.geometry s.slots s.held s.index c.args.position c.args.source c.args.target c.self.view_is c.self.invariant c.requires in
     let inside = some_inside c.args.self.now.slots c.args.position (c.args.source, c.args.target) c.requires in
-    let same : length (slots_in s.slots.items) ≡ length c.args.self.now.slots = ap (λ (t : Table). length t.slots) c.self.view_is in
-    let all : length (slots_in s.slots.items) ≡ s.geometry.slots = c.self.invariant.0.count in
+    let same : length s.slots ≡ length c.args.self.now.slots = ap (λ (t : Table). length t.slots) c.self.view_is in
+    let all : length s.slots ≡ s.geometry.slots = c.self.invariant.0.count in
     let links = (c.remove.ensures.room s.geometry.blocks s.geometry.slots c.self.invariant.4).by_bucket in
-    emptied c.args.self.now s.geometry s.slots.items s.held (s.held - 1) s.index c.remove.new.self c.give_empty.new.self c.args.position c.args.source c.args.target (record { source = 0; target = 0 })
-    c.self.view_is c.self.invariant c.requires (omega arith) refl
-    (λ next with. c.remove.ensures.index next
-    (subst (λ (raws : List RawSlot). IsWith next c.args.position (c.args.source, c.args.target) (slot_at (slots_in raws))) (sym c.deref.ensures.value) with))
+    emptied c.args.self.now s.geometry s.slots s.held (s.held - 1) s.index c.remove.new.self c.give_empty.new.self c.args.position c.args.source c.args.target c.set.new.self
+    c.self.view_is c.self.invariant c.requires (omega arith) c.set.ensures
+    c.remove.ensures.index
     c.give_empty.ensures.index
     (c.give_empty.ensures.room s.geometry.blocks s.geometry.slots (c.remove.ensures.room s.geometry.blocks s.geometry.slots c.self.invariant.4))
     c.give_empty.ensures.empty
     (c.give_empty.ensures.next ∙ ap (set c.remove.new.self.by_bucket.next c.args.position) c.remove.ensures.empty)
     (omega arith)
-    (λ k none. c.remove.ensures.empties k (ap (λ raws. slot_at (slots_in raws) k) c.deref.ensures.value ∙ none))
+    c.remove.ensures.empties
 
 pub returns-clause-change : goal.returns-clause-change
 returns-clause-change c =
     let s = c.self.inside in
     let inside = some_inside c.args.self.now.slots c.args.position (c.args.source, c.args.target) c.requires in
-    let same : length (slots_in s.slots.items) ≡ length c.args.self.now.slots = ap (λ (t : Table). length t.slots) c.self.view_is in
+    let same : length s.slots ≡ length c.args.self.now.slots = ap (λ (t : Table). length t.slots) c.self.view_is in
     let sizes : s.geometry.slots ≡ c.args.self.now.geometry.slots = ap (λ (t : Table). t.geometry.slots) c.self.view_is in
-    let all : length (slots_in s.slots.items) ≡ s.geometry.slots = c.self.invariant.0.count in
-    change_after c.args.self.now s.geometry s.slots.items c.args.position (record { source = 0; target = 0 }) c.patch.result (Some (c.args.source, c.args.target)) None
-    c.self.view_is (omega arith) c.requires refl c.patch.ensures.position c.patch.ensures.bytes
+    let all : length s.slots ≡ s.geometry.slots = c.self.invariant.0.count in
+    change_after c.args.self.now s.geometry s.slots c.set.new.self c.args.position c.patch.result (Some (c.args.source, c.args.target)) None
+    c.self.view_is c.set.ensures (omega arith) c.requires c.patch.ensures.position c.patch.ensures.bytes
 
 pub returns-clause-stored : goal.returns-clause-stored
 returns-clause-stored c x old =
     let s = c.self.inside in
-    stored_after c.args.self.now s.geometry s.slots.items c.args.position (record { source = 0; target = 0 }) c.patch.result c.self.view_is (kept_now c).0 c.patch.ensures.position c.patch.ensures.bytes x old
+    stored_after c.args.self.now s.geometry s.slots c.set.new.self c.args.position None c.patch.result c.self.view_is c.set.ensures (kept_now c).0 c.patch.ensures.position c.patch.ensures.bytes x old
 
 pub returns-clause-table : goal.returns-clause-table
 returns-clause-table c = (kept_now c).0

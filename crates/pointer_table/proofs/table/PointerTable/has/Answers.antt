@@ -1,6 +1,5 @@
 use Rattle.std.proofs.Common.{ap, ◌∙◌}
 use Rattle.tsd_model.specs.Pairs.{holds}
-use Rattle.pointer_table.specs.Raw.{slots_in}
 use Rattle.pointer_table.specs.Slots.{pairs_in}
 use Rattle.pointer_table.specs.Table.{pairs}
 use Rattle.pointer_table.proofs.ChangeLaws.{has_is}
@@ -11,5 +10,5 @@ returns c =
     let a = c.args.source in
     let b = c.args.target in
     c.is_some.ensures
-    ∙ (has_is (slots_in c.deref.result.now) a b c.position_of.result c.position_of.ensures
-    ∙ (ap (λ raws. holds (pairs_in (slots_in raws)) a b) c.deref.ensures.value ∙ ap (λ t. holds (pairs t) a b) c.self.view_is))
+    ∙ (has_is c.self.inside.slots a b c.position_of.result c.position_of.ensures
+    ∙ ap (λ t. holds (pairs t) a b) c.self.view_is)

@@ -1,6 +1,5 @@
 use Rattle.std.proofs.Common.{ℕ, List, subst, ap, ◌∙◌}
 use Rattle.tsd_model.specs.Next.{IsNextTarget}
-use Rattle.pointer_table.specs.Raw.{slots_in}
 use Rattle.pointer_table.specs.Slots.{pairs_in}
 use Rattle.pointer_table.specs.Table.{pairs}
 use Rattle.pointer_table.proofs.table.PointerTable.next_target.Goals as goal
@@ -8,4 +7,4 @@ use Rattle.pointer_table.proofs.table.PointerTable.next_target.Goals as goal
 pub returns : goal.returns
 returns c =
     subst (λ (es : List (ℕ × ℕ)). IsNextTarget es c.args.source c.args.start c.next_target.result)
-    (ap (λ raws. pairs_in (slots_in raws)) c.deref.ensures.value ∙ ap pairs c.self.view_is) c.next_target.ensures
+    (ap pairs c.self.view_is) c.next_target.ensures

@@ -2,12 +2,10 @@ use Rattle.std.proofs.Common.{◌≡◌, ℕ, List, None, sym, subst, ap, ◌∙
 use Rattle.std.specs.Prelude.{count_by, is_some}
 use Rattle.pointer_table.specs.Empties.{AreEmpties}
 use Rattle.pointer_table.specs.Indexed.{IsIndex}
-use Rattle.pointer_table.specs.Raw.{slots_in}
 use Rattle.pointer_table.specs.Repeats.{IsLeastOfAll}
 use Rattle.pointer_table.specs.Slots.{slot_at}
 use Rattle.pointer_table.specs.Table.{IsTable}
 use Rattle.pointer_table.specs.declared.raw.RawSlot.{RawSlot}
-use Rattle.pointer_table.proofs.RawLaws.{length-slots_in}
 use Rattle.pointer_table.proofs.SlotLaws.{length-pairs_in}
 use Rattle.pointer_table.proofs.TableLaws.{made}
 use Rattle.pointer_table.proofs.table.PointerTable.of_slots.Goals as goal
@@ -15,23 +13,23 @@ use Rattle.pointer_table.proofs.table.PointerTable.of_slots.Goals as goal
 pub invariant_of-result : goal.invariant_of-result
 invariant_of-result c =
     let g = c.args.geometry.now in
-    let items = c.args.slots.items in
+    let items = c.args.slots in
     let x = c.in_ok-index.index in
     let held = c.count_held-held.result in
-    let none : IsLeastOfAll (slots_in items) None = subst (λ (raws : List RawSlot). IsLeastOfAll (slots_in raws) None) c.deref.ensures.value c.in_ok-index.ensures.none in
-    let table : IsTable (record { geometry = g; slots = slots_in items }) = made g (slots_in items) c.requires.lawful (length-slots_in items ∙ c.requires.count) c.requires.within none in
-    let counted : held ≡ count_by is_some (slots_in items) = c.count_held-held.ensures ∙ ap (λ raws. count_by is_some (slots_in raws)) c.deref-2.ensures.value in (
+    let none : IsLeastOfAll items None = c.in_ok-index.ensures.none in
+    let table : IsTable (record { geometry = g; slots = items }) = made g items c.requires.lawful c.requires.count c.requires.within none in
+    let counted : held ≡ count_by is_some items = c.count_held-held.ensures in (
       table,
-      counted ∙ sym (length-pairs_in (slots_in items) table.apart),
-      subst (λ (n : ℕ). AreEmpties (slots_in items) n x.empty x.by_bucket.next) (sym counted)
-          (subst (λ (raws : List RawSlot). AreEmpties (slots_in raws) (count_by is_some (slots_in raws)) x.empty x.by_bucket.next) c.deref.ensures.value c.in_ok-index.ensures.empties),
-      subst (λ (raws : List RawSlot). IsIndex (slot_at (slots_in raws)) x) c.deref.ensures.value c.in_ok-index.ensures.index,
+      counted ∙ sym (length-pairs_in items table.apart),
+      subst (λ (n : ℕ). AreEmpties items n x.empty x.by_bucket.next) (sym counted)
+          c.in_ok-index.ensures.empties,
+      c.in_ok-index.ensures.index,
       c.in_ok-index.ensures.room,
     )
 
 pub returns-clause-repeated : goal.returns-clause-repeated
 returns-clause-repeated c =
     let g = c.args.geometry.now in
-    let items = c.args.slots.items in
-    let none : IsLeastOfAll (slots_in items) None = subst (λ (raws : List RawSlot). IsLeastOfAll (slots_in raws) None) c.deref.ensures.value c.in_ok-index.ensures.none in
-    (made g (slots_in items) c.requires.lawful (length-slots_in items ∙ c.requires.count) c.requires.within none, none)
+    let items = c.args.slots in
+    let none : IsLeastOfAll items None = c.in_ok-index.ensures.none in
+    (made g items c.requires.lawful c.requires.count c.requires.within none, none)

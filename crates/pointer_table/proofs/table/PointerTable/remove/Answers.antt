@@ -1,7 +1,6 @@
 use Rattle.std.proofs.Common.{◌≡◌, Some, sym, subst, ap, ◌∙◌}
 use Rattle.std.proofs.lemmas.Bool.{both_ways}
 use Rattle.tsd_model.specs.Pairs.{holds}
-use Rattle.pointer_table.specs.Raw.{slots_in}
 use Rattle.pointer_table.specs.Slots.{slot_at}
 use Rattle.pointer_table.specs.Table.{Table, pairs, IsTable}
 use Rattle.pointer_table.proofs.SlotLaws.{holds_from_slot}
@@ -13,7 +12,7 @@ returns-in-Some-clause-absent c =
     let t = c.args.self.now in
     let position = c.in-Some.position in
     let found : slot_at t.slots position ≡ Some (c.args.source, c.args.target) =
-    sym (ap (λ (u : Table). slot_at u.slots position) c.self.view_is) ∙ (sym (ap (λ raws. slot_at (slots_in raws) position) c.deref.ensures.value) ∙ c.in-Some.ensures) in
+    sym (ap (λ (u : Table). slot_at u.slots position) c.self.view_is) ∙ c.in-Some.ensures in
     (λ never. absurd (cc), λ absent. absurd (both_ways (holds (pairs t) c.args.source c.args.target) absent (holds_from_slot t.slots position c.args.source c.args.target found)))
 
 pub returns-in-Some-clause-pairs : goal.returns-in-Some-clause-pairs

@@ -1,6 +1,5 @@
 use Rattle.std.proofs.Common.{sym, ap, ◌∙◌, arith}
 use Rattle.tsd_model.specs.Pairs.{holds}
-use Rattle.pointer_table.specs.Raw.{slots_in}
 use Rattle.pointer_table.specs.Slots.{pairs_in}
 use Rattle.pointer_table.specs.Table.{Table}
 use Rattle.pointer_table.proofs.TableLaws.{are_pairs}
@@ -8,8 +7,8 @@ use Rattle.pointer_table.proofs.table.PointerTable.targets_from.Goals as goal
 
 pub targets_from-requires-clause-small : goal.targets_from-requires-clause-small
 targets_from-requires-clause-small c b held =
-    let t : Table = record { geometry = c.self.inside.geometry; slots = slots_in c.self.inside.slots.items } in
+    let t : Table = record { geometry = c.self.inside.geometry; slots = c.self.inside.slots } in
     let table = c.self.invariant.0 in
-    let ends = (are_pairs t table).ends c.args.source b (ap (λ raws. holds (pairs_in (slots_in raws)) c.args.source b) (sym c.deref.ensures.value) ∙ held) in
+    let ends = (are_pairs t table).ends c.args.source b held in
     let most = table.lawful.blocks in
     omega arith

@@ -1,5 +1,4 @@
 use Rattle.std.proofs.Common.{length, ◌∙◌}
-use Rattle.pointer_table.specs.Raw.{slots_in}
 use Rattle.pointer_table.specs.Slots.{slot_at}
 use Rattle.pointer_table.specs.Threads.{group, after}
 use Rattle.pointer_table.proofs.ThreadLaws.{put_fields, put_others, heads_as_many, next_as_many_put}
@@ -13,7 +12,7 @@ returns c =
     let before = c.before-before.result in
     record {
       threads = λ now more.
-          put_fields (slot_at (slots_in c.args.slots.now)) now t.way u.way t.heads t.next u.heads u.next
+          put_fields (slot_at c.args.slots.now) now t.way u.way t.heads t.next u.heads u.next
           c.args.position of c.rank.result (c.args.source, c.args.target) before
           c.requires.threads more c.requires.absent c.ranges.target.fits c.requires.position c.requires.link c.requires.group
           c.group-of.ensures c.rank.ensures c.before-before.ensures
@@ -24,6 +23,6 @@ returns c =
       slots = next_as_many_put t.next u.next c.args.position (after t.heads t.next of before) before c.args.position
           (c.keep_end.ensures.next ∙ c.put-link.ensures.next);
       empties =
-          put_others (slot_at (slots_in c.args.slots.now)) (group t.way (length t.heads)) of c.rank.result t.next u.next c.args.position (after t.heads t.next of before)
+          put_others (slot_at c.args.slots.now) (group t.way (length t.heads)) of c.rank.result t.next u.next c.args.position (after t.heads t.next of before)
           c.args.position before c.before-before.ensures (c.keep_end.ensures.next ∙ c.put-link.ensures.next);
     }

@@ -1,4 +1,5 @@
-use Rattle.std.proofs.Common.{◌∙◌, arith, refl, None}
+use Rattle.std.proofs.Common.{get_or, ap, ◌∙◌, arith, refl, None}
+use Rattle.std.proofs.lemmas.List.{get_or-set_other}
 use Rattle.pointer_table.specs.Threads.{rank, after}
 use Rattle.pointer_table.proofs.ThreadLaws.{put_fields, heads_as_many, next_as_many_put}
 use Rattle.pointer_table.proofs.threads.Threads.add_first.Goals as goal
@@ -20,4 +21,5 @@ returns c =
       groups = heads_as_many t.heads u.heads of None c.args.position (c.keep_end.ensures.heads ∙ c.put-link.ensures.heads);
       slots = next_as_many_put t.next u.next c.args.position (after t.heads t.next of None) None c.args.position
           (c.keep_end.ensures.next ∙ c.put-link.ensures.next);
+      others = λ k off. ap (λ xs. get_or xs k 0) (c.keep_end.ensures.next ∙ c.put-link.ensures.next) ∙ get_or-set_other t.next c.args.position k (after t.heads t.next of None) 0 off;
     }

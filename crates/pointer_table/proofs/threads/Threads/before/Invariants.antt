@@ -1,5 +1,4 @@
 use Rattle.std.proofs.Common.{◌≡◌, ◌-◌, length}
-use Rattle.pointer_table.specs.Raw.{slots_in}
 use Rattle.pointer_table.specs.Slots.{slot_at}
 use Rattle.pointer_table.specs.Threads.{group, after, IsNear}
 use Rattle.pointer_table.proofs.ThreadLaws.{from_of}
@@ -7,9 +6,9 @@ use Rattle.pointer_table.proofs.threads.Threads.before.Given as goal
 
 abbrev pub invariant-loop-link : goal.invariant-loop-link
 invariant-loop-link l = record {
-  near : IsNear (slot_at (slots_in l.slots)) (group l.self.way (length l.self.heads)) l.of l.limit l.before;
+  near : IsNear (slot_at l.slots) (group l.self.way (length l.self.heads)) l.of l.limit l.before;
   link : l.link ≡ after l.self.heads l.self.next l.of l.before;
 }
 
 abbrev pub decreases-loop-link : goal.decreases-loop-link
-decreases-loop-link l = l.limit - from_of (slot_at (slots_in l.slots)) l.before
+decreases-loop-link l = l.limit - from_of (slot_at l.slots) l.before
