@@ -1,11 +1,10 @@
 -- How many free blocks stand in a row at most.
-use Rattle.std.proofs.Common.{inl, inr, ◌≡◌, ◌≢◌, ℕ, zero, suc, ◌+◌, ◌*◌, ◌<◌, ◌≤◌, Bool, true, false, not, ◌&&◌, nat_lt, List, length, refl, sym, ◌∙◌, ap, arith}
-use Rattle.std.specs.Prelude.{slice_index_or}
+use Rattle.std.proofs.Common.{inl, inr, ◌≡◌, ◌≢◌, ℕ, zero, suc, ◌+◌, ◌<◌, ◌≤◌, Bool, true, false, not, ◌&&◌, nat_lt, List, length, refl, sym, ◌∙◌, ap, arith}
 use Rattle.std.proofs.lemmas.Bool.{cases_lt}
 use Rattle.block_alloc.specs.LiveMap.{is_live, is_free}
 use Rattle.block_alloc.specs.Choosing.{is_free_run}
 use Rattle.block_alloc.specs.Bytes.{bit_in, bits_of, IsBitPut}
-use Rattle.block_alloc.specs.Rows.{IsMostAt, IsMostIn, AreMost, IsApart}
+use Rattle.block_alloc.specs.Rows.{IsMostAt, IsMostIn, IsApart}
 use Rattle.block_alloc.proofs.BitLaws.{length-bits_of, get-bits_of, past-bits_of}
 use Rattle.block_alloc.proofs.GroupLaws.{broken_run, live_is_not_free, past_is_not_free}
 

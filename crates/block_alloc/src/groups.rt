@@ -59,14 +59,14 @@ pub(crate) fn best_of(kind: PlaceKind, hint: u32, group: u32) -> u32
     }
 }
 
-/// The block of a group from which on a ceiling is guessed. For `Spread` it is the one of least rank, since those below
-/// a hint in its group have the greatest ranks of all; for `Near` too in the hint's group, and for `Near` alone the others.
+/// The block of a group from which on a ceiling is guessed: its first one, but for `Near` and `Spread` the hint where it
+/// is one of the group. For `Spread` those below the hint have the greatest ranks of all.
 pub(crate) fn start_of(kind: PlaceKind, hint: u32, group: u32) -> u32
     requires { group < 2 ^ 24 }
 {
     match kind {
-        PlaceKind::Low | PlaceKind::Near | PlaceKind::Zone => GROUP_BLOCKS * group,
-        PlaceKind::Spread => best_of(kind, hint, group),
+        PlaceKind::Near | PlaceKind::Spread if hint / GROUP_BLOCKS == group => hint,
+        _ => GROUP_BLOCKS * group,
     }
 }
 

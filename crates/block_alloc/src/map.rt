@@ -56,7 +56,7 @@ impl Model for LiveMap {
     } };
 
     ghost invariant = { λ m. IsLawful m.geometry × IsMapKept m.geometry.blocks m.bytes.items m.unhidden.items m.free
-      m.most.items };
+        m.most.items };
 }
 
 impl LiveMap {

@@ -63,7 +63,11 @@ fn most_in(unhidden: &[u8], blocks: u32, group: u32) -> u8
 }
 
 /// How long a row is at most that begins in each group.
-pub(crate) fn most_of_groups(alloc: Global, unhidden: &[u8], blocks: u32) -> Result<Vec<u8>, AllocError>
+pub(crate) fn most_of_groups(
+    alloc: Global,
+    unhidden: &[u8],
+    blocks: u32,
+) -> Result<Vec<u8>, AllocError>
     requires bits { blocks ≤ 8 * length unhidden.now }
     requires few { blocks < 2 ^ 31 }
     ensures { IfOk result (λ most. AreMost (bits_of unhidden.now blocks) most.items) }

@@ -1,5 +1,5 @@
-use Rattle.std.proofs.Common.{◌≡◌, ℕ, inl, inr, ◌+◌, ◌-◌, ◌*◌, ◌≤◌, ◌<◌, subst, sym, arith}
-use Rattle.std.proofs.lemmas.Bool.{cases_lt, cases_eq}
+use Rattle.std.proofs.Common.{◌≡◌, inl, inr, ◌+◌, ◌-◌, subst, arith}
+use Rattle.std.proofs.lemmas.Bool.{cases_eq}
 use Rattle.block_alloc.specs.Bytes.{bits_of}
 use Rattle.block_alloc.specs.Rows.{IsMostAt}
 use Rattle.block_alloc.proofs.BitLaws.{length-bits_of}

@@ -1,4 +1,4 @@
-use Rattle.std.proofs.Common.{◌≡◌, ◌≤◌, ◌<◌, ◌+◌, ℕ}
+use Rattle.std.proofs.Common.{◌≤◌, ◌<◌, ℕ}
 use Rattle.block_alloc.specs.Bytes.{bits_of}
 use Rattle.block_alloc.specs.Rows.{IsMostAt}
 use Rattle.block_alloc.proofs.rows.most_in.Given as goal

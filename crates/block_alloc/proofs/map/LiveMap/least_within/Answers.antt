@@ -1,4 +1,4 @@
-use Rattle.std.proofs.Common.{◌≡◌, ◌-◌, ◌≤◌, ◌+◌, ◌*◌, false, sym, ◌∙◌, ap, subst, arith}
+use Rattle.std.proofs.Common.{◌≡◌, ◌-◌, ◌≤◌, ◌+◌, ◌*◌, false, sym, ◌∙◌, subst, arith}
 use Rattle.tsd_model.specs.Rank.{rank_of}
 use Rattle.block_alloc.specs.Groups.{is_within, IsKeptFrom}
 use Rattle.block_alloc.proofs.GroupLaws.{kept_by, above_ceiling}

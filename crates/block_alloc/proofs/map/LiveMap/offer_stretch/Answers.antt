@@ -1,4 +1,4 @@
-use Rattle.std.proofs.Common.{◌≡◌, ℕ, ◌-◌, ◌+◌, ◌*◌, false, ◌∙◌, ap, subst, arith}
+use Rattle.std.proofs.Common.{◌≡◌, ◌-◌, ◌+◌, ◌*◌, false, subst, arith}
 use Rattle.tsd_model.specs.Rank.{rank_of}
 use Rattle.block_alloc.specs.Groups.{is_run_within, IsKeptFrom}
 use Rattle.block_alloc.proofs.GroupLaws.{kept_by}
