@@ -1,6 +1,5 @@
-use Rattle.std.proofs.Common.{inl, inr, sym, ◌∙◌, ap, subst, false, ◌==◌, ◌%◌, ◌/◌, ◌*◌, ◌+◌, ◌<◌, ◌≤◌, ◌≡◌, ℕ, arith}
+use Rattle.std.proofs.Common.{inl, inr, sym, ◌∙◌, ap, subst, false, ◌/◌, ◌<◌, ◌≡◌, arith}
 use Rattle.std.specs.Prelude.{slice_index_or}
-use Rattle.std.specs.Int.{bit_at}
 use Rattle.std.proofs.lemmas.Bool.{cases_lt}
 use Rattle.bit_array.proofs.BitLaws.{past-bits_of, unset-bits_of}
 use Rattle.bit_array.proofs.bits.BitArray.past_false.Goals as goal
