@@ -17,6 +17,13 @@ get-bits_of words len i h = get_or-map-range_with_len (bit_of words) 0 len i i f
 pub past-bits_of : (words : List ℕ) (len i : ℕ) → len ≤ i → slice_index_or (bits_of words len) i false ≡ false
 past-bits_of words len i h = get_or_past (bits_of words len) i false (let e = length-bits_of words len in omega (arith, e))
 
+-- no bit of a word that is zero
+pub unset-bits_of : (words : List ℕ) (len i : ℕ) → slice_index_or words (i / 64) 0 ≡ 0 → slice_index_or (bits_of words len) i false ≡ false
+unset-bits_of words len i zero = elim (cases_lt i len) [
+  | inl h ↦ get-bits_of words len i h ∙ (ap (λ w. bit_at w (i % 64) == 1) zero ∙ ap (λ n. n == 1) (bit_at-zero (i % 64)))
+  | inr h ↦ past-bits_of words len i h
+]
+
 as_number : (bit : Bool) → (cond bit 1 0 == 1) ≡ bit
 as_number true = refl
 as_number false = refl

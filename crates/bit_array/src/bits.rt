@@ -1,10 +1,12 @@
 //! Bits, 64 a word.
 
-ghost use Rattle.std.specs.Prelude.{◌≡◌, ℕ, ◌<◌, ◌≢◌, ◌==◌, cond, false, length, replicate};
-ghost use Rattle.std.specs.Prelude.{slice_index_or, slice_set, IfOk};
+ghost use Rattle.std.specs.Prelude.{◌≡◌, ℕ, ◌<◌, ◌≤◌, ◌≢◌, ◌==◌, ◌||◌, nat_le, cond, false, length, max};
+ghost use Rattle.std.specs.Prelude.{replicate, slice_index_or, slice_set, IfOk};
 ghost use Rattle.std.specs.Int.{bit_at};
+ghost use Rattle.tsd_model.specs.Next.{IsLeast};
 
 use std::alloc::Global;
+use std::cmp::{max, min};
 use std::marker::Model;
 use tsd_model::NoMemory;
 
@@ -52,6 +54,36 @@ impl BitArray {
         i < self.len && is_set(self.words[(i / WORD_BITS) as usize], i % WORD_BITS)
     }
 
+    /// The least number from `start` on whose bit is true or that isn't below `end`. Words with no true bit are passed
+    /// at once.
+    pub fn next_set(&self, start: u32, end: u32) -> u32
+        ensures { IsLeast (λ i. nat_le end i || slice_index_or self.now i false) start result }
+    {
+        let mut at = start;
+        while at < end && !self.get(at) {
+            at = self.past_false(at, end);
+        }
+        at
+    }
+
+    /// Past a bit that is false, and past the words of such bits that it begins.
+    fn past_false(&self, at: u32, end: u32) -> u32
+        requires within { at < end }
+        requires unset { slice_index_or self.now at false ≡ false }
+        ensures on { (at < result) × (result ≤ end) }
+        ensures unset { (i : ℕ) → at ≤ i → i < result → slice_index_or self.now i false ≡ false }
+    {
+        if self.len <= at {
+            return end;
+        }
+        if at % WORD_BITS != 0 {
+            return at + 1;
+        }
+        let last = (min(end, self.len) / WORD_BITS) as usize;
+        let word = next_word(self.words.as_slice(), (at / WORD_BITS) as usize, last);
+        max(at + 1, word as u32 * WORD_BITS)
+    }
+
     /// Bit i becomes this; past the end nothing changes.
     pub fn set(&mut self, i: u32, bit: bool)
         ensures { self.new ≡ slice_set self.old i bit }
@@ -74,6 +106,19 @@ fn zero(words: &mut Vec<u64>)
     ensures { words.new.items ≡ replicate (length words.old.items) 0 }
 {
     words.as_mut_slice().fill(0);
+}
+
+/// Past the words that are zero, from one on.
+fn next_word(words: &[u64], start: usize, end: usize) -> usize
+    requires { end ≤ length words.now }
+    ensures on { (start ≤ result) × (result ≤ max start end) }
+    ensures zero { (k : ℕ) → start ≤ k → k < result → slice_index_or words.now k 0 ≡ 0 }
+{
+    let mut at = start;
+    while at < end && words[at] == 0 {
+        at += 1;
+    }
+    at
 }
 
 fn is_set(word: u64, position: u32) -> bool

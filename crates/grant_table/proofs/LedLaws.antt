@@ -6,35 +6,14 @@ use Rattle.std.proofs.lemmas.List.{get_or_past, ext_get_or, get_or_append_left, 
 use Rattle.std.proofs.lemmas.List.FromFn.{length-map-range_with_len, get_or-map-range_with_len}
 use Rattle.tsd_model.specs.World.{World, has_number}
 use Rattle.tsd_model.specs.Pairs.{holds, sources_to}
-use Rattle.tsd_model.specs.Sessions.{Sessions, levels_from, greater, greatest}
+use Rattle.tsd_model.specs.Sessions.{Held, Sessions, levels_from, level_le, level_rank, greater, greatest}
 use Rattle.tsd_model.specs.Attained.{shown_level, led_level, attained_from, attained_origins, attained}
 use Rattle.tsd_model.proofs.LevelLaws.{greater-assoc, led_level_nothing}
 use Rattle.tsd_model.specs.declared.caps.Shown.{Shown}
 use Rattle.tsd_model.specs.declared.requests.Level.{Level}
 use Rattle.tsd_model.specs.declared.requests.Level.TheVariants.{Bare, Read, Write}
 use Rattle.grant_table.specs.Granted.{attained_at, no_origins}
-
-greater-first : (l g : Level) → greater (greater l g) l ≡ greater g l
-greater-first Bare Bare = refl
-greater-first Bare Read = refl
-greater-first Bare Write = refl
-greater-first Read Bare = refl
-greater-first Read Read = refl
-greater-first Read Write = refl
-greater-first Write Bare = refl
-greater-first Write Read = refl
-greater-first Write Write = refl
-
-greater-again : (l g : Level) → greater (greater l g) l ≡ greater l g
-greater-again Bare Bare = refl
-greater-again Bare Read = refl
-greater-again Bare Write = refl
-greater-again Read Bare = refl
-greater-again Read Read = refl
-greater-again Read Write = refl
-greater-again Write Bare = refl
-greater-again Write Read = refl
-greater-again Write Write = refl
+use Rattle.grant_table.specs.Led.{level_at, AreFound}
 
 pub bare-greater : (l : Level) → greater Bare l ≡ l
 bare-greater Bare = refl
@@ -65,76 +44,144 @@ all-members P (x ∷ xs) h = (
 pub all-sources : (P : ℕ → Type 0) (es : List (ℕ × ℕ)) (b : ℕ) → ((c : ℕ) → IsTrue (holds es c b) → P c) → Each P (sources_to es b)
 all-sources P es b h = all-members P (sources_to es b) (λ c g. h c (subst (λ t. IsTrue t) (sym (holds-sources es c b)) g))
 
--- the greatest over those below a number
-abbrev pub greatest_below : (ℕ → Level) → ℕ → List ℕ → Level
-greatest_below f n xs = greatest (map f (filter (λ x. nat_lt x n) xs))
-
--- where nothing lies from `start` on and before a
-nothing_between : (f : ℕ → Level) (start a : ℕ) (xs : List ℕ) → start ≤ a → Each (λ x. start ≤ x → a ≤ x) xs → greater (greatest_below f (a + 1) xs) (f a) ≡ greater (greatest_below f start xs) (f a)
-nothing_between f start a [] h g = refl
-nothing_between f start a (x ∷ xs) h g = elim (cases_lt x start) [
-  | inl l ↦
-      ap (λ t. greater (greatest (map f (cond t (x ∷ filter (λ y. nat_lt y (a + 1)) xs) (filter (λ y. nat_lt y (a + 1)) xs)))) (f a)) (lt-ltb x (a + 1) (omega arith))
-      ∙ (sym (greater-assoc (f x) (greatest_below f (a + 1) xs) (f a))
-      ∙ (ap (greater (f x)) (nothing_between f start a xs h g.1)
-      ∙ (greater-assoc (f x) (greatest_below f start xs) (f a)
-      ∙ sym (ap (λ t. greater (greatest (map f (cond t (x ∷ filter (λ y. nat_lt y start) xs) (filter (λ y. nat_lt y start) xs)))) (f a)) (lt-ltb x start l)))))
-  | inr l ↦
-      elim (cases_eq x a) [
-        | inl e ↦
-            ap (λ t. greater (greatest (map f (cond t (x ∷ filter (λ y. nat_lt y (a + 1)) xs) (filter (λ y. nat_lt y (a + 1)) xs)))) (f a)) (lt-ltb x (a + 1) (omega arith))
-            ∙ (ap (λ y. greater (greater (f y) (greatest_below f (a + 1) xs)) (f a)) e
-            ∙ (greater-first (f a) (greatest_below f (a + 1) xs) ∙ nothing_between f start a xs h g.1))
-        | inr ne ↦
-            (let far : a ≤ x = g.0 l in
-            ap (λ t. greater (greatest (map f (cond t (x ∷ filter (λ y. nat_lt y (a + 1)) xs) (filter (λ y. nat_lt y (a + 1)) xs)))) (f a)) (le-ltb x (a + 1) (omega arith)) ∙ nothing_between f start a xs h g.1)
-      ]
-      ∙ sym (ap (λ t. greater (greatest (map f (cond t (x ∷ filter (λ y. nat_lt y start) xs) (filter (λ y. nat_lt y start) xs)))) (f a)) (le-ltb x start l))
+pub no_origins-bare : (o : ℕ) → slice_index_or no_origins o Bare ≡ Bare
+no_origins-bare o = elim (cases_lt o 16) [
+  | inl l ↦ get_or-replicate 16 o Bare Bare l
+  | inr l ↦ get_or_past no_origins o Bare l
 ]
 
--- a member counts
-member_counts : (f : ℕ → Level) (a : ℕ) (xs : List ℕ) → IsTrue (has_number xs a) → greater (greatest_below f (a + 1) xs) (f a) ≡ greatest_below f (a + 1) xs
-member_counts f a [] h = absurd (cc)
-member_counts f a (x ∷ xs) h = elim (cases_eq x a) [
-  | inl e ↦
-      (let below : nat_lt x (a + 1) ≡ true = lt-ltb x (a + 1) (omega arith) in
-      subst (λ t. greater (greatest (map f (cond t (x ∷ filter (λ y. nat_lt y (a + 1)) xs) (filter (λ y. nat_lt y (a + 1)) xs)))) (f a) ≡ greatest (map f (cond t (x ∷ filter (λ y. nat_lt y (a + 1)) xs) (filter (λ y. nat_lt y (a + 1)) xs)))) (sym below)
-      (subst (λ z. greater (greater (f z) (greatest_below f (a + 1) xs)) (f a) ≡ greater (f z) (greatest_below f (a + 1) xs)) (sym e) (greater-again (f a) (greatest_below f (a + 1) xs))))
+-- ---- levels by their ranks
+pub rank-left : (l m : Level) → level_rank l ≤ level_rank (greater l m)
+rank-left Bare m = omega arith
+rank-left Read Bare = omega arith
+rank-left Read Read = omega arith
+rank-left Read Write = omega arith
+rank-left Write Bare = omega arith
+rank-left Write Read = omega arith
+rank-left Write Write = omega arith
+
+pub rank-right : (l m : Level) → level_rank m ≤ level_rank (greater l m)
+rank-right l Bare = omega arith
+rank-right Bare Read = omega arith
+rank-right Read Read = omega arith
+rank-right Write Read = omega arith
+rank-right Bare Write = omega arith
+rank-right Read Write = omega arith
+rank-right Write Write = omega arith
+
+pub rank-greater : (l m : Level) (n : ℕ) → level_rank l ≤ n → level_rank m ≤ n → level_rank (greater l m) ≤ n
+rank-greater l m n one other = elim (level_le l m) as (λ t. level_rank (cond t m l) ≤ n) [ true ↦ other | false ↦ one ]
+
+pub rank-equal : (l m : Level) → level_rank l ≤ level_rank m → level_rank m ≤ level_rank l → l ≡ m
+rank-equal Bare Bare one other = refl
+rank-equal Bare Read one other = absurd (omega arith)
+rank-equal Bare Write one other = absurd (omega arith)
+rank-equal Read Bare one other = absurd (omega arith)
+rank-equal Read Read one other = refl
+rank-equal Read Write one other = absurd (omega arith)
+rank-equal Write Bare one other = absurd (omega arith)
+rank-equal Write Read one other = absurd (omega arith)
+rank-equal Write Write one other = refl
+
+pub rank-write : (l : Level) → level_rank l ≤ 2
+rank-write Bare = omega arith
+rank-write Read = omega arith
+rank-write Write = omega arith
+
+-- the greatest of levels is at least each of them, and at most what each of them is
+rank_member : (f : ℕ → Level) (a : ℕ) (xs : List ℕ) → IsTrue (has_number xs a) → level_rank (f a) ≤ level_rank (greatest (map f xs))
+rank_member f a [] h = absurd (cc)
+rank_member f a (x ∷ xs) h = elim (cases_eq x a) [
+  | inl e ↦ subst (λ y. level_rank (f y) ≤ level_rank (greater (f x) (greatest (map f xs)))) e (rank-left (f x) (greatest (map f xs)))
   | inr ne ↦
-      (let rest : IsTrue (has_number xs a) = subst (λ t. IsTrue (t || has_number xs a)) (ne_eqb x a ne) h in
-      let more = member_counts f a xs rest in
-      elim (nat_lt x (a + 1)) as (λ t. greater (greatest (map f (cond t (x ∷ filter (λ y. nat_lt y (a + 1)) xs) (filter (λ y. nat_lt y (a + 1)) xs)))) (f a) ≡ greatest (map f (cond t (x ∷ filter (λ y. nat_lt y (a + 1)) xs) (filter (λ y. nat_lt y (a + 1)) xs)))) [
-        | true ↦ sym (greater-assoc (f x) (greatest_below f (a + 1) xs) (f a)) ∙ ap (greater (f x)) more
-        | false ↦ more
-      ])
+      let more = rank_member f a xs (subst (λ t. IsTrue (t || has_number xs a)) (ne_eqb x a ne) h) in
+      let right = rank-right (f x) (greatest (map f xs)) in
+      omega (arith, more, right)
 ]
 
--- one more source
-pub next_member : (f : ℕ → Level) (es : List (ℕ × ℕ)) (b start a : ℕ) → start ≤ a → IsTrue (holds es a b) → ((c : ℕ) → IsTrue (holds es c b) → start ≤ c → a ≤ c) →
-    greatest_below f (a + 1) (sources_to es b) ≡ greater (greatest_below f start (sources_to es b)) (f a)
-next_member f es b start a h held least =
-    sym (member_counts f a (sources_to es b) (subst (λ t. IsTrue t) (holds-sources es a b) held))
-    ∙ nothing_between f start a (sources_to es b) h (all-sources (λ x. start ≤ x → a ≤ x) es b least)
+rank_all : (f : ℕ → Level) (n : ℕ) (xs : List ℕ) → Each (λ x. level_rank (f x) ≤ n) xs → level_rank (greatest (map f xs)) ≤ n
+rank_all f n [] h = omega arith
+rank_all f n (x ∷ xs) h = rank-greater (f x) (greatest (map f xs)) n h.0 (rank_all f n xs h.1)
 
--- the rest counts nothing
-rest_bare : (f : ℕ → Level) (n : ℕ) (xs : List ℕ) → Each (λ x. n ≤ x → f x ≡ Bare) xs → greatest_below f n xs ≡ greatest (map f xs)
-rest_bare f n [] h = refl
-rest_bare f n (x ∷ xs) h = elim (cases_lt x n) [
-  | inl l ↦ ap (λ t. greatest (map f (cond t (x ∷ filter (λ y. nat_lt y n) xs) (filter (λ y. nat_lt y n) xs)))) (lt-ltb x n l) ∙ ap (greater (f x)) (rest_bare f n xs h.1)
-  | inr l ↦ ap (λ t. greatest (map f (cond t (x ∷ filter (λ y. nat_lt y n) xs) (filter (λ y. nat_lt y n) xs)))) (le-ltb x n l)
-      ∙ (rest_bare f n xs h.1 ∙ (sym (bare-greater (greatest (map f xs))) ∙ sym (ap (λ m. greater m (greatest (map f xs))) (h.0 l))))
-]
+rank_source : (levels : List Level) (es : List (ℕ × ℕ)) (a b : ℕ) → IsTrue (holds es a b) → level_rank (slice_index_or levels a Bare) ≤ level_rank (led_level levels b es)
+rank_source levels es a b held = rank_member (λ x. slice_index_or levels x Bare) a (sources_to es b) (subst (λ t. IsTrue t) (holds-sources es a b) held)
 
-pub no_more_members : (levels : List Level) (es : List (ℕ × ℕ)) (b start n : ℕ) → length levels ≤ n → ((a : ℕ) → IsTrue (holds es a b) → start ≤ a → n ≤ a) →
-    greatest_below (λ a. slice_index_or levels a Bare) start (sources_to es b) ≡ led_level levels b es
-no_more_members levels es b start n short none =
-    rest_bare (λ a. slice_index_or levels a Bare) start (sources_to es b)
-    (all-sources (λ x. start ≤ x → slice_index_or levels x Bare ≡ Bare) es b (λ c held from. get_or_past levels c Bare (let far : n ≤ c = none c held from in omega arith)))
+-- ---- the levels found so far
+-- none below 0
+pub found_none : (held : Held) (es : List (ℕ × ℕ)) (b : ℕ) → AreFound held es b 0 no_origins
+found_none held es b = record {
+  sized = length-replicate 16 Bare;
+  led = λ o h. subst (λ l. level_rank l ≤ level_rank (led_level (slice_index_or held o []) b es)) (sym (no_origins-bare o)) (omega arith);
+  below = λ o a h within there. absurd (omega arith);
+}
 
--- nothing lies below 0
-pub none_below : (f : ℕ → Level) (xs : List ℕ) → greatest_below f 0 xs ≡ Bare
-none_below f [] = refl
-none_below f (x ∷ xs) = ap (λ t. greatest (map f (cond t (x ∷ filter (λ y. nat_lt y 0) xs) (filter (λ y. nat_lt y 0) xs)))) (le-ltb x 0 (omega arith)) ∙ none_below f xs
+-- each level becomes the greater of itself and what is held at a source
+pub found_kept : (held : Held) (es : List (ℕ × ℕ)) (a b n : ℕ) (old new : List Level) → IsTrue (holds es a b) → length new ≡ length old →
+    ((o : ℕ) → o < 16 → slice_index_or new o Bare ≡ greater (slice_index_or old o Bare) (level_at held o a)) →
+    AreFound held es b n old → AreFound held es b n new
+found_kept held es a b n old new there same each found = record {
+  sized = same ∙ found.sized;
+  led = λ o h. subst (λ l. level_rank l ≤ level_rank (led_level (slice_index_or held o []) b es)) (sym (each o h))
+      (rank-greater (slice_index_or old o Bare) (level_at held o a) (level_rank (led_level (slice_index_or held o []) b es)) (found.led o h) (rank_source (slice_index_or held o []) es a b there));
+  below = λ o c h within source.
+      let before = found.below o c h within source in
+      let left = rank-left (slice_index_or old o Bare) (level_at held o a) in
+      let is = ap level_rank (each o h) in
+      omega (arith, before, left, is);
+}
+
+-- and with that the sources up to it are counted, where none lies between
+pub found_next : (held : Held) (es : List (ℕ × ℕ)) (a b n : ℕ) (old new : List Level) → IsTrue (holds es a b) → length new ≡ length old →
+    ((o : ℕ) → o < 16 → slice_index_or new o Bare ≡ greater (slice_index_or old o Bare) (level_at held o a)) →
+    AreFound held es b n old → ((o c : ℕ) → IsTrue (holds es c b) → n ≤ c → c < a → level_at held o c ≡ Bare) → AreFound held es b (a + 1) new
+found_next held es a b n old new there same each found between =
+    let kept = found_kept held es a b n old new there same each found in
+    record { sized = kept.sized; led = kept.led; below = below kept }
+  where
+    below : AreFound held es b n new → (o c : ℕ) → o < 16 → c < a + 1 → IsTrue (holds es c b) → level_rank (level_at held o c) ≤ level_rank (slice_index_or new o Bare)
+    below kept o c h within source = elim (cases_lt c n) [
+      | inl l ↦ kept.below o c h l source
+      | inr g ↦ elim (cases_lt c a) [
+        | inl l ↦ let bare = ap level_rank (between o c source g l) in omega (arith, bare)
+        | inr k ↦
+            let here : c ≡ a = omega arith in
+            let right = rank-right (slice_index_or old o Bare) (level_at held o a) in
+            let is = ap level_rank (each o h) in
+            subst (λ x. level_rank (level_at held o x) ≤ level_rank (slice_index_or new o Bare)) (sym here) (omega (arith, right, is))
+      ]
+    ]
+
+-- further blocks at which nothing counts
+pub found_further : (held : Held) (es : List (ℕ × ℕ)) (b n m : ℕ) (found : List Level) → AreFound held es b n found →
+    ((o c : ℕ) → IsTrue (holds es c b) → n ≤ c → c < m → level_at held o c ≡ Bare) → AreFound held es b m found
+found_further held es b n m found old between = record {
+  sized = old.sized;
+  led = old.led;
+  below = λ o c h within source. elim (cases_lt c n) [
+    | inl l ↦ old.below o c h l source
+    | inr g ↦ let bare = ap level_rank (between o c source g within) in omega (arith, bare)
+  ];
+}
+
+-- all that is led to the block is found: where no more sources count, and where no level can be greater
+pub found_all : (held : Held) (es : List (ℕ × ℕ)) (b n : ℕ) (found : List Level) → AreFound held es b n found →
+    ((o c : ℕ) → IsTrue (holds es c b) → n ≤ c → level_at held o c ≡ Bare) → (o : ℕ) → o < 16 → slice_index_or found o Bare ≡ led_level (slice_index_or held o []) b es
+found_all held es b n found are none o h =
+    rank-equal (slice_index_or found o Bare) (led_level (slice_index_or held o []) b es) (are.led o h)
+    (rank_all (λ a. level_at held o a) (level_rank (slice_index_or found o Bare)) (sources_to es b)
+    (all-sources (λ a. level_rank (level_at held o a) ≤ level_rank (slice_index_or found o Bare)) es b
+    (λ c source. elim (cases_lt c n) [
+      | inl l ↦ are.below o c h l source
+      | inr g ↦ let bare = ap level_rank (none o c source g) in omega (arith, bare)
+    ])))
+
+pub found_write : (held : Held) (es : List (ℕ × ℕ)) (b n : ℕ) (found : List Level) → AreFound held es b n found → ((o : ℕ) → o < length held → slice_index_or found o Bare ≡ Write) →
+    (o : ℕ) → o < 16 → slice_index_or found o Bare ≡ led_level (slice_index_or held o []) b es
+found_write held es b n found are full o h =
+    rank-equal (slice_index_or found o Bare) (led_level (slice_index_or held o []) b es) (are.led o h) (elim (cases_lt o (length held)) [
+      | inl l ↦ let is = ap level_rank (full o l) in let most = rank-write (led_level (slice_index_or held o []) b es) in omega (arith, is, most)
+      | inr g ↦ let bare = ap (λ levels. level_rank (led_level levels b es)) (get_or_past held o [] g) ∙ ap level_rank (sym (led_level_nothing b es)) in omega (arith, bare)
+    ])
 
 -- sixteen levels, read one by one
 pub attained_is : (w : World) (v : Sessions) (s b : ℕ) (shown : Shown) (xs : List Level) → length xs ≡ 16 → w.geometry.primaries ≤ 16 →
@@ -158,12 +205,6 @@ attained_is w v s b shown xs long few each rest =
           ∙ get_or-map-range_with_len (attained_from w v s b shown) 0 w.geometry.primaries o o Bare l (omega arith))
       | inr l ↦ rest o l ∙ sym (get_or-append_right (attained_origins w v s b shown) (replicate (16 - w.geometry.primaries) Bare) w.geometry.primaries o Bare first l ∙ last_bare (o - w.geometry.primaries))
     ]
-
-pub no_origins-bare : (o : ℕ) → slice_index_or no_origins o Bare ≡ Bare
-no_origins-bare o = elim (cases_lt o 16) [
-  | inl l ↦ get_or-replicate 16 o Bare Bare l
-  | inr l ↦ get_or_past no_origins o Bare l
-]
 
 -- at a primary block what is shown counts, and comes from that block
 pub shown_is : (w : World) (v : Sessions) (s b : ℕ) (shown : Shown) → w.geometry.primaries ≤ 16 → b < w.geometry.primaries →

@@ -1,10 +1,11 @@
 -- Levels as two bits a block, and the greatest of levels.
-use Rattle.std.proofs.Common.{inl, inr, ◌≡◌, ◌≢◌, ℕ, ◌+◌, ◌<◌, Bool, true, false, List, [], ◌∷◌, length, take, replicate, refl, sym, ◌∙◌, ap, subst, arith}
+use Rattle.std.proofs.Common.{inl, inr, ◌≡◌, ◌≢◌, ℕ, ◌+◌, ◌<◌, ◌≤◌, ◌||◌, nat_le, IsTrue, Bool, true, false, List, [], ◌∷◌, length, take, replicate, refl, sym, ◌∙◌, ap, subst, arith}
 use Rattle.std.specs.Prelude.{map, slice_index_or, slice_set}
-use Rattle.std.proofs.lemmas.Bool.{cases_eq, cases_lt}
+use Rattle.std.proofs.lemmas.Bool.{cases_eq, cases_lt, le-leb}
 use Rattle.std.proofs.lemmas.List.{take_more, map-append, get_or_past, get_or-set_same, get_or-set_other, length-set, length-replicate, get_or-replicate}
 use Rattle.std.proofs.lemmas.List.FromFn.{length-map-range_with_len, get_or-map-range_with_len, fill_by_all}
-use Rattle.tsd_model.specs.Sessions.{greater, greatest, raised_level}
+use Rattle.tsd_model.specs.Next.{IsLeast}
+use Rattle.tsd_model.specs.Sessions.{level_le, greater, greatest, raised_level}
 use Rattle.tsd_model.proofs.LevelLaws.{greatest-snoc}
 use Rattle.tsd_model.specs.declared.requests.Level.{Level}
 use Rattle.tsd_model.specs.declared.requests.Level.TheVariants.{Bare, Read, Write}
@@ -100,3 +101,23 @@ all_unset n m =
     (length-replicate n Bare ∙ sym (length-replicate n false))
     (λ k h. get_or-replicate n k Bare Bare (let e = length-replicate n false in omega (arith, e))
     ∙ sym (ap (λ r. level_of_bits r (slice_index_or (replicate m false) k false)) (get-unset n k) ∙ ap (level_of_bits false) (get-unset m k))))
+
+-- up to the next bit that is set none is, and it isn't past the end
+pub unset_before : (bits : List Bool) (start end next i : ℕ) → IsLeast (λ k. nat_le end k || slice_index_or bits k false) start next → start ≤ i → i < next → slice_index_or bits i false ≡ false
+unset_before bits start end next i h from before = elim (slice_index_or bits i false) as (λ t. slice_index_or bits i false ≡ t → slice_index_or bits i false ≡ false) [
+  | true ↦ λ set. absurd (let far : next ≤ i = h.least i (subst (λ t. IsTrue (nat_le end i || t)) (sym set) (or-true (nat_le end i))) from in omega arith)
+  | false ↦ λ unset. unset
+] refl
+  where
+    or-true : (t : Bool) → IsTrue (t || true)
+    or-true true = refl
+    or-true false = refl
+
+pub least_most : (bits : List Bool) (start end next : ℕ) → start ≤ end → IsLeast (λ k. nat_le end k || slice_index_or bits k false) start next → next ≤ end
+least_most bits start end next on h = h.least end (subst (λ t. IsTrue (t || slice_index_or bits end false)) (sym (le-leb end end (omega arith))) refl) on
+
+-- at least write is write
+pub from_write : (l : Level) → level_le Write l ≡ true → l ≡ Write
+from_write Bare h = absurd (cc)
+from_write Read h = absurd (cc)
+from_write Write h = refl

@@ -1,3 +1,4 @@
 pub mod Levels
 pub mod Table
 pub mod Granted
+pub mod Led

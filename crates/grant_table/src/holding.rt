@@ -5,6 +5,7 @@ ghost use Rattle.std.specs.Prelude.{slice_set, IfOk};
 ghost use Rattle.tsd_model.specs.Sessions.{greater, greatest, raised_held};
 ghost use Rattle.tsd_model.specs.declared.requests.Level.{Level as AnyLevel};
 ghost use Rattle.tsd_model.specs.declared.requests.Level.TheVariants as level;
+ghost use Rattle.grant_table.specs.Led.{level_at};
 
 use crate::levels::LevelBits;
 use crate::origins::Origins;
@@ -79,6 +80,19 @@ impl Holding {
         for origin in 0..count {
             best.raise(origin, self.level_from(origin, block));
         }
+    }
+
+    /// Up to which block, from `start` on and at most up to `end`, nothing is held from any origin.
+    pub fn bare_until(&self, start: u32, end: u32) -> u32
+        requires { start ≤ end }
+        ensures on { (start ≤ result) × (result ≤ end) }
+        ensures bare { (o b : ℕ) → start ≤ b → b < result → level_at self.now o b ≡ level.Bare }
+    {
+        let mut until = end;
+        for table in self.tables.as_slice() {
+            until = table.bare_until(start, until);
+        }
+        until
     }
 
     /// The level at a block from each origin becomes the greater of itself and this one.

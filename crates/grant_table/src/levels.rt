@@ -1,6 +1,6 @@
 //! Levels of blocks, two bits a block.
 
-ghost use Rattle.std.specs.Prelude.{◌≡◌, cond, length, replicate, slice_index_or, slice_set, IfOk};
+ghost use Rattle.std.specs.Prelude.{◌≡◌, ℕ, ◌<◌, ◌≤◌, cond, length, replicate, slice_index_or, slice_set, IfOk};
 ghost use Rattle.tsd_model.specs.Sessions.{raised_level};
 ghost use Rattle.tsd_model.specs.declared.requests.Level.TheVariants as level;
 
@@ -53,6 +53,16 @@ impl LevelBits {
         } else {
             Level::Bare
         }
+    }
+
+    /// Up to which block, from `start` on and at most up to `end`, nothing is held.
+    pub fn bare_until(&self, start: u32, end: u32) -> u32
+        requires { start ≤ end }
+        ensures on { (start ≤ result) × (result ≤ end) }
+        ensures bare { (b : ℕ) → start ≤ b → b < result → slice_index_or self.now b level.Bare ≡ level.Bare }
+    {
+        let end = self.writes.next_set(start, end);
+        self.reads.next_set(start, end)
     }
 
     /// The level at a block becomes the greater of itself and this one.

@@ -1,13 +1,13 @@
 //! A level from each primary block.
 
-ghost use Rattle.std.specs.Prelude.{◌≡◌, ◌<◌, length, slice_index_or, slice_set};
+ghost use Rattle.std.specs.Prelude.{◌≡◌, ℕ, ◌<◌, length, slice_index_or, slice_set, IsTrue};
 ghost use Rattle.tsd_model.specs.Sessions.{greater, greatest};
 ghost use Rattle.tsd_model.specs.declared.requests.Level.TheVariants as level;
 ghost use Rattle.grant_table.specs.Granted.{no_origins};
 
 use std::marker::Model;
 use tsd_model::Level;
-use tsd_model::levels::greater;
+use tsd_model::levels::{greater, level_le};
 
 /// How many primary blocks a disk may have.
 pub const ORIGINS: usize = 16;
@@ -62,6 +62,18 @@ impl Origins {
             best = greater(best, *level);
         }
         best
+    }
+
+    /// Whether write is there from each of so many primary blocks, so that none can be raised.
+    pub(crate) fn are_write(&self, primaries: u32) -> bool
+        ensures { IsTrue result → (o : ℕ) → o < primaries → slice_index_or self.now o level.Bare ≡ level.Write }
+    {
+        for primary in 0..primaries {
+            if !level_le(Level::Write, self.at(primary)) {
+                return false;
+            }
+        }
+        true
     }
 
     /// The level from a primary block becomes the greater of itself and this one; from block 16 on nothing changes.

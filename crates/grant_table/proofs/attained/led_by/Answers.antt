@@ -1,41 +1,69 @@
-use Rattle.std.proofs.Common.{sym, ◌∙◌, ap, arith, ℕ, ◌≤◌, ◌≡◌, length, []}
+use Rattle.std.proofs.Common.{◌≡◌, ℕ, ◌<◌, ◌≤◌, ◌∙◌, ◌+◌, sym, ap, arith, [], length, subst, IsTrue}
 use Rattle.std.specs.Prelude.{slice_index_or}
-use Rattle.tsd_model.specs.Pairs.{sources_to}
-use Rattle.tsd_model.specs.Sessions.{greater}
-use Rattle.tsd_model.specs.declared.requests.Level.{Level}
+use Rattle.std.proofs.lemmas.List.{get_or_past}
 use Rattle.tsd_model.specs.declared.requests.Level.TheVariants as level
-use Rattle.grant_table.proofs.LedLaws.{no_origins-bare, none_below, next_member, no_more_members}
+use Rattle.grant_table.specs.Led.{AreFound}
+use Rattle.grant_table.proofs.LedLaws.{found_none, found_next, found_kept, found_all, found_write}
 use Rattle.grant_table.proofs.TableLaws.{held_short}
 use Rattle.grant_table.proofs.attained.led_by.Goals as goal
 
-pub loop-source-init : goal.loop-source-init
-loop-source-init g c = record {
-  sized = ap length c.bare-best.ensures;
-  within = omega arith;
-  each = λ o h.
-      let f : ℕ → Level = λ a. slice_index_or (slice_index_or c.args.holding.now o []) a level.Bare in
-      ap (λ ls. slice_index_or ls o level.Bare) c.bare-best.ensures ∙ (no_origins-bare o ∙ sym (none_below f (sources_to (g.F.DiskFacts.world c.args.facts.now).pairs c.args.block)));
-}
+pub loop-below-init : goal.loop-below-init
+loop-below-init g c =
+    let none = found_none c.args.holding.now (g.F.DiskFacts.world c.args.facts.now).pairs c.args.block in
+    let same = subst (λ ls. AreFound c.args.holding.now (g.F.DiskFacts.world c.args.facts.now).pairs c.args.block 0 ls) (sym c.bare-best.ensures) none in
+    record { within = omega arith; inside = omega arith; sources = same; held = same }
 
-pub loop-source-preserved : goal.loop-source-preserved
-loop-source-preserved g c =
-    let next = c.in-Some.ensures in
+pub loop-below-preserved-then-alone-gt0 : goal.loop-below-preserved-then-alone-gt0
+loop-below-preserved-then-alone-gt0 g c =
+    let held = c.args.holding.now in let es = (g.F.DiskFacts.world c.args.facts.now).pairs in let a = c.in-Some.source in
     record {
-      sized = c.add_to.ensures.sized ∙ c.loop-source.invariant.sized;
       within = omega (arith, c.in-Some.ensures.1);
-      each = λ o h.
-          let f : ℕ → Level = λ a. slice_index_or (slice_index_or c.args.holding.now o []) a level.Bare in
-          c.add_to.ensures.each o h
-          ∙ (ap (λ l. greater l (f c.in-Some.source)) (c.loop-source.invariant.each o h)
-          ∙ sym (next_member f (g.F.DiskFacts.world c.args.facts.now).pairs c.args.block c.loop-source.start c.in-Some.source c.in-Some.ensures.0.from c.in-Some.ensures.0.there c.in-Some.ensures.0.least));
+      inside = c.loop-below.invariant.inside;
+      sources = found_next held es a c.args.block c.loop-below.start c.loop-below.best c.add_to.new.best c.in-Some.ensures.0.there c.add_to.ensures.sized c.add_to.ensures.each c.loop-below.invariant.sources
+          (λ o x there from before. absurd (let least : a ≤ x = c.in-Some.ensures.0.least x there from in omega arith));
+      held = found_kept held es a c.args.block c.loop-below.below c.loop-below.best c.add_to.new.best c.in-Some.ensures.0.there c.add_to.ensures.sized c.add_to.ensures.each c.loop-below.invariant.held;
     }
 
-pub returns-clause-each : goal.returns-clause-each
-returns-clause-each g c = λ o h.
-    let w = g.F.DiskFacts.world c.args.facts.now in
-    let n = c.geometry-blocks.result.blocks in
-    let same : n ≡ w.geometry.blocks = ap (λ d. d.blocks) c.geometry-blocks.ensures.value in
-    let levels = slice_index_or c.args.holding.now o [] in
-    let short : length levels ≤ n = omega (arith, held_short w.geometry.blocks w.geometry.primaries c.args.holding.now o c.requires.held) in
+pub add_held-below-requires-clause-found : goal.add_held-below-requires-clause-found
+add_held-below-requires-clause-found g c =
+    found_kept c.args.holding.now (g.F.DiskFacts.world c.args.facts.now).pairs c.in-Some.source c.args.block c.loop-below.below c.loop-below.best c.add_to.new.best
+    c.in-Some.ensures.0.there c.add_to.ensures.sized c.add_to.ensures.each c.loop-below.invariant.held
+
+pub loop-below-preserved : goal.loop-below-preserved
+loop-below-preserved g c =
+    let held = c.args.holding.now in let es = (g.F.DiskFacts.world c.args.facts.now).pairs in let a = c.in-Some.source in
+    let on = c.add_held-below.ensures.on in
+    let same = ap (λ d. d.blocks) c.geometry-geometry.ensures.value in
+    record {
+      within = omega (arith, c.in-Some.ensures.1);
+      inside = omega (arith, on, same);
+      sources = c.add_held-below.ensures.kept (a + 1)
+          (found_next held es a c.args.block c.loop-below.start c.loop-below.best c.add_to.new.best c.in-Some.ensures.0.there c.add_to.ensures.sized c.add_to.ensures.each c.loop-below.invariant.sources
+          (λ o x there from before. absurd (let least : a ≤ x = c.in-Some.ensures.0.least x there from in omega arith)));
+      held = c.add_held-below.ensures.found;
+    }
+
+pub returns-in_default-clause-each : goal.returns-in_default-clause-each
+returns-in_default-clause-each g c =
+    let w = g.F.DiskFacts.world c.args.facts.now in let held = c.args.holding.now in
+    let same = ap (λ d. d.blocks) c.geometry-geometry.ensures.value in
     let none = c.in_default.ensures in
-    c.loop-source.invariant.each o h ∙ no_more_members levels w.pairs c.args.block c.loop-source.start n short none
+    found_all held w.pairs c.args.block c.loop-below.start c.loop-below.best c.loop-below.invariant.sources
+    (λ o a there from. get_or_past (slice_index_or held o []) a level.Bare
+    (let far : c.geometry-geometry.result.blocks ≤ a = none a there from in let short = held_short w.geometry.blocks w.geometry.primaries held o c.requires.held in omega (arith, far, short, same)))
+
+pub returns-else-not-are_write-clause-each : goal.returns-else-not-are_write-clause-each
+returns-else-not-are_write-clause-each g c =
+    let w = g.F.DiskFacts.world c.args.facts.now in let held = c.args.holding.now in
+    let same = ap (λ d. d.primaries) c.geometry-geometry.ensures.value in
+    found_write held w.pairs c.args.block c.loop-below.start c.loop-below.best c.loop-below.invariant.sources
+    (λ o h. c.are_write.ensures c.if-not-are_write.false o (let count = c.requires.held.origins in omega (arith, count, same, h)))
+
+pub returns-after-loop-below-clause-each : goal.returns-after-loop-below-clause-each
+returns-after-loop-below-clause-each g c =
+    let w = g.F.DiskFacts.world c.args.facts.now in let held = c.args.holding.now in
+    let same = ap (λ d. d.blocks) c.geometry-geometry.ensures.value in
+    let end = c.loop-below-test.false in
+    found_all held w.pairs c.args.block c.loop-below.below c.loop-below.best c.loop-below.invariant.held
+    (λ o a there from. get_or_past (slice_index_or held o []) a level.Bare
+    (let short = held_short w.geometry.blocks w.geometry.primaries held o c.requires.held in omega (arith, from, end, short, same)))
