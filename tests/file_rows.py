@@ -1,5 +1,6 @@
 """Worked sessions of the shell, answer by answer, over files: sizes that matter, all layouts of a disk, malformed
-lines, and one session that is stopped at each of its calls.
+lines, disks that are opened again, the longest files and the fullest directory, and one session that is stopped at each
+of its calls.
 
 What must be answered is written down here from docs/FILES.md, and nothing of it was made by the program.
 """
@@ -8,14 +9,15 @@ from __future__ import annotations
 
 import resource
 from pathlib import Path
-from typing import Iterator, NamedTuple, Sequence
+from typing import Iterator, NamedTuple, Sequence, Tuple
 
 from crash_images import Choice, Medium, moments, written
 from disk_model import PLACES, seed_caps
 from file_text import CHAIN, INODE
 from file_trees import plain, read_tree
+from files import told
 from image_reader import Fault, read_image
-from parts import Context, Result, compared, failed, passed, skipped
+from parts import Context, Result, compared, failed, passed, shortened, skipped
 from program import Program
 from recording import NoRecorder, Recorder
 
@@ -45,6 +47,25 @@ def letters(count: int) -> str:
     return "61" * count
 
 
+# A file of inodes has at most 124 blocks of one sector, whatever else is lacking; a copy shares them.
+LONGEST = (
+    ("mkfs", "ok"),
+    (f"put /a {'11' * 4096}", "ok"),
+    *[(f"append /a {'22' * 4096}", "ok")] * 14,
+    ("df", "free 18"),
+    (f"append /a {'33' * 4096}", "no too-big"),
+    (f"append /a {'33' * 2049}", "no too-big"),
+    (f"append /a {'33' * 2047}", "ok"),
+    ("df", "free 14"),
+    ("cp /a /b", "ok"),
+    ("append /a 44", "ok"),
+    ("append /a 44", "no too-big"),
+    ("append /a -", "ok"),
+    ("cat /a", f"data {'11' * 4096}{'22' * 57344}{'33' * 2047}44"),
+    ("cat /b", f"data {'11' * 4096}{'22' * 57344}{'33' * 2047}"),
+    ("df", "free 12"),
+)
+
 # An empty file grows by appends, and is then replaced: the old blocks come back once the new ones are named.
 GROWN = ["mkfs", "mkdir /docs", "put /docs/a -"] + [f"append /docs/a {letters(2560)}"] * 8 + ["df"]
 REPLACED = ["put /docs/a 6869", "cat /docs/a", "df"]
@@ -63,6 +84,7 @@ SESSIONS = (
             OK * 11 + ["free 2040", "ok", "data 6869", "free 2044"]),
     long_chain(1024, 60, 2240, 523),
     long_chain(8192, 605, 1920, 3191),
+    Session("the longest file of inodes", 140, 1, INODE, *zip(*LONGEST)),
     Session("nothing is mounted before mkfs", 8, 1, INODE,
             ["put /a 01", "mkfs", "ls /", "put /a 01", "cat /a", f"put /a {letters(4096)}", "cp /a /b", "df",
              "mkdir /a", "rm /a", "cat /b", "ls /", "df", "cat /a", "ls /b"],
@@ -144,7 +166,7 @@ def disk_result(program: Program, image: Path, kind: str, sectors: int, place: s
 
 def largest_results(program: Program, image: Path) -> Iterator[Result]:
     """How many entries a directory of inodes has and how many blocks a file, by the sectors of a block."""
-    for sectors, entries, blocks in ((2, 31, 252), (4, 63, 508), (8, 127, 1020)):
+    for sectors, entries, blocks in ((1, 15, 124), (2, 31, 252), (4, 63, 508), (8, 127, 1020)):
         image.unlink(missing_ok=True)
         program.run([image, "fresh", "2048", str(sectors), R, W, "low"], b"")
         lines = ["mkfs"] + [f"put /{number} -" for number in range(entries)] + ["put /more -", "rm /0", "put /more -"]
@@ -200,6 +222,85 @@ def other_kind_result(program: Program, image: Path) -> Result:
     made = program.run([image, "shell", CHAIN, "0", W, "near"], text_of(["mkfs", "put /b 02", "ls /", "df"]))
     right = (b"no not-this-fs\nno not-this-fs\nno not-this-fs\nfree 13\n", True, b"ok\nok\nnames b\nfree 14\n")
     return compared("a tree of the other kind", right, (refused.out, kept, made.out))
+
+
+# --- opened again ---
+
+# A session over eight blocks of inodes, the example of the documents at first, and the tree that it leaves.
+INODES = (
+    ("mkfs", "ok"), ("put /a 6869", "ok"), ("cat /a", "data 6869"), ("mkdir /docs", "ok"), ("cp /a /docs/b", "ok"),
+    ("ls /", "names a docs"), ("rm /docs", "no not-empty"), ("cat /docs", "no is-dir"), ("put /a/b -", "no not-dir"),
+    ("df", "free 3"), ("append /a 21", "ok"), ("df", "free 2"), (f"put /c {letters(513)}", "no full 2 3"),
+    (f"put /c {letters(512)}", "ok"), ("df", "free 0"), ("mkdir /d", "no full 0 1"), ("rm /c", "ok"), ("mkdir /d", "ok"),
+)
+LEFT_BY_INODES = (
+    ("ls /", "names a d docs"), ("cat /a", "data 686921"), ("ls /d", "names -"), ("ls /docs", "names b"),
+    ("cat /docs/b", "data 6869"), ("df", "free 1"),
+)
+# The same over chains.
+CHAINS = (
+    ("mkfs", "ok"), ("put /b 6869", "ok"), ("put /a -", "ok"), ("cat /b", "data 6869"), ("cat /a", "data -"),
+    ("ls /", "names a b"), ("put /a/b -", "no not-dir"), ("cat /c", "no no-entry"), ("cat /", "no is-dir"),
+    ("append /b 21", "ok"), ("df", "free 5"), (f"put /c {letters(2481)}", "no full 5 6"),
+    (f"put /c {letters(2480)}", "ok"), ("append /c 62", "no full 0 1"), ("put /d -", "no full 0 1"), ("rm /c", "ok"),
+    (f"put /d {letters(497)}", "ok"),
+)
+LEFT_BY_CHAINS = (
+    ("ls /", "names a b d"), ("cat /a", "data -"), ("cat /b", "data 686921"), ("cat /d", f"data {letters(497)}"),
+    ("df", "free 3"),
+)
+# As many clusters as the disk has pointers, each of 496 bytes, on a disk with 200 blocks more.
+CLUSTERS = 5000
+LONG_TEXT = bytes(at % 251 for at in range(496 * CLUSTERS))
+LONG = (
+    ("mkfs", "ok"), ("put /long -", "ok"),
+    *((f"append /long {LONG_TEXT[at:at + 4096].hex()}", "ok") for at in range(0, len(LONG_TEXT), 4096)),
+    ("df", "free 199"), ("append /long 00", f"no pointers-full {CLUSTERS} {CLUSTERS}"),
+)
+LONG_AGAIN = (("cat /long", f"data {LONG_TEXT.hex()}"), ("rm /long", "ok"), ("df", "free 5199"))
+# A cluster of eight sectors has room for 127 entries, so a directory of 4,096 has 32 beside its root.
+NAMES = [f"n{number:04}" for number in range(4096)]
+FULL = (
+    ("mkfs", "ok"), *((f"put /{name} -", "ok") for name in NAMES), ("df", "free 30"), ("put /more -", "no dir-full"),
+    ("put /n0017 6869", "ok"), ("cat /n0017", "data 6869"), ("rm /n4000", "ok"), ("df", "free 31"),
+    ("put /more 21", "ok"), ("put /n4000 -", "no dir-full"), ("cat /n4000", "no no-entry"), ("df", "free 30"),
+)
+FULL_AGAIN = (
+    *((f"cat /{name}", {"n0017": "data 6869", "n4000": "no no-entry"}.get(name, "data -")) for name in NAMES),
+    ("ls /", " ".join(("names", "more", *(name for name in NAMES if name != "n4000")))),
+    ("cat /more", "data 21"), ("put /n4000 -", "no dir-full"), ("append /n4000 22", "no no-entry"),
+    ("append /n4095 22", "ok"), ("cat /n4095", "data 22"), ("df", "free 30"),
+)
+Rows = Sequence[Tuple[str, str]]
+
+
+def again_results(program: Program, image: Path) -> Iterator[Result]:
+    """Runs one after the other over a disk; the shell of the other kind finds no tree between them."""
+    small, long, full = (8, 1, 32), (CLUSTERS + 200, 1, CLUSTERS), (4096 + 63, 8, 4096 + 62)
+    empty = (("df", "free 5199"), ("ls /", "names -"))
+    yield again_result(program, image, "inodes", small, INODE, (INODES, LEFT_BY_INODES))
+    yield again_result(program, image, "chains", small, CHAIN, (CHAINS, LEFT_BY_CHAINS))
+    yield again_result(program, image, f"a file of {CLUSTERS} clusters", long, CHAIN, (LONG, LONG_AGAIN, empty))
+    yield again_result(program, image, "a directory of 4,096 names", full, CHAIN, (FULL, FULL_AGAIN))
+
+
+def again_result(
+    program: Program, image: Path, name: str, size: Tuple[int, int, int], kind: str, runs: Sequence[Rows]
+) -> Result:
+    """These runs over a disk of so many blocks, sectors and slots."""
+    image.unlink(missing_ok=True)
+    program.run([image, "format", *map(str, size), "1", SEED.hex()])
+    cap, other = seed_caps(SEED)[0][1].hex(), CHAIN if kind == INODE else INODE
+    for rows in runs:
+        lines, answers = map(text_of, zip(*rows))
+        run = program.run([image, "shell", kind, "0", cap, "near"], lines)
+        if tuple(run) != (0, answers, b""):
+            first = told(lines.splitlines(), answers.splitlines(keepends=True), run.out)
+            return failed(f"opened again: {name}", f"status {run.status}, {run.error!r}, {shortened(first)}")
+        rest = program.run([image, "shell", other, "0", cap, "near"], text_of(["ls /"]))
+        if tuple(rest) != (0, b"no not-this-fs\n", b""):
+            return failed(f"opened again: {name}", f"the shell of the other kind ends with {tuple(rest)}")
+    return passed(f"opened again: {name}")
 
 
 # --- stopped at each call ---
@@ -264,6 +365,7 @@ def run(context: Context) -> Iterator[Result]:
     for kind in (INODE, CHAIN):
         yield shared_result(program, image, kind)
     yield other_kind_result(program, image)
+    yield from again_results(program, image)
     if context.compiler is None:
         yield skipped("a put that is stopped", "no C compiler was found")
     else:

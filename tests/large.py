@@ -1,5 +1,6 @@
 """What is large: the largest disk, all pointer slots in use, a block with many pointers from it and to it, and long
-chains. What is tried is that the replies are right, and that they come within a minute.
+chains. What is tried is that the replies are right, and that they come within a minute; that chains go in a stack of
+a megabyte, so that no call goes down one by calling itself; and that a chain of a million blocks goes at all.
 
 A program that was built with a checker of memory is slow, and is given smaller ones. The part has a time; what is left
 over then is skipped by its name.
@@ -12,12 +13,13 @@ from array import array
 from typing import Callable, Dict, Iterator, List, NamedTuple, Tuple
 
 from endings import is_checked
+from file_rows import limit_stack
 from large_images import READ_CAP, WRITE_CAP, LargeImage, mixed, numbers_of
 from parts import Context, Result, compared, failed, skipped
 from program import Program, Run
 
 NAME = "large"
-MOST_SECONDS = 150
+MOST_SECONDS = 240
 SECONDS_OF_A_RUN = 60
 R, W = READ_CAP.hex(), WRITE_CAP.hex()
 AT_ONCE, LISTED = 32, 64
@@ -29,16 +31,17 @@ Arrays = Tuple[array, array]
 
 class Scale(NamedTuple):
     """How many blocks the largest disk has, how many a disk with full slots or a chain (a power of two), how long the
-    chain is, and how many pointers a block gets."""
+    chains are that have to go within a minute, how long the longest one is, and how many pointers a block gets."""
 
     largest: int
     blocks: int
     chain: int
+    longest: int
     pointers: int
 
 
-FULL = Scale(2**20, 2**20, 100000, 9600)
-SMALL = Scale(2**16, 2**12, 2000, 960)
+FULL = Scale(2**20, 2**20, 100000, 1000000, 9600)
+SMALL = Scale(2**16, 2**12, 2000, 4000, 960)
 
 
 def in_time(name: str, expected: Tuple[int, bytes, bytes], run: Callable[[], Run]) -> Result:
@@ -148,11 +151,11 @@ def pointer_results(context: Context, program: Program, scale: Scale) -> Iterato
     path.unlink()
 
 
-def chain_image(scale: Scale, is_forward: bool, head: str) -> LargeImage:
+def chain_image(blocks: int, length: int, is_forward: bool, head: str) -> LargeImage:
     """A chain whose head hangs from block 0, from its own last block (a ring), or from nothing."""
-    image = LargeImage(scale.blocks)
-    image.set_live(scale.chain + 1)
-    order = numbers_of(range(1, scale.chain + 1) if is_forward else range(scale.chain, 0, -1))
+    image = LargeImage(blocks)
+    image.set_live(length + 1)
+    order = numbers_of(range(1, length + 1) if is_forward else range(length, 0, -1))
     first = {"root": numbers_of([0]), "ring": order[-1:], "nothing": numbers_of([])}[head]
     image.put_pairs(first + order[:-1], order[:1] * len(first) + order[1:])
     return image
@@ -169,13 +172,24 @@ def chain_results(context: Context, program: Program, scale: Scale) -> Iterator[
         ("doomed at the opening", False, "nothing", f"sweep 1 {W}", "gone 0"),
     )
     for what, is_forward, head, line, reply in cases:
-        chain_image(scale, is_forward, head).write(path)
+        chain_image(scale.blocks, length, is_forward, head).write(path)
         expected = (0, f"ok\n{reply}\nfree {all_free}\n".encode(), b"")
         text = f"open 1\n{line}\nfree\n".encode()
         name = f"a chain of {length} blocks, {what}"
-        yield in_time(name, expected, lambda: program.run([path, "run", "near"], text))
+        yield in_time(name, expected, lambda: program.run([path, "run", "near"], text, limit_stack))
         clean = f"clean 1 {all_free} 0\n".encode()
         yield in_time(f"{name}: check", (0, clean, b""), lambda: program.run([path, "check"]))
+    path.unlink()
+
+
+def longest_results(context: Context, program: Program, scale: Scale) -> Iterator[Result]:
+    """The longest chain, deleted at its head, and a ring that is swept."""
+    path, length = context.folder / "longest.img", scale.longest
+    for head, line in (("root", f"delete 1 0 {W} 1"), ("ring", f"sweep 1 {W}")):
+        chain_image(scale.blocks, length, True, head).write(path)
+        expected = (0, f"ok\ngone {length}\nfree {scale.blocks - 1}\n".encode(), b"")
+        run = program.run([path, "run", "near"], f"open 1\n{line}\nfree\n".encode(), limit_stack)
+        yield compared(f"a chain of {length} blocks: {line.split()[0]}", expected, tuple(run))
     path.unlink()
 
 
@@ -184,6 +198,7 @@ GROUPS: Dict[str, Callable[[Context, Program, Scale], Iterator[Result]]] = {
     "all slots in use": slot_results,
     "many pointers": pointer_results,
     "long chains": chain_results,
+    "the longest chain": longest_results,
 }
 
 

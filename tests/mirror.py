@@ -1,31 +1,37 @@
-"""Two images as one disk (`mirror`): the script of a run over two real files, one of which fails at a size that its system
-allows no file to pass, or can't be opened; which image holds what was answered then; and words that are refused. Expected
-values come from `tsd help mirror` and README."""
+"""Two images as one disk (`mirror`): the script of a run over two real files, one of which fails at a size that its
+system allows no file to pass, at each of its calls in turn, or can't be opened; runs that are killed before each call,
+and what a stop leaves of either image; which image holds what was answered then; and words that are refused. Expected values come from `tsd help mirror` and
+README."""
 
 from __future__ import annotations
 
 import os
 import resource
 import signal
+import subprocess
 from pathlib import Path
-from typing import Callable, Iterator, List, Sequence
+from typing import Callable, Iterator, List, Sequence, Tuple
 
-from parts import Context, Result, compared
-from program import Program, Run
+from crash_images import Medium, moments
+from crash_images import told as told_choices
+from file_faults import outcomes
+from parts import Context, Result, compared, failed, passed, skipped
+from program import Program, Run, write_image
+from recording import MOST_SECONDS, READ, SYNC, WRITE, NoRecorder, Recorder, Recording
 
 NAME = "mirror"
 R, W = "aa" * 16, "bb" * 16
 FRESH = ["fresh", "8", "1", R, W, "near"]
-WRITE = f"open 1\nwrite 1 0 {W} 01\n".encode()
-READ = f"open 1\nread 1 0 {R}\n".encode()
+WRITE_ONE = f"open 1\nwrite 1 0 {W} 01\n".encode()
+READ_ONE = f"open 1\nread 1 0 {R}\n".encode()
 SECTOR = 512
 CHECKED = b"clean 1 7 0\n"
 SCRIPTS: Sequence[tuple] = (
-    (["run", "near"], READ, b"ok\ndata 01\n"),
+    (["run", "near"], READ_ONE, b"ok\ndata 01\n"),
     (["check"], b"", CHECKED),
     (["serve", "near"], b"\x01\x00\x07", None),
     (["upgrade"], b"", b"version 2\n"),
-    (["run", "near"], READ, b"ok\ndata 01\n"),
+    (["run", "near"], READ_ONE, b"ok\ndata 01\n"),
 )
 
 
@@ -50,7 +56,7 @@ def told(run: Run) -> List[bytes]:
 def both_results(folder: Path, program: Program) -> Iterator[Result]:
     """Nothing fails: both images are alike after each command, and each of them is the disk."""
     one, two = folder / "one.img", folder / "two.img"
-    run = program.run(["mirror", one, two, *FRESH], WRITE)
+    run = program.run(["mirror", one, two, *FRESH], WRITE_ONE)
     yield compared("fresh over a mirror", (0, b"ok\nok\n", b""), tuple(run))
     yield compared("fresh leaves two alike", without_end(one), without_end(two))
     yield compared("both are for their owner alone", (0o600, 0o600), (one.stat().st_mode % 0o1000, two.stat().st_mode % 0o1000))
@@ -62,26 +68,26 @@ def both_results(folder: Path, program: Program) -> Iterator[Result]:
             yield compared(f"what {name} sends", wanted, run.out)
         yield compared(f"{name} leaves two alike", without_end(one), without_end(two))
     for image in (one, two):
-        run = program.run([image, "run", "near"], READ)
+        run = program.run([image, "run", "near"], READ_ONE)
         yield compared(f"{image.name} alone", (0, b"ok\ndata 01\n", b""), tuple(run))
 
 
 def copied_results(folder: Path, program: Program) -> Iterator[Result]:
     """A missing second image is made, one that differs becomes a copy, and a missing first one isn't made by `run`."""
     one, two = folder / "from.img", folder / "to.img"
-    program.run([one, *FRESH], WRITE)
+    program.run([one, *FRESH], WRITE_ONE)
     before = one.read_bytes()
     for name, content in (("missing", None), ("longer", b"\x07" * (2 * len(before))), ("shorter", before[:700])):
         two.unlink(missing_ok=True)
         if content is not None:
             two.touch(mode=0o600)
             two.write_bytes(content)
-        run = program.run(["mirror", one, two, "run", "near"], READ)
+        run = program.run(["mirror", one, two, "run", "near"], READ_ONE)
         yield compared(f"over a second image that is {name}", (0, b"ok\ndata 01\n", b""), tuple(run))
         yield compared(f"it becomes a copy, {name}", without_end(one), without_end(two))
     one.unlink()
     two.unlink()
-    run = program.run(["mirror", one, two, "run", "near"], READ)
+    run = program.run(["mirror", one, two, "run", "near"], READ_ONE)
     yield compared("over a missing first image", (4, b""), (run.status, run.out))
     yield compared("it makes neither", (False, False), (one.exists(), two.exists()))
 
@@ -91,15 +97,15 @@ def lost_results(folder: Path, program: Program) -> Iterator[Result]:
     one, two = folder / "first.img", folder / "second.img"
     program.run([one, *FRESH], b"")
     two.mkdir()
-    run = program.run(["mirror", one, two, "run", "near"], WRITE)
+    run = program.run(["mirror", one, two, "run", "near"], WRITE_ONE)
     yield compared("a second image that is no file", (11, b"ok\nok\n"), (run.status, run.out))
     yield compared("what is told of it", [b"tsd: " + os.fsencode(two), b"tsd: side lost, second"], told(run))
-    yield compared("the first one has it", b"ok\ndata 01\n", program.run([one, "run", "near"], READ).out)
+    yield compared("the first one has it", b"ok\ndata 01\n", program.run([one, "run", "near"], READ_ONE).out)
     two.rmdir()
-    run = program.run(["mirror", one, two, "run", "near"], READ, at_most(100 * SECTOR))
+    run = program.run(["mirror", one, two, "run", "near"], READ_ONE, at_most(100 * SECTOR))
     yield compared("a second image that is full while it is copied", (11, b"ok\ndata 01\n"), (run.status, run.out))
     yield compared("the side that is lost is told", b"tsd: side lost, second", run.error.splitlines()[-1])
-    run = program.run(["mirror", one, two, "run", "near"], READ)
+    run = program.run(["mirror", one, two, "run", "near"], READ_ONE)
     yield compared("brought back in the next run", (0, b"ok\ndata 01\n", b""), tuple(run))
     yield compared("both are alike again", without_end(one), without_end(two))
     run = program.run(["mirror", one, two, *FRESH], b"", at_most(3 * SECTOR))
@@ -110,7 +116,7 @@ def lost_results(folder: Path, program: Program) -> Iterator[Result]:
 def refused_results(folder: Path, program: Program) -> Iterator[Result]:
     """Words that are no command, and one file given twice: nothing is made or written."""
     one, link, hard = folder / "same.img", folder / "link.img", folder / "hard.img"
-    program.run([one, *FRESH], WRITE)
+    program.run([one, *FRESH], WRITE_ONE)
     link.symlink_to(one)
     hard.hardlink_to(one) if hasattr(hard, "hardlink_to") else os.link(one, hard)
     before = one.read_bytes()
@@ -126,6 +132,141 @@ def refused_results(folder: Path, program: Program) -> Iterator[Result]:
         yield compared(f"{len(words)} words behind mirror", (2, b"", False), (run.status, run.out, new.exists()))
 
 
+# --- each call of one image in turn ---
+
+CHAIN = f"open 1\nalloc 1 0 {W} - 1\nalloc 1 1 - - 1\nalloc 1 2 - - 1\n".encode()
+DELETE = f"open 1\ndelete 1 0 {W} 1\n".encode()
+KIND_WORDS = {READ: "read", WRITE: "write", SYNC: "sync"}
+# Of the many calls of the opening and the copying so manyth are tried; each of the last ones is.
+EVERY, LAST = 23, 40
+
+
+class Sides:
+    """Two images as one disk, of which the first one has these bytes and the second one is missing; the calls of one of
+    them are recorded."""
+
+    def __init__(self, recorder: Recorder, folder: Path, content: bytes) -> None:
+        self.recorder = recorder
+        self.paths = folder / "recorded_one.img", folder / "recorded_two.img"
+        self.content = content
+
+    def run(self, side: int, text: bytes, *faults: str) -> Recording:
+        """A run over both; of the calls of this side these fail. A side that isn't there can't be recorded, so the
+        second one is made first, empty."""
+        for path, content in zip(self.paths, (self.content, b"")):
+            path.unlink(missing_ok=True)
+            write_image(path, content)
+        command = [str(word) for word in (self.recorder.program, "mirror", *self.paths, "run", "near")]
+        done = subprocess.run(command, input=text, env=self.recorder.environment(self.paths[side], faults),
+                              timeout=MOST_SECONDS, capture_output=True)
+        return Recording(done.returncode, done.stdout, done.stderr, self.recorder.events())
+
+    def calls(self, side: int, text: bytes) -> List[Tuple[str, bool]]:
+        """The words of its calls that are tried, each with whether it reads ahead, as a read of several sectors does,
+        and the first one of all: such a read is made again for the sector that was asked for."""
+        events = [event for event in self.run(side, text).events if event.kind in KIND_WORDS]
+        words = []
+        for at, event in enumerate(events):
+            number = sum(other.kind == event.kind for other in events[:at + 1])
+            if len(events) - at <= LAST or at % EVERY < 2:
+                is_ahead = event.kind == READ and (event.length > SECTOR or number == 1)
+                words.append((f"{KIND_WORDS[event.kind]}:{number}", is_ahead))
+        return words
+
+    def stops(self, side: int, text: bytes) -> List[int]:
+        """The numbers of the calls before which it is killed."""
+        count = sum(event.kind in KIND_WORDS for event in self.run(side, text).events)
+        return [number for number in range(1, count + 1) if count - number < LAST or number % EVERY < 2]
+
+
+def each_fault_result(sides: Sides, program: Program, side: int, name: str) -> Result:
+    """Each call of one image fails in turn, once or from there on: that image is lost, and the other one has the write
+    that was answered. Until the second image is a copy the first one can't be lost: the run ends, with nothing sent."""
+    wrong, tries, losses = [], 0, 0
+    for word, is_ahead in sides.calls(side, WRITE_ONE):
+        for fault in (f"{word}:EIO", f"{word}+:EIO"):
+            tries += 1
+            recording = sides.run(side, WRITE_ONE, fault)
+            found = (recording.status, recording.out, recording.error.splitlines()[-1:])
+            ends = [(11, b"ok\nok\n", [b"tsd: side lost, " + (b"first", b"second")[side]])]
+            if is_ahead and "+" not in fault:
+                ends = [(0, b"ok\nok\n", [])]
+            if side == 0 and found == (4, b"", [b"tsd: device fault"]):
+                read = program.run([sides.paths[0], "check"]).out
+                is_right = read == CHECKED and losses == 0
+            else:
+                read = program.run([sides.paths[1 - side], "run", "near"], READ_ONE).out
+                is_right = read == b"ok\ndata 01\n" and found in ends
+                losses += found[0] == 11
+            if not is_right:
+                wrong.append(f"with {fault}: {found}, and then {read!r}")
+    if losses < LAST:
+        wrong.append(f"the image was lost {losses} times")
+    return of_tries(f"each call of the {name} image fails", tries, wrong)
+
+
+def each_stop_result(sides: Sides, program: Program, side: int, name: str) -> Result:
+    """The run is killed before each call of one image: the first image opens with the chain of three blocks, or without
+    it, and without it where that was answered. So does the second one once it is a copy: where a reply was sent."""
+    wrong, tries = [], 0
+    for number in sides.stops(side, DELETE):
+        tries += 1
+        recording = sides.run(side, DELETE, f"image:{number}:KILL")
+        if recording.status != -signal.SIGKILL:
+            wrong.append(f"before call {number}: it ended with {recording.status}")
+        allowed = [b"free 7\n"] if recording.out.endswith(b"gone 3\n") else [b"free 4\n", b"free 7\n"]
+        for path in sides.paths[:2 if recording.out else 1]:
+            found = program.run([path, "run", "near"], b"free\n")
+            if found.status != 0 or found.out not in allowed:
+                wrong.append(f"before call {number}, {recording.out!r} sent: {path.name} has {tuple(found)}")
+    return of_tries(f"a deletion is killed before each call of the {name} image", tries, wrong)
+
+
+def torn_result(sides: Sides, program: Program, side: int, name: str) -> Result:
+    """What a stop leaves of one image, with all that is loose old, new or torn: the same, from the first reply on."""
+    wrong, tries, alone = [], 0, sides.paths[side]
+    recording = sides.run(side, DELETE)
+    medium = Medium((sides.content, b"")[side])
+    for number, progress in moments(medium, recording.events):
+        allowed = [b"free 7\n"] if progress.sent > len(b"ok\n") else [b"free 4\n", b"free 7\n"]
+        for choices in outcomes(medium) if progress.sent else ():
+            tries += 1
+            write_image(alone, medium.image(choices))
+            found = program.run([alone, "run", "near"], b"free\n")
+            if found.status != 0 or found.out not in allowed:
+                wrong.append(f"stopped at call {number + 1}, {told_choices(choices)}: {tuple(found)}")
+    return of_tries(f"what a stop in a deletion leaves of the {name} image", tries, wrong)
+
+
+def of_tries(name: str, tries: int, wrong: Sequence[str]) -> Result:
+    """Passed where nothing is wrong."""
+    if wrong or not tries:
+        return failed(f"{name}: {len(wrong)} of {tries}", "\n".join(wrong[:5]))
+    return passed(f"{name}: {tries}")
+
+
+def call_results(context: Context, program: Program) -> Iterator[Result]:
+    """All of these, for each of the two images."""
+    if context.compiler is None:
+        yield skipped("failing calls of a mirror", "no C compiler was found")
+        return
+    try:
+        recorder = Recorder(context.program, context.compiler, context.folder)
+        recorder.refuse_blindness(context.folder / "seen.img")
+    except NoRecorder as no_recorder:
+        yield skipped("failing calls of a mirror", str(no_recorder))
+        return
+    image = context.folder / "before.img"
+    program.run([image, *FRESH])
+    empty = image.read_bytes()
+    program.run([image, "run", "near"], CHAIN)
+    chained = image.read_bytes()
+    for side, name in enumerate(("first", "second")):
+        yield each_fault_result(Sides(recorder, context.folder, empty), program, side, name)
+        yield each_stop_result(Sides(recorder, context.folder, chained), program, side, name)
+        yield torn_result(Sides(recorder, context.folder, chained), program, side, name)
+
+
 def run(context: Context) -> Iterator[Result]:
     """A result for each thing that was tried."""
     program = Program(context.program)
@@ -133,3 +274,4 @@ def run(context: Context) -> Iterator[Result]:
         folder = context.folder / results.__name__
         folder.mkdir()
         yield from results(folder, program)
+    yield from call_results(context, program)

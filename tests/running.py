@@ -18,8 +18,9 @@ from typing import Iterator, List, Optional
 from parts import FAILED, PASSED, SKIPPED, Context, Result, failed, skipped
 
 PARTS = (
-    "tour", "examples", "random_runs", "choices", "large", "hubs", "files", "file_rows", "file_crashes", "clients",
-    "judge_faults", "crashes", "crash_rows", "failing_calls", "kills", "mirror", "audit", "copies", "behind", "edge", "completions",
+    "tour", "examples", "disk_rows", "random_runs", "choices", "large", "hubs", "files", "file_rows", "file_crashes",
+    "file_faults", "clients", "judge_faults", "crashes", "crash_rows", "failing_calls", "kills", "mirror", "audit",
+    "copies", "behind", "edge", "completions",
 )
 TOP = Path(__file__).resolve().parent.parent
 PROGRAMS = (TOP / "dist/x86_64-linux/tsd", TOP / "crates/tsd_cli/out/tsd_cli")

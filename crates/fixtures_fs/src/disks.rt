@@ -12,29 +12,19 @@ pub const WRITE: Cap = Cap { bytes: [0xbb; 16] };
 /// What is shown for reading.
 pub const READ: Cap = Cap { bytes: [0xaa; 16] };
 
-/// What answers the asks of a disk.
-pub trait Answering: Drop {
-    /// The reply; None where none comes any more.
-    fn answer(&mut self, request: &Request) -> Option<Reply>;
-}
-
-impl Answering for PlainBlocks {
-    fn answer(&mut self, request: &Request) -> Option<Reply> {
-        if self.is_spent() {
-            return None;
-        }
-        self.ask(request).ok()
+/// A plain disk's reply; None where none comes any more.
+pub fn reply_of(disk: &mut PlainBlocks, request: &Request) -> Option<Reply> {
+    if disk.is_spent() {
+        return None;
     }
+    disk.ask(request).ok()
 }
 
-/// A disk that doesn't tell its world, so that what a call asks of the world need not be known. It answers so many asks
-/// more, and then it fails. Of its sessions and of what is kept of capabilities it says what stands on a disk with
+/// A plain disk that doesn't tell its world, so that what a call asks of the world need not be known. It answers so many
+/// asks more, and then it fails. Of its sessions and of what is kept of capabilities it says what stands on a disk with
 /// session 1 open.
 #[derive(Drop)]
-pub struct Untold<A: Answering> {
-    /// Where the asks go.
-    pub inner: A,
-
+pub struct Untold {
     /// How many asks more it answers.
     pub left: u64,
 
@@ -44,10 +34,11 @@ pub struct Untold<A: Answering> {
     /// Whether an ask failed.
     pub is_stopped: bool,
 
+    inner: PlainBlocks,
     geometry: Geometry,
 }
 
-impl<A: Answering> Blocks for Untold<A> {
+impl Blocks for Untold {
     ghost use Rattle.fixtures_fs.specs.Untold.{untold_view};
 
     ghost told = { ⊥ };
@@ -63,7 +54,7 @@ impl<A: Answering> Blocks for Untold<A> {
     fn ask(&mut self, request: &Request) -> Result<Reply, Failed> {
         if self.left > 0 {
             self.left -= 1;
-            if let Some(reply) = self.inner.answer(request) {
+            if let Some(reply) = reply_of(&mut self.inner, request) {
                 return Ok(reply);
             }
         }
@@ -77,29 +68,20 @@ impl<A: Answering> Blocks for Untold<A> {
     }
 }
 
-impl<A: Answering> Untold<A> {
+impl Untold {
     /// A disk of this size that answers all asks. Session 1 is open there.
-    pub fn new(inner: A, geometry: Geometry) -> Untold<A> {
+    fn new(inner: PlainBlocks, geometry: Geometry) -> Untold {
         Untold {
-            inner,
             left: u64::MAX,
             faults: 0,
             is_stopped: false,
+            inner,
             geometry,
         }
     }
 
-    /// A disk of this size that answers all asks, where session 1 is to be opened; None where it can't be.
-    pub fn opened(inner: A, geometry: Geometry) -> Option<Untold<A>> {
-        let mut inner = inner;
-        match inner.answer(&Request::Begin { session: 1 }) {
-            Some(Reply::Done) => Some(Untold::new(inner, geometry)),
-            _ => None,
-        }
-    }
-
     /// The disk as it is, which answers all asks from now on.
-    pub fn mended(self) -> Untold<A> {
+    pub(crate) fn mended(self) -> Untold {
         let Untold {
             inner,
             geometry,
@@ -110,7 +92,7 @@ impl<A: Answering> Untold<A> {
 }
 
 /// The capabilities of the one primary block; None where there is no room.
-pub fn caps() -> Option<CapList> {
+fn caps() -> Option<CapList> {
     let mut caps = CapList::new();
     caps.push(CapPair {
         read: READ,
@@ -122,7 +104,7 @@ pub fn caps() -> Option<CapList> {
 
 /// A plain disk of so many blocks with this many slots, of which one is primary, as after formatting, with session 1
 /// open; None where there is no such disk or no memory.
-pub fn fresh(alloc: Global, sectors: u32, blocks: u32, slots: u32) -> Option<Untold<PlainBlocks>> {
+pub(crate) fn fresh(alloc: Global, sectors: u32, blocks: u32, slots: u32) -> Option<Untold> {
     let geometry = Geometry {
         sectors,
         blocks,
@@ -134,6 +116,9 @@ pub fn fresh(alloc: Global, sectors: u32, blocks: u32, slots: u32) -> Option<Unt
         return None;
     }
     let world = World::fresh(alloc, &geometry, &caps).ok()?;
-    let inner = PlainBlocks::new(alloc, PlaceKind::Near, world, Sessions::none(alloc));
-    Untold::opened(inner, geometry)
+    let mut inner = PlainBlocks::new(alloc, PlaceKind::Near, world, Sessions::none(alloc));
+    match reply_of(&mut inner, &Request::Begin { session: 1 }) {
+        Some(Reply::Done) => Some(Untold::new(inner, geometry)),
+        _ => None,
+    }
 }

@@ -2,7 +2,6 @@
 
 ghost use Rattle.fixtures_fs.specs.Said.{ArePaths};
 
-use crate::disks::Answering;
 use crate::site::{Named, Site, Tested};
 use crate::words::{ask_in, expanded};
 use fs_trees::{FsRefusal, Name, ShellAsk};
@@ -21,11 +20,7 @@ fn add(said: &mut Vec<u8>, text: &ShellBuf) -> Result<(), FsRefusal> {
 }
 
 /// The names in a directory, one by one, and the line's end.
-fn list<F: Tested, A: Answering>(
-    site: &mut Site<F, A>,
-    path: &Named,
-    said: &mut Vec<u8>,
-) -> Result<(), FsRefusal> {
+fn list<F: Tested>(site: &mut Site<F>, path: &Named, said: &mut Vec<u8>) -> Result<(), FsRefusal> {
     let mut text = ShellBuf::new();
     let mut last = Name::new();
     for at in 0..129 {
@@ -50,9 +45,9 @@ fn list<F: Tested, A: Answering>(
 }
 
 /// The bytes of a file, and the line's end.
-fn read<F: Tested, A: Answering>(
+fn read<F: Tested>(
     alloc: Global,
-    site: &mut Site<F, A>,
+    site: &mut Site<F>,
     path: &Named,
     said: &mut Vec<u8>,
 ) -> Result<(), FsRefusal> {
@@ -69,7 +64,7 @@ fn read<F: Tested, A: Answering>(
 }
 
 /// Carries out an ask whose answer is one word.
-fn change<F: Tested, A: Answering>(site: &mut Site<F, A>, ask: ShellAsk) -> Result<(), FsRefusal>
+fn change<F: Tested>(site: &mut Site<F>, ask: ShellAsk) -> Result<(), FsRefusal>
     requires { ArePaths ask }
 {
     match ask {
@@ -84,9 +79,9 @@ fn change<F: Tested, A: Answering>(site: &mut Site<F, A>, ask: ShellAsk) -> Resu
 }
 
 /// Carries out a line and adds its answer where it isn't refused.
-fn carry_out<F: Tested, A: Answering>(
+fn carry_out<F: Tested>(
     alloc: Global,
-    site: &mut Site<F, A>,
+    site: &mut Site<F>,
     line: &[u8],
     said: &mut Vec<u8>,
 ) -> Result<(), FsRefusal> {
@@ -106,9 +101,9 @@ fn carry_out<F: Tested, A: Answering>(
 
 /// What is answered to a line, with its line feed; Device where the disk failed. In the line `61*3` stands for
 /// `616161`.
-pub fn answer_to<F: Tested, A: Answering>(
+pub fn answer_to<F: Tested>(
     alloc: Global,
-    site: &mut Site<F, A>,
+    site: &mut Site<F>,
     line: &str,
 ) -> Result<Vec<u8>, FsRefusal> {
     let mut said = Vec::new(alloc);

@@ -4,9 +4,9 @@ ghost use Rattle.std.specs.Prelude.{◌≡◌, IsTrue, IfOk};
 ghost use Rattle.fs_trees.specs.Names.{is_path};
 ghost use Rattle.fixtures_fs.specs.Ours.{IsOurs};
 
-use crate::disks::{Answering, Untold, WRITE, fresh};
+use crate::disks::{Untold, WRITE, fresh};
 use chain_fs::ChainFs;
-use fs_port::{Blocks, Files, PlainBlocks, free_blocks};
+use fs_port::{Blocks, Files, free_blocks};
 use fs_trees::{FsRefusal, Name, Path, ShellKind};
 use inode_fs::InodeFs;
 use std::alloc::Global;
@@ -21,14 +21,11 @@ pub struct Named {
 
 /// A file system and its disk.
 #[derive(Drop)]
-pub struct Site<F: Files + Drop, A: Answering> {
+pub struct Site<F: Files + Drop> {
     pub files: F,
-    pub disk: Untold<A>,
+    pub disk: Untold,
     ghost is_ours: { IsOurs (F.view files) },
 }
-
-/// A file system over a plain disk.
-pub type PlainSite<F> = Site<F, PlainBlocks>;
 
 /// A file system that tests try.
 pub trait Tested: Files + Drop {
@@ -62,29 +59,24 @@ impl Tested for ChainFs {
 }
 
 /// A file system that knows nothing of this disk, over it; None where there is no memory.
-pub fn over<F: Tested, A: Answering>(alloc: Global, disk: Untold<A>) -> Option<Site<F, A>> {
+fn over<F: Tested>(alloc: Global, disk: Untold) -> Option<Site<F>> {
     let files = F::unmounted(alloc).ok()?;
     Some(Site { files, disk })
 }
 
 /// A fresh plain disk of so many blocks with so many slots, and a file system of which nothing is mounted; None where
 /// there is no such disk or no memory.
-pub fn begun<F: Tested>(
-    alloc: Global,
-    sectors: u32,
-    blocks: u32,
-    slots: u32,
-) -> Option<Site<F, PlainBlocks>> {
+pub fn begun<F: Tested>(alloc: Global, sectors: u32, blocks: u32, slots: u32) -> Option<Site<F>> {
     over(alloc, fresh(alloc, sectors, blocks, slots)?)
 }
 
 /// The same disk, which goes on, and a file system that knows nothing of it; None where there is no memory.
-pub fn again<F: Tested, A: Answering>(alloc: Global, site: Site<F, A>) -> Option<Site<F, A>> {
+pub fn again<F: Tested>(alloc: Global, site: Site<F>) -> Option<Site<F>> {
     let Site { files: _, disk } = site;
     over(alloc, disk.mended())
 }
 
-impl<F: Files + Drop, A: Answering> Site<F, A> {
+impl<F: Files + Drop> Site<F> {
     ghost use Rattle.fs_port.specs.Files.{IsClientReady};
     ghost use Rattle.fixtures_fs.specs.Untold.{untold_view};
 

@@ -1,6 +1,6 @@
 //! A plain disk with two roots.
 
-use fixtures_fs::{Answering, READ, WRITE};
+use fixtures_fs::{READ, WRITE, reply_of};
 use fs_port::{Blocks, PlainBlocks};
 use image_device::Failed;
 use plain_disk::{Sessions, World};
@@ -31,7 +31,7 @@ impl Blocks for TwoRoots {
     }
 
     fn ask(&mut self, request: &Request) -> Result<Reply, Failed> {
-        if let Some(reply) = self.inner.answer(request) {
+        if let Some(reply) = reply_of(&mut self.inner, request) {
             return Ok(reply);
         }
         self.faults = self.faults.saturating_add(1);
@@ -73,7 +73,7 @@ impl TwoRoots {
         let world = World::fresh(alloc, &geometry, &caps).ok()?;
         let mut inner = PlainBlocks::new(alloc, PlaceKind::Near, world, Sessions::none(alloc));
         for session in 1..3 {
-            match inner.answer(&Request::Begin { session }) {
+            match reply_of(&mut inner, &Request::Begin { session }) {
                 Some(Reply::Done) => {}
                 _ => return None,
             }

@@ -1,6 +1,6 @@
 //! Requests as lines, asked of a core.
 //!
-//! In a text R, W, C and D stand for 32 digits `a`, `b`, `c` and `d`, and a slash stands between two lines.
+//! In a text R and W stand for 32 digits `a` and `b`, and a slash stands between two lines.
 
 ghost use Rattle.std.specs.Prelude.{OnOk};
 ghost use Rattle.tsd_core.specs.Core.{IsCoreReady, IsCoreAt};
@@ -15,14 +15,12 @@ use tsd_core::Core;
 use tsd_model::{Reply, Request};
 
 /// The bytes that a text stands for.
-pub fn spelled(alloc: Global, text: &str) -> Result<Vec<u8>, AllocError> {
+fn spelled(alloc: Global, text: &str) -> Result<Vec<u8>, AllocError> {
     let mut bytes = Vec::new(alloc);
     for byte in text.as_bytes() {
         match *byte {
             b'R' => bytes.extend_from_slice(&[b'a'; 32])?,
             b'W' => bytes.extend_from_slice(&[b'b'; 32])?,
-            b'C' => bytes.extend_from_slice(&[b'c'; 32])?,
-            b'D' => bytes.extend_from_slice(&[b'd'; 32])?,
             b'/' => bytes.push(b'\n')?,
             other => bytes.push(other)?,
         }
@@ -58,7 +56,7 @@ pub fn chain_replies(alloc: Global, blocks: u32) -> Result<String, AllocError> {
 }
 
 /// The requests that the lines of a text spell.
-pub(crate) fn requests(alloc: Global, text: &str) -> Result<Vec<Request>, AllocError> {
+fn requests(alloc: Global, text: &str) -> Result<Vec<Request>, AllocError> {
     let bytes = spelled(alloc, text)?;
     let mut requests = Vec::new(alloc);
     for line in bytes.as_slice().split(|byte| *byte == b'\n') {
@@ -99,7 +97,7 @@ fn ask<D: Device>(
 
 /// Asks what the lines of a text spell, one after the other, and gives the lines of the replies. Between two requests
 /// some steps of reclamation may be made.
-pub fn ask_all<D: Device>(
+fn ask_all<D: Device>(
     alloc: Global,
     core: &mut Core,
     dev: &mut D,

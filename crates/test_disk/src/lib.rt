@@ -1,5 +1,5 @@
-//! Tests of the disk on an image: worked requests through a core (`asking` spells them as lines), how often is written,
-//! and the sectors that a format leaves.
+//! Tests of the disk on an image: one worked run through a core (`asking` spells it as lines), in both versions, with
+//! and without steps between requests, closed or left open, and opened again. All else is tried from outside.
 //!
 //! They use public calls alone and show what no clause says. They stand in a crate of their own, so that a change of a
 //! test proves no other crate again. Nothing stands on it, and it promises nothing.
@@ -8,16 +8,8 @@
 #[cfg(test)]
 mod asking;
 #[cfg(test)]
+mod chains;
+#[cfg(test)]
 mod disks;
 #[cfg(test)]
-mod expecting;
-#[cfg(test)]
-mod formats;
-#[cfg(test)]
-mod formatted;
-#[cfg(test)]
 mod placing;
-#[cfg(test)]
-mod rows;
-#[cfg(test)]
-mod writes;

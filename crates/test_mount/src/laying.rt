@@ -4,7 +4,7 @@ use crate::chain_blocks::{page, part};
 use crate::inode_blocks::{directory, file};
 use fixtures_fs::{Untold, WRITE};
 use fs_client::Client;
-use fs_port::{Blocks, PlainBlocks};
+use fs_port::Blocks;
 use std::process::Abort;
 use tsd_model::Data;
 
@@ -51,7 +51,7 @@ fn block_bytes(said: &Said) -> Data {
 }
 
 /// Takes so many blocks, all of which hang from the root, and comes to hold each.
-fn take_blocks(rt: &impl Abort, disk: &mut Untold<PlainBlocks>, blocks: u32, case: &str) {
+fn take_blocks(rt: &impl Abort, disk: &mut Untold, blocks: u32, case: &str) {
     assert!(rt; !disk.is_spent());
     assert!(rt;
         blocks == 0 || CLIENT.alloc(disk, 0, blocks).is_ok(),
@@ -64,7 +64,7 @@ fn take_blocks(rt: &impl Abort, disk: &mut Untold<PlainBlocks>, blocks: u32, cas
 }
 
 /// Makes the pairs that don't begin at the root.
-fn link_blocks(rt: &impl Abort, disk: &mut Untold<PlainBlocks>, pairs: &[(u32, u32)], case: &str) {
+fn link_blocks(rt: &impl Abort, disk: &mut Untold, pairs: &[(u32, u32)], case: &str) {
     for (source, target) in pairs {
         assert!(rt; !disk.is_spent());
         if *source != 0 {
@@ -79,7 +79,7 @@ fn link_blocks(rt: &impl Abort, disk: &mut Untold<PlainBlocks>, pairs: &[(u32, u
 /// Deletes the pairs from the root that don't stay.
 fn unlink_blocks(
     rt: &impl Abort,
-    disk: &mut Untold<PlainBlocks>,
+    disk: &mut Untold,
     blocks: u32,
     pairs: &[(u32, u32)],
     case: &str,
@@ -98,7 +98,7 @@ fn unlink_blocks(
 /// Takes so many blocks, leaves just these pairs, and writes what each block says.
 pub fn lay(
     rt: &impl Abort,
-    disk: &mut Untold<PlainBlocks>,
+    disk: &mut Untold,
     blocks: u32,
     pairs: &[(u32, u32)],
     said: &[(u32, Said)],
@@ -117,12 +117,7 @@ pub fn lay(
 }
 
 /// Asserts that the pairs out of a disk of sixteen blocks are these, by their sources and targets.
-pub fn has_pairs(
-    rt: &impl Abort,
-    disk: &mut Untold<PlainBlocks>,
-    pairs: &[(u32, u32)],
-    case: &str,
-) {
+pub fn has_pairs(rt: &impl Abort, disk: &mut Untold, pairs: &[(u32, u32)], case: &str) {
     let mut count = 0usize;
     for source in 0..16 {
         assert!(rt; !disk.is_spent());

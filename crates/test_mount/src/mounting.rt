@@ -1,13 +1,13 @@
 //! Mounting worlds laid by hand, each on a disk of its own.
 
 use crate::laying::{ByHand, has_pairs, lay};
-use fixtures_fs::{PlainSite, Tested, again, begun};
+use fixtures_fs::{Site, Tested, again, begun};
 use fs_trees::FsRefusal;
 use std::alloc::Global;
 use std::process::Abort;
 
 /// A disk of sixteen blocks on which a world is laid.
-fn laid<F: Tested>(rt: &impl Abort, alloc: Global, world: &ByHand) -> PlainSite<F> {
+fn laid<F: Tested>(rt: &impl Abort, alloc: Global, world: &ByHand) -> Site<F> {
     let mut site = begun::<F>(alloc, 1, 16, 64).expect(rt, "ample memory");
     lay(
         rt,
@@ -21,17 +21,12 @@ fn laid<F: Tested>(rt: &impl Abort, alloc: Global, world: &ByHand) -> PlainSite<
 }
 
 /// How many blocks are free.
-fn free<F: Tested>(rt: &impl Abort, site: &mut PlainSite<F>) -> u32 {
+fn free<F: Tested>(rt: &impl Abort, site: &mut Site<F>) -> u32 {
     site.free().expect(rt, "no fault")
 }
 
 /// Mounts, which is stopped behind so many requests; gives whether it was done.
-fn mounts_within<F: Tested>(
-    rt: &impl Abort,
-    site: &mut PlainSite<F>,
-    asks: u64,
-    case: &str,
-) -> bool {
+fn mounts_within<F: Tested>(rt: &impl Abort, site: &mut Site<F>, asks: u64, case: &str) -> bool {
     site.disk.left = asks;
     let answered = site.mount();
     let is_fault = answered == Err(FsRefusal::Device);
@@ -42,7 +37,7 @@ fn mounts_within<F: Tested>(
 /// Mounts once more, and asserts that just these pairs are left and just so many blocks are free.
 fn is_tidy<F: Tested>(
     rt: &impl Abort,
-    site: &mut PlainSite<F>,
+    site: &mut Site<F>,
     left: &[(u32, u32)],
     unused: u32,
     asks: u64,
@@ -89,12 +84,7 @@ pub fn tidied<F: Tested>(
 }
 
 /// Asserts that a world is left alone by a mount, which finds no tree.
-fn is_left_alone<F: Tested>(
-    rt: &impl Abort,
-    site: &mut PlainSite<F>,
-    pairs: &[(u32, u32)],
-    case: &str,
-) {
+fn is_left_alone<F: Tested>(rt: &impl Abort, site: &mut Site<F>, pairs: &[(u32, u32)], case: &str) {
     let before = free(rt, site);
     assert_eq!(rt; site.mount(), Err(FsRefusal::NotThisFs), "{case}");
     has_pairs(rt, &mut site.disk, pairs, case);

@@ -1,35 +1,29 @@
 //! Lines of the shell, each with its answer, and what tests need of a site.
 
 use chain_fs::ChainFs;
-use fixtures_fs::{
-    Named, PlainSite, Tested, again, answer_to, begun, bytes_of, expanded, name_path,
-};
+use fixtures_fs::{Named, Site, Tested, again, answer_to, begun, bytes_of, expanded, name_path};
 use inode_fs::InodeFs;
 use std::alloc::Global;
 use std::process::Abort;
 use tsd_model::Data;
 
 /// The file system of inodes over a plain disk.
-pub type InodeSite = PlainSite<InodeFs>;
+pub type InodeSite = Site<InodeFs>;
 
 /// The file system of chains over a plain disk.
-pub type ChainSite = PlainSite<ChainFs>;
+pub type ChainSite = Site<ChainFs>;
 
 /// A fresh disk of so many sectors a block, blocks and slots, and a file system of which nothing is mounted.
 pub fn fresh<F: Tested>(
     rt: &impl Abort,
     alloc: Global,
     (sectors, blocks, slots): (u32, u32, u32),
-) -> PlainSite<F> {
+) -> Site<F> {
     begun(alloc, sectors, blocks, slots).expect(rt, "ample memory")
 }
 
 /// The same disk, mounted by a file system that knows nothing of it.
-pub fn mounted_again<F: Tested>(
-    rt: &impl Abort,
-    alloc: Global,
-    site: PlainSite<F>,
-) -> PlainSite<F> {
+pub fn mounted_again<F: Tested>(rt: &impl Abort, alloc: Global, site: Site<F>) -> Site<F> {
     let mut site = again(alloc, site).expect(rt, "ample memory");
     assert_eq!(rt; site.mount(), Ok(()));
     site
@@ -49,7 +43,7 @@ pub fn data_of(rt: &impl Abort, alloc: Global, digits: &str) -> Data {
 pub fn answers<F: Tested>(
     rt: &impl Abort,
     alloc: Global,
-    site: &mut PlainSite<F>,
+    site: &mut Site<F>,
     line: &str,
     wanted: &str,
 ) {
@@ -62,12 +56,7 @@ pub fn answers<F: Tested>(
 }
 
 /// Asserts that each line is answered so, one after the other.
-pub fn run<F: Tested>(
-    rt: &impl Abort,
-    alloc: Global,
-    site: &mut PlainSite<F>,
-    rows: &[(&str, &str)],
-) {
+pub fn run<F: Tested>(rt: &impl Abort, alloc: Global, site: &mut Site<F>, rows: &[(&str, &str)]) {
     for (line, wanted) in rows {
         answers(rt, alloc, site, line, wanted);
     }
@@ -87,7 +76,7 @@ pub fn run_and_mount<F: Tested>(
     rows: &[(&str, &str)],
     then: &[(&str, &str)],
 ) {
-    let mut site: PlainSite<F> = fresh(rt, alloc, size);
+    let mut site: Site<F> = fresh(rt, alloc, size);
     run(rt, alloc, &mut site, rows);
     let mut site = mounted_again(rt, alloc, site);
     run(rt, alloc, &mut site, then);
