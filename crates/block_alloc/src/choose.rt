@@ -65,7 +65,8 @@ impl LiveMap {
     /// Whether so many free blocks stand in a row somewhere.
     pub fn has_run(&self, count: u32) -> bool
         requires { (1 ≤ count) × (count ≤ 32) }
-        ensures { result ≡ not (is_empty (runs self.now.unhidden count)) }
+        ensures value { result ≡ not (is_empty (runs self.now.unhidden count)) }
+        ensures table { IsTable self.now }
     {
         let blocks = self.geometry().blocks;
         let mut row = 0;
@@ -87,6 +88,7 @@ impl LiveMap {
         ensures counted { IfOk result (λ blocks. length blocks ≡ count) }
         ensures enough { OnOk result (count ≤ free_count self.now.unhidden) }
         ensures refused { IfErr result (λ s. IsShort self.now.unhidden count s.free s.wanted) }
+        ensures table { IsTable self.now }
     {
         let free = self.free_count();
         if free < count {
@@ -112,6 +114,7 @@ impl LiveMap {
             ≡ Some first) }
         ensures enough { OnOk result (count ≤ free_count self.now.unhidden) }
         ensures refused { IfErr result (IsRunRefusal self.now.unhidden count) }
+        ensures table { IsTable self.now }
     {
         let free = self.free_count();
         if free < count {

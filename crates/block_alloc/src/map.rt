@@ -102,7 +102,8 @@ impl LiveMap {
 
     /// How many blocks are free.
     pub fn free_count(&self) -> u32
-        ensures { result ≡ free_count self.now.unhidden }
+        ensures value { result ≡ free_count self.now.unhidden }
+        ensures table { IsTable self.now }
     {
         self.free
     }
@@ -192,6 +193,8 @@ impl LiveMap {
 
         // So where those of all other blocks were right, all are.
         ensures stored { Completes self.now.live self.now.geometry result }
+
+        ensures table { IsTable self.now }
     {
         let first = SECTOR_BYTES * (block / PER_SECTOR) as usize;
         Patch {

@@ -1,6 +1,6 @@
 //! Records as a version keeps them.
 
-ghost use Rattle.std.specs.Prelude.{◌≡◌, length, map};
+ghost use Rattle.std.specs.Prelude.{◌≡◌, map};
 ghost use Rattle.image_layout.specs.Header.{IsVersion};
 ghost use Rattle.tsd_model.specs.Records.{kept, upgraded_record};
 ghost use Rattle.cap_store.specs.Store.{IsRecord};
@@ -19,21 +19,12 @@ pub(crate) const BLANK: Record = Record {
     }),
 };
 
-/// A capability has sixteen bytes.
-fn sixteen_bytes(cap: &Cap)
-    ensures { length cap.now.bytes ≡ 16 }
-{
-    let _bytes = &cap.bytes;
-}
-
 /// What a version keeps of a pair of capabilities.
 pub(crate) fn record_of(version: u32, caps: &CapPair) -> Record
     requires { IsVersion version }
     ensures value { result ≡ kept version caps.now }
     ensures kept { IsRecord version result }
 {
-    sixteen_bytes(&caps.read);
-    sixteen_bytes(&caps.write);
     kept(version, caps)
 }
 

@@ -75,6 +75,7 @@ impl Batch {
         ensures room { OnOk result ((has_home self.old sector ≡ true) ⊎ (length self.old < bodies)) }
         ensures full { OnErr result ((has_home self.old sector ≡ false) × (length self.old ≡ bodies)) }
         ensures unchanged { OnErr result (self.new ≡ self.old) }
+        ensures was { IsBatch self.old }
         ensures batch { IsBatch self.new }
         ensures grows { length self.old ≤ length self.new }
         ensures by_one { length self.new ≤ length self.old + 1 }

@@ -320,7 +320,6 @@ fn data_of(world: &World, block: u32) -> Data
     ensures { result ≡ unwrap_or (contents world.now block) [] }
 {
     let mut bytes = Data::new();
-    let _len = world.block_len();
     if let Some(found) = world.bytes_of(block) {
         let _fits = bytes.extend_from_slice(found);
     }

@@ -140,6 +140,7 @@ impl World {
         ensures value { MatchOption result (contents self.now block ≡ None) (λ bytes. contents self.now block
             ≡ Some bytes.now) }
         ensures full { IfSome result (λ bytes. length bytes.now ≡ block_len self.now.geometry) }
+        ensures fits { IfSome result (λ bytes. length bytes.now ≤ 4096) }
     {
         match self.blocks.get(block as usize) {
             Some(Some(bytes)) => Some(bytes.as_slice()),

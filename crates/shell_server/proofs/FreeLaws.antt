@@ -20,7 +20,7 @@ use Rattle.tsd_core.specs.Core.{Core}
 use Rattle.shell_server.specs.Shell.{ShellState, AnswersByLine, IsKeptSince, shell_step}
 use Rattle.shell_server.specs.Kept.{shell_state}
 use Rattle.shell_server.specs.Carried.{IsLeftBeforeOrAfter, IsLooked, IsServed}
-use Rattle.shell_server.proofs.RefusalLaws.{number_none}
+use Rattle.shell_text.proofs.RefusalLaws.{number_none}
 use Rattle.shell_server.proofs.SendLaws.{line_served}
 
 abbrev pub free_line : ℕ → List ℕ

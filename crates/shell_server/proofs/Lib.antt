@@ -4,7 +4,6 @@ pub mod ChangeLaws
 pub mod Examples
 pub mod LookLaws
 pub mod MakeLaws
-pub mod RefusalLaws
 pub mod SendLaws
 pub mod SpeakLaws
 pub mod ToldLaws

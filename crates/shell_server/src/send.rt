@@ -47,27 +47,9 @@ fn send_refusal<P: Port>(port: &mut P, why: &FsRefusal) -> Result<(), Status>
     ensures puts { PutsAll P.told (answer_text (refused why.now) ++ 10 ∷ []) (P.view port.old) (P.view port.new)
         result }
 {
-    is_one_line(why);
     let mut line = OutBuf::new();
     print_refusal(why, &mut line);
     send_text(port, line.as_slice())
-}
-
-/// A refusal is told in one line.
-fn is_one_line(why: &FsRefusal)
-    ensures { line_feeds (answer_text (refused why.now)) ≡ 0 }
-{
-    match why {
-        FsRefusal::Full { free, wanted } => {
-            let _free = *free;
-            let _wanted = *wanted;
-        }
-        FsRefusal::PointersFull { held, max } => {
-            let _held = *held;
-            let _max = *max;
-        }
-        _ => {}
-    }
 }
 
 /// Sends the line of a number of free blocks.

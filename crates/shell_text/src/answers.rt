@@ -7,6 +7,7 @@ ghost use Rattle.hex.specs.Hex.{encode_lower};
 ghost use Rattle.fs_trees.specs.Names.{Name};
 ghost use Rattle.fs_trees.specs.Answer.{bad, bytes, done, free_blocks, listed, refused};
 ghost use Rattle.fs_trees.specs.declared.refusal.FsRefusal.{FsRefusal};
+ghost use Rattle.script_text.specs.Pieces.{line_feeds};
 ghost use Rattle.shell_text.specs.Texts.{answer_text, data_head, names_head, refusal_words, is_empty};
 
 use fs_trees::{FsRefusal, Name};
@@ -48,7 +49,8 @@ pub fn print_free(count: u32, into: &mut OutBuf)
 /// Replaces the bytes by the line of a refusal. Device has no words: a program that meets it ends.
 pub fn print_refusal(refusal: &FsRefusal, into: &mut OutBuf)
     requires { refusal.now ≢ FsRefusal.Device }
-    ensures { into.new ≡ answer_text (refused refusal.now) ++ 10 ∷ [] }
+    ensures text { into.new ≡ answer_text (refused refusal.now) ++ 10 ∷ [] }
+    ensures one_line { line_feeds (answer_text (refused refusal.now)) ≡ 0 }
 {
     into.clear();
     into.put(b"no".as_slice());
@@ -62,6 +64,7 @@ fn put_refusal(into: &mut OutBuf, refusal: &FsRefusal)
     requires room { length into.old + REFUSAL_ROOM ≤ LINE_MAX }
     ensures text { into.new ≡ into.old ++ 32 ∷ join_with_byte 32 (refusal_words refusal.now) }
     ensures room { length into.new ≤ length into.old + REFUSAL_ROOM }
+    ensures one_line { line_feeds (answer_text (refused refusal.now)) ≡ 0 }
 {
     match refusal {
         FsRefusal::NotThisFs => put_word(into, b"not-this-fs".as_slice()),

@@ -22,6 +22,7 @@ impl Core {
         request: &Request,
     ) -> Result<Reply, Failed>
         requires granted { IsRaised (told_world self.old) request.now self.old.grants.sessions }
+        requires known { IsKnown self.old.volume }
         requires ready { IsCoreReady self.old }
         requires at { D.told → IsCoreAt self.old (D.view dev.old) }
         ensures carried_out { IsCarriedOut D.told placement.now.kind request.now self.old self.new (D.view dev.old)
@@ -30,7 +31,6 @@ impl Core {
         ensures answered { asks_nothing request.now ≡ true → IsOk result }
         ensures volume { asks_nothing request.now ≡ true → self.new.volume ≡ self.old.volume }
     {
-        self.check();
         match request {
             Request::Bad => done(Ok(())),
             Request::GetFree => self.free(),

@@ -79,7 +79,6 @@ impl Core {
         requires { block < (told_world self.now).geometry.primaries }
         ensures { result ≡ shown_level (told_world self.now) block shown.now }
     {
-        let _geometry = self.volume.geometry();
         self.volume.level_shown(block, shown)
     }
 

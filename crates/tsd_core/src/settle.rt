@@ -87,7 +87,6 @@ impl Core {
         ensures works { Works (D.view dev.old) (D.view dev.new) }
         ensures faults { CountsFault result (D.view dev.old).faults (D.view dev.new).faults }
     {
-        self.check();
         self.volume.settle_all(dev)?;
         self.volume.empty_ring(dev)
     }

@@ -32,22 +32,18 @@ impl<'a> DiskFacts for Told<'a> {
     }
 
     fn live(&self, block: u32) -> bool {
-        let _geometry = self.volume.geometry();
         self.volume.is_live(block)
     }
 
     fn shown_level(&self, block: u32, shown: &Shown) -> Level {
-        let _geometry = self.volume.geometry();
         self.volume.level_shown(block, shown)
     }
 
     fn next_source(&self, target: u32, start: u32) -> Option<u32> {
-        let _geometry = self.volume.geometry();
         self.volume.next_source(target, start)
     }
 
     fn has(&self, source: u32, target: u32) -> bool {
-        let _geometry = self.volume.geometry();
         self.volume.has(source, target)
     }
 

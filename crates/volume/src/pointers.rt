@@ -163,7 +163,7 @@ impl Volume {
         self.counts.lower(target);
         let count = self.counts.patch(target);
         let _ = self.batch.put(count.sector, &count.bytes);
-        let _doomed = self.ahead.lower(&self.pointers, &mut self.live, target);
+        self.ahead.lower(&self.pointers, &mut self.live, target);
         self.guesses.push_uncounted(&self.counts, &[target]);
         let outcome = self.ring.commit(dev, &self.batch);
         self.is_spent = outcome.is_err();

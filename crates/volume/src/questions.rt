@@ -97,7 +97,6 @@ impl Volume {
         requires ready { IsVolumeReady self.now }
         ensures { result ≡ free_count (told_by self.now) }
     {
-        let _size = self.live.geometry();
         self.live.free_count()
     }
 
@@ -115,7 +114,6 @@ impl Volume {
         requires ready { IsVolumeReady self.now }
         ensures { result ≡ not (is_empty (runs (told_by self.now) count)) }
     {
-        let _size = self.live.geometry();
         self.live.has_run(count)
     }
 
@@ -130,7 +128,6 @@ impl Volume {
         ensures enough { OnOk result (count ≤ free_count (told_by self.now)) }
         ensures refused { IfErr result (λ s. IsShort (told_by self.now) count s.free s.wanted) }
     {
-        let _size = self.live.geometry();
         self.live.choose(placement, hint, count)
     }
 
@@ -149,7 +146,6 @@ impl Volume {
         ensures enough { OnOk result (count ≤ free_count (told_by self.now)) }
         ensures refused { IfErr result (IsRunRefusal (told_by self.now) count) }
     {
-        let _size = self.live.geometry();
         self.live.choose_run(placement, hint, count)
     }
 

@@ -35,7 +35,6 @@ pub fn put_block(batch: &mut Batch, layout: &Layout, block: u32, bytes: &[u8])
         bytes.now) x (overlaid batch.new x) }
 {
     for part in 0..layout.geometry.sectors {
-        let _held = batch.len();
         let sector = part_of(bytes, part as usize);
         let _ = batch.put(layout.data_sector(block, part), &sector);
     }

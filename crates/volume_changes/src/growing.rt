@@ -25,8 +25,6 @@ pub(crate) fn put_patch(batch: &mut Batch, patch: &Patch)
     ensures laid { (x : Image) (n : ℕ) → overlaid batch.new x n ≡ put_at patch.now.sector patch.now.bytes
         (overlaid batch.old x) n }
 {
-    // A batch has no home twice.
-    let _held = batch.len();
     let _ = batch.put(patch.sector, &patch.bytes);
 }
 
@@ -55,8 +53,6 @@ fn put_one(
     ensures pairs { length (pairs pointers.new) ≡ length (pairs pointers.old) + 1 }
     ensures shown { HidesNone live.old → HidesNone live.new }
 {
-    // Both maps have an entry for each block.
-    let _size = live.geometry();
     let slot = pointers.add(source, block).unwrap();
     put_patch(batch, &slot);
     counts.raise(block);

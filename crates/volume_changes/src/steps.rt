@@ -34,9 +34,7 @@ fn put_pairs(
         let slot = pointers.remove(source, *target).unwrap();
         counts.lower(*target);
         let count = counts.patch(*target);
-        let _held = batch.len();
         let _ = batch.put(slot.sector, &slot.bytes);
-        let _grown = batch.len();
         let _ = batch.put(count.sector, &count.bytes);
     }
 }
@@ -62,7 +60,6 @@ pub fn put_step(
     if step.freed {
         live.set_free(step.block);
         let bits = live.patch(step.block);
-        let _held = batch.len();
         let _ = batch.put(bits.sector, &bits.bytes);
     }
 }

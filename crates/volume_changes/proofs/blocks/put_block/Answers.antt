@@ -25,7 +25,7 @@ loop-part-preserved c =
     let body = filled_part c.part_of-sector.result c.args.bytes.now (block_len g) c.loop-part.part c.part_of-sector.ensures.size c.part_of-sector.ensures.bytes c.requires.size (omega arith) in
     record {
       few = let long = length-with_patch p c.loop-part.batch in let e = ap (λ (ps : List Patch). length ps) put in omega (arith, long, e, few);
-      laid = laid_more g c.args.block all c.loop-part.part p c.loop-part.batch c.put.new.self c.len-held.ensures.batch c.loop-part.invariant.laid put c.data_sector.ensures.value body;
+      laid = laid_more g c.args.block all c.loop-part.part p c.loop-part.batch c.put.new.self c.put.ensures.was c.loop-part.invariant.laid put c.data_sector.ensures.value body;
     }
 
 pub returns-clause-homes : goal.returns-clause-homes

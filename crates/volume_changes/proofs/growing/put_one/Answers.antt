@@ -1,8 +1,10 @@
-use Rattle.std.proofs.Common.{◌≡◌, sym, ◌∙◌, ap, subst, arith}
+use Rattle.std.proofs.Common.{◌≡◌, true, length, sym, ◌∙◌, ap, subst, arith}
+use Rattle.std.proofs.lemmas.List.{length-set}
 use Rattle.tsd_model.specs.declared.geometry.Geometry.{Geometry}
 use Rattle.image_layout.specs.declared.offset.Patch.{Patch}
 use Rattle.pointer_table.specs.Table.{Table as Pointers}
 use Rattle.ref_counts.specs.Changes.{KeepsStored as KeepsCounts}
+use Rattle.block_alloc.specs.LiveMap.{LiveMap}
 use Rattle.image_device.specs.Image.{Image, put_at}
 use Rattle.intent_journal.specs.Home.{overlaid}
 use Rattle.volume_laws.specs.Growing.{parts_of}
@@ -46,5 +48,11 @@ returns-clause-grown c =
 
 pub returns-clause-shown : goal.returns-clause-shown
 returns-clause-shown c =
-    let table = c.geometry-size.ensures.table in
-    shown_more c.args.live.now c.set_live.new.self c.args.block table.each_block table.each_unhidden c.requires.inside c.set_live.ensures
+    let l = c.args.live.now in
+    let b = c.args.block in
+    let set = c.set_live.ensures in
+    let table = c.patch-2.ensures.table in
+    let size = ap (λ (m : LiveMap). m.geometry.blocks) set in
+    let live : length l.live ≡ l.geometry.blocks = sym (length-set l.live b true) ∙ (sym (ap (λ (m : LiveMap). length m.live) set) ∙ (table.each_block ∙ size)) in
+    let unhidden : length l.unhidden ≡ l.geometry.blocks = sym (length-set l.unhidden b true) ∙ (sym (ap (λ (m : LiveMap). length m.unhidden) set) ∙ (table.each_unhidden ∙ size)) in
+    shown_more l c.set_live.new.self b live unhidden c.requires.inside set

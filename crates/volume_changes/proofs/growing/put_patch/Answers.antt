@@ -14,4 +14,4 @@ returns-clause-few c =
 pub returns-clause-laid : goal.returns-clause-laid
 returns-clause-laid c = λ x n.
     let put : c.put.new.self ≡ with_patch c.args.patch.now c.args.batch.now = put_ok c.put.result _ _ (length c.args.batch.now) c.put.ensures.ok c.put.ensures.full c.requires.room in
-    ap (λ (ps : List Patch). overlaid ps x n) put ∙ overlaid_with_patch c.args.patch.now c.args.batch.now x n c.len-held.ensures.batch.distinct
+    ap (λ (ps : List Patch). overlaid ps x n) put ∙ overlaid_with_patch c.args.patch.now c.args.batch.now x n c.put.ensures.was.distinct

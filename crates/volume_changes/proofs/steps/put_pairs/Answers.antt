@@ -62,7 +62,7 @@ loop-target-preserved c =
       slots = ap (λ (t : Pointers). t.geometry) change.now ∙ inv.slots;
       counts = ap (λ (t : Counts). t.geometry) c.lower.ensures.lowered ∙ inv.counts;
       taken = λ t may. taken_more t c.loop-target.pointers c.remove.new.self c.loop-target.counts c.lower.new.self c.args.source (get_or bs i 0) bs i p q c.loop-target.batch c.put.new.self c.put-in-loop-target.new.self
-          may.held within refl (inv.taken t may) c.len-held.ensures.batch c.len-grown.ensures.batch first second (inv.slots ∙ may.parts.slots_size) (inv.counts ∙ may.parts.counts_size)
+          may.held within refl (inv.taken t may) c.put.ensures.was c.put-in-loop-target.ensures.was first second (inv.slots ∙ may.parts.slots_size) (inv.counts ∙ may.parts.counts_size)
           (ok_here r _ p ok c.remove.ensures.pairs) c.remove.ensures.table (ap (λ (t : Pointers). t.geometry) change.now) (if_here r _ p ok c.remove.ensures.sector) (if_here r _ p ok c.remove.ensures.stored)
           c.lower.ensures.lowered c.patch-count.ensures.inside (subst (λ (w : Patch). KeepsCounts c.loop-target.counts c.lower.new.self w) (sym c.patch-count.ensures.value) c.lower.ensures.stored);
     }

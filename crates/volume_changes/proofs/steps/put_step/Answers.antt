@@ -42,7 +42,7 @@ returns-then-step-clause-put c = λ t may.
     (subst (λ g. (bitmap_start g ≤ r.sector) × (r.sector < slots_start g)) size c.patch-bits.ensures.inside) stored in
     record {
       stepped = record { same = refl; pairs = taken.pairs; live = bits ∙ sym (ap (live_after t.live s.block) c.if-step.true) };
-      turns = one_turn t mid (with_all t p k m) c.put_pairs.new.batch taken.turns r c.put.new.self c.len-held.ensures.batch put (subst (λ (xs : List Bool). Turns mid (record mid { live = xs }) (r ∷ [])) (sym bits) turn);
+      turns = one_turn t mid (with_all t p k m) c.put_pairs.new.batch taken.turns r c.put.new.self c.put.ensures.was put (subst (λ (xs : List Bool). Turns mid (record mid { live = xs }) (r ∷ [])) (sym bits) turn);
       few = let one : ◌≡◌ {A = ℕ} (cond s.freed 1 0) 1 = ap (λ f. cond f 1 0) c.if-step.true in omega (arith, one, taken.few, ap (λ (ps : List Patch). length ps) put, length-with_patch r c.put_pairs.new.batch);
     }
 

@@ -16,5 +16,5 @@ pub returns-clause-counted : goal.returns-clause-counted
 returns-clause-counted g c =
     let rank = rank_of c.args.placement.now.kind c.args.hint in let free = free_blocks c.args.self.now.unhidden in
     let all = c.blocks-2.ensures ∙ (ap blocks_of c.least_free.ensures ∙ blocks_of-ranked rank (take c.args.count (sorted_by_rank rank free))) in
-    let enough : c.args.count ≤ length free = omega (arith, length-free_blocks c.args.self.now.unhidden, c.free_count-free.ensures, c.if-free-count.false) in
+    let enough : c.args.count ≤ length free = omega (arith, length-free_blocks c.args.self.now.unhidden, c.free_count-free.ensures.value, c.if-free-count.false) in
     ap length all ∙ length-least rank c.args.count free enough

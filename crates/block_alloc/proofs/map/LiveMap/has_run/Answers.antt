@@ -3,8 +3,8 @@ use Rattle.block_alloc.specs.Choosing.{is_free_run, IsRow}
 use Rattle.block_alloc.proofs.RunLaws.{row-run, found-in}
 use Rattle.block_alloc.proofs.map.LiveMap.has_run.Goals as goal
 
-pub returns-then-count-row : goal.returns-then-count-row
-returns-then-count-row c =
+pub returns-then-count-row-clause-value : goal.returns-then-count-row-clause-value
+returns-then-count-row-clause-value c =
     let live = c.args.self.now.unhidden in let block = c.loop-block.block - 1 in let row = c.row_from-row.result in
     let next : c.loop-block.block ≡ block + 1 = omega arith in
     let P : ℕ → Type 0 = λ b. IsRow live b c.loop-block.row in

@@ -2,8 +2,10 @@ use Rattle.std.proofs.Common.{◌≡◌, ◌+◌, ◌*◌, ◌/◌, ◌<◌, ℕ
 use Rattle.std.specs.Prelude.{slice_index}
 use Rattle.image_device.specs.Image.{put_at}
 use Rattle.image_layout.specs.Areas.{bitmap_start}
+use Rattle.block_alloc.specs.LiveMap.{LiveMap, IsTable}
 use Rattle.block_alloc.specs.Bytes.{bitmap_sector_bytes}
 use Rattle.block_alloc.specs.Stored.{IsStoredAt, IsStored}
+use Rattle.block_alloc.proofs.BitLaws.{kept-table}
 use Rattle.block_alloc.proofs.ByteLaws.{sector_is}
 use Rattle.block_alloc.proofs.StoredLaws.{stored_here, stored_all}
 use Rattle.block_alloc.proofs.map.LiveMap.patch.Goals as goal
@@ -36,3 +38,9 @@ returns-clause-stored c = λ x others.
     let m = c.args.self.now in let sector = c.bit_offset.result.sector in
     let P : List ℕ → Type 0 = λ bytes. IsStored m.live m.geometry (put_at sector bytes x) in
     subst P (sym (returns-clause-bytes c)) (stored_all m.live m.geometry x sector (c.args.block / 4096) (at_place c) others)
+
+pub returns-clause-table : goal.returns-clause-table
+returns-clause-table c =
+    let P : LiveMap → Type 0 = λ m. IsTable m in
+    let inside = c.self.inside in
+    subst P c.self.view_is (kept-table inside.geometry inside.bytes.items inside.unhidden.items inside.free c.self.invariant.0 c.self.invariant.1)

@@ -21,7 +21,7 @@ returns-in-GetFree-clause-carried_out g c =
     (quiet g.D.Device.told c.args.placement.now.kind ask.GetFree c.args.self.now c.args.self.now v (reply.Free (free_count (told_world c.args.self.now))) (λ w. refl) (record { none = refl; owes = omega arith }) (g.met.D.Device.sound c.args.dev.now) c.requires.at c.requires.ready
     refl (inl (record { table = refl; reply = λ e. refl; read = λ e. absurd (cc) }))
     refl
-    (record { body = tt; numbers = free_fits (told_world c.args.self.now) c.check.ensures.volume.sized })))
+    (record { body = tt; numbers = free_fits (told_world c.args.self.now) c.requires.known.sized })))
 
 pub returns-in-Begin-clause-carried_out : goal.returns-in-Begin-clause-carried_out
 returns-in-Begin-clause-carried_out g c =
@@ -54,7 +54,7 @@ returns-in-List-clause-carried_out g c =
     (quiet g.D.Device.told c.args.placement.now.kind (ask.List c.in-List.session c.in-List.source c.in-List.shown c.in-List.start) c.args.self.now c.args.self.now v (reply.Targets (targets_from (told_world c.args.self.now).pairs c.in-List.source c.in-List.start)) (λ w. refl) (record { none = refl; owes = omega arith }) (g.met.D.Device.sound c.args.dev.now) c.requires.at c.requires.ready
     refl (inl (record { table = refl; reply = λ e. refl; read = λ e. absurd (cc) }))
     refl
-    (targets_fit (told_world c.args.self.now) c.in-List.source c.in-List.start c.check.ensures.volume.sized (λ a b held. (c.check.ensures.volume.ends a b held).1))))
+    (targets_fit (told_world c.args.self.now) c.in-List.source c.in-List.start c.requires.known.sized (λ a b held. (c.requires.known.ends a b held).1))))
 
 pub returns-in-Read-clause-carried_out : goal.returns-in-Read-clause-carried_out
 returns-in-Read-clause-carried_out g c =

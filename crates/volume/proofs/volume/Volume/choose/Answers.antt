@@ -36,7 +36,7 @@ returns-clause-chosen g c =
     let t = tables_in i.header i.pointers i.counts i.live i.caps i.is_sweeping in
     let still : i.is_sweeping ≡ false = ap (λ (w : Volume). w.tables.is_sweeping) c.self.view_is ∙ c.requires.ready.1 in
     let ahead = v.ahead (ap (λ (w : Volume). w.is_ready) c.self.view_is ∙ c.requires.ready.0) in
-    let told = map_of t v.sound still i.live i.ahead refl v.hidden ahead (c.geometry-size.ensures.table.each_unhidden ∙ ap (λ g. g.blocks) v.live) in
+    let told = map_of t v.sound still i.live i.ahead refl v.hidden ahead (c.choose.ensures.table.each_unhidden ∙ ap (λ g. g.blocks) v.live) in
     same_chosen c.choose.result i.live.unhidden (blank_of t) (told_by c.args.self.now) c.args.placement.now.kind c.args.hint c.args.count told (ap told_by c.self.view_is) c.choose.ensures.chosen
 
 pub returns-clause-enough : goal.returns-clause-enough
@@ -46,7 +46,7 @@ returns-clause-enough g c =
     let t = tables_in i.header i.pointers i.counts i.live i.caps i.is_sweeping in
     let still : i.is_sweeping ≡ false = ap (λ (w : Volume). w.tables.is_sweeping) c.self.view_is ∙ c.requires.ready.1 in
     let ahead = v.ahead (ap (λ (w : Volume). w.is_ready) c.self.view_is ∙ c.requires.ready.0) in
-    let told = map_of t v.sound still i.live i.ahead refl v.hidden ahead (c.geometry-size.ensures.table.each_unhidden ∙ ap (λ g. g.blocks) v.live) in
+    let told = map_of t v.sound still i.live i.ahead refl v.hidden ahead (c.choose.ensures.table.each_unhidden ∙ ap (λ g. g.blocks) v.live) in
     same_enough c.choose.result i.live.unhidden (blank_of t) (told_by c.args.self.now) c.args.count told (ap told_by c.self.view_is) c.choose.ensures.enough
 
 pub returns-clause-refused : goal.returns-clause-refused
@@ -56,5 +56,5 @@ returns-clause-refused g c =
     let t = tables_in i.header i.pointers i.counts i.live i.caps i.is_sweeping in
     let still : i.is_sweeping ≡ false = ap (λ (w : Volume). w.tables.is_sweeping) c.self.view_is ∙ c.requires.ready.1 in
     let ahead = v.ahead (ap (λ (w : Volume). w.is_ready) c.self.view_is ∙ c.requires.ready.0) in
-    let told = map_of t v.sound still i.live i.ahead refl v.hidden ahead (c.geometry-size.ensures.table.each_unhidden ∙ ap (λ g. g.blocks) v.live) in
+    let told = map_of t v.sound still i.live i.ahead refl v.hidden ahead (c.choose.ensures.table.each_unhidden ∙ ap (λ g. g.blocks) v.live) in
     same_refused c.choose.result i.live.unhidden (blank_of t) (told_by c.args.self.now) c.args.count told (ap told_by c.self.view_is) c.choose.ensures.refused

@@ -92,14 +92,14 @@ these_raw g c =
     c.lower.ensures.lowered c.patch-count.ensures.inside (subst (λ (w : Patch). KeepsCounts i.counts c.lower.new.self w) (sym c.patch-count.ensures.value) c.lower.ensures.stored) laid
 
 -- and after
-these : (g : Given.Over) (c : goal.After-self-1 g) → IsDropped c.args.self.now.tables c.args.source c.args.target (tables_in c.self.inside.header c.remove.new.self c.lower.new.self c.lower-doomed.new.live c.self.inside.caps c.self.inside.is_sweeping) c.put-2.new.self
+these : (g : Given.Over) (c : goal.After-self-1 g) → IsDropped c.args.self.now.tables c.args.source c.args.target (tables_in c.self.inside.header c.remove.new.self c.lower.new.self c.lower-2.new.live c.self.inside.caps c.self.inside.is_sweeping) c.put-2.new.self
 these g c =
     let i = c.self.inside in
     subst (λ (u : Tables). IsDropped c.args.self.now.tables c.args.source c.args.target u c.put-2.new.self)
-    (same_bits i.header c.remove.new.self c.lower.new.self i.live c.lower-doomed.new.live i.caps i.is_sweeping c.lower-doomed.ensures.raw) (these_raw g c)
+    (same_bits i.header c.remove.new.self c.lower.new.self i.live c.lower-2.new.live i.caps i.is_sweeping c.lower-2.ensures.raw) (these_raw g c)
 
-pub lower-doomed-requires : goal.lower-doomed-requires
-lower-doomed-requires g c =
+pub lower-2-requires : goal.lower-2-requires
+lower-2-requires g c =
     let i = c.self.inside in
     let v = c.self.invariant in
     let t = c.args.self.now.tables in
@@ -132,21 +132,21 @@ pub invariant_of-self : goal.invariant_of-self
 invariant_of-self g c =
     let i = c.self.inside in
     let v = c.self.invariant in
-    let m = c.lower-doomed.new.live in
+    let m = c.lower-2.new.live in
     let change = if_here c.remove.result _ c.unwrap-slot.result c.unwrap-slot.ensures c.remove.ensures.change in
     let size = ap (λ (t : Pointers). t.geometry) change.now ∙ v.pointers in
     let same : graph_in (tables_in i.header c.remove.new.self c.lower.new.self m i.caps i.is_sweeping) ≡ graph_of c.remove.new.self m = λ k. graph (sym size k) m.live (pairs c.remove.new.self) in
-    let ahead = subst (λ (w : World). IsAheadOf w c.lower-doomed.new.self) (sym same) c.lower-doomed.ensures.ahead in
+    let ahead = subst (λ (w : World). IsAheadOf w c.lower-2.new.self) (sym same) c.lower-2.ensures.ahead in
     record {
       pointers = size;
       counts = ap (λ (t : Counts). t.geometry) c.lower.ensures.lowered ∙ v.counts;
-      live = ap (λ (n : LiveMap). n.geometry) c.lower-doomed.ensures.raw ∙ v.live;
+      live = ap (λ (n : LiveMap). n.geometry) c.lower-2.ensures.raw ∙ v.live;
       kept_version = v.kept_version;
       kept = v.kept;
       marks_each = v.marks_each;
       sound = (these g c).sound;
       counted = ahead.counts_each;
-      hidden = c.lower-doomed.ensures.hidden;
+      hidden = c.lower-2.ensures.hidden;
       ahead = λ e. ahead;
       begun = λ e n. absurd (both_ways i.is_ready e (ap (λ (w : Volume). w.is_ready) c.self.view_is ∙ c.requires.ready.0));
       still = v.still;
@@ -154,7 +154,7 @@ invariant_of-self g c =
 
 -- the volume then
 abbrev now : (g : Given.Over) → goal.After-self-1 g → Volume
-now g c = let i = c.self.inside in record { tables = tables_in i.header c.remove.new.self c.lower.new.self c.lower-doomed.new.live i.caps i.is_sweeping; ring = c.commit-outcome.new.self; is_ready = i.is_ready; is_spent = c.is_err-self-inside.result }
+now g c = let i = c.self.inside in record { tables = tables_in i.header c.remove.new.self c.lower.new.self c.lower-2.new.live i.caps i.is_sweeping; ring = c.commit-outcome.new.self; is_ready = i.is_ready; is_spent = c.is_err-self-inside.result }
 
 op : (vol : Volume) (now : Tables) (batch : List Patch) (a b : ℕ) → HoldsPair vol.tables a b → IsDropped vol.tables a b now batch → IsOp any_bytes vol now batch 2 (owed now) (λ w. settle (without_pointer w a b))
 op vol now batch a b o all = record {

@@ -13,5 +13,5 @@ returns c =
     let t = tables_in i.header i.pointers i.counts i.live i.caps i.is_sweeping in
     let still : i.is_sweeping ≡ false = ap (λ (w : Volume). w.tables.is_sweeping) c.self.view_is ∙ c.requires.ready.1 in
     let ahead = v.ahead (ap (λ (w : Volume). w.is_ready) c.self.view_is ∙ c.requires.ready.0) in
-    let told = map_of t v.sound still i.live i.ahead refl v.hidden ahead (c.geometry-size.ensures.table.each_unhidden ∙ ap (λ g. g.blocks) v.live) in
-    c.free_count.ensures ∙ (free_count_same i.live.unhidden (blank_of t) told ∙ ap (λ (w : Volume). free_count (told_by w)) c.self.view_is)
+    let told = map_of t v.sound still i.live i.ahead refl v.hidden ahead (c.free_count.ensures.table.each_unhidden ∙ ap (λ g. g.blocks) v.live) in
+    c.free_count.ensures.value ∙ (free_count_same i.live.unhidden (blank_of t) told ∙ ap (λ (w : Volume). free_count (told_by w)) c.self.view_is)

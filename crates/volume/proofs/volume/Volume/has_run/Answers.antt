@@ -14,5 +14,5 @@ returns c =
     let t = tables_in i.header i.pointers i.counts i.live i.caps i.is_sweeping in
     let still : i.is_sweeping ≡ false = ap (λ (w : Volume). w.tables.is_sweeping) c.self.view_is ∙ c.requires.ready.1 in
     let ahead = v.ahead (ap (λ (w : Volume). w.is_ready) c.self.view_is ∙ c.requires.ready.0) in
-    let told = map_of t v.sound still i.live i.ahead refl v.hidden ahead (c.geometry-size.ensures.table.each_unhidden ∙ ap (λ g. g.blocks) v.live) in
-    c.has_run.ensures ∙ (ap (λ bs. not (is_empty bs)) (runs_same i.live.unhidden (blank_of t) told c.args.count) ∙ ap (λ (w : Volume). not (is_empty (runs (told_by w) c.args.count))) c.self.view_is)
+    let told = map_of t v.sound still i.live i.ahead refl v.hidden ahead (c.has_run.ensures.table.each_unhidden ∙ ap (λ g. g.blocks) v.live) in
+    c.has_run.ensures.value ∙ (ap (λ bs. not (is_empty bs)) (runs_same i.live.unhidden (blank_of t) told c.args.count) ∙ ap (λ (w : Volume). not (is_empty (runs (told_by w) c.args.count))) c.self.view_is)
