@@ -57,14 +57,41 @@ def listed(held: List[int], start: int) -> str:
     return " ".join(["list", *(targets or ["-"])])
 
 
+def access_rows(targets: int) -> Rows:
+    """What sessions that hold few blocks attain at the hub of sources: from its first source, from its last one where the
+    first leads to it no more, and from none of them."""
+    denied = "no denied none read"
+    return [
+        ("open 2", "ok"),
+        ("read 2 1 -", denied),
+        (f"read 2 0 {R}", "data -"),
+        ("read 2 1 -", "data -"),
+        ("create 2 1 - 2", "no denied read write"),
+        ("close 2", "ok"),
+        ("open 2", "ok"),
+        (f"delete 1 0 {W} 1", "gone 0"),
+        (f"read 2 0 {R}", "data -"),
+        ("read 2 1 -", denied),
+        (f"read 2 {targets} -", "data -"),
+        ("read 2 1 -", "data -"),
+        (f"write 2 0 {W} -", "ok"),
+        ("create 2 1 - 1", "no denied read write"),
+        (f"write 2 {targets} - -", "ok"),
+        ("create 2 1 - 1", "ok"),
+        ("delete 2 1 - 1", "gone 0"),
+        (f"create 2 0 {W} 1", "ok"),
+        ("close 2", "ok"),
+    ]
+
+
 def hub_rows(order: List[int], targets: int) -> Rows:
     """Pairs of the hub of targets are deleted in this order, and made again in it; between them the hub is listed from
-    targets that it hasn't any more. Then pairs of the hub of sources are deleted in it, and the first ones made again:
-    what a session attains at a block with many sources takes a look at each of them."""
+    targets that it hasn't any more. Then pairs of the hub of sources are deleted in it, and the first ones made again."""
     gone = set(order)
     held = [target for target in range(1, targets + 1) if target not in gone]
     starts = order[::len(order) // 20]
     return [
+        *access_rows(targets),
         *((f"delete 1 0 {W} {target}", "gone 0") for target in order),
         *((f"list 1 0 {R} {start}", listed(held, start)) for start in starts),
         *((f"create 1 0 {W} {target}", "ok") for target in order),

@@ -1,5 +1,5 @@
 -- The greatest of the levels at the sources of the pairs to a block, source by source.
-use Rattle.std.proofs.Common.{inl, inr, ◌≡◌, ℕ, zero, suc, ◌+◌, ◌-◌, ◌<◌, ◌≤◌, true, false, cond, ◌&&◌, ◌||◌, ◌==◌, nat_lt, List, [], ◌∷◌, ◌++◌, length, replicate, refl, sym, ◌∙◌, ap, subst, arith, IsTrue}
+use Rattle.std.proofs.Common.{inl, inr, ◌≡◌, ℕ, zero, suc, ◌+◌, ◌-◌, ◌<◌, ◌≤◌, true, false, cond, ◌&&◌, ◌||◌, ◌==◌, List, [], ◌∷◌, ◌++◌, length, replicate, refl, sym, ◌∙◌, ap, subst, arith, IsTrue}
 use Rattle.std.specs.Prelude.{filter, map, slice_index_or, slice_set}
 use Rattle.std.proofs.lemmas.Bool.{eq-eqb, ne_eqb, lt-ltb, le-ltb, cases_lt, cases_eq}
 use Rattle.std.proofs.lemmas.List.{get_or_past, ext_get_or, get_or_append_left, get_or-append_right, get_or-set_same, get_or-set_other, length-set, get_or-replicate, length-replicate, length-append}
@@ -8,7 +8,7 @@ use Rattle.tsd_model.specs.World.{World, has_number}
 use Rattle.tsd_model.specs.Pairs.{holds, sources_to}
 use Rattle.tsd_model.specs.Sessions.{Held, Sessions, levels_from, level_le, level_rank, greater, greatest}
 use Rattle.tsd_model.specs.Attained.{shown_level, led_level, attained_from, attained_origins, attained}
-use Rattle.tsd_model.proofs.LevelLaws.{greater-assoc, led_level_nothing}
+use Rattle.tsd_model.proofs.LevelLaws.{led_level_nothing}
 use Rattle.tsd_model.specs.declared.caps.Shown.{Shown}
 use Rattle.tsd_model.specs.declared.requests.Level.{Level}
 use Rattle.tsd_model.specs.declared.requests.Level.TheVariants.{Bare, Read, Write}

@@ -1,5 +1,4 @@
-use Rattle.std.proofs.Common.{sym, ◌∙◌, subst, IsTrue}
-use Rattle.tsd_model.specs.Pairs.{holds}
+use Rattle.std.proofs.Common.{sym, ◌∙◌}
 use Rattle.grant_table.proofs.LedLaws.{found_next, found_kept}
 use Rattle.grant_table.proofs.attained.add_held.Goals as goal
 

@@ -1,4 +1,4 @@
-use Rattle.std.proofs.Common.{◌≡◌, ℕ, ◌<◌, ◌≤◌, ◌∙◌, ◌+◌, sym, ap, arith, [], length, subst, IsTrue}
+use Rattle.std.proofs.Common.{◌≤◌, ◌+◌, sym, ap, arith, [], subst}
 use Rattle.std.specs.Prelude.{slice_index_or}
 use Rattle.std.proofs.lemmas.List.{get_or_past}
 use Rattle.tsd_model.specs.declared.requests.Level.TheVariants as level

@@ -1,4 +1,4 @@
-use Rattle.std.proofs.Common.{◌≡◌, ℕ, ◌<◌, ◌≤◌, length}
+use Rattle.std.proofs.Common.{◌≡◌, ℕ, ◌<◌, ◌≤◌}
 use Rattle.tsd_model.specs.declared.requests.Level.TheVariants as level
 use Rattle.grant_table.specs.Led.{level_at}
 use Rattle.grant_table.proofs.holding.Holding.bare_until.Given as goal

@@ -1,4 +1,4 @@
-use Rattle.std.proofs.Common.{◌≡◌, ℕ, ◌<◌, ◌≤◌, ◌∙◌, sym, ap, arith, false, length}
+use Rattle.std.proofs.Common.{◌∙◌, sym, ap, arith, false}
 use Rattle.std.specs.Prelude.{slice_index_or}
 use Rattle.tsd_model.specs.declared.requests.Level.TheVariants as level
 use Rattle.grant_table.specs.Levels.{level_of_bits}

@@ -1,7 +1,6 @@
-use Rattle.std.proofs.Common.{inl, inr, ◌≡◌, ℕ, ◌<◌, ◌∙◌, sym, ap, subst, arith}
+use Rattle.std.proofs.Common.{inl, inr, ◌≡◌, ◌∙◌, sym, ap, arith}
 use Rattle.std.specs.Prelude.{slice_index_or}
 use Rattle.std.proofs.lemmas.Bool.{cases_lt}
-use Rattle.tsd_model.specs.Sessions.{level_le}
 use Rattle.tsd_model.specs.declared.requests.Level.TheVariants as level
 use Rattle.grant_table.proofs.LevelLaws.{from_write}
 use Rattle.grant_table.proofs.origins.Origins.are_write.Goals as goal
