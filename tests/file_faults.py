@@ -1,8 +1,8 @@
-"""Changes of the shell at each call of the image: the call fails, once or from there on, or the machine stops there with
-all that is loose old, new, or torn.
+"""Changes of the shell at each call of the image: the call fails, once or from there on, or the machine stops there
+with all that is loose old, new, or torn.
 
-After each the next run of the program mounts the image. It shows the tree before the change or the one after it: the one
-before until a call of the change was made, and the one after once the change was answered. What the trees show is
+After each the next run of the program mounts the image. It shows the tree before the change or the one after it: the
+one before until a call of the change was made, and the one after once the change was answered. What the trees show is
 written down here from docs/FILES.md; nothing of it was made by the program.
 """
 

@@ -231,7 +231,8 @@ INODES = (
     ("mkfs", "ok"), ("put /a 6869", "ok"), ("cat /a", "data 6869"), ("mkdir /docs", "ok"), ("cp /a /docs/b", "ok"),
     ("ls /", "names a docs"), ("rm /docs", "no not-empty"), ("cat /docs", "no is-dir"), ("put /a/b -", "no not-dir"),
     ("df", "free 3"), ("append /a 21", "ok"), ("df", "free 2"), (f"put /c {letters(513)}", "no full 2 3"),
-    (f"put /c {letters(512)}", "ok"), ("df", "free 0"), ("mkdir /d", "no full 0 1"), ("rm /c", "ok"), ("mkdir /d", "ok"),
+    (f"put /c {letters(512)}", "ok"), ("df", "free 0"), ("mkdir /d", "no full 0 1"), ("rm /c", "ok"),
+    ("mkdir /d", "ok"),
 )
 LEFT_BY_INODES = (
     ("ls /", "names a d docs"), ("cat /a", "data 686921"), ("ls /d", "names -"), ("ls /docs", "names b"),

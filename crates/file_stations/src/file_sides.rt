@@ -61,11 +61,6 @@ impl<O, C, E, F> FileSides<O, C, E, F> {
     pub fn output_trouble(&self) -> Option<Trouble> {
         self.outlet.trouble()
     }
-
-    /// The output.
-    pub fn output(&self) -> &O {
-        self.outlet.output()
-    }
 }
 
 impl<O, C: Clock, E: Write, F: Write> FileSides<O, C, E, F> {

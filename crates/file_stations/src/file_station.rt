@@ -52,11 +52,6 @@ impl<O, C, E> FileStation<O, C, E> {
     pub fn output_trouble(&self) -> Option<Trouble> {
         self.outlet.trouble()
     }
-
-    /// The output.
-    pub fn output(&self) -> &O {
-        self.outlet.output()
-    }
 }
 
 impl<O, C: Clock, E: Write> FileStation<O, C, E> {

@@ -6,7 +6,8 @@
 //! long work goes on. [`StandIns`] keep an image from being opened in the place of a standard stream that is closed.
 //!
 //! That the counts of faults rise exactly with calls that fail is proved. What files, streams and the system are is
-//! trusted: the types tell nothing of their contents, and tests alone show it, here and in the script `tests/edge`.
+//! trusted: the types tell nothing of their contents, and tests alone show it, in the script `tests/edge`; what is told
+//! of long work is tried here.
 #![tactic(auto)]
 
 mod ahead;
@@ -15,15 +16,11 @@ mod file_sides;
 mod file_station;
 mod image_file;
 mod input;
-#[cfg(test)]
-mod input_tests;
 mod outlet;
 mod progress;
 #[cfg(test)]
 mod progress_tests;
 mod standard;
-#[cfg(test)]
-mod station_tests;
 mod trouble;
 
 pub use file_side::tell_image;

@@ -34,11 +34,6 @@ impl<O> Outlet<O> {
     pub fn trouble(&self) -> Option<Trouble> {
         self.trouble
     }
-
-    /// The output.
-    pub fn output(&self) -> &O {
-        &self.output
-    }
 }
 
 impl<O: Write> Outlet<O> {

@@ -1,9 +1,9 @@
-//! Maps that are loaded, changed, patched and loaded again, and choices that are known.
+//! Maps that are loaded, how often a choice asks for a rank, and what is chosen of the largest disk.
 
 ghost use Rattle.std.specs.Prelude.{◌≡◌, ◌<◌, ◌≤◌};
 ghost use Rattle.tsd_model.specs.Geometry.{IsLawful};
 
-use crate::placing::{counting_low, counting_near, low, near};
+use crate::placing::{counting_low, counting_near, near};
 use block_alloc::{LiveMap, LoadFault, RunRefusal, Short};
 use image_device::{Device, Failed, MemStation};
 use place_policy::Placement;
@@ -65,8 +65,6 @@ fn change(
     station.write(patch.sector, &patch.bytes)
 }
 
-// ---- choices that are known
-
 /// Sees which blocks are chosen for the least hint, or why none are.
 fn see_chosen(
     rt: &impl Abort,
@@ -96,132 +94,10 @@ fn see_run(
     assert_eq!(rt; map.choose_run(placement, 0, count), wanted);
 }
 
-// ---- hidden blocks
-
-/// Hides a block, in a map and on a disk. False where it isn't live.
-fn hide(map: &mut LiveMap, station: &mut MemStation, block: u32) -> Result<bool, Failed> {
-    if block >= map.geometry().blocks || !map.is_live(block) {
-        return Ok(false);
-    }
-    map.hide(block);
-    if block >= map.geometry().blocks {
-        return Ok(false);
-    }
-    let patch = map.patch(block);
-    station.write(patch.sector, &patch.bytes)?;
-    Ok(true)
-}
-
-/// Whether a block is live for questions, whether it is in the bitmap, and how many are free.
-fn told(map: &LiveMap, block: u32) -> (bool, bool, u32) {
-    if block >= map.geometry().blocks {
-        return (false, false, 0);
-    }
-    (map.is_live(block), map.raw_live(block), map.free_count())
-}
-
-/// The first byte of the bitmap of a small disk.
-fn first_byte(station: &mut MemStation) -> Result<u8, Failed> {
-    let mut bytes = [0; 512];
-    station.read(135, &mut bytes)?;
-    Ok(bytes[0])
-}
-
 /// Makes blocks live, in a map and on a disk.
 fn set_all_live(map: &mut LiveMap, station: &mut MemStation, blocks: &[u32]) -> Result<(), Failed> {
     for block in blocks {
         change(map, station, *block, true)?;
-    }
-    Ok(())
-}
-
-/// The first byte of the bitmap of a disk of eight blocks, and what its map says of block 3, once it is loaded.
-fn on_disk(alloc: Global, station: &mut MemStation) -> Result<(u8, (bool, bool, u32)), Fail> {
-    let byte = first_byte(station)?;
-    let map = LiveMap::load(alloc, station, &disk(8))?;
-    Ok((byte, told(&map, 3)))
-}
-
-/// Sees that of blocks 0, 2, 3 and 5, which are live, block 3 is hidden.
-fn see_hidden(rt: &impl Abort, map: &LiveMap, placement: &Placement) {
-    let found = (told(map, 3), map.has_run(3));
-    assert_eq!(rt; found, ((false, true, 5), false));
-    see_chosen(rt, map, placement, 4, Ok(&[1, 3, 4, 6]));
-    see_run(rt, map, placement, 2, Ok(3));
-}
-
-/// Makes four blocks live, and hides block 3, once. Tells whether that was done, and done again.
-fn hide_third(map: &mut LiveMap, station: &mut MemStation) -> Result<(bool, bool), Failed> {
-    set_all_live(map, station, &[0, 2, 3, 5])?;
-    let once = hide(map, station, 3)?;
-    let twice = hide(map, station, 3)?;
-    Ok((once, twice))
-}
-
-/// Makes block 3 live, hides it again and frees it. Gives what is told of it and whether it was hidden, what is told of
-/// it in the end, and the byte on the disk.
-fn free_third(
-    map: &mut LiveMap,
-    station: &mut MemStation,
-) -> Result<((bool, bool, u32), bool, (bool, bool, u32), u8), Failed> {
-    change(map, station, 3, true)?;
-    let shown = told(map, 3);
-    let is_hidden = hide(map, station, 3)?;
-    change(map, station, 3, false)?;
-    Ok((shown, is_hidden, told(map, 3), first_byte(station)?))
-}
-
-/// Hides block 3 of a disk of eight free blocks, and frees it.
-fn hide_and_free(
-    rt: &impl Abort,
-    alloc: Global,
-    map: &mut LiveMap,
-    station: &mut MemStation,
-    placement: &Placement,
-) -> Result<(), Fail> {
-    assert_eq!(rt; hide_third(map, station)?, (true, false));
-    see_hidden(rt, map, placement);
-    assert_eq!(rt; on_disk(alloc, station)?, (0x2d, (true, true, 4)));
-    let freed = free_third(map, station)?;
-    assert_eq!(rt; freed, ((true, true, 4), true, (false, false, 5), 0x25));
-    Ok(())
-}
-
-/// The same, on a disk never written.
-fn hide_on_disk(rt: &impl Abort, alloc: Global, placement: &Placement) -> Result<(), Fail> {
-    let mut station = MemStation::new(alloc, Vec::new(alloc));
-    let mut map = LiveMap::load(alloc, &mut station, &disk(8))?;
-    hide_and_free(rt, alloc, &mut map, &mut station, placement)
-}
-
-#[test]
-fn a_hidden_block_is_free_and_stays_on_the_disk(rt: HostRuntime) -> Result<(), Fail> {
-    let placement = low(rt.alloc())?;
-    hide_on_disk(&rt, rt.alloc(), &placement)
-}
-
-// ---- refusals
-
-/// How many blocks are free by the map of a disk with two sectors of bits.
-fn free_of_wide(alloc: Global, station: &mut MemStation) -> Result<u32, LoadFault> {
-    let map = LiveMap::load(alloc, station, &disk(8_192))?;
-    Ok(map.free_count())
-}
-
-/// What a load is told where the call of this number fails.
-fn told_failed(alloc: Global, call: u64) -> Result<Result<u32, LoadFault>, Fail> {
-    let mut station = MemStation::new(alloc, [call].to_vec(alloc)?);
-    Ok(free_of_wide(alloc, &mut station))
-}
-
-#[test]
-fn a_failed_read_is_told(rt: HostRuntime) -> Result<(), Fail> {
-    for (call, wanted) in [
-        (0, Err(LoadFault::Device)),
-        (1, Err(LoadFault::Device)),
-        (2, Ok(8_192)),
-    ] {
-        assert_eq!(rt; told_failed(rt.alloc(), call)?, wanted, "{call}");
     }
     Ok(())
 }
@@ -232,26 +108,6 @@ fn small(alloc: Global, live: &[u32]) -> Result<LiveMap, Fail> {
     let mut map = LiveMap::load(alloc, &mut station, &disk(8))?;
     set_all_live(&mut map, &mut station, live)?;
     Ok(map)
-}
-
-/// Sees what is refused where three blocks are free, each alone.
-fn see_refusals(rt: &impl Abort, map: &LiveMap, placement: &Placement) {
-    see_chosen(rt, map, placement, 4, Err(Short { free: 3, wanted: 4 }));
-    see_chosen(rt, map, placement, 3, Ok(&[1, 3, 5]));
-    let short = RunRefusal::Short { free: 3, wanted: 4 };
-    see_run(rt, map, placement, 4, Err(short));
-    let no_run = RunRefusal::NoRun { free: 3, wanted: 2 };
-    see_run(rt, map, placement, 2, Err(no_run));
-    see_run(rt, map, placement, 1, Ok(1));
-    assert_eq!(rt; (map.has_run(1), map.has_run(2)), (true, false));
-}
-
-#[test]
-fn refusals_have_their_numbers(rt: HostRuntime) -> Result<(), Fail> {
-    let map = small(rt.alloc(), &[0, 2, 4, 6, 7])?;
-    let placement = low(rt.alloc())?;
-    see_refusals(&rt, &map, &placement);
-    Ok(())
 }
 
 /// Sees how often a rank is asked for where blocks 1 to 7 are free.

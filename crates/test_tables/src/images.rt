@@ -65,9 +65,9 @@ fn slot_sector(slots: &[(u32, u32); 3]) -> [u8; 512] {
     sector
 }
 
-/// A station whose sectors say this, and of which these calls fail.
-fn station_of(alloc: Global, said: &Said, fail: Vec<u64>) -> Result<MemStation, Failed> {
-    let mut station = MemStation::new(alloc, fail);
+/// A station whose sectors say this.
+fn station_of(alloc: Global, said: &Said) -> Result<MemStation, Failed> {
+    let mut station = MemStation::new(alloc, Vec::new(alloc));
     let mut bits = [0; 512];
     bits[0] = said.bits;
     station.poke(COUNTS_AT, &count_sector(&said.counts))?;
@@ -92,10 +92,11 @@ fn load_from(
     load_tables(alloc, station, &header)
 }
 
+/// The slots, the bitmap, the counts and the records are read once each.
 #[test]
 fn the_tables_of_a_right_image_are_loaded(rt: HostRuntime) -> Result<(), Fail> {
     let alloc = rt.alloc();
-    let mut station = station_of(alloc, &RIGHT, Vec::new(alloc))?;
+    let mut station = station_of(alloc, &RIGHT)?;
     let tables = load_from(alloc, &mut station, &SMALL)?;
     assert_eq!(rt; tables.pointers.len(), 3);
     assert!(rt; tables.pointers.has(0, 1));
@@ -106,19 +107,5 @@ fn the_tables_of_a_right_image_are_loaded(rt: HostRuntime) -> Result<(), Fail> {
     assert_eq!(rt; tables.counts.geometry(), SMALL);
     assert_eq!(rt; station.calls(), 4);
     assert_eq!(rt; station.write_calls(), 0);
-    Ok(())
-}
-
-/// The slots, the bitmap, the counts and the records are read once each.
-#[test]
-fn a_failed_read_is_named(rt: HostRuntime) -> Result<(), Fail> {
-    let alloc = rt.alloc();
-    for call in 0..4 {
-        let fail = vec![in alloc; call]?;
-        let mut station = station_of(alloc, &RIGHT, fail)?;
-        let fault = load_from(alloc, &mut station, &SMALL).err();
-        assert_eq!(rt; fault, Some(LoadFault::Device), "at {call}");
-        assert_eq!(rt; station.calls(), call + 1);
-    }
     Ok(())
 }

@@ -1,4 +1,5 @@
-//! Tests of the tables of an image: pointers, counts, free space and capabilities, each alone and all together.
+//! Tests of the tables of an image: that loading reads each sector once, of counts, free space and capabilities also on
+//! the largest disk, and how often a choice asks for a rank.
 //!
 //! They use public calls alone and show what no clause says. They stand in a crate of their own, so that a change of a
 //! test proves no other crate again. Nothing stands on it, and it promises nothing.
@@ -14,7 +15,5 @@ mod counts;
 mod images;
 #[cfg(test)]
 mod placing;
-#[cfg(test)]
-mod pointers;
 #[cfg(test)]
 mod sectors;

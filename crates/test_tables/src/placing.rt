@@ -1,27 +1,14 @@
-//! Two placements, also such as count how often they are asked.
+//! Placements, also such as count how often they are asked.
 
-ghost use Rattle.std.specs.Prelude.{◌≡◌, ◌+◌, ◌*◌, ◌^◌, slice_index, IfOk};
-ghost use Rattle.tsd_model.specs.Rank.{rank_of, zones_after};
-ghost use Rattle.tsd_model.specs.declared.requests.PlaceKind.TheVariants.{Low, Near, Spread, Zone};
+ghost use Rattle.std.specs.Prelude.{◌≡◌, IfOk};
+ghost use Rattle.tsd_model.specs.Rank.{rank_of};
+ghost use Rattle.tsd_model.specs.declared.requests.PlaceKind.TheVariants.{Low, Near};
 
 use place_policy::{Placement, low_rank, near_rank};
 use std::alloc::{AllocError, Global};
 use std::cell::Cell;
 use std::rc::Rc;
 use tsd_model::PlaceKind;
-
-/// The placement from the lowest.
-pub fn low(alloc: Global) -> Result<Placement, AllocError>
-    ensures { IfOk result (λ placement. placement.kind ≡ Low) }
-{
-    let ranks = Box::new(
-        alloc,
-        |hint: u32, block: u32| -> u64
-            ensures { result ≡ rank_of Low hint block }
-        { low_rank(hint, block) },
-    )?;
-    Ok(Placement::new(PlaceKind::Low, ranks))
-}
 
 /// The placement near the hint.
 pub fn near(alloc: Global) -> Result<Placement, AllocError>
